@@ -1,0 +1,31 @@
+// What the modeller reads from.
+ghost use Rattle.std.specs.Prelude.{◌≡◌, ℕ, ◌<◌, ◌≤◌, List, length, take, Option, Ok, IfOk, OnOk, OnErr};
+ghost use Rattle.std.specs.Io.KnownBytes.{Consumes, IsAtEnd};
+ghost use Rattle.modeller_io.specs.Count.{last_count, raised, Rose};
+
+use crate::Failed;
+
+/// A source of bytes, whose calls may fail.
+pub trait Source {
+    /// The bytes left, where the source tells them.
+    ghost rest: { Self → Option (List ℕ) };
+
+    /// How many bytes were read so far. The count stops at 2^64 - 1.
+    ghost taken: { Self → ℕ };
+
+    /// How often a call has failed. The count never falls, and stops at 2^64 - 1.
+    ghost faults: { Self → ℕ };
+
+    /// Reads bytes into the front of `buf`, and says how many. `Ok(0)` with room in `buf` is the end.
+    /// After `Failed`, which comes only with a counted fault, no byte is lost.
+    fn read(&mut self, buf: &mut [u8]) -> Result<usize, Failed>
+        ensures within { IfOk result (λ count. count ≤ length buf.new) }
+        ensures bytes { IfOk result (λ count. Consumes (rest self.old) (rest self.new) (take count buf.new)) }
+        ensures end { result ≡ Ok 0 → 0 < length buf.new → IsAtEnd (rest self.old) }
+        ensures took { IfOk result (λ count. taken self.new ≡ raised (taken self.old) count) }
+        ensures stops { taken self.new ≤ last_count }
+        ensures no_fault { OnOk result (faults self.new ≡ faults self.old) }
+        ensures cause { OnErr result (Rose (faults self.old) (faults self.new)) }
+        ensures err { OnErr result ((rest self.new ≡ rest self.old) × (taken self.new ≡ taken self.old)) }
+        ensures never_falls { faults self.old ≤ faults self.new };
+}

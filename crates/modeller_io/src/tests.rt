@@ -1,0 +1,140 @@
+// Each public call once, with ample memory: the objects in memory, the adapters over readers and
+// writers in memory, and the two loops.
+ghost use Rattle.std.specs.Prelude.{◌≤◌, IfOk};
+
+use crate::{
+    Failed, MemSink, MemSource, ReadEnd, ReadSource, Sink, Source, WriteSink, read_all, write_all,
+};
+use std::io;
+use std::io::{ErrorKind, Read, Write};
+use std::test::Fail;
+
+const TEXT: &[u8] = b"abcdefghijklmnopqrst";
+
+#[test]
+fn a_source_in_memory_gives_chunks_and_fails_where_told(rt: HostRuntime) -> Result<(), Fail> {
+    let bytes = TEXT[..10].to_vec(rt.alloc())?;
+    let mut source = MemSource::new(bytes, 4, [2].to_vec(rt.alloc())?);
+    let mut buf = [0; 8];
+    for want in [Ok(4), Err(Failed), Ok(4), Ok(2), Ok(0)] {
+        assert_eq!(rt; source.read(&mut buf), want);
+    }
+    assert_eq!(rt; &buf[..2], &TEXT[8..10]);
+    Ok(())
+}
+
+#[test]
+fn reading_ends_at_the_end_the_limit_or_a_fault(rt: HostRuntime) -> Result<(), Fail> {
+    for (limit, failing, want) in [
+        (20, 99, None),
+        (19, 99, Some(ReadEnd::TooLong)),
+        (0, 99, Some(ReadEnd::TooLong)),
+        (20, 3, Some(ReadEnd::Failed)),
+    ] {
+        let bytes = TEXT.to_vec(rt.alloc())?;
+        let mut source = MemSource::new(bytes, 7, [failing].to_vec(rt.alloc())?);
+        match read_all(rt.alloc(), &mut source, limit) {
+            Ok(bytes) => {
+                assert_eq!(rt; want, None);
+                assert_eq!(rt; bytes.as_slice(), TEXT);
+            }
+            Err(end) => assert_eq!(rt; Some(end), want, "at {limit}, {failing}"),
+        }
+    }
+    Ok(())
+}
+
+#[test]
+fn a_sink_in_memory_holds_what_it_took_where_it_fits(rt: HostRuntime) -> Result<(), Fail> {
+    for (room, failing, done, held) in [
+        (20, 99, Ok(()), Some(20)),
+        (30, 2, Err(Failed), Some(5)),
+        (19, 99, Ok(()), None),
+    ] {
+        let room = vec![in rt.alloc(); 0; room]?;
+        let mut sink = MemSink::new(5, [failing].to_vec(rt.alloc())?, room);
+        assert_eq!(rt; write_all(&mut sink, TEXT), done);
+        match (sink.held(), held) {
+            (Some(bytes), Some(count)) => assert_eq!(rt; bytes, &TEXT[..count]),
+            (told, _) => assert!(rt; told.is_none() && held.is_none()),
+        }
+    }
+    Ok(())
+}
+
+// A reader and a writer that moves one byte at its first call, fails at its second, and then moves
+// none.
+#[derive(Drop)]
+struct Flaky {
+    calls: u8,
+}
+
+impl Flaky {
+    fn turn(&mut self, most: usize) -> io::Result<usize>
+        ensures { IfOk result (λ count. count ≤ most) }
+    {
+        self.calls = self.calls.saturating_add(1);
+        match self.calls {
+            1 => Ok(most.min(1)),
+            2 => Err(io::Error::from(ErrorKind::Other)),
+            _ => Ok(0),
+        }
+    }
+}
+
+impl Read for Flaky {
+    fn read(&mut self, buf: &mut [u8]) -> io::Result<usize> {
+        self.turn(buf.len())
+    }
+}
+
+impl Write for Flaky {
+    fn write(&mut self, buf: &[u8]) -> io::Result<usize> {
+        self.turn(buf.len())
+    }
+
+    fn flush(&mut self) -> io::Result<()> {
+        Ok(())
+    }
+}
+
+// A writer that takes each byte, and fails to flush it.
+#[derive(Drop)]
+struct Stuck;
+
+impl Write for Stuck {
+    fn write(&mut self, buf: &[u8]) -> io::Result<usize> {
+        Ok(buf.len())
+    }
+
+    fn flush(&mut self) -> io::Result<()> {
+        Err(io::Error::from(ErrorKind::Other))
+    }
+}
+
+#[test]
+fn a_reader_is_a_source(rt: HostRuntime) -> Result<(), Fail> {
+    let bytes = read_all(rt.alloc(), &mut ReadSource::new(TEXT), 20)?;
+    assert_eq!(rt; bytes.as_slice(), TEXT);
+
+    let mut source = ReadSource::new(Flaky { calls: 0 });
+    for want in [Ok(1), Err(Failed), Ok(0)] {
+        assert_eq!(rt; source.read(&mut [0; 4]), want);
+    }
+    Ok(())
+}
+
+#[test]
+fn a_writer_is_a_sink(rt: HostRuntime) -> Result<(), Fail> {
+    let mut bytes = Vec::new(rt.alloc());
+    write_all(&mut WriteSink::new(&mut bytes), TEXT)?;
+    assert_eq!(rt; bytes.as_slice(), TEXT);
+
+    let mut sink = WriteSink::new(Flaky { calls: 0 });
+    for want in [Ok(1), Err(Failed), Err(Failed)] {
+        assert_eq!(rt; sink.write(TEXT), want);
+    }
+    assert_eq!(rt; sink.write(&[]), Ok(0));
+    assert_eq!(rt; write_all(&mut WriteSink::new(Stuck), TEXT), Err(Failed));
+    Ok(())
+}
