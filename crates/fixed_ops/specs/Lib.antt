@@ -1,0 +1,11 @@
+pub mod Arity
+pub mod Counts
+pub mod Floor
+pub mod NumberTexts
+pub mod Numerals
+pub mod OpNames
+pub mod Operations
+pub mod Quotient
+pub mod Raw
+pub mod Root
+pub mod Spelling

@@ -1,0 +1,47 @@
+// The operations at a point.
+ghost use Rattle.std.specs.Prelude.{◌≡◌};
+ghost use Rattle.fixed_ops.specs.Counts.{raised};
+ghost use Rattle.fixed_ops.specs.Operations.{op_result};
+ghost use Rattle.fixed_ops.specs.Raw.{IsRaw};
+ghost use Rattle.fixed_ops.specs.Root.{IsRawRoot};
+
+use crate::quotient::quotient;
+use crate::root::root;
+use crate::rounding::{clamped, product};
+use crate::{Fx, Op, Tally};
+
+/// The result of an operation on two numbers, counted as one evaluation at a point. A coordinate or a
+/// constant is handed in as `a` and comes back as it is.
+#[inline]
+#[tactic(auto, using(crate::proofs::RootLaws::root_of_is_root))]
+pub fn apply(op: Op, a: Fx, b: Fx, tally: &mut Tally) -> Fx
+    ensures value { result ≡ op_result op a b }
+    ensures root { op ≡ Op.Sqrt → IsRawRoot a result }
+    ensures counted { tally.new ≡ record tally.old { points = raised tally.old.points 1 } }
+{
+    tally.count_point();
+    Fx::from_raw(raw_result(op, a.raw(), b.raw()))
+}
+
+// The result of an operation on two raw numbers.
+#[inline]
+fn raw_result(op: Op, a: i64, b: i64) -> i64
+    requires left { IsRaw a }
+    requires right { IsRaw b }
+    ensures value { result ≡ op_result op a b }
+    ensures raw { IsRaw result }
+{
+    match op {
+        Op::X | Op::Y | Op::Z | Op::Const => a,
+        Op::Neg => -a,
+        Op::Square => product(a, a),
+        Op::Sqrt => root(a),
+        Op::Abs => a.abs(),
+        Op::Add => clamped(a + b),
+        Op::Sub => clamped(a - b),
+        Op::Mul => product(a, b),
+        Op::Div => quotient(a, b),
+        Op::Min => a.min(b),
+        Op::Max => a.max(b),
+    }
+}

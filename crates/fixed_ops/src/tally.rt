@@ -1,0 +1,76 @@
+// The counts of the work done.
+ghost use Rattle.std.specs.Prelude.{◌≡◌};
+ghost use Rattle.fixed_ops.specs.Counts.{raised, no_counts, joined};
+
+use std::marker::Model;
+
+/// How much work was done: evaluations of a clause at points, hulls over boxes, and corners of hulls.
+/// Each count stands still at 2^64 - 1.
+#[derive(Debug, Drop)]
+pub struct Tally {
+    points: u64,
+    spans: u64,
+    corners: u64,
+}
+
+impl Model for Tally {
+    ghost use Rattle.fixed_ops.specs.Counts.{Counts};
+
+    ghost Value = { Counts };
+
+    ghost view = { λ t. record { points = t.points; spans = t.spans; corners = t.corners } };
+}
+
+impl Tally {
+    /// A tally of no work.
+    pub fn new() -> Tally
+        ensures { result ≡ no_counts }
+    {
+        Tally {
+            points: 0,
+            spans: 0,
+            corners: 0,
+        }
+    }
+
+    /// How often a clause was evaluated at a point.
+    #[inline]
+    pub fn points(&self) -> u64
+        ensures { result ≡ self.now.points }
+    {
+        self.points
+    }
+
+    /// How often the hull of a clause over a box was found.
+    #[inline]
+    pub fn spans(&self) -> u64
+        ensures { result ≡ self.now.spans }
+    {
+        self.spans
+    }
+
+    /// How many corners were evaluated for hulls.
+    #[inline]
+    pub fn corners(&self) -> u64
+        ensures { result ≡ self.now.corners }
+    {
+        self.corners
+    }
+
+    /// Adds each count of another tally.
+    pub fn join(&mut self, other: &Tally)
+        ensures { self.new ≡ joined self.old other.now }
+    {
+        self.points = self.points.saturating_add(other.points);
+        self.spans = self.spans.saturating_add(other.spans);
+        self.corners = self.corners.saturating_add(other.corners);
+    }
+
+    // One more evaluation at a point.
+    #[inline]
+    pub(crate) fn count_point(&mut self)
+        ensures { self.new ≡ record self.old { points = raised self.old.points 1 } }
+    {
+        self.points = self.points.saturating_add(1);
+    }
+}
