@@ -1,0 +1,4 @@
+pub mod ModelLemmas
+pub mod Places
+pub mod TableLemmas
+pub mod ValueLemmas

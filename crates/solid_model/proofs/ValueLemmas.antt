@@ -1,0 +1,107 @@
+-- Plain values satisfy the equations of their clauses, and nothing else does.
+use Rattle.std.proofs.Common.{◌≡◌, ℕ, zero, suc, ◌+◌, ◌<◌, ◌≤◌, ℤ, pos, List, [], ◌∷◌, ◌++◌, length, get_or, fold, Some, slice_get, below_more, inl, inr, refl, ap, sym, subst, ◌∙◌, arith}
+use Rattle.std.proofs.lemmas.List.{length-append, get_or_append_left, ext_get_or}
+use Rattle.std.proofs.Math.Seq.{get_or-append_seam}
+use Rattle.std.proofs.lemmas.Option.{slice_get-get_or, slice_get_within, get_or_from_slice_get, slice_get_cases}
+use Rattle.fixed_ops.specs.declared.operation.Op.{Op}
+use Rattle.fixed_ops.specs.declared.operation.Op.TheVariants.{X, Y, Z, Const, Neg, Square, Sqrt, Abs, Add, Sub, Mul, Div, Min, Max}
+use Rattle.fixed_ops.specs.Arity.{arity_of}
+use Rattle.solid_model.specs.declared.clause.Clause.{Clause}
+use Rattle.solid_model.specs.Clauses.{IsClauseAt}
+use Rattle.solid_model.specs.Laws.{AreClauses, AreValues}
+use Rattle.solid_model.specs.Values.{Point, value_of, clause_value, values}
+
+-- an operation reads only the operands that it has
+value_of-same : (op : Op) (p : Point) (value a b x y : ℤ) → (0 < arity_of op → a ≡ x) → (1 < arity_of op → b ≡ y) → value_of op p value a b ≡ value_of op p value x y
+value_of-same X p value a b x y first second = refl
+value_of-same Y p value a b x y first second = refl
+value_of-same Z p value a b x y first second = refl
+value_of-same Const p value a b x y first second = refl
+value_of-same Neg p value a b x y first second = let one = first (omega arith) in (cc)
+value_of-same Square p value a b x y first second = let one = first (omega arith) in (cc)
+value_of-same Sqrt p value a b x y first second = let one = first (omega arith) in (cc)
+value_of-same Abs p value a b x y first second = let one = first (omega arith) in (cc)
+value_of-same Add p value a b x y first second = let one = first (omega arith) in let two = second (omega arith) in (cc)
+value_of-same Sub p value a b x y first second = let one = first (omega arith) in let two = second (omega arith) in (cc)
+value_of-same Mul p value a b x y first second = let one = first (omega arith) in let two = second (omega arith) in (cc)
+value_of-same Div p value a b x y first second = let one = first (omega arith) in let two = second (omega arith) in (cc)
+value_of-same Min p value a b x y first second = let one = first (omega arith) in let two = second (omega arith) in (cc)
+value_of-same Max p value a b x y first second = let one = first (omega arith) in let two = second (omega arith) in (cc)
+
+-- a clause has one value over lists that agree before its place
+clause_value-same : (p : Point) (xs ys : List ℤ) (place : ℕ) (clause : Clause) → IsClauseAt place clause
+    → ((k : ℕ) → k < place → get_or xs k (pos 0) ≡ get_or ys k (pos 0)) → clause_value p xs clause ≡ clause_value p ys clause
+clause_value-same p xs ys place clause stands agree =
+    value_of-same clause.op p clause.value _ _ _ _ (λ h. agree clause.a (stands.first h)) (λ h. agree clause.b (stands.second h))
+
+-- the values after those of earlier clauses
+abbrev values_from : Point → List ℤ → List Clause → List ℤ
+values_from p earlier clauses = fold (λ before clause. before ++ clause_value p before clause ∷ []) earlier clauses
+
+length-values_from : (p : Point) (earlier : List ℤ) (clauses : List Clause) → length (values_from p earlier clauses) ≡ length earlier + length clauses
+length-values_from p earlier [] = omega arith
+length-values_from p earlier (c ∷ cs) =
+    omega (arith, length-values_from p (earlier ++ clause_value p earlier c ∷ []) cs, length-append earlier (clause_value p earlier c ∷ []))
+
+-- earlier values stay
+get_or-values_from : (p : Point) (earlier : List ℤ) (clauses : List Clause) (k : ℕ) → k < length earlier → get_or (values_from p earlier clauses) k (pos 0) ≡ get_or earlier k (pos 0)
+get_or-values_from p earlier [] k h = refl
+get_or-values_from p earlier (c ∷ cs) k h =
+    let v = clause_value p earlier c in
+    get_or-values_from p (earlier ++ v ∷ []) cs k (omega (arith, length-append earlier (v ∷ []))) ∙ get_or_append_left earlier (v ∷ []) (pos 0) k h
+
+-- each later clause's value is what it makes of the whole list
+value-values_from : (p : Point) (earlier : List ℤ) (clauses : List Clause) (place : ℕ) (clause : Clause)
+    → ((k : ℕ) (c : Clause) → slice_get clauses k ≡ Some c → IsClauseAt (length earlier + k) c) → slice_get clauses place ≡ Some clause
+    → get_or (values_from p earlier clauses) (length earlier + place) (pos 0) ≡ clause_value p (values_from p earlier clauses) clause
+value-values_from p earlier [] place clause stand at = (cc)
+value-values_from p earlier (c ∷ cs) zero clause stand at =
+    let v = clause_value p earlier c in
+    let all = values_from p (earlier ++ v ∷ []) cs in
+    let longer = length-append earlier (v ∷ []) in
+    let here : get_or all (length earlier) (pos 0) ≡ v = get_or-values_from p (earlier ++ v ∷ []) cs (length earlier) (omega arith) ∙ get_or-append_seam earlier v [] (pos 0) in
+    let stands : IsClauseAt (length earlier) c = subst (λ n. IsClauseAt n c) (omega arith) (stand 0 c refl) in
+    let whole : v ≡ clause_value p all c = clause_value-same p earlier all (length earlier) c stands (λ k h. sym (get_or-values_from p earlier (c ∷ cs) k h)) in
+    let is : c ≡ clause = (cc) in
+    let there : length earlier + 0 ≡ length earlier = omega arith in
+    rw there (here ∙ whole ∙ ap (clause_value p all) is)
+value-values_from p earlier (c ∷ cs) (suc place) clause stand at =
+    let v = clause_value p earlier c in
+    let longer = length-append earlier (v ∷ []) in
+    let there : length earlier + suc place ≡ length (earlier ++ v ∷ []) + place = omega arith in
+    rw there (value-values_from p (earlier ++ v ∷ []) cs place clause
+    (λ k d h. subst (λ n. IsClauseAt n d) (omega arith) (stand (suc k) d h)) at)
+
+pub AreValues-values : (p : Point) (clauses : List Clause) → AreClauses clauses → AreValues p clauses (values p clauses)
+AreValues-values p clauses stand = record {
+  as_many = omega (arith, length-values_from p [] clauses);
+  each = λ place clause at.
+      let value = value-values_from p [] clauses place clause (λ k c h. subst (λ n. IsClauseAt n c) (omega arith) (stand k c h)) at in
+      let start : 0 + place ≡ place = omega arith in
+      let here : get_or (values p clauses) place (pos 0) ≡ clause_value p (values p clauses) clause = rw start at value in
+      slice_get-get_or (values p clauses) place (pos 0) (omega (arith, length-values_from p [] clauses, slice_get_within clauses place clause at)) ∙ ap Some here;
+}
+
+-- two lists that satisfy the equations agree
+module _ (p : Point) (clauses : List Clause) (xs ys : List ℤ) (stand : AreClauses clauses) (of_xs : AreValues p clauses xs) (of_ys : AreValues p clauses ys) where
+  agree_at : (n : ℕ) → n < length clauses → ((k : ℕ) → k < n → get_or xs k (pos 0) ≡ get_or ys k (pos 0)) → get_or xs n (pos 0) ≡ get_or ys n (pos 0)
+  agree_at n within before =
+      elim (slice_get_cases clauses n).1 [
+        | inl there ↦
+            let value_x = get_or_from_slice_get xs n _ (pos 0) (of_xs.each n there.0 there.2) in
+            let value_y = get_or_from_slice_get ys n _ (pos 0) (of_ys.each n there.0 there.2) in
+            value_x ∙ clause_value-same p xs ys n there.0 (stand n there.0 there.2) before ∙ sym value_y
+        | inr past ↦ absurd (omega (arith, past.0))
+      ]
+
+  agree_before : (n : ℕ) → n ≤ length clauses → (k : ℕ) → k < n → get_or xs k (pos 0) ≡ get_or ys k (pos 0)
+  agree_before zero fits k less = absurd (omega arith)
+  agree_before (suc n) fits k less =
+      let before = agree_before n (omega arith) in
+      below_more _ n before (agree_at n (omega arith) before) k (omega arith)
+
+  agree : xs ≡ ys
+  agree = ext_get_or (pos 0) xs ys (of_xs.as_many ∙ sym of_ys.as_many) (λ k less. agree_before (length clauses) (omega arith) k (omega (arith, of_xs.as_many)))
+
+pub values-only : (p : Point) (clauses : List Clause) (all : List ℤ) → AreClauses clauses → AreValues p clauses all → all ≡ values p clauses
+values-only p clauses all stand hold = agree p clauses all (values p clauses) stand hold (AreValues-values p clauses stand)

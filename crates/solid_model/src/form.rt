@@ -1,0 +1,41 @@
+// What a clause says beside its name.
+ghost use Rattle.std.specs.Prelude.{◌≡◌, ◌≢◌, pos, length};
+ghost use Rattle.fixed_ops.specs.Arity.{arity_of};
+
+use crate::Name;
+use fixed_ops::{Fx, Op};
+use std::marker::Model;
+
+/// An operation with the names of its operands, and with the number of a constant.
+/// It has as many names as the operation has operands, and the number 0 where it is no constant.
+#[derive(Debug, Drop)]
+pub struct Form {
+    /// The operation.
+    pub op: Op,
+    /// The names of the operands, in order.
+    pub args: Vec<Name>,
+    /// The number of a constant, or 0.
+    pub value: Fx,
+}
+
+impl Model for Form {
+    ghost use Rattle.solid_model.specs.Parts.{Parts, IsForm};
+
+    ghost Value = { Parts };
+
+    ghost view = { λ f. record { op = f.op; args = f.args.items; value = f.value } };
+
+    ghost invariant = { λ f. IsForm (record { op = f.op; args = f.args.items; value = f.value }) };
+}
+
+impl Form {
+    /// The form of this operation, with the names of its operands and the number of a constant.
+    #[inline]
+    pub fn new(op: Op, args: Vec<Name>, value: Fx) -> Form
+        requires arity { length args.items ≡ arity_of op }
+        requires no_value { op ≢ Op.Const → value ≡ pos 0 }
+        ensures { result ≡ record { op = op; args = args.items; value = value } }
+    {
+        Form { op, args, value }
+    }
+}

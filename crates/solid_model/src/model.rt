@@ -1,0 +1,85 @@
+// A solid as a list of clauses.
+ghost use Rattle.std.specs.Prelude.{◌≡◌, ◌≢◌, ◌<◌, [], length, slice_get, IfErr, IfOk, OnErr, OnOk};
+ghost use Rattle.solid_model.specs.Adding.{added, edited};
+ghost use Rattle.solid_model.specs.Clauses.{place_of, IsClauseAt, IsModel};
+
+use crate::table::Table;
+use crate::{Clause, Edit, EditFault, Form, Name};
+use std::alloc::Global;
+
+/// A solid: from 1 to 65,535 clauses of distinct names, each of whose operands stands before it. The last one
+/// is the output.
+#[derive(Debug, Drop)]
+pub struct Model {
+    alloc: Global,
+    table: Table,
+}
+
+impl std::marker::Model for Model {
+    ghost use Rattle.std.specs.Prelude.{List};
+    ghost use Rattle.solid_model.specs.declared.clause.Clause.{Clause};
+    ghost use Rattle.solid_model.specs.Clauses.{IsModel};
+
+    ghost Value = { List Clause };
+
+    ghost view = { λ m. m.table };
+
+    ghost invariant = { λ m. IsModel m.table };
+}
+
+impl Model {
+    /// A model of one clause.
+    ///
+    /// `UnknownName`: the form has an argument. `NoMemory`: memory was refused.
+    pub fn first(alloc: Global, name: Name, form: Form) -> Result<Model, EditFault>
+        ensures ok { IfOk result (λ model. added [] name form ≡ Ok model) }
+        ensures fault { IfErr result (λ fault. fault ≢ EditFault.NoMemory → added [] name form ≡ Err fault) }
+        ensures no_argument { OnOk result (form.args ≡ []) }
+        ensures argument { IfErr result (λ fault. fault ≢ EditFault.NoMemory → (fault ≡ EditFault.UnknownName) × (form.args ≢ [])) }
+    {
+        let mut table = Table::new(alloc);
+        table.add(alloc, name, form)?;
+        Ok(Model { alloc, table })
+    }
+
+    /// Applies a change. After an `Err` the model is as it was, and the change is dropped.
+    ///
+    /// The first of these that holds is answered. `UnknownName`: an argument names no clause. `DoubleName`: the new
+    /// name stands already. `Full`: the model has 65,535 clauses. `NoMemory` may come in place of any other answer.
+    pub fn apply(&mut self, edit: Edit) -> Result<(), EditFault>
+        ensures ok { OnOk result (edited self.old edit ≡ Ok self.new) }
+        ensures fault { IfErr result (λ fault. fault ≢ EditFault.NoMemory → edited self.old edit ≡ Err fault) }
+        ensures err { OnErr result (self.new ≡ self.old) }
+    {
+        match edit {
+            Edit::Add(name, form) => self.table.add(self.alloc, name, form),
+        }
+    }
+
+    /// How many clauses there are.
+    #[inline]
+    pub fn len(&self) -> u32
+        ensures len { result ≡ length self.now }
+        ensures model { IsModel self.now }
+    {
+        self.table.len() as u32
+    }
+
+    /// The clause at a place, whose operands stand before it.
+    #[inline]
+    pub fn clause(&self, at: u32) -> &Clause
+        requires { at < length self.now }
+        ensures clause { slice_get self.now at ≡ Some result.now }
+        ensures operands_before { IsClauseAt at result.now }
+    {
+        self.table.clause(at as usize)
+    }
+
+    /// The place of the clause of this name, or `None` where no clause has it.
+    #[inline]
+    pub fn position(&self, name: &[u8]) -> Option<u32>
+        ensures { result ≡ place_of self.now name.now }
+    {
+        self.table.position(name)
+    }
+}
