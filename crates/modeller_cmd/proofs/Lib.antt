@@ -1,0 +1,10 @@
+mod Decimals
+mod EdgeExamples
+mod Evaluation
+mod Examples
+mod First
+mod Notes
+mod Pixels
+mod Said
+mod SaidExamples
+mod Splits

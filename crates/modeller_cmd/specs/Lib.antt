@@ -1,0 +1,12 @@
+pub mod Digits
+pub mod Words
+pub mod Lines
+pub mod Numeral
+pub mod Reading
+pub mod Says
+pub mod ReadingLaws
+pub mod Places
+pub mod Picture
+pub mod Work
+pub mod Output
+pub mod Answers
