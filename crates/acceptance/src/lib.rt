@@ -1,0 +1,15 @@
+//! Tests of whole runs: words and an input in, a status, bytes and at most one note line out.
+#![tactic(auto)]
+
+#[cfg(test)]
+mod faults;
+#[cfg(test)]
+mod limits;
+#[cfg(test)]
+mod pictures;
+#[cfg(test)]
+mod refusals;
+#[cfg(test)]
+mod trial;
+#[cfg(test)]
+mod words;
