@@ -3,8 +3,11 @@ mod EdgeExamples
 mod Evaluation
 mod Examples
 mod First
+mod LineExamples
+mod LineLemmas
 mod Notes
 mod Pixels
 mod Said
 mod SaidExamples
 mod Splits
+mod TokenLemmas

@@ -1,6 +1,7 @@
 pub mod Digits
 pub mod Words
 pub mod Lines
+pub mod LineLaws
 pub mod Numeral
 pub mod Reading
 pub mod Says

@@ -1,4 +1,5 @@
 // What always holds of the definitions that the contracts cite.
+ghost use Rattle.modeller_cmd.specs.LineLaws.{LinesAreExact, TokensAreExact};
 ghost use Rattle.modeller_cmd.specs.ReadingLaws.{ReadingIsExact, RefusingIsExact, EachTextIsAnswered, NoneIsReadAndRefused, OneReading, OneRefusal, EachLineAddsOne};
 
 /// A text is read as the one list of clauses that its lines say, each after those before it, or else it is
@@ -11,4 +12,12 @@ pub fn reading_is_exact()
     ensures one_reading { OneReading }
     ensures one_refusal { OneRefusal }
     ensures adds_one { EachLineAddsOne }
+{}
+
+/// A text splits into the one list of lines that hold no line feed and that, each followed by one, are the text,
+/// but for a line feed that the last line may lack. A line splits into the one list of its tokens, the longest
+/// runs of bytes that are no blanks, in order, with blanks alone between and around them.
+pub fn lines_and_tokens_are_exact()
+    ensures lines { LinesAreExact }
+    ensures tokens { TokensAreExact }
 {}

@@ -19,5 +19,5 @@ mod tokens;
 mod words;
 
 pub use command::run;
-pub use laws::reading_is_exact;
+pub use laws::{lines_and_tokens_are_exact, reading_is_exact};
 pub use status::Status;
