@@ -68,6 +68,7 @@ IsStop expected (Err stop.TooLong) = expected ≡ Err stop.TooLong
 abbrev pub ReadsWhole : {T : Type 0} → Result T Stop → Type 0
 ReadsWhole (Ok done) = ⊤
 ReadsWhole (Err (stop.NotRead line)) = ⊤
+ReadsWhole (Err stop.WriteFault) = ⊤
 ReadsWhole (Err other) = ⊥
 
 -- a stop before anything is evaluated

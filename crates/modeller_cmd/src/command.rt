@@ -2,7 +2,7 @@
 ghost use Rattle.std.specs.Prelude.{◌≡◌, ◌≢◌, ◌+◌, ◌<◌, ◌≤◌, ◌↔◌, [], ℕ, length, Some, None, Ok, Err, IfOk, IfSome, OnOk};
 ghost use Rattle.modeller_io.specs.Count.{last_count, raised, Rose};
 ghost use Rattle.modeller_io.specs.Held.{Gains, GainsPrefix};
-ghost use Rattle.modeller_io.specs.Took.{RoseAtMost};
+ghost use Rattle.modeller_io.specs.Took.{LosesAtMost, RoseAtMost};
 ghost use Rattle.modeller_cmd.specs.Answers.{IsAnswer, IsBroken, IsRefusal, IsStop, NoFault, ReadsWhole, StopsUncounted, StopsUnwritten, TakesLine, TellsLine, fixed_line};
 ghost use Rattle.modeller_cmd.specs.Output.{input_limit, outcome, output_of, rendered, work_at, work_of};
 ghost use Rattle.modeller_cmd.specs.Words.{IsSize, bytes_of, size_of};
@@ -52,9 +52,11 @@ pub fn run<S: Source, K: Sink, N: Sink>(
     ensures too_long_there { S.taken source.new ≡ S.taken source.old + (input_limit + 1)
         → S.taken source.new < last_count → result ≡ Status.TooLong }
     ensures read_fault { result ≡ Status.ReadFault → Rose (S.faults source.old) (S.faults source.new) }
+    ensures no_read_fault { result ≢ Status.ReadFault → S.faults source.new ≡ S.faults source.old }
     ensures write_fault { result ≡ Status.WriteFault → Rose (K.faults out.old) (K.faults out.new) }
-
-    ensures takes_few { S.taken source.new ≤ S.taken source.old + (input_limit + 1) }
+    ensures no_write_fault { result ≢ Status.WriteFault → K.faults out.new ≡ K.faults out.old }
+    ensures read_first { result ≡ Status.WriteFault → IfSome (S.rest source.old) (λ input.
+        (S.rest source.new ≡ Some []) × (length input ≤ input_limit)) }
 
     // Where nothing fails and memory is there, the status is the output's.
     ensures complete { IfSome (S.rest source.old) (λ input.
@@ -63,10 +65,15 @@ pub fn run<S: Source, K: Sink, N: Sink>(
 
     // What stays.
     ensures unread { result ≡ Status.Usage → source.new ≡ source.old }
+    ensures takes_few { S.taken source.new ≤ S.taken source.old + (input_limit + 1) }
+    ensures lost { result ≢ Status.Usage → LosesAtMost (S.rest source.old) (S.rest source.new)
+        (S.taken source.old) (S.taken source.new) (input_limit + 1) }
     ensures unwritten { IsRefusal result → out.new ≡ out.old }
     ensures uncounted { IsRefusal result → tally.new ≡ tally.old }
     ensures front { IsBroken result → IfSome (S.rest source.old) (λ input.
         GainsPrefix (K.held out.old) (K.held out.new) (output_of (bytes_of words.now) input).bytes) }
+    ensures never_falls { (S.faults source.old ≤ S.faults source.new) × (K.faults out.old ≤ K.faults out.new)
+        × (N.faults notes.old ≤ N.faults notes.new) }
 
     // The one line of the notes.
     ensures note { result ≢ Status.BadModel → result ≢ Status.Done
@@ -108,9 +115,14 @@ fn work<S: Source, K: Sink>(
     ensures took { size_of (bytes_of words.now) ≢ None → result ≢ Err Stop.TooLong
         → RoseAtMost (S.taken source.old) (S.taken source.new) input_limit }
     ensures takes_few { S.taken source.new ≤ S.taken source.old + (input_limit + 1) }
+    ensures lost { size_of (bytes_of words.now) ≢ None → LosesAtMost (S.rest source.old) (S.rest source.new)
+        (S.taken source.old) (S.taken source.new) (input_limit + 1) }
     ensures took_more { result ≡ Err Stop.TooLong → S.taken source.new ≡ raised (S.taken source.old) (input_limit + 1) }
     ensures read_fault { result ≡ Err Stop.ReadFault → Rose (S.faults source.old) (S.faults source.new) }
+    ensures no_read_fault { result ≢ Err Stop.ReadFault → S.faults source.new ≡ S.faults source.old }
     ensures write_fault { result ≡ Err Stop.WriteFault → Rose (K.faults out.old) (K.faults out.new) }
+    ensures no_write_fault { result ≢ Err Stop.WriteFault → K.faults out.new ≡ K.faults out.old }
+    ensures never_falls { (S.faults source.old ≤ S.faults source.new) × (K.faults out.old ≤ K.faults out.new) }
 
     ensures unread { result ≡ Err Stop.NotBuilt → source.new ≡ source.old }
     ensures unwritten { StopsUnwritten result → out.new ≡ out.old }
@@ -140,8 +152,12 @@ fn render<S: Source>(
 
     ensures took { result ≢ Err Stop.TooLong → RoseAtMost (S.taken source.old) (S.taken source.new) input_limit }
     ensures takes_few { S.taken source.new ≤ S.taken source.old + (input_limit + 1) }
+    ensures lost { LosesAtMost (S.rest source.old) (S.rest source.new)
+        (S.taken source.old) (S.taken source.new) (input_limit + 1) }
     ensures took_more { result ≡ Err Stop.TooLong → S.taken source.new ≡ raised (S.taken source.old) (input_limit + 1) }
     ensures read_fault { result ≡ Err Stop.ReadFault → Rose (S.faults source.old) (S.faults source.new) }
+    ensures no_read_fault { result ≢ Err Stop.ReadFault → S.faults source.new ≡ S.faults source.old }
+    ensures never_falls { S.faults source.old ≤ S.faults source.new }
     ensures no_other { (result ≢ Err Stop.NotBuilt) × (result ≢ Err Stop.WriteFault) }
 
     ensures uncounted { StopsUncounted result → tally.new ≡ tally.old }
