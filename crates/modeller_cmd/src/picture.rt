@@ -91,9 +91,8 @@ fn push_row(
     ensures counted_err { OnErr result (EvaluatesAtMost tally.old tally.new (size.width * length model.now)) }
 {
     let y = row_place(size.height, j);
-    for i in 0..size.width {
-        let x = columns[i as usize];
-        let value = evaluate(model, x, y, values, tally);
+    for x in columns {
+        let value = evaluate(model, *x, y, values, tally);
         image.push(pixel(value))?;
     }
     Ok(())

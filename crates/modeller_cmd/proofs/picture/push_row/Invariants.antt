@@ -4,8 +4,8 @@ use Rattle.modeller_cmd.specs.Picture.{pixel_at}
 use Rattle.modeller_cmd.specs.Work.{Evaluates}
 use Rattle.modeller_cmd.proofs.picture.push_row.Given as goal
 
-abbrev pub invariant-loop-i : goal.invariant-loop-i
-invariant-loop-i l = record {
-  pixels : l.image.items ≡ l.fn.image.items ++ map (λ i. pixel_at l.fn.size l.model i l.j) (range_with_len 0 l.i);
-  counted : Evaluates l.fn.tally l.tally (l.i * length l.model);
+abbrev pub invariant-loop-x : goal.invariant-loop-x
+invariant-loop-x l = record {
+  pixels : l.image.items ≡ l.fn.image.items ++ map (λ i. pixel_at l.fn.size l.model i l.j) (range_with_len 0 l.x-index);
+  counted : Evaluates l.fn.tally l.tally (l.x-index * length l.model);
 }
