@@ -1,5 +1,4 @@
 pub mod DigitLaws
-pub mod FloorLaws
 pub mod NumeralLaws
 pub mod QuotientLaws
 pub mod RootLaws

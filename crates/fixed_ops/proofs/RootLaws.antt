@@ -1,47 +1,10 @@
--- The root of the definitions is the greatest number whose square is at most n, and the only one.
-use Rattle.std.proofs.Common.{◌≡◌, ◌+◌, ◌-◌, ◌*◌, ◌/◌, ◌^◌, ◌<◌, ◌≤◌, ℕ, zero, suc, Bool, true, false, cond, refl, sym, ap, ◌∙◌, arith, ⊎_elim}
-use Rattle.std.specs.Prelude.{nat_le}
+-- Steps towards a square root.
+use Rattle.std.proofs.Common.{◌≡◌, ◌+◌, ◌-◌, ◌*◌, ◌/◌, ◌^◌, ◌<◌, ◌≤◌, ℕ, sym, ap, ◌∙◌, arith, ⊎_elim}
 use Rattle.std.proofs.Math.Nat.{mul-le-mul, mul-le-mul_left, le-mul_of_pos_right, mul-lt-mul_of_pos_right, lt_of_mul-lt-mul_right}
 use Rattle.std.proofs.lemmas.Bool.{cases_lt}
-use Rattle.std.proofs.lemmas.Bool.Decides.{nat_tests}
 use Rattle.std.proofs.lemmas.Nat.{div-add-mod', mod_below, pow-add, pow_pos}
-use Rattle.std.proofs.lemmas.Int.{ints}
-use Rattle.std.specs.Prelude.{ℤ, pos, negsuc, ◌≤ℤ◌}
 use Rattle.std.specs.Int.Count.{count_leading_zeros}
-use Rattle.fixed_ops.specs.Operations.{root_of}
-use Rattle.fixed_ops.specs.Root.{IsRoot, IsRawRoot, root_up_to, floor_root}
 use Rattle.fixed_ops.proofs.QuotientLaws.{shifted_whole}
-
--- the choice of a root, as it is written in the definition
-chosen : (n k r : ℕ) (b : Bool) → b ≡ nat_le (suc k * suc k) n → n < (suc k + 1) * (suc k + 1) → (n < (k + 1) * (k + 1) → IsRoot n r) → IsRoot n (cond b (suc k) r)
-chosen n k r true e h p = (grind (arith, nat_tests), h)
-chosen n k r false e h p = p (grind (arith, nat_tests))
-
--- it is a root, once k is no less than the root
-root_up_to_is_root : (n k : ℕ) → n < (k + 1) * (k + 1) → IsRoot n (root_up_to n k)
-unfolding root_up_to
-root_up_to_is_root n zero h = (omega arith, omega arith)
-root_up_to_is_root n (suc k) h = chosen n k (root_up_to n k) (nat_le (suc k * suc k) n) refl h (root_up_to_is_root n k)
-
--- the root is one
-pub floor_root_is_root : (n : ℕ) → IsRoot n (floor_root n)
-unfolding floor_root
-floor_root_is_root n = root_up_to_is_root n n (omega arith)
-
--- a root is no greater than another
-root_le : (n r s : ℕ) → IsRoot n r → IsRoot n s → r ≤ s
-root_le n r s h k =
-    ⊎_elim (λ (lt : s < r). absurd (omega (arith, mul-le-mul {n₁ = s + 1} {m₁ = s + 1} {n₂ = r} {m₂ = r} (omega arith) (omega arith), h.0, k.1)))
-    (λ (le : r ≤ s). le)
-    (cases_lt s r)
-
--- two roots of a number are one
-pub root_unique : (n r s : ℕ) → IsRoot n r → IsRoot n s → r ≡ s
-root_unique n r s h k = omega (arith, root_le n r s h k, root_le n s r k h)
-
--- a root is the root
-pub root_is : (n r : ℕ) → IsRoot n r → r ≡ floor_root n
-root_is n r h = root_unique n r (floor_root n) h (floor_root_is_root n)
 
 -- the mean of two numbers is no less than the root of their product
 four_products : (a b : ℕ) → 4 * (a * b) ≤ (a + b) * (a + b)
@@ -91,14 +54,3 @@ shifted_root n h r above =
     let squares : (r + 1) * (r + 1) ≤ (t * p) * (t * p) = mul-le-mul next next in
     let scaled = rw square at above in
     lt_of_mul-lt-mul_right (p * p) (omega (arith, scaled))
-
--- the root of what is not above 0
-pub root_of_low : (a : ℤ) → a ≤ℤ pos 0 → root_of a ≡ pos 0
-root_of_low (pos zero) h = ap pos (sym (root_is 0 0 (omega arith, omega arith)))
-root_of_low (pos (suc n)) h = absurd (omega (arith, ints, h))
-root_of_low (negsuc n) h = refl
-
--- the root of a raw number is its root
-pub root_of_is_root : (a : ℤ) → IsRawRoot a (root_of a)
-root_of_is_root (pos n) = (floor_root (n * 2 ^ 32), refl, floor_root_is_root (n * 2 ^ 32))
-root_of_is_root (negsuc n) = refl

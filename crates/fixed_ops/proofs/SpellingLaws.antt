@@ -4,14 +4,14 @@ use Rattle.std.specs.Prelude.{ℤ, Bool, true, false, cond, ◌||◌, Some, None
 use Rattle.std.specs.Char.{is_ascii_digit}
 use Rattle.std.specs.List.{prefix_len}
 use Rattle.std.specs.Result.{result_ok}
-use Rattle.std.specs.Str.Parse.{AllDigits, without_leading_sign}
+use Rattle.std.specs.Str.Parse.{AllDigits, starts_with_minus, without_leading_sign}
 use Rattle.std.proofs.Math.Seq.{take-append_seam, drop-append_seam}
 use Rattle.std.proofs.lemmas.Bool.Decides.{nat_tests}
 use Rattle.std.proofs.lemmas.List.{take-append-drop}
-use Rattle.fixed_ops.specs.Numerals.{front_digits, after_digits, starts_with_point, point_digits, after_point_digits, whole_part, fraction_part, exponent_part, is_exponent, is_short, is_unsigned_numeral, is_numeral, numeral, numeral_value}
-use Rattle.fixed_ops.specs.Spelling.{Spelling, IsSpelling, IsSign, IsPoint, spelled}
+use Rattle.fixed_ops.specs.Numerals.{unsigned_raw, front_digits, after_digits, starts_with_point, point_digits, after_point_digits, whole_part, fraction_part, exponent_part, is_exponent, is_short, is_unsigned_numeral, is_numeral, numeral, numeral_value, with_sign}
+use Rattle.fixed_ops.specs.Spelling.{Spelling, IsSpelling, IsSign, IsDot, spelled, is_minus, exponent_of, spelling_value}
 use Rattle.fixed_ops.proofs.DigitLaws.{front_are_digits, point_are_digits, both_true}
-use Rattle.fixed_ops.proofs.NumeralLaws.{some_digit}
+use Rattle.fixed_ops.proofs.NumeralLaws.{some_digit, raw_by_parts}
 use Rattle.fixed_ops.proofs.TextLaws.{passes, digit_first}
 
 -- a text that begins with no digit
@@ -63,31 +63,55 @@ point_reads fraction exponent f e =
     (refl, rw front (sym (take-append_seam fraction exponent)), rw front (sym (drop-append_seam fraction exponent)))
 
 -- either of them
-rest_reads : (point fraction exponent : List ℕ) → IsPoint point fraction → AllDigits 10 fraction → is_exponent exponent ≡ true → RestReads (point ++ (fraction ++ exponent)) fraction exponent
+rest_reads : (point fraction exponent : List ℕ) → IsDot point fraction → AllDigits 10 fraction → is_exponent exponent ≡ true → RestReads (point ++ (fraction ++ exponent)) fraction exponent
 rest_reads point fraction exponent (inl p) f e = rw (p.0, p.1) (exponent_reads exponent e)
 rest_reads point fraction exponent (inr p) f e = rw p (point_reads fraction exponent f e)
+
+-- what reads the parts of a spelling without its sign
+record BodyReads (text whole fraction exponent : List ℕ) : Type 0 where
+  is_whole : whole ≡ whole_part text
+  is_fraction : fraction ≡ fraction_part text
+  is_exponent_part : exponent ≡ exponent_part text
+
+body_parts : (whole rest fraction exponent : List ℕ) → AllDigits 10 whole → RestReads rest fraction exponent → BodyReads (whole ++ rest) whole fraction exponent
+body_parts whole rest fraction exponent w r =
+    let text = whole ++ rest in
+    let front = front_stops whole rest w r.0 in
+    let after : after_digits text ≡ rest = rw front (drop-append_seam whole rest) in
+    record {
+      is_whole = rw front (sym (take-append_seam whole rest));
+      is_fraction = rw after r.1;
+      is_exponent_part = rw after r.2;
+    }
 
 -- the parts of a spelling without its sign
 body_reads : (whole rest fraction exponent : List ℕ) → AllDigits 10 whole → RestReads rest fraction exponent → 0 < length (whole ++ fraction) → is_exponent exponent ≡ true → is_unsigned_numeral (whole ++ rest) ≡ true
 body_reads whole rest fraction exponent w r d e =
-    let text = whole ++ rest in
-    let front = front_stops whole rest w r.0 in
-    let is_whole : whole ≡ whole_part text = rw front (sym (take-append_seam whole rest)) in
-    let after : after_digits text ≡ rest = rw front (drop-append_seam whole rest) in
-    let is_fraction : fraction ≡ fraction_part text = rw after r.1 in
-    let is_tail : exponent ≡ exponent_part text = rw after r.2 in
+    let parts = body_parts whole rest fraction exponent w r in
     let has : nat_lt 0 (length (whole ++ fraction)) ≡ true = grind (arith, nat_tests) in
-    some_digit text whole fraction exponent is_whole is_fraction is_tail has ∙ e
+    some_digit (whole ++ rest) whole fraction exponent parts.is_whole parts.is_fraction parts.is_exponent_part has ∙ e
 
 -- without whole digits a spelling begins with a point
-begins_with_point : (point fraction exponent : List ℕ) → IsPoint point fraction → 0 < length fraction → without_leading_sign (point ++ (fraction ++ exponent)) ≡ point ++ (fraction ++ exponent)
+begins_with_point : (point fraction exponent : List ℕ) → IsDot point fraction → 0 < length fraction → without_leading_sign (point ++ (fraction ++ exponent)) ≡ point ++ (fraction ++ exponent)
 begins_with_point point fraction exponent (inl p) d = absurd (omega (arith, d, ap length p.1))
 begins_with_point point fraction exponent (inr p) d = rw p refl
 
 -- the body of a spelling begins with no sign
-body_unsigned : (whole point fraction exponent : List ℕ) → AllDigits 10 whole → IsPoint point fraction → 0 < length (whole ++ fraction) → without_leading_sign (whole ++ (point ++ (fraction ++ exponent))) ≡ whole ++ (point ++ (fraction ++ exponent))
+body_unsigned : (whole point fraction exponent : List ℕ) → AllDigits 10 whole → IsDot point fraction → 0 < length (whole ++ fraction) → without_leading_sign (whole ++ (point ++ (fraction ++ exponent))) ≡ whole ++ (point ++ (fraction ++ exponent))
 body_unsigned [] point fraction exponent w p d = begins_with_point point fraction exponent p d
 body_unsigned (c ∷ cs) point fraction exponent w p d = (digit_first (c ∷ cs) (point ++ (fraction ++ exponent)) w (omega arith)).1
+
+-- the body of a spelling begins with no minus
+body_positive : (whole point fraction exponent : List ℕ) → AllDigits 10 whole → IsDot point fraction → 0 < length (whole ++ fraction) → starts_with_minus (whole ++ (point ++ (fraction ++ exponent))) ≡ false
+body_positive [] point fraction exponent w (inl p) d = absurd (omega (arith, d, ap length p.1))
+body_positive [] point fraction exponent w (inr p) d = rw p refl
+body_positive (c ∷ cs) point fraction exponent w p d = (digit_first (c ∷ cs) (point ++ (fraction ++ exponent)) w (omega arith)).0
+
+-- a minus sign is read as one
+minus_read : (sign body : List ℕ) → IsSign sign → starts_with_minus body ≡ false → starts_with_minus (sign ++ body) ≡ is_minus sign
+minus_read sign body (inl s) b = rw s b
+minus_read sign body (inr (inl s)) b = rw s refl
+minus_read sign body (inr (inr s)) b = rw s refl
 
 -- a sign in front is taken off
 sign_off : (sign body : List ℕ) → IsSign sign → without_leading_sign body ≡ body → without_leading_sign (sign ++ body) ≡ body
@@ -102,6 +126,23 @@ spelled_is_numeral s h =
     let body = s.whole ++ rest in
     let off = sign_off s.sign body h.sign (body_unsigned s.whole s.point s.fraction s.exponent h.whole h.point h.digit) in
     ap is_unsigned_numeral off ∙ body_reads s.whole rest s.fraction s.exponent h.whole (rest_reads s.point s.fraction s.exponent h.point h.fraction h.exponent) h.digit h.exponent
+
+-- a value by a sign and a body
+by_parts : (m n : Bool) (bs cs : List ℕ) → m ≡ n → bs ≡ cs → with_sign m (unsigned_raw bs) ≡ with_sign n (unsigned_raw cs)
+by_parts m n bs cs p q = ap (λ (b : Bool). with_sign b (unsigned_raw bs)) p ∙ ap (λ (b : List ℕ). with_sign n (unsigned_raw b)) q
+
+-- what is spelled has the value of its parts
+pub spelled_value : (s : Spelling) → IsSpelling s → numeral (spelled s) ≡ Some (spelling_value s)
+spelled_value s h =
+    let rest = s.point ++ (s.fraction ++ s.exponent) in
+    let body = s.whole ++ rest in
+    let off = sign_off s.sign body h.sign (body_unsigned s.whole s.point s.fraction s.exponent h.whole h.point h.digit) in
+    let minus = minus_read s.sign body h.sign (body_positive s.whole s.point s.fraction s.exponent h.whole h.point h.digit) in
+    let parts = body_parts s.whole rest s.fraction s.exponent h.whole (rest_reads s.point s.fraction s.exponent h.point h.fraction h.exponent) in
+    let size = raw_by_parts body s.whole s.fraction s.exponent (exponent_of s.exponent) parts.is_whole parts.is_fraction parts.is_exponent_part refl in
+    let is = spelled_is_numeral s h in
+    let value : numeral_value (spelled s) ≡ spelling_value s = by_parts (starts_with_minus (spelled s)) (is_minus s.sign) (without_leading_sign (spelled s)) body minus off ∙ ap (with_sign (is_minus s.sign)) (sym size) in
+    rw is (ap Some value)
 
 -- the sign in front of a token
 abbrev SignOf : List ℕ → List ℕ → Type 0
@@ -124,7 +165,7 @@ sign_split (c ∷ cs) = sign_by_first c cs (eqb c 45) (eqb c 43) refl refl
 
 -- the point in front of a text
 abbrev PointOf : List ℕ → List ℕ → List ℕ → Type 0
-PointOf rest fraction exponent = (point : List ℕ) × IsPoint point fraction × (point ++ (fraction ++ exponent) ≡ rest)
+PointOf rest fraction exponent = (point : List ℕ) × IsDot point fraction × (point ++ (fraction ++ exponent) ≡ rest)
 
 -- the point in front of a text, by its first byte
 point_by_first : (c : ℕ) (cs : List ℕ) (b : Bool) → b ≡ eqb c 46 → PointOf (c ∷ cs) (cond b (front_digits cs) []) (cond b (after_digits cs) (c ∷ cs))

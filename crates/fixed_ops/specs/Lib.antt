@@ -1,11 +1,16 @@
 pub mod Arity
+pub mod CountLaws
 pub mod Counts
 pub mod Floor
+pub mod Laws
 pub mod NumberTexts
 pub mod Numerals
 pub mod OpNames
 pub mod Operations
+pub mod Points
 pub mod Quotient
 pub mod Raw
+pub mod ResultLaws
 pub mod Root
+pub mod RoundingLaws
 pub mod Spelling

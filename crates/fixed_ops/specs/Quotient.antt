@@ -1,5 +1,5 @@
 -- Quotients of raw numbers.
-use Rattle.std.specs.Prelude.{◌^◌, ℤ, pos, negsuc, ◌*ℤ◌}
+use Rattle.std.specs.Prelude.{◌^◌, ℤ, pos, negsuc, ◌+ℤ◌, ◌*ℤ◌, ◌≤ℤ◌, ◌<ℤ◌}
 use Prim.Native.Nat.{zero, suc}
 use lib.IntN.{neg_ℤ}
 use Rattle.fixed_ops.specs.Raw.{greatest, least, clamp, floor_div}
@@ -15,3 +15,8 @@ abbrev pub quotient_of : ℤ → ℤ → ℤ
 quotient_of a (pos zero) = over_zero a
 quotient_of a (pos (suc d)) = clamp (floor_div (a *ℤ pos (2 ^ 32)) (suc d))
 quotient_of a (negsuc d) = clamp (floor_div (neg_ℤ a *ℤ pos (2 ^ 32)) (suc d))
+
+-- q is the greatest whole number that is at most t / b, for b other than 0
+pub record IsRoundedDown (t b q : ℤ) : Type 0 where
+  pub positive : pos 0 <ℤ b → ((q *ℤ b) ≤ℤ t) × (t <ℤ ((q +ℤ pos 1) *ℤ b))
+  pub negative : b <ℤ pos 0 → (t ≤ℤ (q *ℤ b)) × (((q +ℤ pos 1) *ℤ b) <ℤ t)

@@ -1,5 +1,6 @@
--- Raw numbers. A value is a whole number v of at most 2^62 - 1 on either side of 0, and means v / 2^32.
-use Rattle.std.specs.Prelude.{ℕ, ◌-◌, ◌/◌, ◌^◌, ℤ, pos, negsuc, ◌≤ℤ◌, ◌<ℤ◌}
+-- Raw numbers. A value is a whole number v of at most 2^62 - 1 on either side of 0,
+-- and means v / 2^32.
+use Rattle.std.specs.Prelude.{ℕ, ◌-◌, ◌/◌, ◌^◌, ℤ, pos, negsuc, ◌≤ℤ◌, Bool, IsTrue, int_lt}
 use Rattle.std.specs.Int.{int_max, int_min}
 use lib.IntN.{neg_ℤ}
 
@@ -25,5 +26,8 @@ floor_div (pos n) d = pos (n / d)
 floor_div (negsuc n) d = negsuc (n / d)
 
 -- a value below 0 is inside the solid, and 0 is outside
+abbrev pub is_inside : ℤ → Bool
+is_inside v = int_lt v (pos 0)
+
 abbrev pub IsInside : ℤ → Type 0
-IsInside v = v <ℤ pos 0
+IsInside v = IsTrue (is_inside v)

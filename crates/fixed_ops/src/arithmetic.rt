@@ -1,6 +1,6 @@
 // The operations at a point.
 ghost use Rattle.std.specs.Prelude.{◌≡◌};
-ghost use Rattle.fixed_ops.specs.Counts.{raised};
+ghost use Rattle.fixed_ops.specs.Counts.{corners_of, points_of, RisesBy};
 ghost use Rattle.fixed_ops.specs.Operations.{op_result};
 ghost use Rattle.fixed_ops.specs.Raw.{IsRaw};
 ghost use Rattle.fixed_ops.specs.Root.{IsRawRoot};
@@ -10,16 +10,29 @@ use crate::root::root;
 use crate::rounding::{clamped, product};
 use crate::{Fx, Op, Tally};
 
-/// The result of an operation on two numbers, counted as one evaluation at a point. A coordinate or a
-/// constant is handed in as `a` and comes back as it is.
+/// The result of an operation on two numbers, counted as one evaluation at a point. A coordinate
+/// or a constant is handed in as `a` and comes back as it is.
 #[inline]
-#[tactic(auto, using(crate::proofs::RootLaws::root_of_is_root))]
+#[tactic(auto, using(crate::specs::ResultLaws::root_of_is_root))]
 pub fn apply(op: Op, a: Fx, b: Fx, tally: &mut Tally) -> Fx
     ensures value { result ≡ op_result op a b }
     ensures root { op ≡ Op.Sqrt → IsRawRoot a result }
-    ensures counted { tally.new ≡ record tally.old { points = raised tally.old.points 1 } }
+    ensures counted { RisesBy tally.old tally.new (points_of 1) }
 {
     tally.count_point();
+    Fx::from_raw(raw_result(op, a.raw(), b.raw()))
+}
+
+/// The result of an operation on two numbers, counted as one corner of a hull. It is the number that
+/// `apply` gives.
+#[inline]
+#[tactic(auto, using(crate::specs::ResultLaws::root_of_is_root))]
+pub fn corner(op: Op, a: Fx, b: Fx, tally: &mut Tally) -> Fx
+    ensures value { result ≡ op_result op a b }
+    ensures root { op ≡ Op.Sqrt → IsRawRoot a result }
+    ensures counted { RisesBy tally.old tally.new (corners_of 1) }
+{
+    tally.count_corner();
     Fx::from_raw(raw_result(op, a.raw(), b.raw()))
 }
 

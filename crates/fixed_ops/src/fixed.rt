@@ -1,10 +1,12 @@
 // A number of the modeller.
-ghost use Rattle.std.specs.Prelude.{◌≡◌, ◌≤ℤ◌, ◌<ℤ◌, ◌↔◌, IsTrue};
-ghost use Rattle.fixed_ops.specs.Raw.{IsRaw, IsInside};
+ghost use Rattle.std.specs.Prelude.{◌≡◌, ◌≤ℤ◌, ◌<ℤ◌, ◌↔◌, IsTrue, pos};
+ghost use Rattle.std.specs.Int.{int_max};
+ghost use Rattle.fixed_ops.specs.Raw.{IsRaw, IsInside, is_inside};
 
 use std::marker::Model;
 
-/// A number v / 2^32, which contracts see as its raw number v. It is at most 2^62 - 1 on either side of 0.
+/// A number v / 2^32, which contracts see as its raw number v. It is at most 2^62 - 1 on either
+/// side of 0.
 #[derive(Clone, Copy, Debug, PartialEq, Eq)]
 pub struct Fx {
     raw: i64,
@@ -49,9 +51,18 @@ impl Fx {
 /// Whether a point with this value is inside the solid. The value 0 is outside.
 #[inline]
 pub fn is_inside(a: Fx) -> bool
-    ensures { IsTrue result ↔ IsInside a }
+    ensures value { result ≡ is_inside a }
+    ensures inside { IsTrue result ↔ IsInside a }
 {
     a.raw() < 0
+}
+
+/// The greater of a number and 0, which is outside wherever a border closes a solid.
+#[inline]
+pub fn border(a: Fx) -> Fx
+    ensures { result ≡ int_max a (pos 0) }
+{
+    Fx::from_raw(a.raw().max(0))
 }
 
 /// Whether a is at most b.

@@ -1,10 +1,11 @@
-//! The modeller's numbers: whole numbers of 2^-32 within a fixed range, their operations, how they are read and
-//! written, and the tally of work.
+//! The modeller's numbers: whole numbers of 2^-32 within a fixed range, their operations, how they
+//! are read and written, and the tally of work.
 #![tactic(auto)]
 
 mod arithmetic;
 mod digits;
 mod fixed;
+mod laws;
 mod number_text;
 mod numeral;
 mod op_names;
@@ -14,13 +15,14 @@ mod root;
 mod rounding;
 mod tally;
 
-pub use arithmetic::apply;
-pub use fixed::{Fx, is_inside, le, lt};
+pub use arithmetic::{apply, corner};
+pub use fixed::{Fx, border, is_inside, le, lt};
+pub use laws::{clamps, floors, quotients, raw_results, spelled_values};
 pub use number_text::{write_number, write_raw};
 pub use numeral::{BadNumeral, read_numeral, read_raw};
 pub use op_names::{op_name, read_op};
 pub use operation::{Op, arity};
-pub use tally::Tally;
+pub use tally::{Tally, count_span};
 
 #[cfg(test)]
 mod tests;

@@ -19,7 +19,7 @@ pub(crate) fn root(a: i64) -> i64
 }
 
 // The square root of n * 2^32, rounded down.
-#[tactic(auto, using(crate::proofs::RootLaws::root_is))]
+#[tactic(auto, using(crate::specs::ResultLaws::root_is))]
 fn root_of_size(n: u64) -> u64
     requires positive { 0 < n }
     requires size { n < 2 ^ 62 }

@@ -34,7 +34,7 @@ fn exact_product(a: i64, b: i64) -> i128
 
 // The whole number of 2^-32 below a whole number of 2^-64.
 #[inline]
-#[tactic(auto, using(crate::proofs::FloorLaws::floor_div_is_floor))]
+#[tactic(auto, using(crate::specs::RoundingLaws::floor_div_is_floor))]
 fn floored(v: i128) -> i128
     ensures value { result ≡ floor_div v (2 ^ 32) }
     ensures floor { IsFloor v (2 ^ 32) result }

@@ -1,11 +1,11 @@
 // The counts of the work done.
 ghost use Rattle.std.specs.Prelude.{◌≡◌};
-ghost use Rattle.fixed_ops.specs.Counts.{raised, no_counts, joined};
+ghost use Rattle.fixed_ops.specs.Counts.{no_counts, points_of, spans_of, corners_of, RisesBy};
 
 use std::marker::Model;
 
-/// How much work was done: evaluations of a clause at points, hulls over boxes, and corners of hulls.
-/// Each count stands still at 2^64 - 1.
+/// How much work was done: evaluations of a clause at points, hulls over boxes, and corners of
+/// hulls. Each count stands still at 2^64 - 1.
 #[derive(Debug, Drop)]
 pub struct Tally {
     points: u64,
@@ -59,7 +59,7 @@ impl Tally {
 
     /// Adds each count of another tally.
     pub fn join(&mut self, other: &Tally)
-        ensures { self.new ≡ joined self.old other.now }
+        ensures { RisesBy self.old self.new other.now }
     {
         self.points = self.points.saturating_add(other.points);
         self.spans = self.spans.saturating_add(other.spans);
@@ -69,8 +69,24 @@ impl Tally {
     // One more evaluation at a point.
     #[inline]
     pub(crate) fn count_point(&mut self)
-        ensures { self.new ≡ record self.old { points = raised self.old.points 1 } }
+        ensures { RisesBy self.old self.new (points_of 1) }
     {
         self.points = self.points.saturating_add(1);
     }
+
+    // One more corner of a hull.
+    #[inline]
+    pub(crate) fn count_corner(&mut self)
+        ensures { RisesBy self.old self.new (corners_of 1) }
+    {
+        self.corners = self.corners.saturating_add(1);
+    }
+}
+
+/// Counts one more hull over a box.
+#[inline]
+pub fn count_span(tally: &mut Tally)
+    ensures { RisesBy tally.old tally.new (spans_of 1) }
+{
+    tally.spans = tally.spans.saturating_add(1);
 }

@@ -226,6 +226,32 @@ fn arity_leaves_out_coordinates_and_constants(rt: HostRuntime) {
 }
 
 #[test]
+fn corners_and_hulls_are_counted_by_themselves(rt: HostRuntime) {
+    let mut tally = Tally::new();
+    let six = corner(Op::Mul, Fx::from_raw(-2 * ONE), Fx::from_raw(3), &mut tally);
+    count_span(&mut tally);
+    count_span(&mut tally);
+    assert_eq!(rt; six.raw(), -6);
+    assert_eq!(rt; (tally.points(), tally.spans(), tally.corners()), (0, 2, 1));
+}
+
+#[test]
+fn a_border_is_never_inside(rt: HostRuntime) {
+    for (value, closed) in [
+        (-GREATEST, 0),
+        (-1, 0),
+        (0, 0),
+        (1, 1),
+        (GREATEST, GREATEST),
+    ] {
+        assert_eq!(rt;
+            number(value).map(|value| border(value).raw()),
+            Some(closed)
+        );
+    }
+}
+
+#[test]
 fn a_joined_tally_stands_still_at_the_top(rt: HostRuntime) {
     let (mut a, mut b) = (Tally::new(), Tally::new());
     let _sum = apply(Op::Add, Fx::from_raw(1), Fx::from_raw(2), &mut a);

@@ -1,0 +1,6 @@
+-- The law of clamps is a lemma.
+use Rattle.fixed_ops.specs.RoundingLaws.{clamp_is}
+use Rattle.fixed_ops.proofs.laws.clamps.Goals as goal
+
+pub returns : goal.returns
+returns c = clamp_is

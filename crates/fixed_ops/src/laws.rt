@@ -1,0 +1,33 @@
+// What always holds of the definitions that the contracts cite.
+ghost use Rattle.fixed_ops.specs.Laws.{ClampHolds, FloorHolds, OnlyFloorHolds, OnlyQuotientHolds, QuotientByZeroHolds, QuotientHolds, ResultsAreRaw, SpellingsAreRead};
+
+/// A whole number divided by one above 0 is rounded down: the quotient is the greatest whole number
+/// that is at most the exact one.
+pub fn floors()
+    ensures hold { FloorHolds }
+    ensures only { OnlyFloorHolds }
+{}
+
+/// A clamped whole number is itself within the range of raw numbers, and beyond it the end that is
+/// nearer.
+pub fn clamps()
+    ensures { ClampHolds }
+{}
+
+/// The quotient of raw numbers is the exact one, rounded down and then clamped, for divisors above
+/// and below 0. By 0 it is the greatest number, the least number or 0, by the sign of the dividend.
+pub fn quotients()
+    ensures hold { QuotientHolds }
+    ensures only { OnlyQuotientHolds }
+    ensures by_zero { QuotientByZeroHolds }
+{}
+
+/// The result of an operation on raw numbers is a raw number.
+pub fn raw_results()
+    ensures { ResultsAreRaw }
+{}
+
+/// A numeral has the value of the parts that spell it.
+pub fn spelled_values()
+    ensures { SpellingsAreRead }
+{}
