@@ -2,22 +2,17 @@
 use Rattle.std.proofs.Common.{◌≡◌, ℕ, ◌+◌, ◌-◌, ◌≤◌, List, ◌++◌, length, take, drop, Option, ap, sym, ◌∙◌, arith, length-append}
 use Rattle.std.proofs.KnownBytes.{Consumes-trans}
 use Rattle.std.proofs.lemmas.List.{drop-drop, take-append-drop, take_rest}
-use Rattle.std.specs.Io.KnownBytes.{Consumes}
-use Rattle.modeller_io.specs.Count.{raised}
-use Rattle.modeller_io.specs.Took.{LosesAtMost}
-
--- one raise after another
-pub raised-raised : (count m n : ℕ) → raised (raised count m) n ≡ raised count (m + n)
-raised-raised count m n = omega arith
+use Rattle.modeller_io.specs.Count.{RoseBy}
+use Rattle.modeller_io.specs.Took.{Loses, LosesAtMost}
 
 -- bytes that were read, and then those of one read more
-pub LosesAtMost-read : (a b c : Option (List ℕ)) (xs ys : List ℕ) (m n t u v most : ℕ) → Consumes a b xs → Consumes b c ys → m ≡ length xs → length ys ≡ n → raised u 0 ≡ raised t m → v ≡ raised u n → m + n ≤ most → LosesAtMost a c t v most
-LosesAtMost-read a b c xs ys m n t u v most p q long more before after within =
+pub LosesAtMost-read : {S : Type 0} (rest : S → Option (List ℕ)) (taken : S → ℕ) (a b c : S) (xs ys : List ℕ) (m n most : ℕ) → m ≡ length xs → length ys ≡ n → Loses rest a b xs → Loses rest b c ys → RoseBy taken a b m → RoseBy taken b c n → m + n ≤ most → LosesAtMost rest taken a c most
+LosesAtMost-read rest taken a b c xs ys m n most before long p q rose more within =
     let e = length-append xs ys in
     record {
       bytes = xs ++ ys;
-      lost = Consumes-trans a b c xs ys p q;
       within = omega (arith, e);
+      lost = Consumes-trans (rest a) (rest b) (rest c) xs ys p q;
       counted = rw e (omega arith);
     }
 

@@ -1,14 +1,24 @@
--- What a write does to the bytes that a sink holds, where it tells them.
+-- What a call does to the bytes that a sink holds, where the sink tells them.
 use Rattle.std.specs.Prelude.{◌≡◌, ℕ, ◌≤◌, List, ◌++◌, length, take, Option, Some, None, ⊤}
 
--- Where the sink tells its bytes after the call, it told them before, and they grew by these at their end.
-abbrev pub Gains : Option (List ℕ) → Option (List ℕ) → List ℕ → Type 0
-Gains before None bytes = ⊤
-Gains None (Some after) bytes = ⊥
-Gains (Some before) (Some after) bytes = after ≡ before ++ bytes
+-- What is told after is what was told before and then these bytes. Nothing told after says nothing,
+-- and what was not told before is not told after.
+abbrev pub Extends : Option (List ℕ) → Option (List ℕ) → List ℕ → Type 0
+Extends before None bytes = ⊤
+Extends None (Some after) bytes = ⊥
+Extends (Some before) (Some after) bytes = after ≡ before ++ bytes
 
--- the sink took some of these bytes, from their front
-pub record GainsPrefix (before after : Option (List ℕ)) (bytes : List ℕ) : Type 0 where
+-- where the sink tells what it holds after the call, it told before, and it grew by exactly these bytes
+abbrev pub Gains : {K : Type 0} → (K → Option (List ℕ)) → K → K → List ℕ → Type 0
+Gains held before after bytes = Extends (held before) (held after) bytes
+
+-- it grew by a front of these bytes
+pub record GainsPrefix {K : Type 0} (held : K → Option (List ℕ)) (before after : K) (bytes : List ℕ) : Type 0 where
   pub count : ℕ
   pub within : count ≤ length bytes
-  pub gained : Gains before after (take count bytes)
+  pub gained : Gains held before after (take count bytes)
+
+-- it grew by some bytes
+pub record Grew {K : Type 0} (held : K → Option (List ℕ)) (before after : K) : Type 0 where
+  pub bytes : List ℕ
+  pub gained : Gains held before after bytes

@@ -1,8 +1,14 @@
--- What contracts see of a sink in memory.
+-- What contracts see of the sinks in memory.
 use Rattle.std.specs.Prelude.{ℕ, List, ◌+◌, ◌++◌, length, Option, Some, None, if◌then◌else◌, nat_le}
 
--- the bytes held where it tells them, the most that it can hold, the counts of faults and calls,
--- the most bytes a call, and the calls that fail
+-- of one that never fails: the bytes held where it tells them, the most that it can hold, and the
+-- most bytes that a call takes
+pub record SureSinkView : Type 0 where
+  pub held : Option (List ℕ)
+  pub room : ℕ
+  pub chunk : ℕ
+
+-- of one that fails at chosen calls: also the counts of faults and of calls, and the calls that fail
 pub record SinkView : Type 0 where
   pub held : Option (List ℕ)
   pub room : ℕ

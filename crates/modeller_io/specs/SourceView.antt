@@ -1,7 +1,13 @@
--- What contracts see of a source in memory.
-use Rattle.std.specs.Prelude.{ℕ, List}
+-- What contracts see of the sources in memory.
+use Rattle.std.specs.Prelude.{ℕ, List, min, length}
 
--- the bytes left, the counts of bytes, faults and calls, the most bytes a call, and the calls that fail
+-- of one that never fails: the bytes left, how many were read, and the most bytes that a call gives
+pub record SureSourceView : Type 0 where
+  pub rest : List ℕ
+  pub taken : ℕ
+  pub chunk : ℕ
+
+-- of one that fails at chosen calls: also the counts of faults and of calls, and the calls that fail
 pub record SourceView : Type 0 where
   pub rest : List ℕ
   pub taken : ℕ
@@ -9,3 +15,7 @@ pub record SourceView : Type 0 where
   pub calls : ℕ
   pub chunk : ℕ
   pub fails : List ℕ
+
+-- how many bytes a call gives: as many as the buffer, the chunk and what is left allow
+abbrev pub given : ℕ → ℕ → List ℕ → ℕ
+given room chunk rest = min (min room chunk) (length rest)

@@ -2,14 +2,16 @@
 #![tactic(auto)]
 
 mod failed;
+mod fault_script;
 mod mem_sink;
 mod mem_source;
 mod read_end;
 mod read_source;
 mod reading;
-mod script;
 mod sink;
 mod source;
+mod sure_sink;
+mod sure_source;
 mod write_sink;
 mod writing;
 
@@ -21,6 +23,8 @@ pub use read_source::ReadSource;
 pub use reading::read_all;
 pub use sink::Sink;
 pub use source::Source;
+pub use sure_sink::SureSink;
+pub use sure_source::SureSource;
 pub use write_sink::WriteSink;
 pub use writing::write_all;
 

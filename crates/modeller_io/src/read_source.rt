@@ -1,7 +1,7 @@
 // The edge to the outside: a reader of std as a source.
 ghost use Rattle.std.specs.Prelude.{◌≡◌, ◌<◌, ◌≤◌, length, take, None, Ok, IfOk, OnOk, OnErr};
 ghost use Rattle.std.specs.Io.KnownBytes.{Consumes, IsAtEnd, Keeps};
-ghost use Rattle.modeller_io.specs.Count.{last_count, raised, Rose};
+ghost use Rattle.modeller_io.specs.Count.{last_count, RoseBy, Stands};
 ghost use Rattle.modeller_io.specs.ReadSource.{reader_of, bytes_read, read_faults};
 
 use crate::{Failed, Source};
@@ -42,16 +42,13 @@ impl<R: Read> Source for ReadSource<R> {
     #[inline]
     fn read(&mut self, buf: &mut [u8]) -> Result<usize, Failed>
         ensures within { IfOk result (λ count. count ≤ length buf.new) }
-        ensures took { IfOk result (λ count.
-            bytes_read self.new ≡ raised (bytes_read self.old) count) }
+        ensures took { IfOk result (λ count. RoseBy bytes_read self.old self.new count) }
         ensures stops { bytes_read self.new ≤ last_count }
-        ensures no_fault { OnOk result (read_faults self.new ≡ read_faults self.old) }
-        ensures cause { OnErr result (Rose (read_faults self.old) (read_faults self.new)) }
-        ensures err { OnErr result (bytes_read self.new ≡ bytes_read self.old) }
-        ensures never_falls { read_faults self.old ≤ read_faults self.new }
+        ensures no_fault { OnOk result (Stands read_faults self.old self.new) }
+        ensures cause { OnErr result (RoseBy read_faults self.old self.new 1) }
+        ensures err { OnErr result (Stands bytes_read self.old self.new) }
 
-        // What the trait leaves open.
-        ensures fault { OnErr result (read_faults self.new ≡ raised (read_faults self.old) 1) }
+        // What the reader gave, where it tells what is left.
         ensures reader { IfOk result (λ count. Consumes
             (R.remaining (reader_of self.old)) (R.remaining (reader_of self.new))
             (take count buf.new)) }

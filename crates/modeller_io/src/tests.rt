@@ -3,7 +3,8 @@
 ghost use Rattle.std.specs.Prelude.{◌≤◌, IfOk};
 
 use crate::{
-    Failed, MemSink, MemSource, ReadEnd, ReadSource, Sink, Source, WriteSink, read_all, write_all,
+    Failed, MemSink, MemSource, ReadEnd, ReadSource, Sink, Source, SureSink, SureSource, WriteSink,
+    read_all, write_all,
 };
 use std::io;
 use std::io::{ErrorKind, Read, Write};
@@ -58,6 +59,19 @@ fn a_sink_in_memory_holds_what_it_took_where_it_fits(rt: HostRuntime) -> Result<
             (Some(bytes), Some(count)) => assert_eq!(rt; bytes, &TEXT[..count]),
             (told, _) => assert!(rt; told.is_none() && held.is_none()),
         }
+    }
+    Ok(())
+}
+
+#[test]
+fn what_never_fails_moves_all_the_bytes(rt: HostRuntime) -> Result<(), Fail> {
+    let mut source = SureSource::new(TEXT.to_vec(rt.alloc())?, 7);
+    assert_eq!(rt; read_all(rt.alloc(), &mut source, 20)?.as_slice(), TEXT);
+
+    for (room, held) in [(20, Some(TEXT)), (19, None)] {
+        let mut sink = SureSink::new(7, vec![in rt.alloc(); 0; room]?);
+        assert_eq!(rt; write_all(&mut sink, TEXT), Ok(()));
+        assert_eq!(rt; sink.held(), held, "in {room}");
     }
     Ok(())
 }

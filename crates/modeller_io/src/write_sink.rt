@@ -1,8 +1,8 @@
 // The edge to the outside: a writer of std as a sink.
-ghost use Rattle.std.specs.Prelude.{◌≡◌, ◌<◌, ◌≤◌, length, take, None, Ok, IfOk, OnOk, OnErr};
+ghost use Rattle.std.specs.Prelude.{◌≡◌, ◌<◌, ◌≤◌, length, take, None, IfOk, OnOk, OnErr};
 ghost use Rattle.std.specs.Io.KnownBytes.{Appends};
-ghost use Rattle.modeller_io.specs.Count.{raised, Rose};
-ghost use Rattle.modeller_io.specs.WriteSink.{writer_of, write_faults};
+ghost use Rattle.modeller_io.specs.Count.{RoseBy, Stands};
+ghost use Rattle.modeller_io.specs.WriteSink.{writer_of, write_faults, TookFront};
 
 use crate::{Failed, Sink};
 use std::io::Write;
@@ -31,6 +31,7 @@ fn write_through<W: Write>(writer: &mut W, piece: &[u8]) -> Result<usize, Failed
     ensures progress { IfOk result (λ count. 0 < length piece.now → 0 < count) }
     ensures bytes { IfOk result (λ count.
         Appends (W.contents writer.old) (W.contents writer.new) (take count piece.now)) }
+    ensures front { OnErr result (TookFront W.contents writer.old writer.new piece.now) }
 {
     let count = writer.write(piece).map_err(|_| Failed)?;
     if count == 0 && !piece.is_empty() {
@@ -46,20 +47,20 @@ impl<W: Write> Sink for WriteSink<W> {
     ghost faults = { write_faults };
 
     /// As the trait says. A call that succeeds has flushed what it wrote, and one that fails counts
-    /// one fault.
+    /// one fault. The writer took a front of the piece at most once, also where the call fails.
     #[inline]
     fn write(&mut self, piece: &[u8]) -> Result<usize, Failed>
         ensures within { IfOk result (λ count. count ≤ length piece.now) }
         ensures progress { IfOk result (λ count. 0 < length piece.now → 0 < count) }
-        ensures no_fault { OnOk result (write_faults self.new ≡ write_faults self.old) }
-        ensures cause { OnErr result (Rose (write_faults self.old) (write_faults self.new)) }
-        ensures never_falls { write_faults self.old ≤ write_faults self.new }
+        ensures no_fault { OnOk result (Stands write_faults self.old self.new) }
+        ensures cause { OnErr result (RoseBy write_faults self.old self.new 1) }
 
-        // What the trait leaves open.
-        ensures fault { OnErr result (write_faults self.new ≡ raised (write_faults self.old) 1) }
+        // What the writer took, where it tells what it holds.
         ensures writer { IfOk result (λ count. Appends
             (W.contents (writer_of self.old)) (W.contents (writer_of self.new))
             (take count piece.now)) }
+        ensures writer_err { OnErr result
+            (TookFront W.contents (writer_of self.old) (writer_of self.new) piece.now) }
     {
         let written = write_through(&mut self.inner, piece);
         if written.is_err() {

@@ -1,4 +1,5 @@
 pub mod ModelLemmas
+pub mod NamedLemmas
 pub mod Places
 pub mod TableLemmas
 pub mod ValueLemmas

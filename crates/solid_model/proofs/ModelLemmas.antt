@@ -1,5 +1,5 @@
 -- A model stays a model when a clause is added.
-use Rattle.std.proofs.Common.{◌≡◌, ℕ, zero, suc, ◌<◌, ◌≤◌, Bool, true, false, nat_le, List, [], ◌∷◌, ◌++◌, length, ◌⊎◌, inl, inr, Option, None, Some, Result, Ok, Err, slice_get, OnOk, OnErr, refl, ap, sym, ◌∙◌, arith}
+use Rattle.std.proofs.Common.{◌≡◌, ℕ, zero, suc, ◌<◌, ◌≤◌, Bool, true, false, nat_le, List, [], ◌∷◌, ◌++◌, length, ◌⊎◌, inl, inr, Option, None, Some, Result, Ok, Err, slice_get, OnOk, OnErr, refl, ap, sym, subst, ◌∙◌, arith}
 use Rattle.std.specs.List.{list_any}
 use Rattle.std.specs.Str.{bytes_eq}
 use Rattle.std.specs.Cmp.Lexicographic.{bytes_decides}
@@ -7,11 +7,15 @@ use Rattle.std.proofs.lemmas.Bool.Decides.{nat_tests}
 use Rattle.std.proofs.lemmas.List.{length-append}
 use Rattle.std.proofs.lemmas.Option.{slice_get_past}
 use Rattle.fixed_ops.specs.Arity.{arity_of}
+use Rattle.fixed_ops.specs.Raw.{IsRaw}
 use Rattle.solid_model.specs.declared.clause.Clause.{Clause}
 use Rattle.solid_model.specs.declared.edit.EditFault.{EditFault}
+use Rattle.solid_model.specs.declared.push_fault.PushFault.{PushFault}
 use Rattle.solid_model.specs.Adding.{operand, clause_after, added}
-use Rattle.solid_model.specs.Clauses.{place_of, IsClauseAt, IsModel}
+use Rattle.solid_model.specs.Clauses.{place_of, FitsAt, IsClauseAt, AreClauses, IsModel}
+use Rattle.solid_model.specs.Names.{IsName}
 use Rattle.solid_model.specs.Parts.{Parts, IsForm}
+use Rattle.solid_model.specs.Pushing.{push_fault}
 use Rattle.solid_model.proofs.Places.{list_any-no_position, position_within}
 
 -- what stands at a place of a list with one more element
@@ -49,8 +53,9 @@ operand-within clauses (x ∷ args) (suc k) a h e = operand-within clauses args 
 operand-lacking : (clauses : List Clause) (args : List (List ℕ)) (k a : ℕ) → length args ≤ k → operand clauses args k ≡ Some a → a ≡ 0
 operand-lacking clauses args k a h e = let past = slice_get_past args k h in let is = rw past at e in (cc)
 
-IsClauseAt-end : (clauses : List Clause) (name : List ℕ) (form : Parts) (clause : Clause) → IsForm form → Matches clauses name form clause → IsClauseAt (length clauses) clause
-IsClauseAt-end clauses name form clause ok m =
+FitsAt-end : (clauses : List Clause) (name : List ℕ) (form : Parts) (clause : Clause) → IsForm form → Matches clauses name form clause
+    → FitsAt (length clauses) clause.op clause.a clause.b clause.value
+FitsAt-end clauses name form clause ok m =
     let arity : length form.args ≡ arity_of clause.op = ok.arity ∙ ap arity_of (sym m.op_is) in
     record {
       first = λ h. operand-within clauses form.args 0 clause.a (omega arith) m.first;
@@ -59,6 +64,14 @@ IsClauseAt-end clauses name form clause ok m =
       no_second = λ h. operand-lacking clauses form.args 1 clause.b (omega arith) m.second;
       no_value = λ h. m.value_is ∙ ok.no_value (λ e. h (m.op_is ∙ e));
     }
+
+IsClauseAt-end : (clauses : List Clause) (name : List ℕ) (form : Parts) (clause : Clause) → IsName name → IsForm form → Matches clauses name form clause
+    → IsClauseAt (length clauses) clause
+IsClauseAt-end clauses name form clause named ok m = record {
+  name = subst IsName (sym m.name_is) named;
+  raw = subst IsRaw (sym m.value_is) ok.raw;
+  fits = FitsAt-end clauses name form clause ok m;
+}
 
 list_any-found : {A : Type 0} (p : A → Bool) (xs : List A) (i : ℕ) (x : A) → slice_get xs i ≡ Some x → p x ≡ true → list_any p xs ≡ true
 list_any-found p [] i x e h = (cc)
@@ -72,18 +85,18 @@ no_clause_named clauses name i clause none at same =
     let absent = list_any-no_position (λ (c : Clause). bytes_eq name c.name) clauses none in
     (cc)
 
--- a clause of a new name, whose operands stand before it, makes a model of a model or of no clauses
-IsModel-push : (clauses : List Clause) (clause : Clause) → (clauses ≡ []) ⊎ IsModel clauses → length clauses < 65535 → IsClauseAt (length clauses) clause → place_of clauses clause.name ≡ None → IsModel (clauses ++ clause ∷ [])
-IsModel-push clauses clause was room fits new = record {
-  some = omega (arith, length-append clauses (clause ∷ []));
+-- a clause of a new name that may stand at the end goes there
+pub AreClauses-push : (clauses : List Clause) (clause : Clause) → AreClauses clauses → length clauses < 65535 → IsClauseAt (length clauses) clause
+    → place_of clauses clause.name ≡ None → AreClauses (clauses ++ clause ∷ [])
+AreClauses-push clauses clause was room fits new = record {
   few = omega (arith, length-append clauses (clause ∷ []));
   each = λ place c at. elim (slice_get-push clauses clause place c at) [
-    | inl old ↦ (model place c old).each place c old
+    | inl old ↦ was.each place c old
     | inr last ↦ rw (last.0, last.1) fits
   ];
   distinct = λ i j a b at_i at_j same. elim (slice_get-push clauses clause i a at_i) [
     | inl old_i ↦ elim (slice_get-push clauses clause j b at_j) [
-      | inl old_j ↦ (model i a old_i).distinct i j a b old_i old_j same
+      | inl old_j ↦ was.distinct i j a b old_i old_j same
       | inr last_j ↦ absurd (no_clause_named clauses clause.name i a new old_i (cc))
     ]
     | inr last_i ↦ elim (slice_get-push clauses clause j b at_j) [
@@ -92,49 +105,66 @@ IsModel-push clauses clause was room fits new = record {
     ]
   ];
 }
+
+-- no clauses at all are such clauses
+pub AreClauses-nil : AreClauses []
+AreClauses-nil = record {
+  few = omega arith;
+  each = λ place clause at. (cc);
+  distinct = λ i j a b at_i at_j same. (cc);
+}
+
+-- where a name has no fault it is new, and there is room
+pub no_fault : (clauses : List Clause) (name : List ℕ) → push_fault clauses name ≡ None → (place_of clauses name ≡ None) × (length clauses < 65535)
+no_fault clauses name e = by (place_of clauses name) (nat_le 65535 (length clauses)) refl refl
   where
-    model : (i : ℕ) (c : Clause) → slice_get clauses i ≡ Some c → IsModel clauses
-    model i c at = elim was [ inl none ↦ (let is = rw none at at in (cc)) | inr h ↦ h ]
+    by : (place : Option ℕ) (full : Bool) → place_of clauses name ≡ place → nat_le 65535 (length clauses) ≡ full
+        → (place_of clauses name ≡ None) × (length clauses < 65535)
+    by None false new room = (new, grind (arith, nat_tests))
+    by None true new full = let got = rw (new, full) at e in (cc)
+    by (Some at) full there is = let got = rw there at e in (cc)
 
 -- what a list of clauses is after an addition that is not refused
 record Adds (clauses : List Clause) (name : List ℕ) (form : Parts) (new : List Clause) : Type 0 where
   clause : Clause
   fits : Matches clauses name form clause
-  new_name : place_of clauses name ≡ None
-  room : length clauses < 65535
+  fault : push_fault clauses name ≡ None
   is : new ≡ clauses ++ clause ∷ []
 
 Adds-added : (clauses : List Clause) (name : List ℕ) (form : Parts) (new : List Clause) → added clauses name form ≡ Ok new → Adds clauses name form new
-Adds-added clauses name form new e = by_clause (clause_after clauses name form) refl
+Adds-added clauses name form new e = by (clause_after clauses name form) (push_fault clauses name) refl refl
   where
-    by_room : (clause : Clause) (full : Bool) → clause_after clauses name form ≡ Some clause → place_of clauses name ≡ None → nat_le 65535 (length clauses) ≡ full → Adds clauses name form new
-    by_room clause false is none room = let ok = rw (is, none, room) at e in record {
+    by : (o : Option Clause) (fault : Option PushFault) → clause_after clauses name form ≡ o → push_fault clauses name ≡ fault → Adds clauses name form new
+    by None fault is none = let ok = rw is at e in (cc)
+    by (Some clause) (Some fault) is there = let ok = rw (is, there) at e in (cc)
+    by (Some clause) None is none = let ok = rw (is, none) at e in record {
       clause = clause;
       fits = Matches-clause_after clauses name form clause is;
-      new_name = none;
-      room = grind (arith, nat_tests);
+      fault = none;
       is = (cc);
     }
-    by_room clause true is none full = let ok = rw (is, none, full) at e in (cc)
 
-    by_place : (clause : Clause) (place : Option ℕ) → clause_after clauses name form ≡ Some clause → place_of clauses name ≡ place → Adds clauses name form new
-    by_place clause None is none = by_room clause (nat_le 65535 (length clauses)) is none refl
-    by_place clause (Some at) is there = let ok = rw (is, there) at e in (cc)
-
-    by_clause : (o : Option Clause) → clause_after clauses name form ≡ o → Adds clauses name form new
-    by_clause None is = let ok = rw is at e in (cc)
-    by_clause (Some clause) is = by_place clause (place_of clauses name) is refl
-
-pub IsModel-added : (clauses : List Clause) (name : List ℕ) (form : Parts) (new : List Clause) → (clauses ≡ []) ⊎ IsModel clauses → IsForm form → added clauses name form ≡ Ok new → IsModel new
-IsModel-added clauses name form new was ok e =
+-- clauses with one more are a model
+pub IsModel-added : (clauses : List Clause) (name : List ℕ) (form : Parts) (new : List Clause) → AreClauses clauses → IsName name → IsForm form
+    → added clauses name form ≡ Ok new → IsModel new
+IsModel-added clauses name form new was named ok e =
     let a = Adds-added clauses name form new e in
-    rw a.is (IsModel-push clauses a.clause was a.room (IsClauseAt-end clauses name form a.clause ok a.fits) (ap (place_of clauses) a.fits.name_is ∙ a.new_name))
+    let free = no_fault clauses name a.fault in
+    let whole = AreClauses-push clauses a.clause was free.1 (IsClauseAt-end clauses name form a.clause named ok a.fits) (ap (place_of clauses) a.fits.name_is ∙ free.0) in
+    rw a.is (record { some = omega (arith, length-append clauses (a.clause ∷ [])); clauses_are = whole })
 
 -- a model stays one, whether the addition is made or refused
-pub IsModel-tried : (clauses : List Clause) (name : List ℕ) (form : Parts) (new : List Clause) (r : Result (Unit {0}) EditFault) → IsModel clauses → IsForm form
+pub IsModel-tried : (clauses : List Clause) (name : List ℕ) (form : Parts) (new : List Clause) (r : Result (Unit {0}) EditFault) → IsModel clauses → IsName name → IsForm form
     → OnOk r (added clauses name form ≡ Ok new) → OnErr r (new ≡ clauses) → IsModel new
-IsModel-tried clauses name form new (Ok done) was ok made kept = IsModel-added clauses name form new (inr was) ok made
-IsModel-tried clauses name form new (Err fault) was ok made kept = rw kept was
+IsModel-tried clauses name form new (Ok done) was named ok made kept = IsModel-added clauses name form new was.clauses_are named ok made
+IsModel-tried clauses name form new (Err fault) was named ok made kept = rw kept was
+
+-- clauses stay such, whether the push is made or refused
+pub AreClauses-tried : (clauses : List Clause) (clause : Clause) (new : List Clause) (r : Result (Unit {0}) PushFault) → AreClauses clauses → IsClauseAt (length clauses) clause
+    → OnOk r (push_fault clauses clause.name ≡ None) → OnOk r (new ≡ clauses ++ clause ∷ []) → OnErr r (new ≡ clauses) → AreClauses new
+AreClauses-tried clauses clause new (Ok done) was fits none made kept =
+    let free = no_fault clauses clause.name none in rw made (AreClauses-push clauses clause was free.1 fits free.0)
+AreClauses-tried clauses clause new (Err fault) was fits none made kept = rw kept was
 
 -- no clauses take no argument
 pub no_argument : (name : List ℕ) (form : Parts) (new : List Clause) → added [] name form ≡ Ok new → form.args ≡ []

@@ -8,7 +8,7 @@ use Rattle.std.specs.Global.{Vec}
 use Rattle.solid_model.specs.declared.clause.Clause.{Clause}
 use Rattle.solid_model.specs.Clauses.{place_of, names_of}
 
-prefix_len-map : {A B : Type 0} (f : A → B) (q : B → Bool) (xs : List A) → prefix_len q (map f xs) ≡ prefix_len (λ x. q (f x)) xs
+pub prefix_len-map : {A B : Type 0} (f : A → B) (q : B → Bool) (xs : List A) → prefix_len q (map f xs) ≡ prefix_len (λ x. q (f x)) xs
 prefix_len-map f q [] = refl
 prefix_len-map f q (x ∷ xs) = ap (λ n. cond (q (f x)) (1 + n) 0) (prefix_len-map f q xs)
 
@@ -16,7 +16,7 @@ prefix_len-map f q (x ∷ xs) = ap (λ n. cond (q (f x)) (1 + n) 0) (prefix_len-
 pub position-map : {A B : Type 0} (f : A → B) (p : B → Bool) (xs : List A) → position p (map f xs) ≡ position (λ x. p (f x)) xs
 position-map f p xs = simp (prefix_len-map f (λ x. not (p x)), length-map)
 
-list_any-by_place : {A : Type 0} (p : A → Bool) (xs : List A) → list_any p xs ≡ ltb (position_or_len p xs) (length xs)
+pub list_any-by_place : {A : Type 0} (p : A → Bool) (xs : List A) → list_any p xs ≡ ltb (position_or_len p xs) (length xs)
 list_any-by_place p [] = refl
 list_any-by_place p (x ∷ xs) = by (p x) (list_any-by_place p xs)
   where
@@ -24,6 +24,10 @@ list_any-by_place p (x ∷ xs) = by (p x) (list_any-by_place p xs)
         → (b || list_any p xs) ≡ ltb (cond (not b) (1 + position_or_len p xs) 0) (length (x ∷ xs))
     by true rest = grind (arith, nat_tests)
     by false rest = grind (arith, nat_tests)
+
+-- a test passes at a place exactly where it passes
+pub position-any : {A : Type 0} (p : A → Bool) (xs : List A) → position p xs ≡ cond (list_any p xs) (Some (position_or_len p xs)) None
+position-any p xs = ap (λ b. cond b (Some (position_or_len p xs)) None) (sym (list_any-by_place p xs))
 
 -- a test that passes at no place passes nowhere
 pub list_any-no_position : {A : Type 0} (p : A → Bool) (xs : List A) → position p xs ≡ None → list_any p xs ≡ false

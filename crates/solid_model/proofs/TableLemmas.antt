@@ -1,27 +1,30 @@
--- A table grows by a clause of a new name.
-use Rattle.std.proofs.Common.{◌≡◌, ℕ, ◌<◌, List, [], ◌∷◌, ◌++◌, length, map, None, ap, sym, subst, ◌∙◌, arith, if◌then◌else◌}
+-- What the set of names tells of the clauses.
+use Rattle.std.proofs.Common.{◌≡◌, ℕ, ◌<◌, true, false, cond, nat_le, List, length, Some, None, is_some, refl, ap, sym, ◌∙◌, arith}
+use Rattle.std.specs.List.{list_any, position_or_len}
+use Rattle.std.proofs.lemmas.Bool.Decides.{nat_tests}
 use Rattle.std.specs.Str.{bytes_eq}
 use Rattle.std.specs.Global.{Vec}
-use Rattle.std.proofs.lemmas.List.{map-append, length-append}
-use Rattle.indexmap.specs.IndexSet.{insert_key}
 use Rattle.solid_model.specs.declared.clause.Clause.{Clause}
-use Rattle.solid_model.specs.Clauses.{place_of, names_of}
+use Rattle.solid_model.specs.Clauses.{place_of}
 use Rattle.solid_model.specs.Tables.{IsTable}
-use Rattle.solid_model.proofs.Places.{place_of-names, list_any-no_position}
+use Rattle.solid_model.specs.declared.push_fault.PushFault.TheVariants.{DoubleName}
+use Rattle.solid_model.specs.Pushing.{push_fault}
+use Rattle.solid_model.proofs.Places.{place_of-names, position-any}
 
--- a name that no clause has goes last among the names
-insert_key-new : (clauses : List Clause) (names : List (Vec ℕ)) (name : Vec ℕ) → map (λ n. n.items) names ≡ names_of clauses → place_of clauses name.items ≡ None
-    → insert_key (λ a b. bytes_eq a.items b.items) names name ≡ names ++ name ∷ []
-insert_key-new clauses names name same new =
-    let absent = list_any-no_position (λ n. bytes_eq name.items n.items) names (place_of-names clauses names name.items same ∙ new) in
-    ap (λ there. if there then names else names ++ name ∷ []) absent
+-- a name that the set lacks stands nowhere among the clauses
+pub absent : (clauses : List Clause) (names : List (Vec ℕ)) (key : List ℕ) → IsTable clauses names
+    → list_any (λ n. bytes_eq key n.items) names ≡ false → place_of clauses key ≡ None
+absent clauses names key table none =
+    sym (place_of-names clauses names key table.same) ∙ position-any _ names ∙ ap (λ b. cond b (Some (position_or_len (λ n. bytes_eq key n.items) names)) None) none
 
-pub IsTable-push : (clauses : List Clause) (names : List (Vec ℕ)) (clause : Clause) (name : Vec ℕ) → IsTable clauses names
-    → length clauses < 65535 → name.items ≡ clause.name → place_of clauses clause.name ≡ None
-    → IsTable (clauses ++ clause ∷ []) (insert_key (λ a b. bytes_eq a.items b.items) names name)
-IsTable-push clauses names clause name table room named new =
-    let last = insert_key-new clauses names name table.same (ap (place_of clauses) named ∙ new) in
-    subst (IsTable (clauses ++ clause ∷ [])) (sym last) (record {
-      few = omega (arith, length-append clauses (clause ∷ []));
-      same = rw (map-append _ names _, map-append _ clauses _, table.same) (ap (λ n. names_of clauses ++ n ∷ []) named);
-    })
+-- and one that it has stands somewhere
+pub present : (clauses : List Clause) (names : List (Vec ℕ)) (key : List ℕ) → IsTable clauses names
+    → list_any (λ n. bytes_eq key n.items) names ≡ true → is_some (place_of clauses key) ≡ true
+present clauses names key table some =
+    ap is_some (sym (place_of-names clauses names key table.same) ∙ position-any _ names ∙ ap (λ b. cond b (Some (position_or_len (λ n. bytes_eq key n.items) names)) None) some)
+
+pub no_push_fault : (clauses : List Clause) (name : List ℕ) → place_of clauses name ≡ None → length clauses < 65535 → push_fault clauses name ≡ None
+no_push_fault clauses name new room = let free : nat_le 65535 (length clauses) ≡ false = grind (arith, nat_tests) in rw (new, free) refl
+
+pub double_name : (clauses : List Clause) (name : List ℕ) → is_some (place_of clauses name) ≡ true → push_fault clauses name ≡ Some DoubleName
+double_name clauses name there = rw there refl

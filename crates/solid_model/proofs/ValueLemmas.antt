@@ -1,38 +1,42 @@
 -- Plain values satisfy the equations of their clauses, and nothing else does.
-use Rattle.std.proofs.Common.{◌≡◌, ℕ, zero, suc, ◌+◌, ◌<◌, ◌≤◌, ℤ, pos, List, [], ◌∷◌, ◌++◌, length, get_or, fold, Some, slice_get, below_more, inl, inr, refl, ap, sym, subst, ◌∙◌, arith}
+use Rattle.std.proofs.Common.{◌≡◌, ℕ, zero, suc, ◌+◌, ◌-◌, ◌<◌, ◌≤◌, ℤ, pos, List, [], ◌∷◌, ◌++◌, length, get_or, fold, Some, slice_get, below_more, inl, inr, refl, ap, sym, subst, ◌∙◌, arith}
 use Rattle.std.proofs.lemmas.List.{length-append, get_or_append_left, ext_get_or}
+use Rattle.std.proofs.lemmas.Int.{ints}
 use Rattle.std.proofs.Math.Seq.{get_or-append_seam}
 use Rattle.std.proofs.lemmas.Option.{slice_get-get_or, slice_get_within, get_or_from_slice_get, slice_get_cases}
 use Rattle.fixed_ops.specs.declared.operation.Op.{Op}
 use Rattle.fixed_ops.specs.declared.operation.Op.TheVariants.{X, Y, Z, Const, Neg, Square, Sqrt, Abs, Add, Sub, Mul, Div, Min, Max}
 use Rattle.fixed_ops.specs.Arity.{arity_of}
 use Rattle.solid_model.specs.declared.clause.Clause.{Clause}
-use Rattle.solid_model.specs.Clauses.{IsClauseAt}
-use Rattle.solid_model.specs.Laws.{AreClauses, AreValues}
-use Rattle.solid_model.specs.Values.{Point, value_of, clause_value, values}
+use Rattle.fixed_ops.specs.Points.{Point, IsRawPoint, step_value}
+use Rattle.fixed_ops.specs.Raw.{IsRaw}
+use Rattle.fixed_ops.specs.ResultLaws.{IsRaw-op_result}
+use Rattle.solid_model.specs.Clauses.{IsClauseAt, AreInOrder}
+use Rattle.solid_model.specs.Laws.{AreValues}
+use Rattle.solid_model.specs.Values.{clause_value, values, solid_value}
 
 -- an operation reads only the operands that it has
-value_of-same : (op : Op) (p : Point) (value a b x y : ℤ) → (0 < arity_of op → a ≡ x) → (1 < arity_of op → b ≡ y) → value_of op p value a b ≡ value_of op p value x y
-value_of-same X p value a b x y first second = refl
-value_of-same Y p value a b x y first second = refl
-value_of-same Z p value a b x y first second = refl
-value_of-same Const p value a b x y first second = refl
-value_of-same Neg p value a b x y first second = let one = first (omega arith) in (cc)
-value_of-same Square p value a b x y first second = let one = first (omega arith) in (cc)
-value_of-same Sqrt p value a b x y first second = let one = first (omega arith) in (cc)
-value_of-same Abs p value a b x y first second = let one = first (omega arith) in (cc)
-value_of-same Add p value a b x y first second = let one = first (omega arith) in let two = second (omega arith) in (cc)
-value_of-same Sub p value a b x y first second = let one = first (omega arith) in let two = second (omega arith) in (cc)
-value_of-same Mul p value a b x y first second = let one = first (omega arith) in let two = second (omega arith) in (cc)
-value_of-same Div p value a b x y first second = let one = first (omega arith) in let two = second (omega arith) in (cc)
-value_of-same Min p value a b x y first second = let one = first (omega arith) in let two = second (omega arith) in (cc)
-value_of-same Max p value a b x y first second = let one = first (omega arith) in let two = second (omega arith) in (cc)
+step_value-same : (op : Op) (p : Point) (value a b x y : ℤ) → (0 < arity_of op → a ≡ x) → (1 < arity_of op → b ≡ y) → step_value op p value a b ≡ step_value op p value x y
+step_value-same X p value a b x y first second = refl
+step_value-same Y p value a b x y first second = refl
+step_value-same Z p value a b x y first second = refl
+step_value-same Const p value a b x y first second = refl
+step_value-same Neg p value a b x y first second = let one = first (omega arith) in (cc)
+step_value-same Square p value a b x y first second = let one = first (omega arith) in (cc)
+step_value-same Sqrt p value a b x y first second = let one = first (omega arith) in (cc)
+step_value-same Abs p value a b x y first second = let one = first (omega arith) in (cc)
+step_value-same Add p value a b x y first second = let one = first (omega arith) in let two = second (omega arith) in (cc)
+step_value-same Sub p value a b x y first second = let one = first (omega arith) in let two = second (omega arith) in (cc)
+step_value-same Mul p value a b x y first second = let one = first (omega arith) in let two = second (omega arith) in (cc)
+step_value-same Div p value a b x y first second = let one = first (omega arith) in let two = second (omega arith) in (cc)
+step_value-same Min p value a b x y first second = let one = first (omega arith) in let two = second (omega arith) in (cc)
+step_value-same Max p value a b x y first second = let one = first (omega arith) in let two = second (omega arith) in (cc)
 
 -- a clause has one value over lists that agree before its place
 clause_value-same : (p : Point) (xs ys : List ℤ) (place : ℕ) (clause : Clause) → IsClauseAt place clause
     → ((k : ℕ) → k < place → get_or xs k (pos 0) ≡ get_or ys k (pos 0)) → clause_value p xs clause ≡ clause_value p ys clause
 clause_value-same p xs ys place clause stands agree =
-    value_of-same clause.op p clause.value _ _ _ _ (λ h. agree clause.a (stands.first h)) (λ h. agree clause.b (stands.second h))
+    step_value-same clause.op p clause.value _ _ _ _ (λ h. agree clause.a (stands.fits.first h)) (λ h. agree clause.b (stands.fits.second h))
 
 -- the values after those of earlier clauses
 abbrev values_from : Point → List ℤ → List Clause → List ℤ
@@ -72,7 +76,7 @@ value-values_from p earlier (c ∷ cs) (suc place) clause stand at =
     rw there (value-values_from p (earlier ++ v ∷ []) cs place clause
     (λ k d h. subst (λ n. IsClauseAt n d) (omega arith) (stand (suc k) d h)) at)
 
-pub AreValues-values : (p : Point) (clauses : List Clause) → AreClauses clauses → AreValues p clauses (values p clauses)
+pub AreValues-values : (p : Point) (clauses : List Clause) → AreInOrder clauses → AreValues p clauses (values p clauses)
 AreValues-values p clauses stand = record {
   as_many = omega (arith, length-values_from p [] clauses);
   each = λ place clause at.
@@ -83,7 +87,7 @@ AreValues-values p clauses stand = record {
 }
 
 -- two lists that satisfy the equations agree
-module _ (p : Point) (clauses : List Clause) (xs ys : List ℤ) (stand : AreClauses clauses) (of_xs : AreValues p clauses xs) (of_ys : AreValues p clauses ys) where
+module _ (p : Point) (clauses : List Clause) (xs ys : List ℤ) (stand : AreInOrder clauses) (of_xs : AreValues p clauses xs) (of_ys : AreValues p clauses ys) where
   agree_at : (n : ℕ) → n < length clauses → ((k : ℕ) → k < n → get_or xs k (pos 0) ≡ get_or ys k (pos 0)) → get_or xs n (pos 0) ≡ get_or ys n (pos 0)
   agree_at n within before =
       elim (slice_get_cases clauses n).1 [
@@ -103,5 +107,44 @@ module _ (p : Point) (clauses : List Clause) (xs ys : List ℤ) (stand : AreClau
   agree : xs ≡ ys
   agree = ext_get_or (pos 0) xs ys (of_xs.as_many ∙ sym of_ys.as_many) (λ k less. agree_before (length clauses) (omega arith) k (omega (arith, of_xs.as_many)))
 
-pub values-only : (p : Point) (clauses : List Clause) (all : List ℤ) → AreClauses clauses → AreValues p clauses all → all ≡ values p clauses
+pub values-only : (p : Point) (clauses : List Clause) (all : List ℤ) → AreInOrder clauses → AreValues p clauses all → all ≡ values p clauses
 values-only p clauses all stand hold = agree p clauses all (values p clauses) stand hold (AreValues-values p clauses stand)
+
+-- one step gives a raw number from raw numbers
+IsRaw-step_value : (op : Op) (p : Point) (constant a b : ℤ) → IsRawPoint p → IsRaw constant → IsRaw a → IsRaw b → IsRaw (step_value op p constant a b)
+IsRaw-step_value X p constant a b at raw left right = at.x
+IsRaw-step_value Y p constant a b at raw left right = at.y
+IsRaw-step_value Z p constant a b at raw left right = at.z
+IsRaw-step_value Const p constant a b at raw left right = raw
+IsRaw-step_value Neg p constant a b at raw left right = IsRaw-op_result Neg a b left right
+IsRaw-step_value Square p constant a b at raw left right = IsRaw-op_result Square a b left right
+IsRaw-step_value Sqrt p constant a b at raw left right = IsRaw-op_result Sqrt a b left right
+IsRaw-step_value Abs p constant a b at raw left right = IsRaw-op_result Abs a b left right
+IsRaw-step_value Add p constant a b at raw left right = IsRaw-op_result Add a b left right
+IsRaw-step_value Sub p constant a b at raw left right = IsRaw-op_result Sub a b left right
+IsRaw-step_value Mul p constant a b at raw left right = IsRaw-op_result Mul a b left right
+IsRaw-step_value Div p constant a b at raw left right = IsRaw-op_result Div a b left right
+IsRaw-step_value Min p constant a b at raw left right = IsRaw-op_result Min a b left right
+IsRaw-step_value Max p constant a b at raw left right = IsRaw-op_result Max a b left right
+
+-- each number that a list gives is raw, also the 0 that it gives past its end
+abbrev AreRaw : List ℤ → Type 0
+AreRaw xs = (k : ℕ) → IsRaw (get_or xs k (pos 0))
+
+AreRaw-push : (xs : List ℤ) (v : ℤ) → AreRaw xs → IsRaw v → AreRaw (xs ++ v ∷ [])
+AreRaw-push [] v all raw zero = raw
+AreRaw-push [] v all raw (suc k) = all k
+AreRaw-push (x ∷ xs) v all raw zero = all 0
+AreRaw-push (x ∷ xs) v all raw (suc k) = AreRaw-push xs v (λ j. all (suc j)) raw k
+
+AreRaw-values_from : (p : Point) (earlier : List ℤ) (clauses : List Clause) → IsRawPoint p → AreRaw earlier
+    → ((k : ℕ) (c : Clause) → slice_get clauses k ≡ Some c → IsRaw c.value) → AreRaw (values_from p earlier clauses)
+AreRaw-values_from p earlier [] at all raw = all
+AreRaw-values_from p earlier (c ∷ cs) at all raw =
+    let one = IsRaw-step_value c.op p c.value _ _ at (raw 0 c refl) (all c.a) (all c.b) in
+    AreRaw-values_from p (earlier ++ clause_value p earlier c ∷ []) cs at (AreRaw-push earlier (clause_value p earlier c) all one) (λ k d h. raw (suc k) d h)
+
+pub values-raw : (p : Point) (clauses : List Clause) → IsRawPoint p → AreInOrder clauses → ((place : ℕ) → IsRaw (get_or (values p clauses) place (pos 0))) × IsRaw (solid_value p clauses)
+values-raw p clauses at stand =
+    let all = AreRaw-values_from p [] clauses at (λ k. (omega (arith, ints), omega (arith, ints))) (λ k c h. (stand k c h).raw) in
+    (all, all (length clauses - 1))

@@ -1,13 +1,14 @@
--- What adding a clause gives: a new list of clauses, or the fault for which it is refused.
-use Rattle.std.specs.Prelude.{ℕ, nat_le, List, [], ◌∷◌, ◌++◌, length, Option, Some, None, Result, Ok, Err, is_some, slice_get, if◌then◌else◌}
+-- Adding a clause by the places of its operands, as a table does it.
+use Rattle.std.specs.Prelude.{ℕ, List, [], ◌∷◌, ◌++◌, Option, Some, None, Result, Ok, Err, slice_get}
 use Rattle.std.specs.Option.{option_map_or}
 use Rattle.solid_model.specs.declared.clause.Clause.{Clause}
-use Rattle.solid_model.specs.declared.edit.Edit.{Edit}
-use Rattle.solid_model.specs.declared.edit.Edit.TheVariants.{Add}
 use Rattle.solid_model.specs.declared.edit.EditFault.{EditFault}
-use Rattle.solid_model.specs.declared.edit.EditFault.TheVariants.{UnknownName, DoubleName, Full}
+use Rattle.solid_model.specs.declared.edit.EditFault.TheVariants.{UnknownName, DoubleName, Full, NoMemory}
+use Rattle.solid_model.specs.declared.push_fault.PushFault.{PushFault}
+use Rattle.solid_model.specs.declared.push_fault.PushFault.TheVariants as push
 use Rattle.solid_model.specs.Clauses.{place_of}
 use Rattle.solid_model.specs.Parts.{Parts}
+use Rattle.solid_model.specs.Pushing.{push_fault}
 
 -- the place that an operand's name stands for, 0 where the form has no such operand, or None where it names no clause
 abbrev pub operand : List Clause → List (List ℕ) → ℕ → Option ℕ
@@ -21,17 +22,18 @@ clause_after clauses name form = both (operand clauses form.args 0) (operand cla
     both (Some a) (Some b) = Some (record { name = name; op = form.op; a = a; b = b; value = form.value })
     both a b = None
 
+-- the fault of an edit that a fault of its clause is
+abbrev pub edit_fault : PushFault → EditFault
+edit_fault push.DoubleName = DoubleName
+edit_fault push.Full = Full
+edit_fault push.NoMemory = NoMemory
+
+-- the clauses with one at their end, unless it has a fault
+abbrev pub with_clause : List Clause → Clause → Option PushFault → Result (List Clause) EditFault
+with_clause clauses clause None = Ok (clauses ++ clause ∷ [])
+with_clause clauses clause (Some fault) = Err (edit_fault fault)
+
 -- the clauses with a new one at their end, or the first fault
 abbrev pub added : List Clause → List ℕ → Parts → Result (List Clause) EditFault
-added clauses name form = with_clause (clause_after clauses name form)
-  where
-    with_clause : Option Clause → Result (List Clause) EditFault
-    with_clause None = Err UnknownName
-    with_clause (Some clause) =
-        if is_some (place_of clauses name) then Err DoubleName
-        else if nat_le 65535 (length clauses) then Err Full
-        else Ok (clauses ++ clause ∷ [])
-
--- the clauses after an edit, or the fault for which it is refused
-abbrev pub edited : List Clause → Edit → Result (List Clause) EditFault
-edited clauses (Add name form) = added clauses name form
+added clauses name form =
+    option_map_or (λ clause. with_clause clauses clause (push_fault clauses name)) (clause_after clauses name form) (Err UnknownName)

@@ -1,14 +1,13 @@
--- What always holds of plain values and of added clauses.
-use Rattle.std.specs.Prelude.{◌≡◌, ℕ, ℤ, List, [], length, ◌⊎◌, Some, Ok, slice_get}
+-- What always holds of plain values, of names and places, and of edits.
+use Rattle.std.specs.Prelude.{◌≡◌, ℕ, ℤ, pos, List, length, Some, Ok, slice_get, slice_index_or}
+use Rattle.fixed_ops.specs.Points.{Point, IsRawPoint}
+use Rattle.fixed_ops.specs.Raw.{IsRaw}
 use Rattle.solid_model.specs.declared.clause.Clause.{Clause}
-use Rattle.solid_model.specs.Adding.{added}
-use Rattle.solid_model.specs.Clauses.{IsClauseAt, IsModel}
-use Rattle.solid_model.specs.Parts.{Parts, IsForm}
-use Rattle.solid_model.specs.Values.{Point, clause_value, values}
-
--- each clause may stand at its place, so its operands stand before it
-abbrev pub AreClauses : List Clause → Type 0
-AreClauses clauses = (place : ℕ) (clause : Clause) → slice_get clauses place ≡ Some clause → IsClauseAt place clause
+use Rattle.solid_model.specs.declared.edit.Edit.{Edit}
+use Rattle.solid_model.specs.Clauses.{AreInOrder, AreClauses, IsModel}
+use Rattle.solid_model.specs.Edits.{edited, IsEdit}
+use Rattle.solid_model.specs.Named.{named_of, placed}
+use Rattle.solid_model.specs.Values.{clause_value, values, solid_value}
 
 -- The equations of plain evaluation: there is one value for each clause, and it is what the clause makes of
 -- the values of its operands, read in the same list.
@@ -18,13 +17,22 @@ pub record AreValues (p : Point) (clauses : List Clause) (all : List ℤ) : Type
 
 -- the plain values satisfy the equations
 abbrev pub PlainValuesHold : Type 0
-PlainValuesHold = (p : Point) (clauses : List Clause) → AreClauses clauses → AreValues p clauses (values p clauses)
+PlainValuesHold = (p : Point) (clauses : List Clause) → AreInOrder clauses → AreValues p clauses (values p clauses)
 
 -- and no other list does
 abbrev pub OnlyPlainValuesHold : Type 0
-OnlyPlainValuesHold = (p : Point) (clauses : List Clause) (all : List ℤ) → AreClauses clauses → AreValues p clauses all → all ≡ values p clauses
+OnlyPlainValuesHold = (p : Point) (clauses : List Clause) (all : List ℤ) → AreInOrder clauses → AreValues p clauses all → all ≡ values p clauses
 
--- a clause added to a model, or to no clauses, gives a model
-abbrev pub AddingKeepsModels : Type 0
-AddingKeepsModels = (clauses : List Clause) (name : List ℕ) (form : Parts) (new : List Clause)
-    → (clauses ≡ []) ⊎ IsModel clauses → IsForm form → added clauses name form ≡ Ok new → IsModel new
+-- at a point of raw numbers each of them is a raw number, and so is the solid's
+abbrev pub PlainValuesAreRaw : Type 0
+PlainValuesAreRaw = (p : Point) (clauses : List Clause) → IsRawPoint p → AreInOrder clauses
+    → ((place : ℕ) → IsRaw (slice_index_or (values p clauses) place (pos 0))) × IsRaw (solid_value p clauses)
+
+-- clauses by names, resolved to places, are the clauses
+abbrev pub NamesGivePlaces : Type 0
+NamesGivePlaces = (clauses : List Clause) → AreClauses clauses → placed (named_of clauses) ≡ clauses
+
+-- an edit of clauses that is not refused gives a model
+abbrev pub EditsGiveModels : Type 0
+EditsGiveModels = (clauses : List Clause) (edit : Edit) (new : List Clause)
+    → AreClauses clauses → IsEdit edit → edited clauses edit ≡ Ok new → IsModel new

@@ -1,7 +1,11 @@
 pub mod Adding
 pub mod Clauses
+pub mod Edits
 pub mod Laws
+pub mod Named
 pub mod Names
 pub mod Parts
+pub mod Pushing
+pub mod Refusals
 pub mod Tables
 pub mod Values

@@ -3,7 +3,7 @@ ghost use Rattle.std.specs.Prelude.{◌≡◌, ◌≢◌, pos, length};
 ghost use Rattle.fixed_ops.specs.Arity.{arity_of};
 
 use crate::Name;
-use fixed_ops::{Fx, Op};
+use fixed_ops::{Fx, Op, raw_range};
 use std::marker::Model;
 
 /// An operation with the names of its operands, and with the number of a constant.
@@ -36,6 +36,7 @@ impl Form {
         requires no_value { op ≢ Op.Const → value ≡ pos 0 }
         ensures { result ≡ record { op = op; args = args.items; value = value } }
     {
+        raw_range(value);
         Form { op, args, value }
     }
 }

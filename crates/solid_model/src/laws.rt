@@ -1,14 +1,18 @@
 // What always holds of the definitions that the contracts cite.
-ghost use Rattle.solid_model.specs.Laws.{PlainValuesHold, OnlyPlainValuesHold, AddingKeepsModels};
+ghost use Rattle.solid_model.specs.Laws.{PlainValuesHold, OnlyPlainValuesHold, PlainValuesAreRaw, NamesGivePlaces, EditsGiveModels};
 
-/// The plain values of clauses whose operands stand before them are the one list in which each value is what
-/// its clause makes of the values of its operands.
+/// The plain values of clauses whose operands stand before them are the one list in which each
+/// value is what its clause makes of the values of its operands. At a point of raw numbers they are
+/// raw numbers.
 pub fn plain_values()
     ensures hold { PlainValuesHold }
     ensures only { OnlyPlainValuesHold }
+    ensures raw { PlainValuesAreRaw }
 {}
 
-/// A clause added to a model, or to no clauses, gives a model.
-pub fn adding_keeps_models()
-    ensures { AddingKeepsModels }
+/// Clauses by the names of their operands give the clauses back, and an edit that is not refused
+/// gives a model.
+pub fn edits_give_models()
+    ensures places { NamesGivePlaces }
+    ensures models { EditsGiveModels }
 {}

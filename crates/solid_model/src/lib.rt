@@ -6,15 +6,19 @@ mod edit;
 mod form;
 mod laws;
 mod model;
+mod model_builder;
 mod name;
+mod push_fault;
 mod table;
 
 pub use clause::Clause;
 pub use edit::{Edit, EditFault};
 pub use form::Form;
-pub use laws::{adding_keeps_models, plain_values};
+pub use laws::{edits_give_models, plain_values};
 pub use model::Model;
+pub use model_builder::ModelBuilder;
 pub use name::{Name, NameFault};
+pub use push_fault::PushFault;
 
 #[cfg(test)]
 mod tests;

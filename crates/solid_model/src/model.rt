@@ -1,17 +1,18 @@
 // A solid as a list of clauses.
 ghost use Rattle.std.specs.Prelude.{◌≡◌, ◌≢◌, ◌<◌, [], length, slice_get, IfErr, IfOk, OnErr, OnOk};
-ghost use Rattle.solid_model.specs.Adding.{added, edited};
 ghost use Rattle.solid_model.specs.Clauses.{place_of, IsClauseAt, IsModel};
+ghost use Rattle.solid_model.specs.Edits.{edited};
+ghost use Rattle.solid_model.specs.declared.edit.Edit.TheVariants.{Add};
+ghost use Rattle.solid_model.specs.Refusals.{RefusesAs, WantsMemoryFor};
 
 use crate::table::Table;
 use crate::{Clause, Edit, EditFault, Form, Name};
 use std::alloc::Global;
 
-/// A solid: from 1 to 65,535 clauses of distinct names, each of whose operands stands before it. The last one
-/// is the output.
+/// A solid: from 1 to 65,535 clauses of distinct names, each of whose operands stands before it.
+/// The last one is the output.
 #[derive(Debug, Drop)]
 pub struct Model {
-    alloc: Global,
     table: Table,
 }
 
@@ -30,30 +31,56 @@ impl std::marker::Model for Model {
 impl Model {
     /// A model of one clause.
     ///
-    /// `UnknownName`: the form has an argument. `NoMemory`: memory was refused.
+    /// `UnknownName`: the form has an argument. `NoMemory`: memory was refused, and the form has
+    /// none.
     pub fn first(alloc: Global, name: Name, form: Form) -> Result<Model, EditFault>
-        ensures ok { IfOk result (λ model. added [] name form ≡ Ok model) }
-        ensures fault { IfErr result (λ fault. fault ≢ EditFault.NoMemory → added [] name form ≡ Err fault) }
+        ensures ok { IfOk result (λ model. edited [] (Add name form) ≡ Ok model) }
+        ensures fault { RefusesAs (edited [] (Add name form)) EditFault.NoMemory result }
+        ensures no_memory { WantsMemoryFor (edited [] (Add name form)) EditFault.NoMemory result }
         ensures no_argument { OnOk result (form.args ≡ []) }
-        ensures argument { IfErr result (λ fault. fault ≢ EditFault.NoMemory → (fault ≡ EditFault.UnknownName) × (form.args ≢ [])) }
+        ensures argument { IfErr result (λ fault. fault ≢ EditFault.NoMemory
+            → (fault ≡ EditFault.UnknownName) × (form.args ≢ [])) }
     {
         let mut table = Table::new(alloc);
-        table.add(alloc, name, form)?;
-        Ok(Model { alloc, table })
+        match table.add(name, form) {
+            Ok(()) => Ok(Model { table }),
+            Err(fault) => Err(fault),
+        }
     }
 
     /// Applies a change. After an `Err` the model is as it was, and the change is dropped.
     ///
-    /// The first of these that holds is answered. `UnknownName`: an argument names no clause. `DoubleName`: the new
-    /// name stands already. `Full`: the model has 65,535 clauses. `NoMemory` may come in place of any other answer.
+    /// The first of these that holds is answered. `UnknownName`: an argument names no clause.
+    /// `DoubleName`: the new name stands already. `Full`: the model has 65,535 clauses. `NoMemory`:
+    /// memory was refused, and none of these holds.
     pub fn apply(&mut self, edit: Edit) -> Result<(), EditFault>
         ensures ok { OnOk result (edited self.old edit ≡ Ok self.new) }
-        ensures fault { IfErr result (λ fault. fault ≢ EditFault.NoMemory → edited self.old edit ≡ Err fault) }
+        ensures fault { RefusesAs (edited self.old edit) EditFault.NoMemory result }
+        ensures no_memory { WantsMemoryFor (edited self.old edit) EditFault.NoMemory result }
         ensures err { OnErr result (self.new ≡ self.old) }
     {
         match edit {
-            Edit::Add(name, form) => self.table.add(self.alloc, name, form),
+            Edit::Add(name, form) => self.add(name, form),
         }
+    }
+
+    // Adds a clause of this name and form as the last one.
+    fn add(&mut self, name: Name, form: Form) -> Result<(), EditFault>
+        ensures ok { OnOk result (edited self.old (Add name form) ≡ Ok self.new) }
+        ensures fault { RefusesAs (edited self.old (Add name form)) EditFault.NoMemory result }
+        ensures no_memory { WantsMemoryFor (edited self.old (Add name form)) EditFault.NoMemory result }
+        ensures err { OnErr result (self.new ≡ self.old) }
+    {
+        self.table.add(name, form)
+    }
+
+    // The model of a table, whose clauses are one.
+    #[inline]
+    pub(crate) fn of(table: Table) -> Model
+        requires { IsModel table }
+        ensures { result ≡ table }
+    {
+        Model { table }
     }
 
     /// How many clauses there are.
@@ -70,7 +97,7 @@ impl Model {
     pub fn clause(&self, at: u32) -> &Clause
         requires { at < length self.now }
         ensures clause { slice_get self.now at ≡ Some result.now }
-        ensures operands_before { IsClauseAt at result.now }
+        ensures stands { IsClauseAt at result.now }
     {
         self.table.clause(at as usize)
     }

@@ -3,7 +3,7 @@ ghost use Rattle.std.specs.Prelude.{◌≡◌, ◌↔◌, IfOk, OnOk, IsErrOf};
 ghost use Rattle.std.specs.List.{list_all};
 ghost use Rattle.solid_model.specs.Names.{is_token_byte, is_name, IsName};
 
-use std::alloc::Global;
+use std::alloc::{AllocError, Global};
 use std::marker::Model;
 use thiserror::Error;
 
@@ -38,7 +38,8 @@ pub enum NameFault {
 impl Name {
     /// The name of these bytes, which are copied.
     ///
-    /// `BadName`: they are empty, have a blank or a line feed, or begin with `#`. `NoMemory`: memory was refused.
+    /// `BadName`: they are empty, have a blank or a line feed, or begin with `#`. `NoMemory`:
+    /// memory was refused.
     pub fn new(alloc: Global, bytes: &[u8]) -> Result<Name, NameFault>
         ensures ok { IfOk result (λ name. name ≡ bytes.now) }
         ensures ok_for_names { OnOk result (IsName bytes.now) }
@@ -48,7 +49,15 @@ impl Name {
         if !is_name(bytes) {
             return Err(NameFault::BadName);
         }
-        let bytes = Vec::from_slice(alloc, bytes).map_err(|_| NameFault::NoMemory)?;
+        Name::copied(alloc, bytes).map_err(|_| NameFault::NoMemory)
+    }
+
+    // The name of bytes that are known to be one.
+    pub(crate) fn copied(alloc: Global, bytes: &[u8]) -> Result<Name, AllocError>
+        requires { IsName bytes.now }
+        ensures { IfOk result (λ name. name ≡ bytes.now) }
+    {
+        let bytes = Vec::from_slice(alloc, bytes)?;
         Ok(Name { bytes })
     }
 

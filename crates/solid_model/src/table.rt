@@ -1,12 +1,16 @@
 // A list of clauses in which a name is found at once.
-ghost use Rattle.std.specs.Prelude.{◌≡◌, ◌≢◌, ◌<◌, [], ◌∷◌, ◌++◌, length, slice_get, IfErr, OnErr, OnOk};
+ghost use Rattle.std.specs.Prelude.{◌≡◌, ◌≢◌, ◌<◌, [], ◌∷◌, ◌++◌, length, slice_get, Some, None, IfErr, OnErr, OnOk};
+ghost use Rattle.std.specs.Option.{unwrap_or};
 ghost use Rattle.solid_model.specs.Adding.{added, clause_after, operand};
 ghost use Rattle.solid_model.specs.Clauses.{place_of};
+ghost use Rattle.solid_model.specs.Names.{IsName};
 ghost use Rattle.solid_model.specs.Parts.{IsForm};
+ghost use Rattle.solid_model.specs.Pushing.{push_fault};
+ghost use Rattle.solid_model.specs.Refusals.{RefusesAs, WantsMemoryFor};
 
-use crate::{Clause, EditFault, Form, Name};
+use crate::{Clause, EditFault, Form, Name, PushFault};
 use indexmap::IndexSet;
-use std::alloc::{AllocError, Global};
+use std::alloc::Global;
 use std::marker::Model;
 
 // The most clauses that a table holds.
@@ -15,6 +19,7 @@ const MOST: usize = 65_535;
 // At most 65,535 clauses, and the set of their names in the same order.
 #[derive(Debug, Drop)]
 pub(crate) struct Table {
+    alloc: Global,
     clauses: Vec<Clause>,
     names: IndexSet<Vec<u8>>,
 }
@@ -38,9 +43,16 @@ impl Table {
         ensures { result ≡ [] }
     {
         Table {
+            alloc,
             clauses: Vec::new(alloc),
             names: IndexSet::new(alloc),
         }
+    }
+
+    // The allocator.
+    #[inline]
+    pub(crate) fn alloc(&self) -> Global {
+        self.alloc
     }
 
     // How many clauses there are.
@@ -69,28 +81,27 @@ impl Table {
         Some(at as u32)
     }
 
-    // Adds a clause of this name and form as the last one. Each test comes before the first allocation.
-    pub(crate) fn add(&mut self, alloc: Global, name: Name, form: Form) -> Result<(), EditFault>
+    // Adds a clause of this name and form as the last one.
+    pub(crate) fn add(&mut self, name: Name, form: Form) -> Result<(), EditFault>
         ensures ok { OnOk result (added self.old name form ≡ Ok self.new) }
-        ensures fault { IfErr result (λ fault. fault ≢ EditFault.NoMemory → added self.old name form ≡ Err fault) }
+        ensures fault { RefusesAs (added self.old name form) EditFault.NoMemory result }
+        ensures no_memory { WantsMemoryFor (added self.old name form) EditFault.NoMemory result }
         ensures err { OnErr result (self.new ≡ self.old) }
+        ensures name { IsName name }
         ensures form { IsForm form }
     {
         let clause = self.clause_after(name, form).ok_or(EditFault::UnknownName)?;
-        if self.position(clause.name.bytes()).is_some() {
-            return Err(EditFault::DoubleName);
-        }
-        if self.len() >= MOST {
-            return Err(EditFault::Full);
-        }
-        self.push(alloc, clause).map_err(|_| EditFault::NoMemory)
+        self.push(clause)?;
+        Ok(())
     }
 
     // The clause of this name and form, whose operands stand in the table, if they all do.
     fn clause_after(&self, name: Name, form: Form) -> Option<Clause>
         ensures clause { result ≡ clause_after self.now name form }
+        ensures name { IsName name }
         ensures form { IsForm form }
     {
+        let _bytes = name.bytes();
         let Form { op, args, value } = form;
         let a = self.operand(&args, 0)?;
         let b = self.operand(&args, 1)?;
@@ -113,18 +124,49 @@ impl Table {
         }
     }
 
-    // Puts a clause of a new name last. The list has its room before the name is noted, so no step after that can
-    // fail, and the one copy of the name is the set's.
-    fn push(&mut self, alloc: Global, clause: Clause) -> Result<(), AllocError>
-        requires new { place_of self.old clause.name ≡ None }
-        requires room { length self.old < MOST }
+    // Puts a clause last. A new name is hashed once: the set says whether it was there. Where
+    // memory is refused, the name is looked up after all, since a fault of the clause goes first.
+    // The list has its room before the name is noted, so no step after that can fail, and the one
+    // copy of the name is the set's.
+    pub(crate) fn push(&mut self, clause: Clause) -> Result<(), PushFault>
+        ensures free { OnOk result (push_fault self.old clause.name ≡ None) }
         ensures ok { OnOk result (self.new ≡ self.old ++ clause ∷ []) }
+        ensures fault { IfErr result (λ fault. fault ≢ PushFault.NoMemory
+            → push_fault self.old clause.name ≡ Some fault) }
+        ensures no_memory { IfErr result (λ fault. fault ≡ PushFault.NoMemory
+            → push_fault self.old clause.name ≡ None) }
         ensures err { OnErr result (self.new ≡ self.old) }
     {
-        let name = Vec::from_slice(alloc, clause.name.bytes())?;
-        self.clauses.reserve(1)?;
-        self.names.insert(name)?;
-        self.clauses.push(clause).unwrap();
-        Ok(())
+        let name = clause.name.bytes();
+        if self.clauses.len() >= MOST {
+            return Err(self.refusal(name));
+        }
+        let Ok(key) = Vec::from_slice(self.alloc, name) else {
+            return Err(self.refusal(name));
+        };
+        if self.clauses.reserve(1).is_err() {
+            return Err(self.refusal(name));
+        }
+        match self.names.insert_full(key) {
+            Ok((_, true)) => {
+                self.clauses.push(clause).unwrap();
+                Ok(())
+            }
+            Ok((_, false)) => Err(PushFault::DoubleName),
+            Err(_) => Err(PushFault::NoMemory),
+        }
+    }
+
+    // Why a clause of this name does not go last: its fault, or else that memory was refused.
+    pub(crate) fn refusal(&self, name: &[u8]) -> PushFault
+        ensures { result ≡ unwrap_or (push_fault self.now name.now) PushFault.NoMemory }
+    {
+        if self.position(name).is_some() {
+            PushFault::DoubleName
+        } else if self.len() >= MOST {
+            PushFault::Full
+        } else {
+            PushFault::NoMemory
+        }
     }
 }

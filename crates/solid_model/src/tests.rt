@@ -1,7 +1,7 @@
 ghost use Rattle.std.specs.Prelude.{◌≡◌, ◌≢◌, pos};
 ghost use Rattle.fixed_ops.specs.Arity.{arity_of};
 
-use crate::{Edit, EditFault, Form, Model, Name, NameFault};
+use crate::{Edit, EditFault, Form, Model, ModelBuilder, Name, NameFault, PushFault};
 use fixed_ops::{Fx, Op};
 use std::alloc::Global;
 use std::test::Fail;
@@ -132,5 +132,27 @@ fn the_first_clause_has_no_argument(rt: HostRuntime) -> Result<(), Fail> {
         Ok(_) => assert!(rt; false, "an argument in the first clause"),
         Err(fault) => assert_eq!(rt; fault, EditFault::UnknownName),
     }
+    Ok(())
+}
+
+#[test]
+fn builds_a_model_by_places(rt: HostRuntime) -> Result<(), Fail> {
+    let zero = Fx::from_raw(0);
+    let mut builder = ModelBuilder::new(rt.alloc());
+    builder.push(b"x", Op::X, 0, 0, zero)?;
+    assert_eq!(rt;
+        builder.push(b"x", Op::Y, 0, 0, zero),
+        Err(PushFault::DoubleName)
+    );
+    assert_eq!(rt; builder.len(), 1);
+    if let Some(at) = builder.position(b"x") {
+        builder.push(b"s", Op::Square, at, 0, zero)?;
+    }
+    assert_eq!(rt; builder.position(b"y"), None);
+    let model = builder.finish().ok_or("no clause")?;
+    assert_eq!(rt; model.len(), 2);
+    assert_eq!(rt; model.clause(1).op, Op::Square);
+    assert_eq!(rt; model.clause(1).a, 0);
+    assert!(rt; ModelBuilder::new(rt.alloc()).finish().is_none());
     Ok(())
 }

@@ -1,8 +1,4 @@
-use Rattle.std.proofs.Common.{◌+◌, ◌*◌, ◌<◌}
 use Rattle.fixed_ops.proofs.root.lowered.Given as goal
-
-abbrev pub invariant-loop-root : goal.invariant-loop-root
-invariant-loop-root l = l.n < (l.root + 1) * (l.root + 1)
 
 abbrev pub decreases-loop-root : goal.decreases-loop-root
 decreases-loop-root l = l.root

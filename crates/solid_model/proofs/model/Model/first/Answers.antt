@@ -1,16 +1,32 @@
--- The table of one clause is a model, and its form has no argument.
-use Rattle.std.proofs.Common.{◌≡◌, [], Ok, inl, refl, arith}
+-- The table of one clause is a model, its form has no argument, and adding by places is the edit by names.
+use Rattle.std.proofs.Common.{◌≡◌, [], Ok, Err, IsOk, subst, ◌∙◌, arith}
 use Rattle.std.proofs.lemmas.Grind.{common_steps}
 use Rattle.solid_model.specs.Adding.{added}
-use Rattle.solid_model.proofs.ModelLemmas.{IsModel-added, no_argument}
+use Rattle.solid_model.proofs.ModelLemmas.{AreClauses-nil, IsModel-added, no_argument}
+use Rattle.solid_model.proofs.NamedLemmas.{edited-added}
 use Rattle.solid_model.proofs.model.Model.first.Goals as goal
 
 pub invariant_of-result : goal.invariant_of-result
 invariant_of-result c =
     let made : added [] c.args.name c.args.form ≡ Ok c.add.new.self = grind (arith, common_steps) in
-    IsModel-added [] c.args.name c.args.form _ (inl refl) c.add.ensures.form made
+    IsModel-added [] c.args.name c.args.form _ AreClauses-nil c.add.ensures.name c.add.ensures.form made
 
-pub returns-clause-no_argument : goal.returns-clause-no_argument
-returns-clause-no_argument c =
+pub returns-in-Ok-clause-ok : goal.returns-in-Ok-clause-ok
+returns-in-Ok-clause-ok c =
+    let made : added [] c.args.name c.args.form ≡ Ok c.add.new.self = grind (arith, common_steps) in
+    edited-added [] c.args.name c.args.form AreClauses-nil c.add.ensures.form ∙ made
+
+pub returns-in-Ok-clause-no_argument : goal.returns-in-Ok-clause-no_argument
+returns-in-Ok-clause-no_argument c =
     let made : added [] c.args.name c.args.form ≡ Ok c.add.new.self = grind (arith, common_steps) in
     no_argument c.args.name c.args.form _ made
+
+pub returns-in-Err-clause-fault : goal.returns-in-Err-clause-fault
+returns-in-Err-clause-fault c =
+    λ h. edited-added [] c.args.name c.args.form AreClauses-nil c.add.ensures.form
+    ∙ subst (λ before. added before c.args.name c.args.form ≡ Err c.in-Err.fault) c.new-table.ensures (c.in-Err.ensures.fault h)
+
+pub returns-in-Err-clause-no_memory : goal.returns-in-Err-clause-no_memory
+returns-in-Err-clause-no_memory c =
+    rw (edited-added [] c.args.name c.args.form AreClauses-nil c.add.ensures.form)
+    (λ h. subst (λ before. IsOk (added before c.args.name c.args.form)) c.new-table.ensures (c.in-Err.ensures.no_memory h))

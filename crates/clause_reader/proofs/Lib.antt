@@ -1,0 +1,14 @@
+mod LineExamples
+pub mod LineLemmas
+pub mod LineSteps
+pub mod OpLemmas
+pub mod ReadBack
+mod ReadingExamples
+pub mod Runs
+pub mod Said
+pub mod Scans
+pub mod TokenLemmas
+pub mod WriterLemmas
+mod WritingExamples
+pub mod WrittenLemmas
+pub mod WrittenTokens

@@ -1,0 +1,11 @@
+pub mod Forms
+pub mod LineLaws
+pub mod Lines
+pub mod ModelText
+pub mod Reading
+pub mod ReadingLaws
+pub mod Says
+pub mod Scan
+pub mod Tokens
+pub mod WritingLaws
+pub mod Written

@@ -1,0 +1,82 @@
+// The form that an operation and its arguments say.
+ghost use Rattle.std.specs.Prelude.{◌≡◌, Ok, Err, IfOk};
+ghost use Rattle.std.specs.List.{list_any};
+ghost use Rattle.clause_reader.specs.Forms.{GivesForm};
+ghost use Rattle.clause_reader.specs.Lines.{begins_comment};
+ghost use Rattle.clause_reader.specs.Scan.{line_tokens};
+ghost use Rattle.clause_reader.specs.Written.{checked, names_in, parts_in};
+ghost use Rattle.solid_model.specs.Parts.{IsForm};
+ghost use Rattle.solid_model.specs.Refusals.{RefusesAs, WantsMemoryFor};
+
+use crate::FormFault;
+use crate::operands::Operands;
+use crate::tokens::begins_comment;
+use crate::written_form::{WrittenForm, split_form};
+use solid_model::{Form, Name};
+use std::alloc::{AllocError, Global};
+
+/// The form that a line says: an operation and its arguments. A line feed ends the line.
+///
+/// The first of these that holds is answered. `NoOperation`: there is no token. `UnknownOperation`:
+/// the first names no operation. `WrongArity`: the others are not as many as it takes.
+/// `BadNumeral`: the argument of a constant is no numeral. `BadName`: an argument begins with `#`.
+/// `NoMemory`: memory was refused, and none of these holds.
+pub fn read_form(alloc: Global, rest: &[u8]) -> Result<Form, FormFault>
+    ensures { GivesForm (line_tokens rest.now) result }
+{
+    match split_form(rest) {
+        Ok((form, _)) => make_form(alloc, form),
+        Err(defect) => Err(FormFault::from(defect)),
+    }
+}
+
+// The form of an operation with its operands, none of which begins a comment.
+fn make_form(alloc: Global, form: WrittenForm<'_>) -> Result<Form, FormFault>
+    requires { IsForm (parts_in form) }
+    ensures ok { IfOk result (λ made. checked (Ok (parts_in form.entry)) ≡ Ok made) }
+    ensures fault { RefusesAs (checked (Ok (parts_in form.entry))) FormFault.NoMemory result }
+    ensures no_memory { WantsMemoryFor (checked (Ok (parts_in form.entry))) FormFault.NoMemory result }
+{
+    if has_comment(form.operands) {
+        return Err(FormFault::BadName);
+    }
+    match names(alloc, form.operands) {
+        Ok(args) => Ok(Form::new(form.op, args, form.value)),
+        Err(_) => Err(FormFault::NoMemory),
+    }
+}
+
+// Whether an operand begins a comment.
+fn has_comment(operands: Operands<'_>) -> bool
+    ensures { result ≡ list_any begins_comment (names_in operands.entry) }
+{
+    match operands {
+        Operands::Zero => false,
+        Operands::One(first) => begins_comment(first),
+        Operands::Two(first, second) => begins_comment(first) || begins_comment(second),
+    }
+}
+
+// The names of operands.
+fn names(alloc: Global, operands: Operands<'_>) -> Result<Vec<Name>, AllocError>
+    ensures { IfOk result (λ names. names.items ≡ names_in operands.entry) }
+{
+    let mut names = Vec::new(alloc);
+    match operands {
+        Operands::Zero => {}
+        Operands::One(first) => names.push(name(alloc, first)?)?,
+        Operands::Two(first, second) => {
+            names.reserve(2)?;
+            names.push(name(alloc, first)?)?;
+            names.push(name(alloc, second)?)?;
+        }
+    }
+    Ok(names)
+}
+
+// The name of a token that begins no comment.
+fn name(alloc: Global, token: &[u8]) -> Result<Name, AllocError>
+    ensures { IfOk result (λ name. name ≡ token.now) }
+{
+    Name::new(alloc, token).map_err(|_| AllocError)
+}

@@ -1,0 +1,27 @@
+//! Texts of models: how one is read, line by line, why one is refused, and how one is written.
+#![tactic(auto)]
+
+mod form;
+mod form_defect;
+mod form_fault;
+mod laws;
+mod lines;
+mod operands;
+mod reader;
+mod text_fault;
+mod text_reason;
+mod tokens;
+mod writer;
+mod written_form;
+
+pub use form::read_form;
+pub use form_fault::FormFault;
+pub use laws::{lines_and_tokens_are_exact, reading_is_exact, written_models_are_read};
+pub use reader::read_model;
+pub use text_fault::TextFault;
+pub use text_reason::TextReason;
+pub use tokens::next_token;
+pub use writer::write_model;
+
+#[cfg(test)]
+mod tests;

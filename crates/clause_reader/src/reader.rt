@@ -1,0 +1,136 @@
+// A model from a text.
+ghost use Rattle.std.specs.Prelude.{◌≡◌, ◌^◌, ◌<◌, ◌∷◌, Ok, is_none, length, IfOk, IfSome, OnOk};
+ghost use Rattle.solid_model.specs.Names.{IsName};
+ghost use Rattle.clause_reader.specs.Lines.{line_of};
+ghost use Rattle.clause_reader.specs.Reading.{clauses_with, has_unknown, line_read, place_or_zero, GivesModel};
+ghost use Rattle.clause_reader.specs.Scan.{after_line, line_tokens};
+ghost use Rattle.clause_reader.specs.Written.{extended, names_in, parts_in};
+ghost use Rattle.solid_model.specs.Parts.{IsForm};
+ghost use Rattle.solid_model.specs.Refusals.{RefusesAs, WantsMemoryFor};
+
+use crate::lines::after_line;
+use crate::operands::Operands;
+use crate::tokens::{begins_comment, split_token};
+use crate::written_form::{WrittenForm, split_form};
+use crate::{TextFault, TextReason};
+use solid_model::{Model, ModelBuilder, PushFault};
+use std::alloc::Global;
+
+/// The model that a text says, line by line: blank lines and comments say nothing, and each other
+/// line is a name, an operation and its arguments.
+///
+/// An `Err` tells the first line that is refused and the first reason that holds in it, or
+/// `NoMemory` on a line up to which none is refused.
+pub fn read_model(alloc: Global, text: &[u8]) -> Result<Model, TextFault>
+    requires { length text.now < 2 ^ 32 }
+    ensures { GivesModel text.now result }
+{
+    let mut builder = ModelBuilder::new(alloc);
+    let mut number = 0;
+    let mut rest = text;
+    while !rest.is_empty() {
+        number += 1;
+        match read_line(&mut builder, rest) {
+            Ok(after) => rest = after,
+            Err(reason) => {
+                return Err(TextFault {
+                    line: number,
+                    reason,
+                });
+            }
+        }
+    }
+    builder.finish().ok_or(TextFault {
+        line: 0,
+        reason: TextReason::Empty,
+    })
+}
+
+// Adds the clause of the line with which a text begins, if it says one, and gives the text after
+// the line.
+fn read_line<'t>(builder: &mut ModelBuilder, text: &'t [u8]) -> Result<&'t [u8], TextReason>
+    ensures ok { OnOk result (line_read builder.old (line_of text.now) ≡ Ok builder.new) }
+    ensures rest { IfOk result (λ after. after.now ≡ after_line text.now) }
+    ensures refused { RefusesAs (line_read builder.old (line_of text.now)) TextReason.NoMemory result }
+    ensures no_memory { WantsMemoryFor (line_read builder.old (line_of text.now)) TextReason.NoMemory result }
+{
+    match split_token(text) {
+        None => Ok(after_line(text)),
+        Some((name, rest)) if begins_comment(name) => Ok(after_line(rest)),
+        Some((name, rest)) => read_clause(builder, name, rest),
+    }
+}
+
+// Adds the clause of this name, whose operation and arguments follow in the line, and gives the
+// text after the line.
+fn read_clause<'t>(
+    builder: &mut ModelBuilder,
+    name: &[u8],
+    text: &'t [u8],
+) -> Result<&'t [u8], TextReason>
+    requires { IsName name.now }
+    ensures ok { OnOk result (clauses_with builder.old (name.now ∷ line_tokens text.now) ≡ Ok builder.new) }
+    ensures rest { IfOk result (λ after. after.now ≡ after_line text.now) }
+    ensures refused { RefusesAs (clauses_with builder.old (name.now ∷ line_tokens text.now))
+        TextReason.NoMemory result }
+    ensures no_memory { WantsMemoryFor (clauses_with builder.old (name.now ∷ line_tokens text.now))
+        TextReason.NoMemory result }
+{
+    match split_form(text) {
+        Ok((form, rest)) => match push_form(builder, name, form) {
+            Ok(()) => Ok(after_line(rest)),
+            Err(reason) => Err(reason),
+        },
+        Err(defect) => Err(TextReason::from(defect)),
+    }
+}
+
+// Adds the clause of this name and form.
+fn push_form(
+    builder: &mut ModelBuilder,
+    name: &[u8],
+    form: WrittenForm<'_>,
+) -> Result<(), TextReason>
+    requires name { IsName name.now }
+    requires form { IsForm (parts_in form) }
+    ensures ok { OnOk result (extended builder.old name.now (Ok (parts_in form.entry)) ≡ Ok builder.new) }
+    ensures refused { RefusesAs (extended builder.old name.now (Ok (parts_in form.entry)))
+        TextReason.NoMemory result }
+    ensures no_memory { WantsMemoryFor (extended builder.old name.now (Ok (parts_in form.entry)))
+        TextReason.NoMemory result }
+{
+    let Some((a, b)) = places(builder, form.operands) else {
+        return Err(TextReason::UnknownName);
+    };
+    match builder.push(name, form.op, a, b, form.value) {
+        Ok(()) => Ok(()),
+        Err(PushFault::DoubleName) => Err(TextReason::DoubleName),
+        Err(PushFault::Full) => Err(TextReason::TooMany),
+        Err(PushFault::NoMemory) => Err(TextReason::NoMemory),
+    }
+}
+
+// The places of the clauses that operands name, 0 for an operand that is not there. `None`: one of
+// them names no clause.
+fn places(builder: &ModelBuilder, operands: Operands<'_>) -> Option<(u32, u32)>
+    ensures known { is_none result ≡ has_unknown builder.now (names_in operands.entry) }
+    ensures first { IfSome result (λ places. places.0 ≡ place_or_zero builder.now (names_in operands.entry) 0) }
+    ensures second { IfSome result (λ places. places.1 ≡ place_or_zero builder.now (names_in operands.entry) 1) }
+    ensures first_before { IfSome result (λ places. 0 < length (names_in operands.entry)
+        → places.0 < length builder.now) }
+    ensures second_before { IfSome result (λ places. 1 < length (names_in operands.entry)
+        → places.1 < length builder.now) }
+{
+    match operands {
+        Operands::Zero => Some((0, 0)),
+        Operands::One(first) => {
+            let a = builder.position(first)?;
+            Some((a, 0))
+        }
+        Operands::Two(first, second) => {
+            let a = builder.position(first)?;
+            let b = builder.position(second)?;
+            Some((a, b))
+        }
+    }
+}

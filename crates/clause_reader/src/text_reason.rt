@@ -1,0 +1,35 @@
+// Why a line of a text is refused.
+
+use thiserror::Error;
+
+/// Why a line of a text is refused. The first that holds in it is answered.
+#[derive(Clone, Copy, Debug, PartialEq, Eq, Error)]
+pub enum TextReason {
+    /// The line has one token.
+    #[error("no operation")]
+    NoOperation,
+    /// The second token names no operation.
+    #[error("an unknown operation")]
+    UnknownOperation,
+    /// The arguments are not as many as the operation takes.
+    #[error("a wrong number of arguments")]
+    WrongArity,
+    /// The argument of a constant is no numeral.
+    #[error("not a numeral")]
+    BadNumeral,
+    /// An argument names no earlier clause.
+    #[error("an argument names no earlier clause")]
+    UnknownName,
+    /// The name stands already.
+    #[error("the name stands already")]
+    DoubleName,
+    /// There are 65,535 clauses already.
+    #[error("too many clauses")]
+    TooMany,
+    /// No line is bad, and none says a clause.
+    #[error("no clause")]
+    Empty,
+    /// Memory was refused.
+    #[error("out of memory")]
+    NoMemory,
+}

@@ -1,0 +1,84 @@
+// An operation with its arguments, as they stand in a line.
+ghost use Rattle.std.specs.Prelude.{◌≡◌, Ok, Err, MatchResult, IfOk};
+ghost use Rattle.solid_model.specs.Parts.{IsForm};
+ghost use Rattle.clause_reader.specs.Scan.{after_line, line_tokens};
+ghost use Rattle.clause_reader.specs.Written.{names_in, parts_in, with_arguments, written};
+
+use crate::form_defect::FormDefect;
+use crate::operands::{Operands, split_operands};
+use crate::tokens::split_token;
+use fixed_ops::{Fx, Op, arity, raw_range, read_numeral, read_op};
+
+/// An operation, the names of its operands as they stand in a line, and the number of a constant.
+#[derive(Clone, Copy, Debug)]
+pub(crate) struct WrittenForm<'t> {
+    pub op: Op,
+    pub operands: Operands<'t>,
+    pub value: Fx,
+}
+
+/// The form that the tokens up to the end of the line say, and what stands after them.
+pub(crate) fn split_form(text: &[u8]) -> Result<(WrittenForm<'_>, &[u8]), FormDefect>
+    ensures form { MatchResult result
+        (λ parts. written (line_tokens text.now) ≡ Ok (parts_in parts.0))
+        (λ defect. written (line_tokens text.now) ≡ Err defect) }
+    ensures rest { IfOk result (λ parts. after_line parts.1.now ≡ after_line text.now) }
+    ensures is_form { IfOk result (λ parts. IsForm (parts_in parts.0)) }
+{
+    let Some((word, rest)) = split_token(text) else {
+        return Err(FormDefect::NoOperation);
+    };
+    let Some(op) = read_op(word) else {
+        return Err(FormDefect::UnknownOperation);
+    };
+    let Some((arguments, rest)) = split_operands(rest) else {
+        return Err(FormDefect::WrongArity);
+    };
+    match with_arguments(op, arguments) {
+        Ok(form) => Ok((form, rest)),
+        Err(defect) => Err(defect),
+    }
+}
+
+// The form of an operation with these arguments.
+fn with_arguments(op: Op, arguments: Operands<'_>) -> Result<WrittenForm<'_>, FormDefect>
+    ensures is_form { IfOk result (λ form. IsForm (parts_in form)) }
+    ensures form { MatchResult result
+        (λ form. with_arguments op (names_in arguments.entry) ≡ Ok (parts_in form))
+        (λ defect. with_arguments op (names_in arguments.entry) ≡ Err defect) }
+{
+    if op == Op::Const {
+        return constant(arguments);
+    }
+    if arguments.len() != arity(op) {
+        return Err(FormDefect::WrongArity);
+    }
+    Ok(WrittenForm {
+        op,
+        operands: arguments,
+        value: Fx::from_raw(0),
+    })
+}
+
+// A constant of the one numeral.
+fn constant(arguments: Operands<'_>) -> Result<WrittenForm<'_>, FormDefect>
+    ensures is_form { IfOk result (λ form. IsForm (parts_in form)) }
+    ensures form { MatchResult result
+        (λ form. with_arguments Op.Const (names_in arguments.entry) ≡ Ok (parts_in form))
+        (λ defect. with_arguments Op.Const (names_in arguments.entry) ≡ Err defect) }
+{
+    let Operands::One(token) = arguments else {
+        return Err(FormDefect::WrongArity);
+    };
+    match read_numeral(token) {
+        Ok(value) => {
+            raw_range(value);
+            Ok(WrittenForm {
+                op: Op::Const,
+                operands: Operands::Zero,
+                value,
+            })
+        }
+        Err(_) => Err(FormDefect::BadNumeral),
+    }
+}

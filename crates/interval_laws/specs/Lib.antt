@@ -1,0 +1,2 @@
+pub mod LawProofs
+pub mod Laws

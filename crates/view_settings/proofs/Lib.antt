@@ -1,0 +1,8 @@
+pub mod BoxLaws
+pub mod CountLaws
+mod Examples
+pub mod GivenLaws
+pub mod GrammarLaws
+pub mod NameLaws
+pub mod SpanLaws
+pub mod WordLaws

@@ -1,0 +1,72 @@
+-- Places rise or fall along an axis.
+use Rattle.std.proofs.Common.{◌≡◌, ℕ, zero, suc, ◌+◌, ◌-◌, ◌*◌, ◌/◌, ◌<◌, ◌≤◌, ℤ, pos, Bool, true, false, cond, refl, sym, ap, arith, ◌+ℤ◌}
+use Rattle.std.specs.Prelude.{negsuc, ◌-ℤ◌, ◌*ℤ◌, ◌≤ℤ◌, ◌==◌}
+use Rattle.std.specs.Int.{int_max, int_min}
+use Rattle.std.proofs.lemmas.Int.{ints, clamps}
+use Rattle.std.proofs.lemmas.Nat.{le-div}
+use Rattle.std.proofs.Math.Nat.{mul-le-mul_left, div-mul-le_self}
+use Rattle.interval_ops.specs.Spans.{Interval}
+use Rattle.view_settings.specs.declared.lattice.Axis.{Axis}
+use Rattle.view_settings.specs.declared.lattice.Axis.TheVariants as axes
+use Rattle.view_settings.specs.declared.lattice.Lattice.{Lattice}
+use Rattle.view_settings.specs.declared.lattice.Lattice.TheVariants.{Raster, Height, Grid}
+use Rattle.view_settings.specs.Laws.{RangesHold}
+use Rattle.view_settings.specs.Places.{place_of, place_up, place_down, way}
+use Rattle.view_settings.specs.Spans.{IsRange, IsPlaceAmong, last_of, range_along}
+use Rattle.view_settings.specs.Window.{Window, IsWindow, AreEnds}
+
+either : (b : Bool) (x y : ℕ) → x ≤ y → cond b (pos 0) (pos x) ≤ℤ cond b (pos 0) (pos y)
+either true x y le = omega (arith, ints)
+either false x y le = omega (arith, ints, le)
+
+-- the way grows
+way_grows : (whole : ℤ) (steps i j : ℕ) → pos 0 ≤ℤ whole → i ≤ j → way whole steps i ≤ℤ way whole steps j
+way_grows (pos n) zero i j h le = omega (arith, ints)
+way_grows (pos n) (suc d) i j h le =
+    let products : n * i ≤ n * j = mul-le-mul_left n le in
+    let quotients = le-div (n * i / suc d) (n * j) (suc d) (omega arith) (omega (arith, products, div-mul-le_self (n * i) (suc d))) in
+    either (suc d == 0) (n * i / suc d) (n * j / suc d) quotients
+way_grows (negsuc n) steps i j h le = absurd (omega (arith, ints, h))
+
+rises : (low high : ℤ) (steps i j : ℕ) → AreEnds low high → i ≤ j → place_up low high steps i ≤ℤ place_up low high steps j
+rises low high steps i j ends le = omega (arith, ints, way_grows (high -ℤ low) steps i j (omega (arith, ints, ends.ordered)) le)
+
+falls : (low high : ℤ) (steps i j : ℕ) → AreEnds low high → i ≤ j → place_down low high steps j ≤ℤ place_down low high steps i
+falls low high steps i j ends le = omega (arith, ints, way_grows (high -ℤ low) steps i j (omega (arith, ints, ends.ordered)) le)
+
+-- places that rise have their range from the first to the last
+rising : (v : Window) (lattice : Lattice) (axis : Axis) (low high : ℕ) → low ≤ last_of lattice high
+    → ((i j : ℕ) → i ≤ j → place_of v lattice axis i ≤ℤ place_of v lattice axis j)
+    → IsRange v lattice axis low (last_of lattice high) (range_along v lattice axis low high)
+rising v lattice axis low high le rise =
+    let last = last_of lattice high in
+    let whole = rise low last le in
+    record {
+      holds = λ i above below. let front = rise low i above in let back = rise i last below in (omega (arith, ints, clamps, front, back), omega (arith, ints, clamps, front, back));
+      least = record { index = low; above = omega arith; below = le; is = omega (arith, ints, clamps, whole) };
+      greatest = record { index = last; above = le; below = omega arith; is = omega (arith, ints, clamps, whole) };
+    }
+
+-- and those that fall from the last to the first
+falling : (v : Window) (lattice : Lattice) (axis : Axis) (low high : ℕ) → low ≤ last_of lattice high
+    → ((i j : ℕ) → i ≤ j → place_of v lattice axis j ≤ℤ place_of v lattice axis i)
+    → IsRange v lattice axis low (last_of lattice high) (range_along v lattice axis low high)
+falling v lattice axis low high le fall =
+    let last = last_of lattice high in
+    let whole = fall low last le in
+    record {
+      holds = λ i above below. let front = fall low i above in let back = fall i last below in (omega (arith, ints, clamps, front, back), omega (arith, ints, clamps, front, back));
+      least = record { index = last; above = le; below = omega arith; is = omega (arith, ints, clamps, whole) };
+      greatest = record { index = low; above = omega arith; below = le; is = omega (arith, ints, clamps, whole) };
+    }
+
+pub ranges : RangesHold
+ranges v Raster axes.X low high is le = rising v Raster axes.X low high le (λ i j. rises v.x0 v.x1 (v.w - 1) i j is.x)
+ranges v Raster axes.Y low high is le = falling v Raster axes.Y low high le (λ i j. falls v.y0 v.y1 (v.h - 1) i j is.y)
+ranges v Raster axes.Z low high is le = rising v Raster axes.Z low high le (λ i j le. omega (arith, ints))
+ranges v Height axes.X low high is le = rising v Height axes.X low high le (λ i j. rises v.x0 v.x1 (v.w - 1) i j is.x)
+ranges v Height axes.Y low high is le = falling v Height axes.Y low high le (λ i j. falls v.y0 v.y1 (v.h - 1) i j is.y)
+ranges v Height axes.Z low high is le = rising v Height axes.Z low high le (λ i j. rises v.z0 v.z1 (v.d - 1) i j is.z_ends)
+ranges v Grid axes.X low high is le = rising v Grid axes.X low high le (λ i j. rises v.x0 v.x1 v.n i j is.x)
+ranges v Grid axes.Y low high is le = rising v Grid axes.Y low high le (λ i j. rises v.y0 v.y1 v.n i j is.y)
+ranges v Grid axes.Z low high is le = rising v Grid axes.Z low high le (λ i j. rises v.z0 v.z1 v.n i j is.z_ends)

@@ -1,0 +1,7 @@
+use Rattle.std.proofs.Common.{rules}
+use Rattle.std.specs.List.{IsDistinct}
+use Rattle.view_settings.proofs.settings.Settings.start.Goals as goal
+
+pub invariant_of-result : goal.invariant_of-result
+unfolding IsDistinct
+invariant_of-result c = rw c.new.ensures (record { each = tt; distinct = tt })

@@ -1,0 +1,12 @@
+use Rattle.std.proofs.Common.{rules}
+use Rattle.view_settings.specs.WindowLaws.{tested}
+use Rattle.view_settings.proofs.view.View.fits_mesh.Goals as goal
+
+pub returns-then-has_room-2-clause-fits : goal.returns-then-has_room-2-clause-fits
+returns-then-has_room-2-clause-fits c = tested c.args.self.now _ (search rules)
+
+pub returns-else-has_room-2-clause-fits : goal.returns-else-has_room-2-clause-fits
+returns-else-has_room-2-clause-fits c = tested c.args.self.now _ (search rules)
+
+pub returns-else-has_room-clause-fits : goal.returns-else-has_room-clause-fits
+returns-else-has_room-clause-fits c = tested c.args.self.now _ (search rules)

@@ -1,0 +1,14 @@
+pub mod Boxes
+pub mod Grammar
+pub mod Kinds
+pub mod Laws
+pub mod Names
+pub mod Places
+pub mod Setting
+pub mod Settings
+pub mod Spans
+pub mod Steps
+pub mod Verbs
+pub mod Window
+pub mod WindowLaws
+pub mod Words

@@ -1,0 +1,59 @@
+-- A window onto a solid, and how finely it is sampled.
+use Rattle.std.specs.Prelude.{ℕ, ◌*◌, ◌≤◌, ℤ, pos, ◌-ℤ◌, ◌≤ℤ◌, int_le, Bool, ◌&&◌}
+use Rattle.fixed_ops.specs.Raw.{IsRaw}
+
+-- the raw ends of the axes, the raw height of a raster, the columns, rows and layers, and the cells of a mesh
+-- along each axis
+pub record Window : Type 0 where
+  pub x0 : ℤ
+  pub x1 : ℤ
+  pub y0 : ℤ
+  pub y1 : ℤ
+  pub z0 : ℤ
+  pub z1 : ℤ
+  pub z : ℤ
+  pub w : ℕ
+  pub h : ℕ
+  pub d : ℕ
+  pub n : ℕ
+
+-- ends of an axis, which are raw numbers in order
+pub record AreEnds (low high : ℤ) : Type 0 where
+  pub low_raw : IsRaw low
+  pub high_raw : IsRaw high
+  pub ordered : low ≤ℤ high
+
+-- a count from 1 to the greatest one
+pub record IsCount (greatest count : ℕ) : Type 0 where
+  pub some : 1 ≤ count
+  pub few : count ≤ greatest
+
+-- what every view keeps
+pub record IsWindow (v : Window) : Type 0 where
+  pub x : AreEnds v.x0 v.x1
+  pub y : AreEnds v.y0 v.y1
+  pub z_ends : AreEnds v.z0 v.z1
+  pub z : IsRaw v.z
+  pub w : IsCount 4096 v.w
+  pub h : IsCount 4096 v.h
+  pub d : IsCount 1024 v.d
+  pub n : IsCount 256 v.n
+
+-- a height map may be drawn of it
+pub record FitsHeight (v : Window) : Type 0 where
+  pub w : v.w ≤ 1024
+  pub h : v.h ≤ 1024
+
+-- a mesh may be made of it: a cell has at least 65536 raw units along each axis
+pub record FitsMesh (v : Window) : Type 0 where
+  pub x : pos (v.n * 65536) ≤ℤ (v.x1 -ℤ v.x0)
+  pub y : pos (v.n * 65536) ≤ℤ (v.y1 -ℤ v.y0)
+  pub z : pos (v.n * 65536) ≤ℤ (v.z1 -ℤ v.z0)
+
+-- ends of an axis lie at least 65536 raw units a cell from each other
+unfoldable pub has_room : ℤ → ℤ → ℕ → Bool
+has_room low high cells = int_le (pos (cells * 65536)) (high -ℤ low)
+
+-- the test of whether a mesh may be made
+abbrev pub fits_mesh : Window → Bool
+fits_mesh v = has_room v.x0 v.x1 v.n && (has_room v.y0 v.y1 v.n && has_room v.z0 v.z1 v.n)

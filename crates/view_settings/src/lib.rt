@@ -1,0 +1,36 @@
+//! Views of a solid: where their samples lie, how they are cut into boxes, and the words that set
+//! them.
+#![tactic(auto)]
+
+mod forge;
+mod given;
+mod index_box;
+mod job;
+mod kind;
+mod lattice;
+mod laws;
+mod name;
+mod place;
+mod setting;
+mod settings;
+mod span;
+mod verb;
+mod view;
+mod word_fault;
+mod words;
+
+pub use forge::Forge;
+pub use index_box::{IndexBox, split};
+pub use job::Job;
+pub use lattice::{Axis, Lattice};
+pub use laws::{halves_part, ranges_hold, words_are_exact};
+pub use place::{raw_place, sample};
+pub use settings::Settings;
+pub use span::span_of;
+pub use verb::Verb;
+pub use view::View;
+pub use word_fault::{WordFault, WordReason};
+pub use words::read_words;
+
+#[cfg(test)]
+mod tests;
