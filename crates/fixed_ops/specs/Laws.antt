@@ -3,6 +3,7 @@ use Rattle.std.specs.Prelude.{◌≡◌, ◌≢◌, ℕ, ◌^◌, ◌<◌, ℤ, 
 use Rattle.fixed_ops.specs.declared.operation.Op.{Op}
 use Rattle.fixed_ops.specs.Floor.{IsFloor}
 use Rattle.fixed_ops.specs.Numerals.{numeral}
+use Rattle.fixed_ops.specs.NumberTexts.{number_text}
 use Rattle.fixed_ops.specs.Operations.{op_result}
 use Rattle.fixed_ops.specs.Quotient.{IsRoundedDown, quotient_of}
 use Rattle.fixed_ops.specs.Raw.{IsRaw, greatest, least, clamp, floor_div}
@@ -54,3 +55,7 @@ ResultsAreRaw = (op : Op) (a b : ℤ) → IsRaw a → IsRaw b → IsRaw (op_resu
 -- a numeral that is spelled has the value of its parts
 abbrev pub SpellingsAreRead : Type 0
 SpellingsAreRead = (s : Spelling) → IsSpelling s → numeral (spelled s) ≡ Some (spelling_value s)
+
+-- the text of a raw number is a numeral, and means it
+abbrev pub NumberTextsAreRead : Type 0
+NumberTextsAreRead = (v : ℤ) → IsRaw v → numeral (number_text v) ≡ Some v

@@ -48,6 +48,14 @@ impl Fx {
     }
 }
 
+/// A number lies in the range of raw numbers. The call does nothing when it runs.
+#[inline]
+pub fn raw_range(a: Fx)
+    ensures { IsRaw a }
+{
+    let _raw = a.raw();
+}
+
 /// Whether a point with this value is inside the solid. The value 0 is outside.
 #[inline]
 pub fn is_inside(a: Fx) -> bool

@@ -1,5 +1,5 @@
 // What always holds of the definitions that the contracts cite.
-ghost use Rattle.fixed_ops.specs.Laws.{ClampHolds, FloorHolds, OnlyFloorHolds, OnlyQuotientHolds, QuotientByZeroHolds, QuotientHolds, ResultsAreRaw, SpellingsAreRead};
+ghost use Rattle.fixed_ops.specs.Laws.{ClampHolds, FloorHolds, NumberTextsAreRead, OnlyFloorHolds, OnlyQuotientHolds, QuotientByZeroHolds, QuotientHolds, ResultsAreRaw, SpellingsAreRead};
 
 /// A whole number divided by one above 0 is rounded down: the quotient is the greatest whole number
 /// that is at most the exact one.
@@ -30,4 +30,9 @@ pub fn raw_results()
 /// A numeral has the value of the parts that spell it.
 pub fn spelled_values()
     ensures { SpellingsAreRead }
+{}
+
+/// The text of a raw number is a numeral, and means that number.
+pub fn number_texts()
+    ensures { NumberTextsAreRead }
 {}
