@@ -1,11 +1,11 @@
 -- Each sample of a box lies in exactly one of its halves.
-use Rattle.std.proofs.Common.{◌≡◌, ℕ, ◌+◌, ◌-◌, ◌/◌, ◌<◌, ◌≤◌, Bool, true, false, cond, List, [], ◌∷◌, ◌++◌, refl, ◌∙◌, zero-add, arith}
+use Rattle.std.proofs.Common.{◌≡◌, ℕ, ◌+◌, ◌-◌, ◌<◌, ◌≤◌, Bool, true, false, cond, List, [], ◌∷◌, refl, ◌∙◌, zero-add, arith}
 use Rattle.std.specs.Prelude.{count_by, nat_lt, nat_le, ◌&&◌}
-use Rattle.std.specs.List.{flat_map, sum_by}
+use Rattle.std.specs.List.{flat_map}
 use Rattle.std.proofs.lemmas.Bool.Decides.{nat_tests}
 use Rattle.std.proofs.lemmas.List.Concat.{flat_map-cons}
 use Rattle.std.proofs.lemmas.List.Sums.{sum_by-append}
-use Rattle.view_settings.specs.Boxes.{Indices, halves_of, halves_x, halves_y, halves_z, has_sample, middle}
+use Rattle.view_settings.specs.Boxes.{Indices, halves_x, halves_y, halves_z, has_sample, middle}
 use Rattle.view_settings.specs.Laws.{HalvesPart}
 
 abbrev one : Bool → ℕ

@@ -1,5 +1,5 @@
 -- Places, computed on views that were worked out by hand.
-use Rattle.std.proofs.Common.{◌≡◌, ℕ, pos, negsuc, List, [], ◌∷◌, refl}
+use Rattle.std.proofs.Common.{◌≡◌, ℕ, pos, negsuc, [], ◌∷◌, refl}
 use Rattle.view_settings.specs.declared.lattice.Axis.TheVariants as axes
 use Rattle.view_settings.specs.declared.lattice.Lattice.TheVariants.{Raster, Height, Grid}
 use Rattle.view_settings.specs.declared.name.Name.TheVariants.{W, H, D, N}

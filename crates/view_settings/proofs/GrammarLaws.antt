@@ -7,8 +7,7 @@ use Rattle.view_settings.specs.declared.word_fault.WordFault.{WordFault}
 use Rattle.view_settings.specs.declared.word_fault.WordReason.{WordReason}
 use Rattle.view_settings.specs.Grammar.{GiveAfter, RefusesAfter, GivenSettingsAreExact, RefusedWordIsExact}
 use Rattle.view_settings.specs.Setting.{setting_of}
-use Rattle.view_settings.specs.Settings.{Given, after_word}
-use Rattle.view_settings.specs.Steps.{◌>>=◌}
+use Rattle.view_settings.specs.Settings.{Given}
 use Rattle.view_settings.specs.Words.{after_words}
 
 abbrev given_of : Verb → List Setting → Given

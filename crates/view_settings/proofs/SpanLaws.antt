@@ -1,19 +1,17 @@
 -- Places rise or fall along an axis.
-use Rattle.std.proofs.Common.{◌≡◌, ℕ, zero, suc, ◌+◌, ◌-◌, ◌*◌, ◌/◌, ◌<◌, ◌≤◌, ℤ, pos, Bool, true, false, cond, refl, sym, ap, arith, ◌+ℤ◌}
-use Rattle.std.specs.Prelude.{negsuc, ◌-ℤ◌, ◌*ℤ◌, ◌≤ℤ◌, ◌==◌}
-use Rattle.std.specs.Int.{int_max, int_min}
+use Rattle.std.proofs.Common.{ℕ, zero, suc, ◌-◌, ◌*◌, ◌/◌, ◌≤◌, ℤ, pos, Bool, true, false, cond, arith}
+use Rattle.std.specs.Prelude.{negsuc, ◌-ℤ◌, ◌≤ℤ◌, ◌==◌}
 use Rattle.std.proofs.lemmas.Int.{ints, clamps}
 use Rattle.std.proofs.lemmas.Nat.{le-div}
 use Rattle.std.proofs.Math.Nat.{mul-le-mul_left, div-mul-le_self}
-use Rattle.interval_ops.specs.Spans.{Interval}
 use Rattle.view_settings.specs.declared.lattice.Axis.{Axis}
 use Rattle.view_settings.specs.declared.lattice.Axis.TheVariants as axes
 use Rattle.view_settings.specs.declared.lattice.Lattice.{Lattice}
 use Rattle.view_settings.specs.declared.lattice.Lattice.TheVariants.{Raster, Height, Grid}
 use Rattle.view_settings.specs.Laws.{RangesHold}
 use Rattle.view_settings.specs.Places.{place_of, place_up, place_down, way}
-use Rattle.view_settings.specs.Spans.{IsRange, IsPlaceAmong, last_of, range_along}
-use Rattle.view_settings.specs.Window.{Window, IsWindow, AreEnds}
+use Rattle.view_settings.specs.Spans.{IsRange, last_of, range_along}
+use Rattle.view_settings.specs.Window.{Window, AreEnds}
 
 either : (b : Bool) (x y : ℕ) → x ≤ y → cond b (pos 0) (pos x) ≤ℤ cond b (pos 0) (pos y)
 either true x y le = omega (arith, ints)

@@ -1,16 +1,13 @@
 -- Words are taken one after the other.
-use Rattle.std.proofs.Common.{◌≡◌, ℕ, suc, ◌+◌, ◌<◌, ◌≤◌, List, [], ◌∷◌, length, get_or, drop, map, Result, Ok, Err, Option, Some, None, refl, sym, ap, ◌∙◌, add-one, drop-cons, arith}
+use Rattle.std.proofs.Common.{◌≡◌, ℕ, suc, ◌+◌, ◌<◌, ◌≤◌, List, [], ◌∷◌, length, get_or, drop, Ok, Err, None, refl, sym, ap, ◌∙◌, add-one, drop-cons, arith}
 use Rattle.std.specs.Prelude.{String, string_bytes}
 use Rattle.std.specs.Global.{Global}
 use Rattle.std.proofs.Math.ListN.{drop_of_length-le}
-use Rattle.view_settings.specs.declared.job.Job.{Job}
-use Rattle.view_settings.specs.declared.word_fault.WordFault.{WordFault}
 use Rattle.view_settings.specs.declared.word_fault.WordReason.{WordReason}
 use Rattle.view_settings.specs.declared.word_fault.WordReason.TheVariants.{UnknownVerb}
 use Rattle.view_settings.specs.Settings.{Given, after_word}
-use Rattle.view_settings.specs.Steps.{◌>>=◌, or_refused}
 use Rattle.view_settings.specs.Verbs.{verb_named}
-use Rattle.view_settings.specs.Words.{after_words, bytes_of, job_of, job_after, next_word, refused_at}
+use Rattle.view_settings.specs.Words.{after_words, bytes_of, job_of, next_word}
 
 -- the words from one on, as that word and those after it
 words_from : (words : List (String Global)) (i : ℕ) (word : String Global) → i < length words → word ≡ get_or words i word → bytes_of (drop i words) ≡ string_bytes word ∷ bytes_of (drop (i + 1) words)

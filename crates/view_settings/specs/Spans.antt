@@ -1,5 +1,5 @@
 -- The least and the greatest place of the samples of a box.
-use Rattle.std.specs.Prelude.{◌≡◌, ℕ, ◌-◌, ◌<◌, ◌≤◌, ℤ}
+use Rattle.std.specs.Prelude.{◌≡◌, ℕ, ◌-◌, ◌≤◌, ℤ}
 use Rattle.std.specs.Int.{int_max, int_min}
 use Rattle.interval_ops.specs.declared.region.Region.{Region}
 use Rattle.interval_ops.specs.Spans.{Interval, Holds}

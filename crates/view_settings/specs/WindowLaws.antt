@@ -1,5 +1,5 @@
 -- The test of a window is what it tests.
-use Rattle.std.specs.Prelude.{◌≡◌, ◌↔◌, ◌*◌, IsTrue, Bool, true, false, ◌&&◌, int_le, ◌≤ℤ◌, T, ℤ, ℕ, pos, ◌-ℤ◌}
+use Rattle.std.specs.Prelude.{◌≡◌, ◌↔◌, ◌*◌, IsTrue, Bool, true, false, ◌&&◌, ◌≤ℤ◌, T, ℤ, ℕ, pos, ◌-ℤ◌}
 use Rattle.std.specs.Int.Signed.{le_z_yes}
 use Rattle.std.proofs.Common.{refl}
 use Rattle.view_settings.specs.Window.{Window, FitsMesh, fits_mesh, has_room}

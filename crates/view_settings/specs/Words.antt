@@ -1,5 +1,5 @@
 -- What words ask for, or which of them is refused, and why.
-use Rattle.std.specs.Prelude.{ℕ, ◌+◌, List, [], ◌∷◌, length, map, String, string_bytes, Option, Some, None, Result, Ok, Err}
+use Rattle.std.specs.Prelude.{ℕ, ◌+◌, List, [], ◌∷◌, length, map, String, string_bytes, Result, Ok, Err}
 use Rattle.std.specs.Global.{Global}
 use Rattle.view_settings.specs.declared.job.Job.{Job}
 use Rattle.view_settings.specs.declared.verb.Verb.{Verb}

@@ -1,4 +1,4 @@
-use Rattle.std.proofs.Common.{Err, ap, sym, ◌∙◌, arith}
+use Rattle.std.proofs.Common.{ap, sym, ◌∙◌, arith}
 use Rattle.view_settings.specs.Verbs.{verb_named}
 use Rattle.view_settings.proofs.NameLaws.{verb_found}
 use Rattle.view_settings.proofs.WordLaws.{no_verb}

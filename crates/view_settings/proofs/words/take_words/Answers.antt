@@ -1,4 +1,4 @@
-use Rattle.std.proofs.Common.{Err, ap, sym, ◌∙◌, arith}
+use Rattle.std.proofs.Common.{sym, ◌∙◌}
 use Rattle.view_settings.proofs.WordLaws.{taken_next, refused_next, all_taken}
 use Rattle.view_settings.proofs.words.take_words.Goals as goal
 
