@@ -10,6 +10,10 @@ mod pictures;
 #[cfg(test)]
 mod refusals;
 #[cfg(test)]
+mod sure;
+#[cfg(test)]
+mod texts;
+#[cfg(test)]
 mod trial;
 #[cfg(test)]
 mod words;

@@ -1,5 +1,5 @@
-// The longest input, the most clauses, and the largest picture.
-use crate::trial::{THREE_BY_THREE, Trial};
+// The longest input, the most clauses, and the largest image.
+use crate::trial::Trial;
 use modeller_cmd::Status;
 use modeller_io::MemSink;
 use std::alloc::{AllocError, Global};
@@ -8,14 +8,14 @@ use std::test::Fail;
 #[test]
 fn an_input_has_at_most_8_mib(rt: HostRuntime) -> Result<(), Fail> {
     let cases: [(usize, Status, &[u8]); 2] = [
-        (8_388_608, Status::BadModel, b"modeller: line 0: NotRead\n"),
+        (8_388_608, Status::BadModel, b"modeller: line 0: Empty\n"),
         (8_388_609, Status::TooLong, b"modeller: input too long\n"),
     ];
     for (length, status, note) in cases {
         // One comment line.
         let text = vec![in rt.alloc(); b'#'; length]?;
         let mut trial = Trial::new(rt.alloc(), &text)?;
-        assert_eq!(rt; trial.run(rt.alloc(), THREE_BY_THREE)?, status);
+        assert_eq!(rt; trial.run(rt.alloc(), &["render"])?, status);
         trial.assert_holds(&rt, b"", note);
     }
     Ok(())
@@ -38,7 +38,7 @@ fn a_model_has_at_most_65_535_clauses(rt: HostRuntime) -> Result<(), Fail> {
             65_536,
             Status::BadModel,
             b"",
-            b"modeller: line 65536: NotRead\n",
+            b"modeller: line 65536: TooMany\n",
         ),
     ];
     for (count, status, out, note) in cases {
@@ -52,7 +52,7 @@ fn a_model_has_at_most_65_535_clauses(rt: HostRuntime) -> Result<(), Fail> {
 }
 
 #[test]
-fn a_picture_has_at_most_4096_samples_a_side(rt: HostRuntime) -> Result<(), Fail> {
+fn an_image_has_at_most_4096_samples_a_side(rt: HostRuntime) -> Result<(), Fail> {
     // 4096 * 4096 bytes after the 17 bytes `P5`, `4096 4096` and `255` with their line feeds.
     let length = 16_777_233;
     let mut trial = Trial::new(rt.alloc(), b"x var-x")?;

@@ -3,21 +3,15 @@ use crate::trial::{DISC, DISC_PICTURE, THREE_BY_THREE, Trial};
 use modeller_cmd::Status;
 use std::test::Fail;
 
-// Words, a model, and the picture.
+// Words, a model, and the image.
 type Case = (&'static [&'static str], &'static str, &'static [u8]);
 
-const CASES: [Case; 8] = [
+const CASES: [Case; 12] = [
     // The value 0 is outside.
     (
         &["render", "w=3", "h=1"],
         "_0 var-x",
         b"P5\n3 1\n255\n\xff\x00\x00",
-    ),
-    // A row of five samples lies at -1, -0.5, 0, 0.5 and 1, and each number here is exact.
-    (
-        &["render", "w=5", "h=1"],
-        "x var-x\nc const -0.5\nd sub x c\n",
-        b"P5\n5 1\n255\n\xff\x00\x00\x00\x00",
     ),
     // The rows go from y = 1 down to y = -1. Comments, blank lines and tabs say nothing.
     (
@@ -25,7 +19,7 @@ const CASES: [Case; 8] = [
         "#first\n\n \t\n\ty\tvar-y \n  # last",
         b"P5\n1 3\n255\n\x00\x00\xff",
     ),
-    // One sample lies at -1.
+    // One sample lies at -1, whatever zeros a count begins with.
     (
         &["render", "w=01", "h=0001"],
         "x var-x",
@@ -34,26 +28,55 @@ const CASES: [Case; 8] = [
     // The exact product lies between -2^-32 and 0, and is rounded down.
     (
         &["render", "w=1", "h=1"],
-        "a const -0.000000001\nb const 0.000000001\nc mul a b\n",
+        "a const -0.0000000003\nb const 0.0000000003\nc mul a b\n",
         b"P5\n1 1\n255\n\xff",
     ),
-    // Lines that end with CR LF, and none at the end: x - 0.5.
+    // A file as a program writes it: lines that end with CR LF, and none at the end.
     (
         &["render", "w=3", "h=1"],
-        "_0 var-x\r\n_1 const 0.5\r\n_2 sub _0 _1",
-        b"P5\n3 1\n255\n\xff\xff\x00",
+        "# text\r\n_0 const 2.95\r\n_1 var-x\r\n_2 const 8.13008\r\n_3 mul _1 _2\r\n_4 add _0 _3\r\n_5 neg _4\r\n_6 square _5\r\n_7 sqrt _6\r\n_8 const 3\r\n_1f sub _7 _8",
+        b"P5\n3 1\n255\n\x00\xff\x00",
     ),
-    // Both squares are the greatest number, so that their difference is 0.
+    // 1 / x, where x is never 0.
     (
-        &["render", "w=1", "h=1"],
-        "a const 999999999\nb mul a a\nc const 99999\nd mul c c\ne sub d b\n",
-        b"P5\n1 1\n255\n\x00",
+        &["render", "h=1", "w=8"],
+        "c const 1\nx var-x\nd div c x",
+        b"P5\n8 1\n255\n\xff\xff\xff\xff\x00\x00\x00\x00",
     ),
-    // The last clause is the solid, whatever stands before it.
+    // A window from 0 to 3: the samples lie at 0, 1, 2 and 3.
     (
-        &["render", "w=2", "h=2"],
-        "n const -1\nx var-x\ny var-y\nr add x y\n",
-        b"P5\n2 2\n255\n\x00\x00\xff\x00",
+        &["render", "x1=3", "x0=0", "w=4", "h=1"],
+        "x var-x\nc const 1.5\nd sub x c",
+        b"P5\n4 1\n255\n\xff\xff\x00\x00",
+    ),
+    // Its rows lie at 3, 2, 1 and 0.
+    (
+        &["render", "y0=0", "y1=3e0", "w=1", "h=4"],
+        "y var-y\nc const 2\nd sub c y",
+        b"P5\n1 4\n255\n\xff\x00\x00\x00",
+    ),
+    // A third of the way is not exact: columns are rounded down, and rows up.
+    (
+        &["render", "w=4", "h=1"],
+        "x var-x\nc const 0.33333333333333333\nd add x c",
+        b"P5\n4 1\n255\n\xff\xff\x00\x00",
+    ),
+    (
+        &["render", "w=1", "h=4"],
+        "y var-y\nc const 0.33333333333333333\nd sub y c",
+        b"P5\n1 4\n255\n\x00\x00\xff\xff",
+    ),
+    // A raster lies at the height z.
+    (
+        &["render", "w=1", "h=1", "z=0.5"],
+        "z var-z\nc const 0.25\nd sub c z",
+        b"P5\n1 1\n255\n\xff",
+    ),
+    // A disc without a bar, and the bar.
+    (
+        &["render", "w=5", "h=5"],
+        "x var-x\ny var-y\nx2 square x\ny2 square y\ns add x2 y2\nr sqrt s\none const 0.8\nd sub r one\nb abs x\nh const 0.25\nbar sub b h\nn neg bar\ncut max d n\ne min cut bar",
+        b"P5\n5 5\n255\n\x00\x00\xff\x00\x00\x00\xff\xff\xff\x00\x00\xff\xff\xff\x00\x00\xff\xff\xff\x00\x00\x00\xff\x00\x00",
     ),
 ];
 

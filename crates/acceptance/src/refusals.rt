@@ -1,53 +1,52 @@
-// Texts that are no model, each with the line of its first defect.
-use crate::trial::{THREE_BY_THREE, Trial};
+// Texts that are no model, each with the line and the reason of its first defect.
+use crate::trial::Trial;
 use modeller_cmd::Status;
 use std::test::Fail;
 
-// Texts, and the lines that are noted. Line 0 stands for the whole text.
-const CASES: [(&str, u32); 26] = [
+// Texts, the lines that are noted, and the reasons. Line 0 stands for the whole text.
+pub const CASES: [(&str, u32, &str); 24] = [
     // No clause at all.
-    ("", 0),
-    ("# only a comment", 0),
-    ("\n \t\r\n#x\n", 0),
+    ("", 0, "Empty"),
+    ("# only a comment", 0, "Empty"),
+    ("\n \t\r\n#x\n", 0, "Empty"),
     // No operation.
-    ("a", 1),
-    ("a var-x\n b \r\n", 2),
+    ("a", 1, "NoOperation"),
+    ("a var-x\n b \r\n", 2, "NoOperation"),
     // An operation that there is not.
-    ("a paint", 1),
-    ("a VAR-X", 1),
-    ("a #var-x", 1),
+    ("a foo", 1, "UnknownOperation"),
+    ("a VAR-X", 1, "UnknownOperation"),
+    ("a #var-x", 1, "UnknownOperation"),
     // Too many or too few words after the operation.
-    ("a var-x a", 1),
-    ("a var-y # y", 1),
-    ("a const", 1),
-    ("a const 1 2", 1),
-    ("a var-x\nb add a\n", 2),
-    ("a var-x\nb mul a a a\n", 2),
+    ("a var-y # y", 1, "WrongArity"),
+    ("a const x y", 1, "WrongArity"),
+    ("a var-x\nb neg a a\n", 2, "WrongArity"),
     // No numeral.
-    ("a const 1.\n", 1),
-    ("a const .5\n", 1),
-    ("a const +1\n", 1),
-    ("a const -\n", 1),
-    ("a const 1e3\n", 1),
-    ("a const 1234567890\n", 1),
-    ("a const 0.1234567890\n", 1),
+    ("a const .", 1, "BadNumeral"),
+    ("a const 1e", 1, "BadNumeral"),
+    ("a const 0x1", 1, "BadNumeral"),
+    ("a const nan", 1, "BadNumeral"),
+    ("a const 1e1234", 1, "BadNumeral"),
     // A name that no line before this one has.
-    ("a add a a\n", 1),
-    ("a var-x\nb add a c\nc var-y\n", 2),
+    ("a var-x\nb add a c\nc var-y\n", 2, "UnknownName"),
+    ("a neg a\n", 1, "UnknownName"),
+    ("a var-x\na neg #b\n", 2, "UnknownName"),
     // A name twice.
-    ("a var-x\na var-y\n", 2),
+    ("a var-x\na var-y\n", 2, "DoubleName"),
     // Lines of every kind are counted, and the first defect is told.
-    ("# c\n\na var-x\n\nb paint\n", 5),
-    ("a var-x\nb paint\nc paint\n", 2),
+    ("# c\n\na var-x\n\nb paint\n", 5, "UnknownOperation"),
+    ("a var-x\nb paint\nc\n", 2, "UnknownOperation"),
+    // A carriage return within a line is a blank, and no end of it.
+    ("a var-x\ra", 1, "WrongArity"),
+    ("\u{e9}\0 var-x\n\u{e9}\0 var-y", 2, "DoubleName"),
 ];
 
 #[test]
-fn the_line_of_the_first_defect_is_noted(rt: HostRuntime) -> Result<(), Fail> {
-    for (text, line) in CASES {
+fn the_line_and_the_reason_of_the_first_defect_are_noted(rt: HostRuntime) -> Result<(), Fail> {
+    for (text, line, reason) in CASES {
         let mut trial = Trial::new(rt.alloc(), text.as_bytes())?;
-        let status = trial.run(rt.alloc(), THREE_BY_THREE)?;
+        let status = trial.run(rt.alloc(), &["render"])?;
         assert_eq!(rt; status, Status::BadModel, "{text:?}");
-        let note = format!(in rt.alloc(); "modeller: line {line}: NotRead\n")?;
+        let note = format!(in rt.alloc(); "modeller: line {line}: {reason}\n")?;
         trial.assert_holds(&rt, b"", note.as_bytes());
         assert_eq!(rt; trial.tally.points(), 0);
     }

@@ -40,10 +40,7 @@ impl Trial {
 
     /// Runs the modeller on these words.
     pub fn run(&mut self, alloc: Global, words: &[&str]) -> Result<Status, AllocError> {
-        let mut given = Vec::new(alloc);
-        for word in words {
-            given.push(String::from_str(alloc, word)?)?;
-        }
+        let given = word_list(alloc, words)?;
         Ok(run(
             alloc,
             &given,
@@ -59,6 +56,15 @@ impl Trial {
         assert_eq!(rt; self.out.held(), Some(out), "written to out");
         assert_eq!(rt; self.notes.held(), Some(note), "written to the notes");
     }
+}
+
+/// Words as a run takes them.
+pub fn word_list(alloc: Global, words: &[&str]) -> Result<Vec<String>, AllocError> {
+    let mut list = Vec::new(alloc);
+    for word in words {
+        list.push(String::from_str(alloc, word)?)?;
+    }
+    Ok(list)
 }
 
 /// A source of these bytes, at most `chunk` a call, at which the calls of these numbers fail.

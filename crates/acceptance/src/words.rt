@@ -4,31 +4,58 @@ use modeller_cmd::Status;
 use modeller_io::Source;
 use std::test::Fail;
 
-const CASES: [&[&str]; 15] = [
-    &[],
-    &["render"],
-    &["render", "w=3"],
-    &["render", "h=3", "w=3"],
-    &["render", "w=3", "h=3", "x"],
-    &["draw", "w=3", "h=3"],
-    &["Render", "w=3", "h=3"],
-    &["render", "w=0", "h=3"],
-    &["render", "w=3", "h=4097"],
-    &["render", "w=4097", "h=3"],
-    &["render", "w=12345", "h=3"],
-    &["render", "w=a", "h=3"],
-    &["render", "w=", "h=3"],
-    &["render", "w=-3", "h=3"],
-    &["render", "3", "h=3"],
+// Words, the number of the one that is noted, and the reason.
+const CASES: [(&[&str], u32, &str); 37] = [
+    (&[], 0, "NoVerb"),
+    (&["draw"], 1, "UnknownVerb"),
+    (&["Render", "w"], 1, "UnknownVerb"),
+    (&["render", "w"], 2, "NotASetting"),
+    (&["render", ""], 2, "NotASetting"),
+    (&["text", "w"], 2, "NotASetting"),
+    (&["render", "n=3"], 2, "UnknownSetting"),
+    (&["render", "z0=1"], 2, "UnknownSetting"),
+    (&["render", "W=3"], 2, "UnknownSetting"),
+    (&["render", "=3"], 2, "UnknownSetting"),
+    (&["render", "\u{e9}=3"], 2, "UnknownSetting"),
+    (&["text", "w=3"], 2, "UnknownSetting"),
+    (&["render", "w=3", "w=3"], 3, "Twice"),
+    (&["render", "w=3", "w=a"], 3, "Twice"),
+    (&["render", "w=a"], 2, "BadValue"),
+    (&["render", "w="], 2, "BadValue"),
+    (&["render", "x0==1"], 2, "BadValue"),
+    (&["render", "x0=."], 2, "BadValue"),
+    (&["render", "w=+3"], 2, "BadValue"),
+    // 21 digits are no count, 20 are one.
+    (&["render", "w=000000000000000000003"], 2, "BadValue"),
+    (&["render", "w=99999999999999999999"], 2, "OutOfRange"),
+    (&["render", "w=0"], 2, "OutOfRange"),
+    (&["render", "h=3", "w=4097"], 3, "OutOfRange"),
+    (&["height", "w=1025"], 2, "OutOfRange"),
+    (&["mesh", "n=257"], 2, "OutOfRange"),
+    (&["forge", "solids=5001"], 2, "OutOfRange"),
+    // The first bad word is noted, whatever stands after it.
+    (&["render", "w=0", "h", "h=3"], 2, "OutOfRange"),
+    (&["render", "x0=1", "x1=-1"], 0, "EmptySpan"),
+    (&["render", "y1=-1.0000000003"], 0, "EmptySpan"),
+    (&["mesh", "n=256", "x0=0", "x1=0.001"], 0, "CellTooSmall"),
+    (&["mesh", "n=256", "x0=1", "x1=0"], 0, "EmptySpan"),
+    // Good words of verbs that are not built.
+    (&["count"], 1, "NotBuilt"),
+    (&["height", "w=1024", "d=1"], 1, "NotBuilt"),
+    (&["mesh", "z0=-2", "z1=2", "n=256"], 1, "NotBuilt"),
+    (&["replay"], 1, "NotBuilt"),
+    (&["forge", "seed=18446744073709551615"], 1, "NotBuilt"),
+    (&["replay", "w=1"], 2, "UnknownSetting"),
 ];
 
 #[test]
-fn words_that_are_not_understood_leave_the_source(rt: HostRuntime) -> Result<(), Fail> {
-    for words in CASES {
+fn words_that_are_refused_leave_the_source(rt: HostRuntime) -> Result<(), Fail> {
+    for (words, number, reason) in CASES {
         let mut trial = Trial::new(rt.alloc(), DISC)?;
         let status = trial.run(rt.alloc(), words)?;
         assert_eq!(rt; status, Status::Usage, "{words:?}");
-        trial.assert_holds(&rt, b"", b"modeller: word 0: NotBuilt\n");
+        let note = format!(in rt.alloc(); "modeller: word {number}: {reason}\n")?;
+        trial.assert_holds(&rt, b"", note.as_bytes());
         // The whole input is still there.
         let mut left = [0; 80];
         let count = trial.source.read(&mut left)?;

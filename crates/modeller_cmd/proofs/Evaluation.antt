@@ -1,4 +1,4 @@
--- One more clause is evaluated, and one more evaluation is counted.
+-- One more clause is evaluated.
 use Rattle.std.proofs.Common.{◌≡◌, ℕ, ℤ, pos, ◌+◌, ◌<◌, ◌⊎◌, inl, inr, List, [], ◌∷◌, ◌++◌, length, take, set, get_or, slice_get, Some, refl, sym, ap, subst, ◌∙◌, arith}
 use Rattle.std.proofs.lemmas.List.{take_more_set, get_or_read}
 use Rattle.std.proofs.lemmas.List.Sums.{fold_more}
@@ -7,10 +7,10 @@ use Rattle.fixed_ops.specs.declared.operation.Op.{Op}
 use Rattle.fixed_ops.specs.declared.operation.Op.TheVariants.{Add, Sub, Mul, Div, Min, Max}
 use Rattle.fixed_ops.specs.Arity.{arity_of}
 use Rattle.fixed_ops.specs.Operations.{op_result}
-use Rattle.fixed_ops.specs.Counts.{Counts, raised}
+use Rattle.fixed_ops.specs.Points.{Point, step_value}
 use Rattle.solid_model.specs.declared.clause.Clause.{Clause}
 use Rattle.solid_model.specs.Clauses.{IsClauseAt}
-use Rattle.solid_model.specs.Values.{Point, clause_value, value_of, values}
+use Rattle.solid_model.specs.Values.{clause_value, values}
 
 pub values_more : (p : Point) (clauses : List Clause) (i : ℕ) (vs : List ℤ) (clause : Clause) (v : ℤ)
     → slice_get clauses i ≡ Some clause → i < length clauses → i < length vs
@@ -24,29 +24,21 @@ values_more p clauses i vs clause v at within room same value =
     take_more_set vs i v room ∙ last
     ∙ sym (step ∙ ap (λ next. values p (take i clauses) ++ clause_value p (values p (take i clauses)) next ∷ []) read)
 
-pub raised-raised : (count m n : ℕ) → raised (raised count m) n ≡ raised count (m + n)
-raised-raised count m n = omega arith
-
-pub counted_more : (old mid new : Counts) (m n : ℕ) → mid ≡ record old { points = raised old.points m } → new ≡ record mid { points = raised mid.points n }
-    → new ≡ record old { points = raised old.points (m + n) }
-counted_more old mid new m n before now =
-    now ∙ ap (λ (t : Counts). record t { points = raised t.points n }) before ∙ ap (λ k. record old { points = k }) (raised-raised old.points m n)
-
 -- an operation of two operands
 abbrev IsBinary : Op → Type 0
 IsBinary op = (op ≡ Add) ⊎ ((op ≡ Sub) ⊎ ((op ≡ Mul) ⊎ ((op ≡ Div) ⊎ ((op ≡ Min) ⊎ (op ≡ Max)))))
 
 -- its value is its result on both of them
-pub binary_value : (op : Op) (p : Point) (value a b : ℤ) → IsBinary op → (value_of op p value a b ≡ op_result op a b) × (1 < arity_of op)
+pub binary_value : (op : Op) (p : Point) (value a b : ℤ) → IsBinary op → (step_value op p value a b ≡ op_result op a b) × (1 < arity_of op)
 binary_value op p value a b is = by is
   where
-    by : IsBinary op → (value_of op p value a b ≡ op_result op a b) × (1 < arity_of op)
-    by (inl e) = subst (λ o. (value_of o p value a b ≡ op_result o a b) × (1 < arity_of o)) (sym e) (refl, omega arith)
-    by (inr (inl e)) = subst (λ o. (value_of o p value a b ≡ op_result o a b) × (1 < arity_of o)) (sym e) (refl, omega arith)
-    by (inr (inr (inl e))) = subst (λ o. (value_of o p value a b ≡ op_result o a b) × (1 < arity_of o)) (sym e) (refl, omega arith)
-    by (inr (inr (inr (inl e)))) = subst (λ o. (value_of o p value a b ≡ op_result o a b) × (1 < arity_of o)) (sym e) (refl, omega arith)
-    by (inr (inr (inr (inr (inl e))))) = subst (λ o. (value_of o p value a b ≡ op_result o a b) × (1 < arity_of o)) (sym e) (refl, omega arith)
-    by (inr (inr (inr (inr (inr e))))) = subst (λ o. (value_of o p value a b ≡ op_result o a b) × (1 < arity_of o)) (sym e) (refl, omega arith)
+    by : IsBinary op → (step_value op p value a b ≡ op_result op a b) × (1 < arity_of op)
+    by (inl e) = subst (λ o. (step_value o p value a b ≡ op_result o a b) × (1 < arity_of o)) (sym e) (refl, omega arith)
+    by (inr (inl e)) = subst (λ o. (step_value o p value a b ≡ op_result o a b) × (1 < arity_of o)) (sym e) (refl, omega arith)
+    by (inr (inr (inl e))) = subst (λ o. (step_value o p value a b ≡ op_result o a b) × (1 < arity_of o)) (sym e) (refl, omega arith)
+    by (inr (inr (inr (inl e)))) = subst (λ o. (step_value o p value a b ≡ op_result o a b) × (1 < arity_of o)) (sym e) (refl, omega arith)
+    by (inr (inr (inr (inr (inl e))))) = subst (λ o. (step_value o p value a b ≡ op_result o a b) × (1 < arity_of o)) (sym e) (refl, omega arith)
+    by (inr (inr (inr (inr (inr e))))) = subst (λ o. (step_value o p value a b ≡ op_result o a b) × (1 < arity_of o)) (sym e) (refl, omega arith)
 
 -- what two operands were read as gives the clause's value
 pub binary_read : (p : Point) (values : List ℤ) (clause : Clause) (a b : ℤ) → IsBinary clause.op → IsClauseAt (length values) clause
@@ -55,6 +47,6 @@ binary_read p values clause a b is stands read_a read_b =
     let A = get_or values clause.a (pos 0) in
     let B = get_or values clause.b (pos 0) in
     let both = binary_value clause.op p clause.value A B is in
-    let at_a : a ≡ A = get_or_read values clause.a a (stands.first (omega (arith, both.1))) read_a (pos 0) in
-    let at_b : b ≡ B = get_or_read values clause.b b (stands.second both.1) read_b (pos 0) in
+    let at_a : a ≡ A = get_or_read values clause.a a (stands.fits.first (omega (arith, both.1))) read_a (pos 0) in
+    let at_b : b ≡ B = get_or_read values clause.b b (stands.fits.second both.1) read_b (pos 0) in
     ap (λ u. op_result clause.op u b) at_a ∙ ap (λ u. op_result clause.op A u) at_b ∙ sym both.0

@@ -1,13 +1,3 @@
-mod Decimals
-mod EdgeExamples
 mod Evaluation
-mod Examples
-mod First
-mod LineExamples
-mod LineLemmas
-mod Notes
+mod Outcomes
 mod Pixels
-mod Said
-mod SaidExamples
-mod Splits
-mod TokenLemmas

@@ -1,91 +1,80 @@
--- What a run gives for its words and its input: a status, bytes, and a note line.
-use Rattle.std.specs.Prelude.{ℕ, nat_lt, List, [], ◌++◌, length, Result, Ok, Err, if◌then◌else◌, codes, decimal}
-use Rattle.std.specs.Option.{option_map_or}
+-- What a run gives for its words and its input: a status, the bytes in their parts, and a note line.
+use Rattle.std.specs.Prelude.{ℕ, nat_lt, List, [], ◌∷◌, ◌++◌, length, Option, Result, Ok, Err, IfSome, if◌then◌else◌}
+use Rattle.clause_reader.specs.Reading.{text_read}
+use Rattle.clause_reader.specs.ModelText.{model_text}
+use Rattle.clause_reader.specs.declared.text_fault.TextFault.{TextFault}
+use Rattle.fixed_ops.specs.Counts.{Counts, no_counts, plus, points_of}
 use Rattle.solid_model.specs.declared.clause.Clause.{Clause}
-use Rattle.modeller_cmd.specs.declared.size.Size.{Size}
+use Rattle.view_settings.specs.declared.job.Job.{Job}
+use Rattle.view_settings.specs.declared.job.Job.TheVariants.{Render, Text}
+use Rattle.modeller_cmd.specs.Images.{image_of, plain_points}
+use Rattle.modeller_cmd.specs.Notes.{refusal_line}
+use Rattle.modeller_cmd.specs.Statuses.{status_of}
+use Rattle.modeller_cmd.specs.Asking.{asked}
+use Rattle.modeller_cmd.specs.declared.refusal.Refusal.{Refusal}
+use Rattle.modeller_cmd.specs.declared.refusal.Refusal.TheVariants.{TooLong, Model}
 use Rattle.modeller_cmd.specs.declared.status.Status.{Status}
 use Rattle.modeller_cmd.specs.declared.status.Status.TheVariants as status
-use Rattle.modeller_cmd.specs.declared.stop.Stop.{Stop}
-use Rattle.modeller_cmd.specs.declared.stop.Stop.TheVariants.{NotBuilt, NotRead, TooLong, ReadFault, WriteFault, NoMemory}
-use Rattle.modeller_io.specs.declared.read_end.ReadEnd.{ReadEnd}
-use Rattle.modeller_io.specs.declared.read_end.ReadEnd.TheVariants as end
-use Rattle.modeller_cmd.specs.declared.fault.TextFault.{TextFault}
-use Rattle.modeller_cmd.specs.declared.fault.TextFault.TheVariants as fault
-use Rattle.modeller_cmd.specs.Words.{size_of}
-use Rattle.modeller_cmd.specs.Reading.{text_read}
-use Rattle.modeller_cmd.specs.Picture.{picture_of}
-use Rattle.modeller_cmd.specs.Work.{plain_work}
 
 -- the most bytes that an input may have
 abbrev pub input_limit : ℕ
 input_limit = 8388608
 
--- the picture of a text that was read, or its refusal
-abbrev pub drawn : Size → Result (List Clause) ℕ → Result (List ℕ) Stop
-drawn size (Ok clauses) = Ok (picture_of size clauses)
-drawn size (Err line) = Err (NotRead line)
+-- a part of the bytes that a run writes, with the work that it takes
+pub record Part : Type 0 where
+  pub bytes : List ℕ
+  pub work : Counts
 
--- the picture of an input at a size, or why there is none
-abbrev pub rendered : List ℕ → Size → Result (List ℕ) Stop
-rendered input size = if nat_lt input_limit (length input) then Err TooLong else drawn size (text_read input)
+-- the bytes of the parts, one after the other
+abbrev pub bytes_of_parts : List Part → List ℕ
+bytes_of_parts [] = []
+bytes_of_parts (part ∷ parts) = part.bytes ++ bytes_of_parts parts
 
--- the bytes that the words ask for, or why there are none
-abbrev pub outcome : List (List ℕ) → List ℕ → Result (List ℕ) Stop
-outcome words input = option_map_or (rendered input) (size_of words) (Err NotBuilt)
+-- the work of all the parts
+abbrev pub work_of_parts : List Part → Counts
+work_of_parts [] = no_counts
+work_of_parts (part ∷ parts) = plus part.work (work_of_parts parts)
 
--- the status that a stop ends with
-abbrev pub status_of : Stop → Status
-status_of NotBuilt = status.Usage
-status_of (NotRead line) = status.BadModel
-status_of TooLong = status.TooLong
-status_of ReadFault = status.ReadFault
-status_of WriteFault = status.WriteFault
-status_of NoMemory = status.NoMemory
+-- the parts that a job makes of a model
+abbrev pub parts_of : Job → List Clause → List Part
+parts_of (Render view) clauses =
+    record { bytes = image_of view clauses; work = points_of (plain_points view (length clauses)) } ∷ []
+parts_of Text clauses = record { bytes = model_text clauses; work = no_counts } ∷ []
+parts_of other clauses = []
 
--- the line that is written for a stop
-abbrev pub note_of : Stop → List ℕ
-note_of NotBuilt = codes "modeller: word 0: NotBuilt\n"
-note_of (NotRead line) = codes "modeller: line " ++ decimal line ++ codes ": NotRead\n"
-note_of TooLong = codes "modeller: input too long\n"
-note_of ReadFault = codes "modeller: read fault\n"
-note_of WriteFault = codes "modeller: write fault\n"
-note_of NoMemory = codes "modeller: no memory\n"
+-- the parts that a job makes of a text that was read, or its refusal
+abbrev pub parts_after : Job → Result (List Clause) TextFault → Result (List Part) Refusal
+parts_after job (Ok clauses) = Ok (parts_of job clauses)
+parts_after job (Err fault) = Err (Model fault)
 
--- why reading a source stops a run
-abbrev pub stop_of_end : ReadEnd → Stop
-stop_of_end end.Failed = ReadFault
-stop_of_end end.TooLong = TooLong
-stop_of_end end.NoMemory = NoMemory
+-- the parts that a job makes of an input, or why it makes none
+abbrev pub made : Job → List ℕ → Result (List Part) Refusal
+made job input =
+    if nat_lt input_limit (length input) then Err TooLong else parts_after job (text_read input)
 
--- why reading a text stops a run
-abbrev pub stop_of_text : TextFault → Stop
-stop_of_text (fault.Refused line) = NotRead line
-stop_of_text fault.NoMemory = NoMemory
+-- the parts that a run writes, or why it writes none
+abbrev pub outcome : List (List ℕ) → List ℕ → Result (List Part) Refusal
+outcome words input = by (asked words)
+  where
+    by : Result Job Refusal → Result (List Part) Refusal
+    by (Ok job) = made job input
+    by (Err refusal) = Err refusal
 
--- a status, the bytes for the sink, and the line for the notes
+-- a status, the parts for the sink, and the line for the notes
 pub record Output : Type 0 where
   pub status : Status
-  pub bytes : List ℕ
+  pub parts : List Part
   pub note : List ℕ
 
--- the outcome as an output
-abbrev pub as_output : Result (List ℕ) Stop → Output
-as_output (Ok bytes) = record { status = status.Done; bytes = bytes; note = [] }
-as_output (Err stop) = record { status = status_of stop; bytes = []; note = note_of stop }
+-- an outcome as an output
+abbrev pub output_as : Result (List Part) Refusal → Output
+output_as (Ok parts) = record { status = status.Done; parts = parts; note = [] }
+output_as (Err refusal) = record { status = status_of refusal; parts = []; note = refusal_line refusal }
 
 -- what a run gives for these words and this input, where nothing fails
 abbrev pub output_of : List (List ℕ) → List ℕ → Output
-output_of words input = as_output (outcome words input)
+output_of words input = output_as (outcome words input)
 
--- how many evaluations evaluating the whole model of a text at every sample takes, or 0 where the text is refused
-abbrev pub work_on : Size → Result (List Clause) ℕ → ℕ
-work_on size (Ok clauses) = plain_work size (length clauses)
-work_on size (Err line) = 0
-
--- how many evaluations evaluating the whole model of an input at every sample takes, or 0 where nothing is drawn
-abbrev pub work_at : List ℕ → Size → ℕ
-work_at input size = if nat_lt input_limit (length input) then 0 else work_on size (text_read input)
-
--- the same, at the size that the words ask for
-abbrev pub work_of : List (List ℕ) → List ℕ → ℕ
-work_of words input = option_map_or (work_at input) (size_of words) 0
+-- where a source tells its bytes, this holds of the output that the words ask for of them
+abbrev pub WithOutput : {S : Type 0} → (S → Option (List ℕ)) → S → List (List ℕ) → (Output → Type 0) → Type 0
+WithOutput rest source words P = IfSome (rest source) (λ input. P (output_of words input))

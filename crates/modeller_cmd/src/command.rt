@@ -1,31 +1,35 @@
 // The modeller's one call.
-ghost use Rattle.std.specs.Prelude.{◌≡◌, ◌≢◌, ◌+◌, ◌<◌, ◌≤◌, ◌↔◌, [], ℕ, length, Some, None, Ok, Err, IfOk, IfSome, OnOk};
-ghost use Rattle.modeller_io.specs.Count.{last_count, raised, Rose};
-ghost use Rattle.modeller_io.specs.Held.{Gains, GainsPrefix};
-ghost use Rattle.modeller_io.specs.Took.{LosesAtMost, RoseAtMost};
-ghost use Rattle.modeller_cmd.specs.Answers.{IsAnswer, IsBroken, IsRefusal, IsStop, NoFault, ReadsWhole, StopsUncounted, StopsUnwritten, TakesLine, TellsLine, fixed_line};
-ghost use Rattle.modeller_cmd.specs.Output.{input_limit, outcome, output_of, rendered, work_at, work_of};
-ghost use Rattle.modeller_cmd.specs.Words.{IsSize, bytes_of, size_of};
-ghost use Rattle.modeller_cmd.specs.Work.{EvaluatesAtMost};
+ghost use Rattle.std.specs.Prelude.{◌≡◌, ◌≢◌, ◌+◌, ◌<◌, ◌≤◌, ◌↔◌, [], ℕ, length, Some, None, Ok, Err, IfOk, IfErr, IsErr, IfSome, OnOk, IsTrue};
+ghost use Rattle.fixed_ops.specs.Counts.{RisesAtMost, RisesBy};
+ghost use Rattle.modeller_io.specs.Count.{last_count, RoseBy, Stands};
+ghost use Rattle.modeller_io.specs.Held.{Gains, GainsPrefix, Grew};
+ghost use Rattle.modeller_io.specs.Took.{LosesAtMost};
+ghost use Rattle.view_settings.specs.Words.{bytes_of};
+ghost use Rattle.modeller_cmd.specs.Endings.{Ends, IsAnswer, IsRead, IsRefusal, IsTold, IsUnwritten, IsWorkStop, IsWorked, Makes, NoFault, ReadsWhole, RisesInPoints, TakesLine, Tells, status_after};
+ghost use Rattle.modeller_cmd.specs.Notes.{line_of};
+ghost use Rattle.modeller_cmd.specs.Output.{WithOutput, bytes_of_parts, input_limit, made, outcome, output_as, work_of_parts};
+ghost use Rattle.modeller_cmd.specs.Asking.{asked, is_built};
 
 use crate::Status;
-use crate::picture::draw;
-use crate::reader::read_model;
-use crate::size::Size;
+use crate::asking::read_job;
+use crate::draw::draw;
+use crate::note::note_of;
+use crate::refusal::Refusal;
 use crate::stop::Stop;
-use crate::words::read_words;
+use clause_reader::{read_model, write_model};
 use fixed_ops::Tally;
 use modeller_io::{Sink, Source, read_all, write_all};
 use std::alloc::Global;
+use view_settings::Job;
 
 // The most bytes that an input may have.
 const INPUT_LIMIT: u64 = 8_388_608;
 
-/// Runs the modeller: reads the words and the source, and writes a picture to `out`, or one line to `notes`
-/// that says why there is none.
+/// Runs the modeller: reads the words and the source, and writes what they ask for to `out`, or one line to
+/// `notes` that says why there is nothing.
 ///
-/// `source` and `out` may fail, and memory may be refused: then the status says so, and `out` holds a front of
-/// the picture at most. A failure of `notes` changes no status. `tally` counts each evaluation of a clause.
+/// `source` and `out` may fail, and memory may be refused: then the status says so, and under a write fault
+/// `out` holds a front of the bytes. A failure of `notes` changes no status. `tally` counts each evaluation.
 pub fn run<S: Source, K: Sink, N: Sink>(
     alloc: Global,
     words: &[String],
@@ -35,135 +39,126 @@ pub fn run<S: Source, K: Sink, N: Sink>(
     tally: &mut Tally,
 ) -> Status
     // What a finished run has written, whatever faults rose: all of the output, and nothing else.
-    ensures done { result ≡ Status.Done → IfSome (S.rest source.old) (λ input.
-        (S.rest source.new ≡ Some [])
-        × ((output_of (bytes_of words.now) input).status ≡ Status.Done)
-        × Gains (K.held out.old) (K.held out.new) (output_of (bytes_of words.now) input).bytes) }
+    ensures done { result ≡ Status.Done → WithOutput S.rest source.old (bytes_of words.now) (λ output.
+        (output.status ≡ Status.Done) × Gains K.held out.old out.new (bytes_of_parts output.parts)) }
     ensures silent { result ≡ Status.Done → notes.new ≡ notes.old }
 
     // When each status comes.
-    ensures answer { IfSome (S.rest source.old) (λ input.
-        IsAnswer (output_of (bytes_of words.now) input).status result) }
-    ensures usage { (result ≡ Status.Usage) ↔ (size_of (bytes_of words.now) ≡ None) }
-    ensures bad_model { result ≡ Status.BadModel → IfSome (S.rest source.old) (λ input.
-        (S.rest source.new ≡ Some []) × (length input ≤ input_limit)) }
+    ensures answer { WithOutput S.rest source.old (bytes_of words.now) (λ output. IsAnswer output.status result) }
+    ensures usage { (result ≡ Status.Usage) ↔ IsErr (asked (bytes_of words.now)) }
+    ensures read { IsRead result → ReadsWhole S.rest source.old source.new }
     ensures no_script { result ≢ Status.BadScript }
-    ensures too_long { result ≡ Status.TooLong → S.taken source.new ≡ raised (S.taken source.old) (input_limit + 1) }
+    ensures too_long { result ≡ Status.TooLong → RoseBy S.taken source.old source.new (input_limit + 1) }
     ensures too_long_there { S.taken source.new ≡ S.taken source.old + (input_limit + 1)
         → S.taken source.new < last_count → result ≡ Status.TooLong }
-    ensures read_fault { result ≡ Status.ReadFault → Rose (S.faults source.old) (S.faults source.new) }
-    ensures no_read_fault { result ≢ Status.ReadFault → S.faults source.new ≡ S.faults source.old }
-    ensures write_fault { result ≡ Status.WriteFault → Rose (K.faults out.old) (K.faults out.new) }
-    ensures no_write_fault { result ≢ Status.WriteFault → K.faults out.new ≡ K.faults out.old }
-    ensures read_first { result ≡ Status.WriteFault → IfSome (S.rest source.old) (λ input.
-        (S.rest source.new ≡ Some []) × (length input ≤ input_limit)) }
+    ensures read_fault { result ≡ Status.ReadFault → RoseBy S.faults source.old source.new 1 }
+    ensures no_read_fault { result ≢ Status.ReadFault → Stands S.faults source.old source.new }
+    ensures write_fault { result ≡ Status.WriteFault → RoseBy K.faults out.old out.new 1 }
+    ensures no_write_fault { result ≢ Status.WriteFault → Stands K.faults out.old out.new }
 
     // Where nothing fails and memory is there, the status is the output's.
-    ensures complete { IfSome (S.rest source.old) (λ input.
-        NoFault (S.faults source.old) (S.faults source.new) → NoFault (K.faults out.old) (K.faults out.new)
-        → result ≢ Status.NoMemory → result ≡ (output_of (bytes_of words.now) input).status) }
+    ensures complete { NoFault S.faults source.old source.new → NoFault K.faults out.old out.new
+        → result ≢ Status.NoMemory
+        → WithOutput S.rest source.old (bytes_of words.now) (λ output. result ≡ output.status) }
 
     // What stays.
     ensures unread { result ≡ Status.Usage → source.new ≡ source.old }
-    ensures takes_few { S.taken source.new ≤ S.taken source.old + (input_limit + 1) }
-    ensures lost { result ≢ Status.Usage → LosesAtMost (S.rest source.old) (S.rest source.new)
-        (S.taken source.old) (S.taken source.new) (input_limit + 1) }
-    ensures unwritten { IsRefusal result → out.new ≡ out.old }
-    ensures uncounted { IsRefusal result → tally.new ≡ tally.old }
-    ensures front { IsBroken result → IfSome (S.rest source.old) (λ input.
-        GainsPrefix (K.held out.old) (K.held out.new) (output_of (bytes_of words.now) input).bytes) }
-    ensures never_falls { (S.faults source.old ≤ S.faults source.new) × (K.faults out.old ≤ K.faults out.new)
-        × (N.faults notes.old ≤ N.faults notes.new) }
+    ensures lost { result ≢ Status.Usage → LosesAtMost S.rest S.taken source.old source.new (input_limit + 1) }
+    ensures unwritten { IsUnwritten result → out.new ≡ out.old }
+    ensures front { result ≡ Status.WriteFault → WithOutput S.rest source.old (bytes_of words.now) (λ output.
+        GainsPrefix K.held out.old out.new (bytes_of_parts output.parts)) }
+    ensures never_falls { N.faults notes.old ≤ N.faults notes.new }
 
     // The one line of the notes.
-    ensures note { result ≢ Status.BadModel → result ≢ Status.Done
-        → TakesLine (N.faults notes.old) (N.faults notes.new) (N.held notes.old) (N.held notes.new) (fixed_line result) }
-    ensures line_note { result ≡ Status.BadModel → IfSome (S.rest source.old) (λ input.
-        TakesLine (N.faults notes.old) (N.faults notes.new) (N.held notes.old) (N.held notes.new)
-        (output_of (bytes_of words.now) input).note) }
-    ensures refused { result ≡ Status.BadModel
-        → TellsLine (N.faults notes.old) (N.faults notes.new) (N.held notes.old) (N.held notes.new) (S.rest source.old) }
+    ensures note { Tells (bytes_of words.now) (S.rest source.old) result (TakesLine N.faults N.held notes.old notes.new) }
 
-    // No more evaluations than each clause once at each sample, whatever the status.
-    ensures work { IfSome (S.rest source.old) (λ input.
-        EvaluatesAtMost tally.old tally.new (work_of (bytes_of words.now) input)) }
+    // The work that is counted: all of it where it was done, and never more, whatever the status.
+    ensures counted { IsWorked result → WithOutput S.rest source.old (bytes_of words.now) (λ output.
+        RisesBy tally.old tally.new (work_of_parts output.parts)) }
+    ensures uncounted { IsRefusal result → tally.new ≡ tally.old }
+    ensures work { WithOutput S.rest source.old (bytes_of words.now) (λ output.
+        RisesAtMost tally.old tally.new (work_of_parts output.parts)) }
+
+    // What is so where the source does not tell its bytes, too.
+    ensures gained { Grew K.held out.old out.new }
+    ensures points_alone { RisesInPoints tally.old tally.new }
 {
-    match work(alloc, words, source, out, tally) {
+    match perform(alloc, words, source, out, tally) {
         Ok(()) => Status::Done,
         Err(stop) => {
-            // A failure of the notes changes no status.
-            let _ = write_all(notes, stop.note().as_slice());
+            tell(notes, stop);
             stop.status()
         }
     }
 }
 
-// Reads, draws and writes, up to what stops the run.
-fn work<S: Source, K: Sink>(
+// Writes the line of a stop to the notes, whose failure changes nothing else.
+fn tell<N: Sink>(notes: &mut N, stop: Stop)
+    ensures line { TakesLine N.faults N.held notes.old notes.new (line_of stop) }
+    ensures never_falls { N.faults notes.old ≤ N.faults notes.new }
+{
+    let _ = write_all(notes, note_of(stop).as_slice());
+}
+
+// Reads, works and writes, up to what ends the run.
+fn perform<S: Source, K: Sink>(
     alloc: Global,
     words: &[String],
     source: &mut S,
     out: &mut K,
     tally: &mut Tally,
 ) -> Result<(), Stop>
-    ensures ok { OnOk result (IfSome (S.rest source.old) (λ input.
-        IfOk (outcome (bytes_of words.now) input) (Gains (K.held out.old) (K.held out.new)))) }
-    ensures stop { IfSome (S.rest source.old) (λ input. IsStop (outcome (bytes_of words.now) input) result) }
-    ensures not_built { (result ≡ Err Stop.NotBuilt) ↔ (size_of (bytes_of words.now) ≡ None) }
-    ensures whole { ReadsWhole result → IfSome (S.rest source.old) (λ input.
-        (S.rest source.new ≡ Some []) × (length input ≤ input_limit)) }
-    ensures took { size_of (bytes_of words.now) ≢ None → result ≢ Err Stop.TooLong
-        → RoseAtMost (S.taken source.old) (S.taken source.new) input_limit }
-    ensures takes_few { S.taken source.new ≤ S.taken source.old + (input_limit + 1) }
-    ensures lost { size_of (bytes_of words.now) ≢ None → LosesAtMost (S.rest source.old) (S.rest source.new)
-        (S.taken source.old) (S.taken source.new) (input_limit + 1) }
-    ensures took_more { result ≡ Err Stop.TooLong → S.taken source.new ≡ raised (S.taken source.old) (input_limit + 1) }
-    ensures read_fault { result ≡ Err Stop.ReadFault → Rose (S.faults source.old) (S.faults source.new) }
-    ensures no_read_fault { result ≢ Err Stop.ReadFault → S.faults source.new ≡ S.faults source.old }
-    ensures write_fault { result ≡ Err Stop.WriteFault → Rose (K.faults out.old) (K.faults out.new) }
-    ensures no_write_fault { result ≢ Err Stop.WriteFault → K.faults out.new ≡ K.faults out.old }
-    ensures never_falls { (S.faults source.old ≤ S.faults source.new) × (K.faults out.old ≤ K.faults out.new) }
+    ensures done { OnOk result (IfSome (S.rest source.old) (λ input.
+        Makes (outcome (bytes_of words.now) input) (Gains K.held out.old out.new))) }
+    ensures ends { IfSome (S.rest source.old) (λ input. Ends (outcome (bytes_of words.now) input) result) }
+    ensures usage { (status_after result ≡ Status.Usage) ↔ IsErr (asked (bytes_of words.now)) }
+    ensures refused { IfErr result (λ stop. IsTold (bytes_of words.now) (S.rest source.old) stop) }
+    ensures read { IsRead (status_after result) → ReadsWhole S.rest source.old source.new }
+    ensures too_long { status_after result ≡ Status.TooLong → RoseBy S.taken source.old source.new (input_limit + 1) }
+    ensures too_long_there { S.taken source.new ≡ S.taken source.old + (input_limit + 1)
+        → S.taken source.new < last_count → status_after result ≡ Status.TooLong }
+    ensures read_fault { result ≡ Err Stop.ReadFault → RoseBy S.faults source.old source.new 1 }
+    ensures no_read_fault { result ≢ Err Stop.ReadFault → Stands S.faults source.old source.new }
+    ensures write_fault { result ≡ Err Stop.WriteFault → RoseBy K.faults out.old out.new 1 }
+    ensures no_write_fault { result ≢ Err Stop.WriteFault → Stands K.faults out.old out.new }
 
-    ensures unread { result ≡ Err Stop.NotBuilt → source.new ≡ source.old }
-    ensures unwritten { StopsUnwritten result → out.new ≡ out.old }
-    ensures uncounted { StopsUncounted result → tally.new ≡ tally.old }
+    ensures unread { status_after result ≡ Status.Usage → source.new ≡ source.old }
+    ensures lost { status_after result ≢ Status.Usage
+        → LosesAtMost S.rest S.taken source.old source.new (input_limit + 1) }
+    ensures unwritten { IsUnwritten (status_after result) → out.new ≡ out.old }
     ensures front { result ≡ Err Stop.WriteFault → IfSome (S.rest source.old) (λ input.
-        IfOk (outcome (bytes_of words.now) input) (GainsPrefix (K.held out.old) (K.held out.new))) }
-    ensures work { IfSome (S.rest source.old) (λ input.
-        EvaluatesAtMost tally.old tally.new (work_of (bytes_of words.now) input)) }
+        Makes (outcome (bytes_of words.now) input) (GainsPrefix K.held out.old out.new)) }
+
+    ensures counted { IsWorked (status_after result) → WithOutput S.rest source.old (bytes_of words.now) (λ output.
+        RisesBy tally.old tally.new (work_of_parts output.parts)) }
+    ensures uncounted { IsRefusal (status_after result) → tally.new ≡ tally.old }
+    ensures work { WithOutput S.rest source.old (bytes_of words.now) (λ output.
+        RisesAtMost tally.old tally.new (work_of_parts output.parts)) }
+    ensures gained { Grew K.held out.old out.new }
+    ensures points_alone { RisesInPoints tally.old tally.new }
 {
-    let size = read_words(words).ok_or(Stop::NotBuilt)?;
-    let image = render(alloc, size, source, tally)?;
-    Ok(write_all(out, &image)?)
+    let job = read_job(words)?;
+    let input = read_all(alloc, source, INPUT_LIMIT)?;
+    let bytes = work(alloc, &job, &input, tally)?;
+    Ok(write_all(out, &bytes)?)
 }
 
-// Reads the source to its end, and draws the picture of what it says.
-fn render<S: Source>(
-    alloc: Global,
-    size: Size,
-    source: &mut S,
-    tally: &mut Tally,
-) -> Result<Vec<u8>, Stop>
-    requires { IsSize size }
-    ensures ok { IfOk result (λ image. IfSome (S.rest source.old) (λ input. rendered input size ≡ Ok image.items)) }
-    ensures stop { IfSome (S.rest source.old) (λ input. IsStop (rendered input size) result) }
-    ensures whole { ReadsWhole result → IfSome (S.rest source.old) (λ input.
-        (S.rest source.new ≡ Some []) × (length input ≤ input_limit)) }
-
-    ensures took { result ≢ Err Stop.TooLong → RoseAtMost (S.taken source.old) (S.taken source.new) input_limit }
-    ensures takes_few { S.taken source.new ≤ S.taken source.old + (input_limit + 1) }
-    ensures lost { LosesAtMost (S.rest source.old) (S.rest source.new)
-        (S.taken source.old) (S.taken source.new) (input_limit + 1) }
-    ensures took_more { result ≡ Err Stop.TooLong → S.taken source.new ≡ raised (S.taken source.old) (input_limit + 1) }
-    ensures read_fault { result ≡ Err Stop.ReadFault → Rose (S.faults source.old) (S.faults source.new) }
-    ensures no_read_fault { result ≢ Err Stop.ReadFault → S.faults source.new ≡ S.faults source.old }
-    ensures never_falls { S.faults source.old ≤ S.faults source.new }
-    ensures no_other { (result ≢ Err Stop.NotBuilt) × (result ≢ Err Stop.WriteFault) }
-
-    ensures uncounted { StopsUncounted result → tally.new ≡ tally.old }
-    ensures work { IfSome (S.rest source.old) (λ input. EvaluatesAtMost tally.old tally.new (work_at input size)) }
+// What a job makes of an input: the table of the verbs.
+fn work(alloc: Global, job: &Job, input: &[u8], tally: &mut Tally) -> Result<Vec<u8>, Stop>
+    requires built { IsTrue (is_built job.now) }
+    requires limit { length input.now ≤ input_limit }
+    ensures bytes { IfOk result (λ bytes. Makes (made job.now input.now) (λ whole. bytes.items ≡ whole)) }
+    ensures ends { Ends (made job.now input.now) result }
+    ensures stop { IfErr result IsWorkStop }
+    ensures counted { OnOk result (RisesBy tally.old tally.new (work_of_parts (output_as (made job.now input.now)).parts)) }
+    ensures uncounted { IsRefusal (status_after result) → tally.new ≡ tally.old }
+    ensures at_most { RisesAtMost tally.old tally.new (work_of_parts (output_as (made job.now input.now)).parts) }
+    ensures points_alone { RisesInPoints tally.old tally.new }
 {
-    let input = read_all(alloc, source, INPUT_LIMIT)?;
-    let model = read_model(alloc, &input)?;
-    Ok(draw(alloc, &model, size, tally)?)
+    let model = read_model(alloc, input)?;
+    match job {
+        Job::Render(view) => Ok(draw(alloc, &model, view, tally)?),
+        Job::Text => Ok(write_model(alloc, &model)?),
+        _ => Err(Stop::Refused(Refusal::NotBuilt)),
+    }
 }

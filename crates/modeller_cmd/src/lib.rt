@@ -1,23 +1,16 @@
-//! The modeller's one call: words and an input in, a picture and at most one note line out.
+//! The modeller's one call: words and an input in, a picture or a text and at most one note line out.
 #![tactic(auto)]
 
+mod asking;
 mod command;
-mod digits;
+mod draw;
 mod evaluate;
-mod fault;
-mod form;
-mod laws;
-mod lines;
-mod numeral;
-mod picture;
-mod place;
-mod reader;
-mod size;
+mod note;
+mod refusal;
 mod status;
 mod stop;
-mod tokens;
-mod words;
+mod sure;
 
 pub use command::run;
-pub use laws::{lines_and_tokens_are_exact, reading_is_exact};
 pub use status::Status;
+pub use sure::run_surely;

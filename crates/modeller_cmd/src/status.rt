@@ -5,7 +5,7 @@
 pub enum Status {
     /// The work is written whole.
     Done = 0,
-    /// The words are not understood. Nothing was read.
+    /// The words are refused. Nothing was read.
     Usage = 2,
     /// The model's text is refused.
     BadModel = 3,
@@ -19,4 +19,16 @@ pub enum Status {
     WriteFault = 7,
     /// Memory was refused.
     NoMemory = 8,
+}
+
+impl Status {
+    ghost use Rattle.std.specs.Prelude.{◌≡◌};
+    ghost use Rattle.modeller_cmd.specs.Statuses.{number_of};
+
+    /// The number that the program ends with.
+    pub fn number(self) -> u8
+        ensures { result ≡ number_of self }
+    {
+        self as u8
+    }
 }

@@ -1,0 +1,54 @@
+// Models that are written back.
+use crate::trial::Trial;
+use modeller_cmd::Status;
+use std::alloc::{AllocError, Global};
+use std::test::Fail;
+
+// Inputs, and the texts of their models.
+const CASES: [(&str, &str); 6] = [
+    // Constants are rounded to 2^-32, and written with ten decimals, cut towards 0.
+    ("a const 1e-5", "a const 0.0000100000\n"),
+    ("a const 99999999999", "a const 1073741823.9999999997\n"),
+    ("a const 1e999", "a const 1073741823.9999999997\n"),
+    ("a const -1e-999", "a const 0.0000000000\n"),
+    ("a const -.5\n", "a const -0.5000000000\n"),
+    // Comments and blanks go, names and order stay.
+    (
+        "# union\n\n x\tvar-x\r\n _y var-y\r\nu min x _y\nn neg u",
+        "x var-x\n_y var-y\nu min x _y\nn neg u\n",
+    ),
+];
+
+#[test]
+fn a_model_is_written_back(rt: HostRuntime) -> Result<(), Fail> {
+    for (input, text) in CASES {
+        let mut trial = Trial::new(rt.alloc(), input.as_bytes())?;
+        assert_eq!(rt;
+            trial.run(rt.alloc(), &["text"])?,
+            Status::Done,
+            "{input:?}"
+        );
+        trial.assert_holds(&rt, text.as_bytes(), b"");
+        assert_eq!(rt; trial.tally.points(), 0);
+    }
+    Ok(())
+}
+
+// The numeral 1, then 999 zeros, then `e-999`.
+fn long_one(alloc: Global) -> Result<String, AllocError> {
+    let mut text = String::from_str(alloc, "a const 1")?;
+    for _ in 0..999 {
+        text.push('0')?;
+    }
+    text.push_str("e-999")?;
+    Ok(text)
+}
+
+#[test]
+fn a_long_numeral_is_read_exactly(rt: HostRuntime) -> Result<(), Fail> {
+    let text = long_one(rt.alloc())?;
+    let mut trial = Trial::new(rt.alloc(), text.as_bytes())?;
+    assert_eq!(rt; trial.run(rt.alloc(), &["text"])?, Status::Done);
+    trial.assert_holds(&rt, b"a const 1.0000000000\n", b"");
+    Ok(())
+}

@@ -1,0 +1,87 @@
+-- What an outcome says of the status, the bytes and the work of a run.
+use Rattle.std.proofs.Common.{◌≡◌, ◌≢◌, ℕ, ◌+◌, ◌≤◌, false, List, length, nat_lt, Option, Some, None, Result, Ok, Err, IsOk, IfSome, refl, sym, ap, subst, arith}
+use Rattle.std.proofs.lemmas.Bool.{le-ltb}
+use Rattle.clause_reader.specs.Reading.{text_read}
+use Rattle.fixed_ops.specs.Counts.{points_of}
+use Rattle.solid_model.specs.declared.clause.Clause.{Clause}
+use Rattle.view_settings.specs.Window.{Window}
+use Rattle.view_settings.specs.declared.job.Job.TheVariants.{Render}
+use Rattle.modeller_cmd.specs.Endings.{Ends, IsAnswer, Makes, status_after}
+use Rattle.modeller_cmd.specs.Images.{plain_points}
+use Rattle.modeller_cmd.specs.Output.{Part, bytes_of_parts, input_limit, made, output_as, work_of_parts}
+use Rattle.modeller_cmd.specs.Statuses.{status_of}
+use Rattle.modeller_cmd.specs.Stops.{status_at}
+use Rattle.modeller_cmd.specs.declared.refusal.Refusal.{Refusal}
+use Rattle.modeller_cmd.specs.declared.refusal.Refusal.TheVariants as refusal
+use Rattle.modeller_cmd.specs.declared.status.Status.TheVariants as status
+use Rattle.modeller_cmd.specs.declared.stop.Stop.{Stop}
+use Rattle.modeller_cmd.specs.declared.stop.Stop.TheVariants as stop
+
+-- what follows from a fact about what is told
+pub some_follows : {X : Type 0} (told : Option X) (P Q : X → Type 0) → ((x : X) → P x → Q x) → IfSome told P → IfSome told Q
+some_follows None P Q step p = p
+some_follows (Some x) P Q step p = step x p
+
+-- what is so of anything that is told
+pub some_all : {X : Type 0} (told : Option X) (Q : X → Type 0) → ((x : X) → Q x) → IfSome told Q
+some_all None Q all = tt
+some_all (Some x) Q all = all x
+
+-- an outcome that makes bytes is done, and its parts are these bytes
+pub made_done : (outcome : Result (List Part) Refusal) (P : List ℕ → Type 0) → Makes outcome P
+    → ((output_as outcome).status ≡ status.Done) × P (bytes_of_parts (output_as outcome).parts)
+made_done (Ok parts) P p = (refl, p)
+made_done (Err why) P p = absurd p
+
+pub made_bytes : (outcome : Result (List Part) Refusal) (P : List ℕ → Type 0) → Makes outcome P → P (bytes_of_parts (output_as outcome).parts)
+made_bytes outcome P p = (made_done outcome P p).1
+
+-- an outcome that has parts is done
+pub ok_done : (outcome : Result (List Part) Refusal) → IsOk outcome → (output_as outcome).status ≡ status.Done
+ok_done (Ok parts) p = refl
+ok_done (Err why) p = absurd (grind (arith, p))
+
+refusal_answer : (why : Refusal) → IsAnswer (status_of why) (status_of why)
+refusal_answer (refusal.Words fault) = refl
+refusal_answer refusal.NotBuilt = refl
+refusal_answer refusal.TooLong = refl
+refusal_answer (refusal.Model fault) = refl
+
+-- what ends a run is an answer to its output's status
+pub answer_of : {T : Type 0} (outcome : Result (List Part) Refusal) (ending : Result T Stop) → Ends outcome ending
+    → IsAnswer (output_as outcome).status (status_after ending)
+answer_of outcome (Ok done) p = ok_done outcome p
+answer_of outcome (Err (stop.Refused why)) p = subst (λ o. IsAnswer (output_as o).status (status_of why)) (sym p) (refusal_answer why)
+answer_of outcome (Err stop.ReadFault) p = tt
+answer_of outcome (Err stop.WriteFault) p = ok_done outcome p
+answer_of outcome (Err stop.NoMemory) p = tt
+
+-- where no fault ends a run, nor want of memory, its status is the output's
+pub status_of_refusal : (outcome : Result (List Part) Refusal) (why : Stop) → Ends {T = Unit {0}} outcome (Err why)
+    → status_at why ≢ status.ReadFault → status_at why ≢ status.WriteFault → status_at why ≢ status.NoMemory
+    → status_at why ≡ (output_as outcome).status
+status_of_refusal outcome (stop.Refused why) p read write memory = ap (λ o. (output_as o).status) (sym p)
+status_of_refusal outcome stop.ReadFault p read write memory = absurd (read refl)
+status_of_refusal outcome stop.WriteFault p read write memory = absurd (write refl)
+status_of_refusal outcome stop.NoMemory p read write memory = absurd (memory refl)
+
+other_status : (why : Refusal) → status_of why ≡ status.WriteFault → ⊥
+other_status (refusal.Words fault) e = grind (arith, e)
+other_status refusal.NotBuilt e = grind (arith, e)
+other_status refusal.TooLong e = grind (arith, e)
+other_status (refusal.Model fault) e = grind (arith, e)
+
+-- only a fault of the sink has its status
+pub write_fault_of : (why : Stop) → status_at why ≡ status.WriteFault → why ≡ stop.WriteFault
+write_fault_of (stop.Refused why) e = absurd (other_status why e)
+write_fault_of stop.ReadFault e = absurd (grind (arith, e))
+write_fault_of stop.WriteFault e = refl
+write_fault_of stop.NoMemory e = absurd (grind (arith, e))
+
+-- the work of an image
+pub render_work : (view : Window) (input : List ℕ) (clauses : List Clause) → length input ≤ input_limit → text_read input ≡ Ok clauses
+    → work_of_parts (output_as (made (Render view) input)).parts ≡ points_of (plain_points view (length clauses))
+render_work view input clauses few reads =
+    let short : nat_lt input_limit (length input) ≡ false = le-ltb input_limit (length input) few in
+    let none : plain_points view (length clauses) + 0 ≡ plain_points view (length clauses) = omega arith in
+    rw (short, reads) (ap points_of none)

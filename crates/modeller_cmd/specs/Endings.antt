@@ -1,0 +1,116 @@
+-- Which status a run may end with, what each of them leaves, and what the notes are told.
+use Rattle.std.specs.Prelude.{◌≡◌, ℕ, ◌≤◌, ◌<◌, List, [], length, Option, Some, Result, Ok, Err, IfSome, IfErr, IsOk, ⊤}
+use Rattle.clause_reader.specs.Reading.{text_read}
+use Rattle.clause_reader.specs.declared.text_fault.TextFault.{TextFault}
+use Rattle.fixed_ops.specs.Counts.{Counts, RisesBy, points_of}
+use Rattle.modeller_io.specs.Count.{last_count}
+use Rattle.modeller_io.specs.Held.{Gains, GainsPrefix}
+use Rattle.modeller_cmd.specs.Notes.{line_of, refusal_line}
+use Rattle.modeller_cmd.specs.Output.{Part, bytes_of_parts, input_limit}
+use Rattle.modeller_cmd.specs.Stops.{status_at}
+use Rattle.modeller_cmd.specs.Asking.{asked}
+use Rattle.modeller_cmd.specs.declared.refusal.Refusal.{Refusal}
+use Rattle.modeller_cmd.specs.declared.refusal.Refusal.TheVariants as refusal
+use Rattle.modeller_cmd.specs.declared.status.Status.{Status}
+use Rattle.modeller_cmd.specs.declared.status.Status.TheVariants.{Done, Usage, BadModel, TooLong, ReadFault, WriteFault, NoMemory}
+use Rattle.modeller_cmd.specs.declared.stop.Stop.{Stop}
+use Rattle.modeller_cmd.specs.declared.stop.Stop.TheVariants as stop
+
+-- What a run may answer where this status is expected: the status itself, a fault or want of memory on the way,
+-- and a fault of the sink only where there is something to write.
+abbrev pub IsAnswer : Status → Status → Type 0
+IsAnswer expected ReadFault = ⊤
+IsAnswer expected NoMemory = ⊤
+IsAnswer expected WriteFault = expected ≡ Done
+IsAnswer expected answer = expected ≡ answer
+
+-- the statuses under which the work was done whole, and was counted
+abbrev pub IsWorked : Status → Type 0
+IsWorked Done = ⊤
+IsWorked WriteFault = ⊤
+IsWorked status = ⊥
+
+-- the statuses that come only where the source was read to its end
+abbrev pub IsRead : Status → Type 0
+IsRead Done = ⊤
+IsRead BadModel = ⊤
+IsRead WriteFault = ⊤
+IsRead status = ⊥
+
+-- the statuses under which nothing was evaluated
+abbrev pub IsRefusal : Status → Type 0
+IsRefusal Done = ⊥
+IsRefusal WriteFault = ⊥
+IsRefusal NoMemory = ⊥
+IsRefusal status = ⊤
+
+-- The statuses under which nothing was written. Want of memory is one of them as long as no verb writes in parts.
+abbrev pub IsUnwritten : Status → Type 0
+IsUnwritten Done = ⊥
+IsUnwritten WriteFault = ⊥
+IsUnwritten status = ⊤
+
+-- the source was read to its end, and had no more bytes than are accepted
+abbrev pub ReadsWhole : {S : Type 0} → (S → Option (List ℕ)) → S → S → Type 0
+ReadsWhole rest before after =
+    IfSome (rest before) (λ input. (rest after ≡ Some []) × (length input ≤ input_limit))
+
+-- no fault was counted, and the count does not stand at its last value
+abbrev pub NoFault : {X : Type 0} → (X → ℕ) → X → X → Type 0
+NoFault faults before after = (faults after ≤ faults before) × (faults after < last_count)
+
+-- the tally counted evaluations at points, and nothing else
+abbrev pub RisesInPoints : Counts → Counts → Type 0
+RisesInPoints before after = (number : ℕ) × RisesBy before after (points_of number)
+
+-- The notes took a line from its front on, and all of it where they counted no fault.
+pub record TakesLine {N : Type 0} (faults : N → ℕ) (held : N → Option (List ℕ)) (before after : N) (line : List ℕ) : Type 0 where
+  pub front : GainsPrefix held before after line
+  pub whole : NoFault faults before after → Gains held before after line
+
+-- the notes are told why a model is refused: where the input is told, as its text says
+pub record TellsModel (input : Option (List ℕ)) (takes : List ℕ → Type 0) : Type 0 where
+  pub fault : TextFault
+  pub told : takes (refusal_line (refusal.Model fault))
+  pub refused : IfSome input (λ text. text_read text ≡ Err fault)
+
+-- what the notes are told under a status, for these words and this input
+abbrev pub Tells : List (List ℕ) → Option (List ℕ) → Status → (List ℕ → Type 0) → Type 0
+Tells words input Done takes = ⊤
+Tells words input Usage takes = IfErr (asked words) (λ why. takes (refusal_line why))
+Tells words input BadModel takes = TellsModel input takes
+Tells words input TooLong takes = takes (line_of (stop.Refused refusal.TooLong))
+Tells words input ReadFault takes = takes (line_of stop.ReadFault)
+Tells words input WriteFault takes = takes (line_of stop.WriteFault)
+Tells words input NoMemory takes = takes (line_of stop.NoMemory)
+Tells words input other takes = ⊥
+
+-- What may end work whose outcome is this: what the outcome says, or a fault or want of memory on the way.
+abbrev pub Ends : {T : Type 0} → Result (List Part) Refusal → Result T Stop → Type 0
+Ends expected (Ok done) = IsOk expected
+Ends expected (Err (stop.Refused why)) = expected ≡ Err why
+Ends expected (Err stop.WriteFault) = IsOk expected
+Ends expected (Err other) = ⊤
+
+-- the status that work ends a run with
+abbrev pub status_after : {T : Type 0} → Result T Stop → Status
+status_after (Ok done) = Done
+status_after (Err stop) = status_at stop
+
+-- the outcome has parts, of whose bytes this holds
+abbrev pub Makes : Result (List Part) Refusal → (List ℕ → Type 0) → Type 0
+Makes (Ok parts) P = P (bytes_of_parts parts)
+Makes (Err why) P = ⊥
+
+-- what may stop the work on an input that was read: its model is refused, or memory
+abbrev pub IsWorkStop : Stop → Type 0
+IsWorkStop (stop.Refused (refusal.Model fault)) = ⊤
+IsWorkStop stop.NoMemory = ⊤
+IsWorkStop other = ⊥
+
+-- what a stop that is a refusal says is so of the words and the input
+abbrev pub IsTold : List (List ℕ) → Option (List ℕ) → Stop → Type 0
+IsTold words input (stop.Refused (refusal.Model fault)) = IfSome input (λ text. text_read text ≡ Err fault)
+IsTold words input (stop.Refused refusal.TooLong) = ⊤
+IsTold words input (stop.Refused other) = asked words ≡ Err other
+IsTold words input other = ⊤

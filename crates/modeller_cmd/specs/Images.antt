@@ -1,0 +1,29 @@
+-- The image of a solid over a view: 255 inside and 0 outside, row by row from the top.
+use Rattle.std.specs.Prelude.{ℕ, ◌*◌, List, map, if◌then◌else◌}
+use Rattle.std.specs.List.{flat_map, range_with_len}
+use Rattle.fixed_ops.specs.Raw.{is_inside}
+use Rattle.raster_pgm.specs.Pgm.{pgm_of}
+use Rattle.solid_model.specs.Values.{solid_value}
+use Rattle.solid_model.specs.declared.clause.Clause.{Clause}
+use Rattle.view_settings.specs.Places.{raster_point}
+use Rattle.view_settings.specs.Window.{Window}
+
+-- the byte of the pixel in column i, counted from the left, and row j, counted from the top
+abbrev pub pixel_at : Window → List Clause → ℕ → ℕ → ℕ
+pixel_at view clauses i j = if is_inside (solid_value (raster_point view i j) clauses) then 255 else 0
+
+-- the bytes of row j
+abbrev pub row_at : Window → List Clause → ℕ → List ℕ
+row_at view clauses j = map (λ i. pixel_at view clauses i j) (range_with_len 0 view.w)
+
+-- the bytes of the rows, from the top on
+abbrev pub pixels_of : Window → List Clause → List ℕ
+pixels_of view clauses = flat_map (row_at view clauses) (range_with_len 0 view.h)
+
+-- the whole image, as PGM text
+abbrev pub image_of : Window → List Clause → List ℕ
+image_of view clauses = pgm_of view.w view.h (pixels_of view clauses)
+
+-- how many evaluations evaluating each of so many clauses once at each sample takes
+abbrev pub plain_points : Window → ℕ → ℕ
+plain_points view clauses = view.w * view.h * clauses

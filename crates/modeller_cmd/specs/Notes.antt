@@ -1,0 +1,53 @@
+-- The one line that says why a run has not done its work.
+use Rattle.std.specs.Prelude.{ℕ, List, ◌++◌, codes, decimal}
+use Rattle.clause_reader.specs.declared.text_reason.TextReason.{TextReason}
+use Rattle.clause_reader.specs.declared.text_reason.TextReason.TheVariants as text
+use Rattle.view_settings.specs.declared.word_fault.WordReason.{WordReason}
+use Rattle.view_settings.specs.declared.word_fault.WordReason.TheVariants as word
+use Rattle.modeller_cmd.specs.declared.refusal.Refusal.{Refusal}
+use Rattle.modeller_cmd.specs.declared.refusal.Refusal.TheVariants.{Words, NotBuilt, TooLong, Model}
+use Rattle.modeller_cmd.specs.declared.stop.Stop.{Stop}
+use Rattle.modeller_cmd.specs.declared.stop.Stop.TheVariants.{Refused, ReadFault, WriteFault, NoMemory}
+
+-- the name of a reason why a word is refused
+abbrev pub word_reason_name : WordReason → List ℕ
+word_reason_name word.NoVerb = codes "NoVerb"
+word_reason_name word.UnknownVerb = codes "UnknownVerb"
+word_reason_name word.NotASetting = codes "NotASetting"
+word_reason_name word.UnknownSetting = codes "UnknownSetting"
+word_reason_name word.Twice = codes "Twice"
+word_reason_name word.BadValue = codes "BadValue"
+word_reason_name word.OutOfRange = codes "OutOfRange"
+word_reason_name word.EmptySpan = codes "EmptySpan"
+word_reason_name word.CellTooSmall = codes "CellTooSmall"
+
+-- the name of a reason why a model's text is refused
+abbrev pub text_reason_name : TextReason → List ℕ
+text_reason_name text.NoOperation = codes "NoOperation"
+text_reason_name text.UnknownOperation = codes "UnknownOperation"
+text_reason_name text.WrongArity = codes "WrongArity"
+text_reason_name text.BadNumeral = codes "BadNumeral"
+text_reason_name text.UnknownName = codes "UnknownName"
+text_reason_name text.DoubleName = codes "DoubleName"
+text_reason_name text.TooMany = codes "TooMany"
+text_reason_name text.Empty = codes "Empty"
+text_reason_name text.NoMemory = codes "NoMemory"
+
+-- what is wrong in the place of this number
+abbrev pub fault_line : List ℕ → ℕ → List ℕ → List ℕ
+fault_line place number reason =
+    codes "modeller: " ++ place ++ codes " " ++ decimal number ++ codes ": " ++ reason ++ codes "\n"
+
+-- the line that is written for a refusal
+abbrev pub refusal_line : Refusal → List ℕ
+refusal_line (Words fault) = fault_line (codes "word") fault.at (word_reason_name fault.reason)
+refusal_line NotBuilt = fault_line (codes "word") 1 (codes "NotBuilt")
+refusal_line TooLong = codes "modeller: input too long\n"
+refusal_line (Model fault) = fault_line (codes "line") fault.line (text_reason_name fault.reason)
+
+-- the line that is written for a stop
+abbrev pub line_of : Stop → List ℕ
+line_of (Refused refusal) = refusal_line refusal
+line_of ReadFault = codes "modeller: read fault\n"
+line_of WriteFault = codes "modeller: write fault\n"
+line_of NoMemory = codes "modeller: no memory\n"

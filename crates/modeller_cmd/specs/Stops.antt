@@ -1,0 +1,33 @@
+-- What ends a run before its work is written whole, with the status that it ends with.
+use Rattle.clause_reader.specs.declared.text_fault.TextFault.{TextFault}
+use Rattle.clause_reader.specs.declared.text_reason.TextReason.{TextReason}
+use Rattle.clause_reader.specs.declared.text_reason.TextReason.TheVariants as reason
+use Rattle.modeller_io.specs.declared.read_end.ReadEnd.{ReadEnd}
+use Rattle.modeller_io.specs.declared.read_end.ReadEnd.TheVariants as end
+use Rattle.modeller_cmd.specs.Statuses.{status_of}
+use Rattle.modeller_cmd.specs.declared.refusal.Refusal.TheVariants as refusal
+use Rattle.modeller_cmd.specs.declared.status.Status.{Status}
+use Rattle.modeller_cmd.specs.declared.status.Status.TheVariants as status
+use Rattle.modeller_cmd.specs.declared.stop.Stop.{Stop}
+use Rattle.modeller_cmd.specs.declared.stop.Stop.TheVariants.{Refused, ReadFault, WriteFault, NoMemory}
+
+-- the status that a stop ends a run with
+abbrev pub status_at : Stop → Status
+status_at (Refused refusal) = status_of refusal
+status_at ReadFault = status.ReadFault
+status_at WriteFault = status.WriteFault
+status_at NoMemory = status.NoMemory
+
+-- why reading a source stops a run
+abbrev pub stop_of_end : ReadEnd → Stop
+stop_of_end end.Failed = ReadFault
+stop_of_end end.TooLong = Refused refusal.TooLong
+stop_of_end end.NoMemory = NoMemory
+
+-- why a text stops a run
+abbrev pub stop_of_text : TextFault → Stop
+stop_of_text fault = by fault.reason
+  where
+    by : TextReason → Stop
+    by reason.NoMemory = NoMemory
+    by reason = Refused (refusal.Model fault)

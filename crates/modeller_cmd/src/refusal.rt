@@ -1,0 +1,34 @@
+// Why a run does nothing.
+
+use crate::Status;
+use clause_reader::TextFault;
+use view_settings::WordFault;
+
+/// Why a run does nothing: what it was given is refused.
+#[derive(Clone, Copy, Debug, PartialEq, Eq)]
+pub enum Refusal {
+    /// The words are refused.
+    Words(WordFault),
+    /// The words are accepted, and ask for a verb that is not built.
+    NotBuilt,
+    /// The input has more bytes than are accepted.
+    TooLong,
+    /// The model's text is refused.
+    Model(TextFault),
+}
+
+impl Refusal {
+    ghost use Rattle.std.specs.Prelude.{◌≡◌};
+    ghost use Rattle.modeller_cmd.specs.Statuses.{status_of};
+
+    /// The status that it ends a run with.
+    pub fn status(self) -> Status
+        ensures { result ≡ status_of self }
+    {
+        match self {
+            Refusal::Words(_) | Refusal::NotBuilt => Status::Usage,
+            Refusal::TooLong => Status::TooLong,
+            Refusal::Model(_) => Status::BadModel,
+        }
+    }
+}
