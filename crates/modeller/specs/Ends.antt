@@ -12,4 +12,4 @@ use Rattle.modeller.specs.declared.end.End.TheVariants.{Ran, Wordless}
 abbrev pub number_of_end : End → ℕ
 number_of_end (Ran status) = number_of status
 number_of_end (Wordless OutOfMemory) = number_of NoMemory
-number_of_end (Wordless other) = 1
+number_of_end (Wordless _) = 1
