@@ -1,0 +1,30 @@
+-- Choices between the operands of steps, and where they are right.
+use Rattle.std.specs.Prelude.{◌≡◌, ◌≢◌, ℕ, ◌<◌, ℤ, pos, List, length, slice_get, slice_index_or, Some}
+use Rattle.fixed_ops.specs.declared.operation.Op.{Op}
+use Rattle.fixed_ops.specs.declared.operation.Op.TheVariants.{X, Min, Max}
+use Rattle.fixed_ops.specs.Points.{Point}
+use Rattle.interval_ops.specs.declared.choice.Choice.{Choice}
+use Rattle.interval_ops.specs.declared.choice.Choice.TheVariants.{Left, Right, Both}
+use Rattle.live_clauses.specs.declared.step.Step.{Step}
+use Rattle.live_clauses.specs.Steps.{value_at}
+
+-- the step at a place, which past the end is a coordinate
+abbrev pub step_at : List Step → ℕ → Step
+step_at steps place = slice_index_or steps place (record { op = X; a = 0; b = 0; value = pos 0 })
+
+-- the choice of the step at a place, which past the end is neither operand
+abbrev pub choice_at : List Choice → ℕ → Choice
+choice_at choices place = slice_index_or choices place Both
+
+-- choices of some steps: only a minimum and a maximum choose an operand
+abbrev pub AreChoices : List Step → List Choice → Type 0
+AreChoices steps choices = (place : ℕ) (step : Step)
+    → slice_get steps place ≡ Some step → step.op ≢ Min → step.op ≢ Max → choice_at choices place ≡ Both
+
+-- Choices are right at a point where each step that chooses its left operand has that operand's value there, and
+-- each that chooses its right operand has that one's.
+pub record AreRight (p : Point) (steps : List Step) (choices : List Choice) : Type 0 where
+  pub left : (place : ℕ) (step : Step) → slice_get steps place ≡ Some step
+      → choice_at choices place ≡ Left → value_at p steps place ≡ value_at p steps step.a
+  pub right : (place : ℕ) (step : Step) → slice_get steps place ≡ Some step
+      → choice_at choices place ≡ Right → value_at p steps place ≡ value_at p steps step.b

@@ -1,0 +1,141 @@
+// A list of steps.
+ghost use Rattle.std.specs.Prelude.{◌≡◌, ◌<◌, ◌↔◌, map, length, slice_get, IfOk, IsTrue};
+ghost use Rattle.live_clauses.specs.Packed.{unpacked};
+ghost use Rattle.live_clauses.specs.Steps.{IsStepAt, IsTape};
+
+use crate::Step;
+use crate::packed_step::PackedStep;
+use std::alloc::AllocError;
+use std::marker::Model;
+use std::rc::RcSlice;
+
+/// A list of steps: from 1 to 65,535 of them, each of whose operands stands before it. The last one
+/// is the output.
+#[derive(Debug, Drop)]
+pub struct Tape {
+    steps: RcSlice<PackedStep>,
+}
+
+impl Model for Tape {
+    ghost use Rattle.std.specs.Prelude.{List, map};
+    ghost use Rattle.std.specs.Rc.{rc_slice_items};
+    ghost use Rattle.live_clauses.specs.declared.step.Step.{Step};
+
+    ghost Value = { List Step };
+
+    ghost use Rattle.live_clauses.specs.Packed.{unpacked};
+    ghost use Rattle.live_clauses.specs.Steps.{IsTape};
+
+    ghost view = { λ t. map unpacked (rc_slice_items t.steps) };
+
+    ghost invariant = { λ t. IsTape (map unpacked (rc_slice_items t.steps)) };
+}
+
+impl Tape {
+    // The list of these steps.
+    pub(crate) fn from_packed(steps: Vec<PackedStep>) -> Result<Tape, AllocError>
+        requires { IsTape (map unpacked steps.items) }
+        ensures { IfOk result (λ tape. tape ≡ map unpacked steps.items) }
+    {
+        let steps = RcSlice::from_vec(steps)?;
+        Ok(Tape { steps })
+    }
+
+    // The steps as they are kept.
+    #[inline]
+    pub(crate) fn packed(&self) -> &[PackedStep]
+        ensures steps { map unpacked result.now ≡ self.now }
+        ensures len { length result.now ≡ length self.now }
+        ensures tape { IsTape self.now }
+    {
+        self.steps.as_slice()
+    }
+
+    /// How many steps there are.
+    #[inline]
+    pub fn len(&self) -> u32
+        ensures len { result ≡ length self.now }
+        ensures tape { IsTape self.now }
+    {
+        self.packed().len() as u32
+    }
+
+    /// The step at a place, whose operands stand before it.
+    #[inline]
+    pub fn step(&self, at: u32) -> Step
+        requires { at < length self.now }
+        ensures step { slice_get self.now at ≡ Some result }
+        ensures stands { IsStepAt at result }
+    {
+        self.steps().step(at)
+    }
+
+    /// The steps, to be read one after another without a look at the list's head.
+    #[inline]
+    pub fn steps(&self) -> Steps<'_>
+        ensures steps { result ≡ self.now }
+        ensures tape { IsTape self.now }
+    {
+        Steps {
+            packed: self.packed(),
+        }
+    }
+
+    /// The same list once more. The steps are not copied.
+    pub fn share(&self) -> Result<Tape, AllocError>
+        ensures { IfOk result (λ tape. tape ≡ self.now) }
+    {
+        let steps = self.steps.clone()?;
+        Ok(Tape { steps })
+    }
+}
+
+/// The steps of a list, as they stand in memory.
+#[derive(Debug, Drop)]
+pub struct Steps<'a> {
+    packed: &'a [PackedStep],
+}
+
+impl<'a> Model for Steps<'a> {
+    ghost use Rattle.std.specs.Prelude.{List, map};
+    ghost use Rattle.live_clauses.specs.declared.step.Step.{Step};
+
+    ghost Value = { List Step };
+
+    ghost use Rattle.live_clauses.specs.Packed.{unpacked};
+    ghost use Rattle.live_clauses.specs.Steps.{IsTape};
+
+    ghost view = { λ s. map unpacked s.packed.now };
+
+    ghost invariant = { λ s. IsTape (map unpacked s.packed.now) };
+}
+
+impl<'a> Steps<'a> {
+    /// How many steps there are.
+    #[inline]
+    pub fn len(&self) -> u32
+        ensures len { result ≡ length self.now }
+        ensures tape { IsTape self.now }
+    {
+        let packed = self.packed;
+        packed.len() as u32
+    }
+
+    /// The step at a place, whose operands stand before it.
+    #[inline]
+    pub fn step(&self, at: u32) -> Step
+        requires { at < length self.now }
+        ensures step { slice_get self.now at ≡ Some result }
+        ensures stands { IsStepAt at result }
+    {
+        let packed = self.packed;
+        packed[at as usize].unpack()
+    }
+}
+
+/// Whether two lists have the same steps.
+pub fn same(a: &Tape, b: &Tape) -> bool
+    ensures { IsTrue result ↔ (a.now ≡ b.now) }
+{
+    a.packed() == b.packed()
+}
