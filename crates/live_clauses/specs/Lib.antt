@@ -1,3 +1,5 @@
 pub mod Choices
+pub mod Live
 pub mod Packed
 pub mod Steps
+pub mod ValueLaws

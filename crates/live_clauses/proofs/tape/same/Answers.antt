@@ -1,7 +1,6 @@
 -- The test of two kept steps compares each field, so the test of two lists of them decides whether they are equal.
-use Rattle.std.proofs.Common.{◌≡◌, ℕ, ℤ, Bool, true, false, ◌&&◌, map, List, [], ◌∷◌, Decides, sym, ap, ◌∙◌, refl, rules}
+use Rattle.std.proofs.Common.{◌≡◌, ℕ, ℤ, Bool, true, ◌&&◌, map, List, [], ◌∷◌, Decides, sym, ap, ◌∙◌, refl, rules}
 use Rattle.std.proofs.lemmas.Slice.Eq.{slice_eq-Decides}
-use Rattle.std.proofs.lemmas.Bool.{false≢true}
 use Rattle.std.proofs.lemmas.Bool.Decides.{Decides-int_eq, Decides-eqb}
 use denote.Enum.Bare.{sameb, same_true, true_same}
 use Rattle.fixed_ops.specs.declared.operation.Op.{Op}
@@ -9,15 +8,8 @@ use Rattle.fixed_ops.specs.contracts.operation.Op.{the_type}
 use Rattle.live_clauses.specs.Packed.{unpacked, packed_of}
 use Rattle.live_clauses.specs.declared.packed_step.PackedStep.{PackedStep}
 use Rattle.live_clauses.specs.contracts.packed_step.PackedStepPartialEq.TheImpl.{eq-value}
+use Rattle.live_clauses.proofs.Tests.{both_true, true_both}
 use Rattle.live_clauses.proofs.tape.same.Goals as goal
-
-both_true : (x y : Bool) → x && y ≡ true → (x ≡ true) × (y ≡ true)
-both_true true y h = (refl, h)
-both_true false y h = absurd (false≢true h)
-
-true_both : (x y : Bool) → x ≡ true → y ≡ true → x && y ≡ true
-true_both true y h k = k
-true_both false y h k = h
 
 same_fields : (a b : PackedStep) → a.op ≡ b.op → a.a ≡ b.a → a.b ≡ b.b → a.value ≡ b.value → a ≡ b
 same_fields a b op first second value =

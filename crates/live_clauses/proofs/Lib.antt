@@ -1,0 +1,5 @@
+pub mod Keeping
+pub mod Kept
+pub mod Needs
+pub mod Representatives
+pub mod Tests
