@@ -137,3 +137,7 @@ module _ (steps : List Step) (choices : List Choice) (tape : IsTape steps) (choo
     live_of-value =
         let is : length (live_of steps choices) - 1 ≡ kept_below steps choices last_kept = omega (arith, length-live_of) in
         rw is (kept-value (suc last_kept) last_kept (omega arith) last_keeps ∙ representative-value (length steps - 1) (omega (arith, tape.some)))
+
+-- a live list is no longer than its list
+pub live_of-le : (steps : List Step) (choices : List Choice) → length (live_of steps choices) ≤ length steps
+live_of-le steps choices = omega (arith, length-live_below steps choices (length steps), kept_below-le steps choices (length steps))

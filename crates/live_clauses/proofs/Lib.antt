@@ -2,4 +2,5 @@ pub mod Keeping
 pub mod Kept
 pub mod Needs
 pub mod Representatives
+pub mod Roots
 pub mod Tests

@@ -7,15 +7,11 @@ use Rattle.interval_ops.specs.declared.choice.Choice.{Choice}
 use Rattle.interval_ops.specs.declared.choice.Choice.TheVariants.{Left, Right, Both}
 use Rattle.live_clauses.specs.declared.step.Step.{Step}
 use Rattle.live_clauses.specs.Choices.{step_at, choice_at, AreChoices}
-use Rattle.live_clauses.specs.Live.{chosen, representative, IsLive, hands_on, needed_after, is_needed, is_both, is_kept}
+use Rattle.live_clauses.specs.Live.{chosen, representative, IsLive, reads, hands_on, needed_after, is_needed, is_both, is_kept}
 use Rattle.live_clauses.specs.Live.IsLive.{Last, First, Second}
 use Rattle.live_clauses.specs.Steps.{IsStepAt, AreSteps}
 use Rattle.live_clauses.proofs.Representatives.{choice_cases, chosen_left, chosen_right, chosen_both, left_chooses, right_chooses, step_at-stands, choosing_operands, representative_left, representative_right, representative_both, representative_holds, representative-both}
 use Rattle.live_clauses.proofs.Tests.{both_true, true_both, one_true, true_left, true_right, same_tests}
-
--- whether a step that stands for itself needs the step at a place
-abbrev reads : Step → ℕ → Bool
-reads step place = (ltb 0 (arity_of step.op) && eqb place step.a) || (ltb 1 (arity_of step.op) && eqb place step.b)
 
 reads_cases : (step : Step) (place : ℕ) → reads step place ≡ true
     → ((0 < arity_of step.op) × (place ≡ step.a)) ⊎ ((1 < arity_of step.op) × (place ≡ step.b))

@@ -1,4 +1,5 @@
 pub mod Choices
+pub mod Laws
 pub mod Live
 pub mod Packed
 pub mod Steps

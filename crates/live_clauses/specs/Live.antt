@@ -32,10 +32,14 @@ pub data IsLive (steps : List Step) (choices : List Choice) : ℕ → Type 0 whe
   First : (place : ℕ) → IsLive steps choices place → 0 < arity_of (step_at steps place).op → IsLive steps choices (representative steps choices (step_at steps place).a)
   Second : (place : ℕ) → IsLive steps choices place → 1 < arity_of (step_at steps place).op → IsLive steps choices (representative steps choices (step_at steps place).b)
 
+-- whether a step has the step at a place as an operand
+abbrev pub reads : Step → ℕ → Bool
+reads step place = (nat_lt 0 (arity_of step.op) && place == step.a) || (nat_lt 1 (arity_of step.op) && place == step.b)
+
 -- whether a step, as it chooses, needs the step at a place: its chosen operand, or else each that it has
 abbrev pub hands_on : Step → Choice → ℕ → Bool
 hands_on step choice place =
-    chosen choice (place == step.a) (place == step.b) ((nat_lt 0 (arity_of step.op) && place == step.a) || (nat_lt 1 (arity_of step.op) && place == step.b))
+    chosen choice (place == step.a) (place == step.b) (reads step place)
 
 -- whether the step at a place is needed by the last step, or by one of so many steps from the last one down
 abbrev pub needed_after : ℕ → List Step → List Choice → ℕ → Bool

@@ -1,0 +1,70 @@
+-- The clauses of a model are steps that no choice leaves out, and their root list has the solid's value.
+use Rattle.std.proofs.Common.{◌≡◌, ◌≢◌, ℕ, zero, suc, ◌<◌, ◌≤◌, ◌-◌, ◌++◌, ℤ, List, [], ◌∷◌, length, map, replicate, fold, get_or, slice_get, Some, inl, inr, refl, ap, sym, subst, ◌∙◌, arith}
+use Rattle.std.proofs.lemmas.List.{length-map, length-replicate, get_or-replicate, get_or_past}
+use Rattle.std.proofs.lemmas.Bool.{cases_lt}
+use Rattle.std.proofs.lemmas.Option.{slice_get-map, slice_get_within, slice_get_cases, same_Some}
+use Rattle.fixed_ops.specs.Points.{Point}
+use Rattle.solid_model.specs.declared.clause.Clause.{Clause}
+use Rattle.solid_model.specs.Clauses.{AreInOrder, IsModel}
+use Rattle.solid_model.specs.Values.{clause_value, solid_value} 
+use Rattle.interval_ops.specs.declared.choice.Choice.{Choice}
+use Rattle.interval_ops.specs.declared.choice.Choice.TheVariants.{Left, Right, Both}
+use Rattle.live_clauses.specs.declared.step.Step.{Step}
+use Rattle.live_clauses.specs.Choices.{choice_at, AreChoices, AreRight}
+use Rattle.live_clauses.specs.Live.{root_of}
+use Rattle.live_clauses.specs.Steps.{IsStepAt, AreSteps, IsTape, value_after, values, tape_value, step_of, steps_of}
+use Rattle.live_clauses.proofs.Keeping.{live_of-value}
+use Rattle.live_clauses.proofs.Representatives.{left_chooses, right_chooses}
+
+-- the clause that a step comes from
+clause_of_step : (clauses : List Clause) (place : ℕ) (step : Step) → slice_get (steps_of clauses) place ≡ Some step
+    → (clause : Clause) × (slice_get clauses place ≡ Some clause) × (step_of clause ≡ step)
+clause_of_step [] place step at = (cc)
+clause_of_step (c ∷ clauses) zero step at = (c, refl, same_Some _ _ at)
+clause_of_step (c ∷ clauses) (suc place) step at = clause_of_step clauses place step at
+
+steps_of-stand : (clauses : List Clause) → AreInOrder clauses → AreSteps (steps_of clauses)
+steps_of-stand clauses stand place step at =
+    let from = clause_of_step clauses place step at in
+    let stands = stand place from.0 from.1 in
+    subst (IsStepAt place) from.2 (record { raw = stands.raw; fits = stands.fits })
+
+pub steps_of-tape : (clauses : List Clause) → IsModel clauses → IsTape (steps_of clauses)
+steps_of-tape clauses model = record {
+  some = omega (arith, length-map clauses step_of, model.some);
+  few = omega (arith, length-map clauses step_of, model.clauses_are.few);
+  each = steps_of-stand clauses model.clauses_are.each;
+}
+
+-- no choice is made
+pub all_both : (n place : ℕ) → choice_at (replicate n Both) place ≡ Both
+all_both n place =
+    elim (cases_lt place n) [
+      | inl within ↦ get_or-replicate n place Both Both within
+      | inr past ↦ get_or_past (replicate n Both) place Both (omega (arith, length-replicate n Both))
+    ]
+
+pub all_both-choices : (steps : List Step) (n : ℕ) → AreChoices steps (replicate n Both)
+all_both-choices steps n = λ place step at not_min not_max. all_both n place
+
+all_both-right : (p : Point) (steps : List Step) (n : ℕ) → AreRight p steps (replicate n Both)
+all_both-right p steps n = record {
+  left = λ place step at is. absurd (left_chooses _ is (all_both n place));
+  right = λ place step at is. absurd (right_chooses _ is (all_both n place));
+}
+
+-- the values of the steps are those of the clauses
+values-steps_of : (p : Point) (earlier : List ℤ) (clauses : List Clause)
+    → fold (λ before step. before ++ value_after p before step ∷ []) earlier (steps_of clauses) ≡ fold (λ before clause. before ++ clause_value p before clause ∷ []) earlier clauses
+values-steps_of p earlier [] = refl
+values-steps_of p earlier (c ∷ clauses) = values-steps_of p (earlier ++ clause_value p earlier c ∷ []) clauses
+
+steps_of-value : (p : Point) (clauses : List Clause) → tape_value p (steps_of clauses) ≡ solid_value p clauses
+steps_of-value p clauses =
+    rw (values-steps_of p [] clauses) (rw (length-map clauses step_of) refl)
+
+pub root_of-value : (p : Point) (clauses : List Clause) → IsModel clauses → tape_value p (root_of clauses) ≡ solid_value p clauses
+root_of-value p clauses model =
+    live_of-value (steps_of clauses) (replicate (length clauses) Both) (steps_of-tape clauses model) (all_both-choices (steps_of clauses) (length clauses)) p
+    (all_both-right p (steps_of clauses) (length clauses))
+    ∙ steps_of-value p clauses
