@@ -104,7 +104,7 @@ module _ (steps : List Step) (choices : List Choice) where
         | inr dropped ↦ let found = kept_at n at (omega (arith, kept_below-dropped n dropped)) in (found.0, omega (arith, found.1), found.2, found.3)
       ]
 
-not_less : (m n : ℕ) → n ≤ m → ltb m n ≡ false
+pub not_less : (m n : ℕ) → n ≤ m → ltb m n ≡ false
 not_less m n most = elim (cases_Bool (ltb m n)) [ inl less ↦ absurd (omega (arith, (Decides-ltb m n).0 less)) | inr is ↦ is ]
 
 -- the operands of a step that is renumbered

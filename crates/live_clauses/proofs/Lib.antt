@@ -1,6 +1,9 @@
 pub mod Keeping
 pub mod Kept
 pub mod Needs
+pub mod Numbering
 pub mod Representatives
 pub mod Roots
 pub mod Tests
+pub mod Turns
+pub mod Whole

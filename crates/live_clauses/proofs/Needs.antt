@@ -26,10 +26,10 @@ reads_cases step place read =
     ]
 
 -- what hands on says by choice
-hands_on_left : (step : Step) (choice : Choice) → choice ≡ Left → hands_on step choice step.a ≡ true
+pub hands_on_left : (step : Step) (choice : Choice) → choice ≡ Left → hands_on step choice step.a ≡ true
 hands_on_left step choice is = chosen_left choice _ _ _ is ∙ (Decides-eqb step.a step.a).1 refl
 
-hands_on_right : (step : Step) (choice : Choice) → choice ≡ Right → hands_on step choice step.b ≡ true
+pub hands_on_right : (step : Step) (choice : Choice) → choice ≡ Right → hands_on step choice step.b ≡ true
 hands_on_right step choice is = chosen_right choice _ _ _ is ∙ (Decides-eqb step.b step.b).1 refl
 
 pub hands_on_first : (step : Step) (choice : Choice) → choice ≡ Both → 0 < arity_of step.op → hands_on step choice step.a ≡ true

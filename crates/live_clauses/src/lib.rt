@@ -1,11 +1,15 @@
 //! Lists of steps: the part of a solid that is live somewhere, without names.
 #![tactic(auto)]
 
+mod copying;
 mod laws;
+mod marking;
 mod packed_step;
+mod shortening;
 mod step;
 mod tape;
 
 pub use laws::{choices_keep_the_value, live_steps_are_the_least, root_has_the_value};
+pub use shortening::{prune, prune_with, root_tape};
 pub use step::Step;
 pub use tape::{Steps, Tape, same};

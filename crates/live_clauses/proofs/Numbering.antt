@@ -1,0 +1,142 @@
+-- One step up a list: its number is that of what stands for it, and a live step is copied with new numbers.
+use Rattle.std.proofs.Common.{◌≡◌, ◌≢◌, ℕ, zero, suc, ◌+◌, ◌-◌, ◌<◌, ◌≤◌, Bool, true, false, cond, ◌&&◌, ltb, ◌⊎◌, List, [], ◌∷◌, ◌++◌, length, map, get_or, set, slice_index, inl, inr, refl, ap, sym, subst, ◌∙◌, arith}
+use Rattle.std.proofs.lemmas.List.{length-map, get_or-set_same, get_or-set_other}
+use Rattle.std.proofs.lemmas.Bool.{false≢true, cases_lt}
+use Rattle.std.proofs.lemmas.Bool.Decides.{Decides-ltb}
+use Rattle.fixed_ops.specs.Arity.{arity_of}
+use Rattle.interval_ops.specs.declared.choice.Choice.{Choice}
+use Rattle.interval_ops.specs.declared.choice.Choice.TheVariants.{Left, Right, Both}
+use Rattle.live_clauses.specs.declared.packed_step.PackedStep.{PackedStep}
+use Rattle.live_clauses.specs.declared.step.Step.{Step}
+use Rattle.live_clauses.specs.Choices.{step_at, choice_at, AreChoices}
+use Rattle.live_clauses.specs.Live.{chosen, representative, is_needed, is_both, is_kept, kept_below, new_place, renumbered, live_below}
+use Rattle.live_clauses.specs.Marks.{is_marked, AreMarks, AreNumbers, IsNumbered}
+use Rattle.live_clauses.specs.Packed.{unpacked}
+use Rattle.live_clauses.specs.Steps.{IsTape}
+use Rattle.live_clauses.proofs.Representatives.{choice_cases, chosen_left, chosen_right, chosen_both, step_at-stands, choosing_operands, left_chooses, right_chooses, representative_left, representative_right, representative_both}
+use Rattle.live_clauses.proofs.Needs.{needed_on, hands_on_left, hands_on_right, hands_on_first, hands_on_second}
+use Rattle.live_clauses.proofs.Kept.{kept_below-le, length-live_below, live_below-dropped}
+use Rattle.live_clauses.proofs.Turns.{step_at-unpacked, choice_at-read, marked, unmarked}
+
+-- new numbers count only where an operand is
+renumbered-same : (step : Step) (f g : ℕ → ℕ) → (0 < arity_of step.op → f step.a ≡ g step.a) → (1 < arity_of step.op → f step.b ≡ g step.b) → renumbered f step ≡ renumbered g step
+renumbered-same step f g first second =
+    let one : cond (ltb 0 (arity_of step.op)) (f step.a) 0 ≡ cond (ltb 0 (arity_of step.op)) (g step.a) 0 = cond_same _ _ _ 0 (λ has. first ((Decides-ltb 0 (arity_of step.op)).0 has)) in
+    let two : cond (ltb 1 (arity_of step.op)) (f step.b) 0 ≡ cond (ltb 1 (arity_of step.op)) (g step.b) 0 = cond_same _ _ _ 0 (λ has. second ((Decides-ltb 1 (arity_of step.op)).0 has)) in
+    let made : ℕ → ℕ → Step = λ x y. record { op = step.op; a = x; b = y; value = step.value } in
+    ap (λ x. made x (cond (ltb 1 (arity_of step.op)) (f step.b) 0)) one ∙ ap (made (cond (ltb 0 (arity_of step.op)) (g step.a) 0)) two
+  where
+    cond_same : (b : Bool) (x y z : ℕ) → (b ≡ true → x ≡ y) → cond b x z ≡ cond b y z
+    cond_same true x y z same = same refl
+    cond_same false x y z same = refl
+
+module _ (steps : List Step) (choices : List Choice) (tape : IsTape steps) (choose : AreChoices steps choices) where
+  module _ (at : ℕ) (numbers : List ℕ) (within : at < length steps) (needed : is_needed steps choices at ≡ true) (are : AreNumbers at steps choices numbers) where
+    -- the number of what stands for a needed step
+    pub number-chosen : (count : ℕ) → count ≡ kept_below steps choices at
+        → chosen (choice_at choices at) (slice_index numbers (step_at steps at).a) (slice_index numbers (step_at steps at).b) count ≡ new_place steps choices at
+    number-chosen count is =
+        elim (choice_cases (choice_at choices at)) [
+          | inl left ↦
+              let before = choosing_operands steps choices tape.each choose at within (left_chooses _ left) in
+              let there = needed_on steps choices tape.some tape.each choose at (step_at steps at).a within needed (hands_on_left (step_at steps at) _ left) in
+              chosen_left _ _ _ count left ∙ are (step_at steps at).a before.1 there ∙ ap (kept_below steps choices) (sym (representative_left steps choices tape.each choose at within left))
+          | inr other ↦ elim other [
+              | inl right ↦
+                  let before = choosing_operands steps choices tape.each choose at within (right_chooses _ right) in
+                  let there = needed_on steps choices tape.some tape.each choose at (step_at steps at).b within needed (hands_on_right (step_at steps at) _ right) in
+                  chosen_right _ _ _ count right ∙ are (step_at steps at).b before.2 there ∙ ap (kept_below steps choices) (sym (representative_right steps choices tape.each choose at within right))
+              | inr both ↦ chosen_both _ _ _ count both ∙ is ∙ ap (kept_below steps choices) (sym (representative_both steps choices tape.each choose at within both))
+            ]
+        ]
+
+    -- the new form of a step that stands for itself
+    number-renumbered : choice_at choices at ≡ Both → renumbered (λ k. slice_index numbers k) (step_at steps at) ≡ renumbered (new_place steps choices) (step_at steps at)
+    number-renumbered both =
+        let stands = step_at-stands steps at tape.each within in
+        renumbered-same (step_at steps at) (λ k. slice_index numbers k) (new_place steps choices)
+        (λ has. are (step_at steps at).a (stands.fits.first has) (needed_on steps choices tape.some tape.each choose at (step_at steps at).a within needed (hands_on_first (step_at steps at) _ both has)))
+        (λ has. are (step_at steps at).b (stands.fits.second has) (needed_on steps choices tape.some tape.each choose at (step_at steps at).b within needed (hands_on_second (step_at steps at) _ both has)))
+
+    pub copied-visited : live_below steps choices at ++ cond (is_both (choice_at choices at)) (renumbered (λ k. slice_index numbers k) (step_at steps at) ∷ []) [] ≡ live_below steps choices (suc at)
+    copied-visited =
+        let kept : is_kept steps choices at ≡ is_both (choice_at choices at) = ap (λ b. b && is_both (choice_at choices at)) needed in
+        ap (λ l. live_below steps choices at ++ l) (same_copy (choice_cases (choice_at choices at)) ∙ ap (λ b. cond b (renumbered (new_place steps choices) (step_at steps at) ∷ []) []) (sym kept))
+      where
+        same_copy : (choice_at choices at ≡ Left) ⊎ ((choice_at choices at ≡ Right) ⊎ (choice_at choices at ≡ Both))
+            → cond (is_both (choice_at choices at)) (renumbered (λ k. slice_index numbers k) (step_at steps at) ∷ []) [] ≡ cond (is_both (choice_at choices at)) (renumbered (new_place steps choices) (step_at steps at) ∷ []) []
+        same_copy (inl left) =
+            ap (λ c. cond (is_both c) (renumbered (λ k. slice_index numbers k) (step_at steps at) ∷ []) []) left ∙ sym (ap (λ c. cond (is_both c) (renumbered (new_place steps choices) (step_at steps at) ∷ []) []) left)
+        same_copy (inr (inl right)) =
+            ap (λ c. cond (is_both c) (renumbered (λ k. slice_index numbers k) (step_at steps at) ∷ []) []) right ∙ sym (ap (λ c. cond (is_both c) (renumbered (new_place steps choices) (step_at steps at) ∷ []) []) right)
+        same_copy (inr (inr both)) = ap (λ s. cond (is_both (choice_at choices at)) (s ∷ []) []) (number-renumbered both)
+
+    -- the numbers with one more
+    pub numbers-visited : (number : ℕ) → at < length numbers → number ≡ new_place steps choices at → AreNumbers (suc at) steps choices (set numbers at number)
+    numbers-visited number room is place below there =
+        elim (cases_lt place at) [
+          | inl before ↦ let other : place ≢ at = omega arith in get_or-set_other numbers at place number 0 other ∙ are place before there
+          | inr here ↦ let same : place ≡ at = omega arith in rw same (get_or-set_same numbers at number 0 room ∙ is)
+        ]
+
+  pub numbers-passed : (at : ℕ) (numbers : List ℕ) → is_needed steps choices at ≡ false → AreNumbers at steps choices numbers → AreNumbers (suc at) steps choices numbers
+  numbers-passed at numbers idle are place below there =
+      elim (cases_lt place at) [
+        | inl before ↦ are place before there
+        | inr here ↦ let same : place ≡ at = omega arith in absurd (false≢true (sym idle ∙ rw same at there))
+      ]
+
+  pub marks-visited : (at number : ℕ) (marks : List ℕ) → AreMarks at steps choices marks → AreMarks (suc at) steps choices (set marks at number)
+  marks-visited at number marks are place from there =
+      let other : place ≢ at = omega arith in
+      ap (λ n. ltb 0 n) (get_or-set_other marks at place number 0 other) ∙ are place (omega arith) there
+
+  pub marks-passed : (at : ℕ) (marks : List ℕ) → AreMarks at steps choices marks → AreMarks (suc at) steps choices marks
+  marks-passed at marks are place from there = are place (omega arith) there
+
+  pub copied-passed : (at : ℕ) → is_needed steps choices at ≡ false → live_below steps choices (suc at) ≡ live_below steps choices at
+  copied-passed at idle = live_below-dropped steps choices at (ap (λ b. b && is_both (choice_at choices at)) idle)
+
+-- the same of steps as they are kept
+module _ (kept : List PackedStep) (choices : List Choice) (tape : IsTape (map unpacked kept)) (enough : length kept ≤ length choices) (choose : AreChoices (map unpacked kept) choices) where
+  pub room-copied : (at : ℕ) (numbers : List ℕ) (new : List PackedStep) → at ≤ length kept → IsNumbered at (map unpacked kept) choices numbers (map unpacked new) → length new ≤ 65535
+  room-copied at numbers new within is =
+      omega (arith, ap length is.copied, length-map new unpacked, length-live_below (map unpacked kept) choices at, kept_below-le (map unpacked kept) choices at, tape.few, length-map kept unpacked)
+
+  pub visited : (at next number : ℕ) (numbers : List ℕ) (new after : List PackedStep) (read : PackedStep) → at < length kept → next ≡ suc at
+      → read ≡ get_or kept at read → slice_index numbers at ≢ 0 → length numbers ≡ length kept
+      → IsNumbered at (map unpacked kept) choices numbers (map unpacked new)
+      → number ≡ chosen (get_or choices at Left) (slice_index numbers read.a) (slice_index numbers read.b) (length new)
+      → map unpacked after ≡ map unpacked new ++ cond (is_both (get_or choices at Left)) (renumbered (λ k. slice_index numbers k) (unpacked read) ∷ []) []
+      → IsNumbered next (map unpacked kept) choices (set numbers at number) (map unpacked after)
+  visited at next number numbers new after read within more is here room so number_is after_is =
+      let steps = map unpacked kept in
+      let there : at < length steps = omega (arith, length-map kept unpacked) in
+      let needed : is_needed steps choices at ≡ true = sym (so.marks at (omega arith) there) ∙ marked numbers at here in
+      let step : unpacked read ≡ step_at steps at = step_at-unpacked kept at read within is in
+      let choice = choice_at-read choices at (omega arith) in
+      let count : length new ≡ kept_below steps choices at = sym (length-map new unpacked) ∙ ap length so.copied ∙ length-live_below steps choices at in
+      let number_at : number ≡ chosen (choice_at choices at) (slice_index numbers (step_at steps at).a) (slice_index numbers (step_at steps at).b) (length new) =
+          number_is ∙ ap (λ c. chosen c (slice_index numbers read.a) (slice_index numbers read.b) (length new)) choice
+          ∙ ap (λ s. chosen (choice_at choices at) (slice_index numbers s.a) (slice_index numbers s.b) (length new)) step in
+      let after_at : map unpacked after ≡ live_below steps choices at ++ cond (is_both (choice_at choices at)) (renumbered (λ k. slice_index numbers k) (step_at steps at) ∷ []) [] =
+          after_is ∙ ap (λ l. l ++ cond (is_both (get_or choices at Left)) (renumbered (λ k. slice_index numbers k) (unpacked read) ∷ []) []) so.copied
+          ∙ ap (λ c. live_below steps choices at ++ cond (is_both c) (renumbered (λ k. slice_index numbers k) (unpacked read) ∷ []) []) choice
+          ∙ ap (λ s. live_below steps choices at ++ cond (is_both (choice_at choices at)) (renumbered (λ k. slice_index numbers k) s ∷ []) []) step in
+      subst (λ n. IsNumbered n steps choices (set numbers at number) (map unpacked after)) (sym more) (record {
+        numbers = numbers-visited steps choices tape choose at numbers there needed so.numbers number (omega arith) (number_at ∙ number-chosen steps choices tape choose at numbers there needed so.numbers (length new) count);
+        marks = marks-visited steps choices tape choose at number numbers so.marks;
+        copied = after_at ∙ copied-visited steps choices tape choose at numbers there needed so.numbers;
+      })
+
+  pub passed : (at next : ℕ) (numbers : List ℕ) (new : List PackedStep) → at < length kept → next ≡ suc at → slice_index numbers at ≡ 0
+      → IsNumbered at (map unpacked kept) choices numbers (map unpacked new) → IsNumbered next (map unpacked kept) choices numbers (map unpacked new)
+  passed at next numbers new within more here so =
+      let steps = map unpacked kept in
+      let there : at < length steps = omega (arith, length-map kept unpacked) in
+      let idle : is_needed steps choices at ≡ false = sym (so.marks at (omega arith) there) ∙ unmarked numbers at here in
+      subst (λ n. IsNumbered n steps choices numbers (map unpacked new)) (sym more) (record {
+        numbers = numbers-passed steps choices tape choose at numbers idle so.numbers;
+        marks = marks-passed steps choices tape choose at numbers so.marks;
+        copied = so.copied ∙ sym (copied-passed steps choices tape choose at idle);
+      })

@@ -1,0 +1,15 @@
+use Rattle.std.proofs.Common.{◌≡◌, ◌≤◌, ◌+◌, ◌-◌, map, length}
+use Rattle.live_clauses.specs.Live.{kept_below}
+use Rattle.live_clauses.specs.Marks.{AreMarksAfter}
+use Rattle.live_clauses.specs.Packed.{unpacked}
+use Rattle.live_clauses.proofs.marking.mark.Given as goal
+
+abbrev pub invariant-loop-at : goal.invariant-loop-at
+invariant-loop-at l = record {
+  within : l.at ≤ length l.steps;
+  counted : l.live + kept_below (map unpacked l.steps) l.choices l.at ≡ kept_below (map unpacked l.steps) l.choices (length l.steps);
+  marks : AreMarksAfter (length l.steps - l.at) (map unpacked l.steps) l.choices l.marks;
+}
+
+abbrev pub decreases-loop-at : goal.decreases-loop-at
+decreases-loop-at l = l.at

@@ -1,0 +1,64 @@
+// Up a list once: its live steps, numbered anew.
+ghost use Rattle.std.specs.Prelude.{◌≡◌, ◌<◌, ◌≤◌, ◌++◌, [], ◌∷◌, map, length, slice_index, if◌then◌else◌, IfOk};
+ghost use Rattle.live_clauses.specs.Choices.{AreChoices};
+ghost use Rattle.live_clauses.specs.Live.{chosen, is_both, live_of, renumbered};
+ghost use Rattle.live_clauses.specs.Marks.{AreMarks, ReadsBelow};
+ghost use Rattle.live_clauses.specs.Packed.{unpacked};
+ghost use Rattle.live_clauses.specs.Steps.{IsTape};
+
+use crate::packed_step::PackedStep;
+use interval_ops::Choice;
+use std::alloc::{AllocError, Global};
+
+// The live steps, of which there are so many. The marks of the needed steps become their numbers.
+pub(crate) fn copy_live(
+    alloc: Global,
+    steps: &[PackedStep],
+    choices: &[Choice],
+    marks: &mut [u16],
+    live: usize,
+) -> Result<Vec<PackedStep>, AllocError>
+    requires tape { IsTape (map unpacked steps.now) }
+    requires enough { length steps.now ≤ length choices.now }
+    requires choices { AreChoices (map unpacked steps.now) choices.now }
+    requires room { length marks.old ≡ length steps.now }
+    requires marks { AreMarks 0 (map unpacked steps.now) choices.now marks.old }
+    ensures { IfOk result (λ new. map unpacked new.items
+        ≡ live_of (map unpacked steps.now) choices.now) }
+{
+    let mut new = Vec::with_capacity(alloc, live)?;
+    for at in 0..steps.len() {
+        if marks[at] != 0 {
+            marks[at] = copy_step(steps[at], choices[at], marks, &mut new)?;
+        }
+    }
+    Ok(new)
+}
+
+// Puts a step last where it stands for itself, and gives the number of what stands for it.
+#[inline]
+fn copy_step(
+    step: PackedStep,
+    choice: Choice,
+    numbers: &[u16],
+    new: &mut Vec<PackedStep>,
+) -> Result<u16, AllocError>
+    requires reads { ReadsBelow (length numbers.now) (unpacked step) choice }
+    requires room { length new.old.items ≤ 65535 }
+    ensures number { IfOk result (λ number. number ≡ chosen choice (slice_index numbers.now step.a)
+        (slice_index numbers.now step.b) (length new.old.items)) }
+    ensures copied { IfOk result (λ number. map unpacked new.new.items
+        ≡ map unpacked new.old.items ++ (if is_both choice
+        then renumbered (λ place. slice_index numbers.now place) (unpacked step) ∷ []
+        else [])) }
+{
+    match choice {
+        Choice::Left => Ok(numbers[step.a as usize]),
+        Choice::Right => Ok(numbers[step.b as usize]),
+        Choice::Both => {
+            let number = new.len() as u16;
+            new.push(step.renumber(numbers))?;
+            Ok(number)
+        }
+    }
+}

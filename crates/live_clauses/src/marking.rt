@@ -1,0 +1,75 @@
+// Down a list from its last step: what is needed, and how much of it is live.
+ghost use Rattle.std.specs.Prelude.{◌≡◌, ◌<◌, ◌≤◌, ◌==◌, map, length, if◌then◌else◌};
+ghost use Rattle.live_clauses.specs.Choices.{AreChoices};
+ghost use Rattle.live_clauses.specs.Live.{hands_on, is_both, kept_below, reads};
+ghost use Rattle.live_clauses.specs.Marks.{AreMarks, Marks, ReadsBelow};
+ghost use Rattle.live_clauses.specs.Packed.{unpacked};
+ghost use Rattle.live_clauses.specs.Steps.{IsTape};
+
+use crate::packed_step::PackedStep;
+use fixed_ops::Op;
+use interval_ops::Choice;
+
+// What a marked place holds.
+const MARK: u16 = 1;
+
+// Marks the steps that are needed, and counts the live ones.
+pub(crate) fn mark(steps: &[PackedStep], choices: &[Choice], marks: &mut [u16]) -> usize
+    requires tape { IsTape (map unpacked steps.now) }
+    requires enough { length steps.now ≤ length choices.now }
+    requires choices { AreChoices (map unpacked steps.now) choices.now }
+    requires room { length marks.old ≡ length steps.now }
+    ensures live { result ≡ kept_below (map unpacked steps.now) choices.now (length steps.now) }
+    ensures marks { AreMarks 0 (map unpacked steps.now) choices.now marks.new }
+{
+    let mut at = steps.len();
+    marks.fill(0);
+    marks[at - 1] = MARK;
+    let mut live = 0;
+    while at > 0 {
+        at -= 1;
+        if marks[at] != 0 {
+            live += visit(steps[at], choices[at], marks);
+        }
+    }
+    live
+}
+
+// Marks what a needed step needs, and counts it where it stands for itself.
+#[inline]
+fn visit(step: PackedStep, choice: Choice, marks: &mut [u16]) -> usize
+    requires { ReadsBelow (length marks.old) (unpacked step) choice }
+    ensures live { result ≡ (if is_both choice then 1 else 0) }
+    ensures marks { Marks marks.old marks.new (hands_on (unpacked step) choice) }
+{
+    match choice {
+        Choice::Left => {
+            marks[step.a as usize] = MARK;
+            0
+        }
+        Choice::Right => {
+            marks[step.b as usize] = MARK;
+            0
+        }
+        Choice::Both => {
+            hand_on(step, marks);
+            1
+        }
+    }
+}
+
+// Marks the operands of a step.
+#[inline]
+fn hand_on(step: PackedStep, marks: &mut [u16])
+    requires { ReadsBelow (length marks.old) (unpacked step) Choice.Both }
+    ensures { Marks marks.old marks.new (reads (unpacked step)) }
+{
+    match step.op {
+        Op::X | Op::Y | Op::Z | Op::Const => {}
+        Op::Neg | Op::Square | Op::Sqrt | Op::Abs => marks[step.a as usize] = MARK,
+        Op::Add | Op::Sub | Op::Mul | Op::Div | Op::Min | Op::Max => {
+            marks[step.a as usize] = MARK;
+            marks[step.b as usize] = MARK;
+        }
+    }
+}
