@@ -1,20 +1,20 @@
 -- The live list is a list that can be evaluated, and where the choices are right it has the old list's value.
-use Rattle.std.proofs.Common.{◌≡◌, ℕ, zero, suc, ◌+◌, ◌-◌, ◌<◌, ◌≤◌, ℤ, Bool, true, false, cond, ltb, List, length, slice_get, Some, inl, inr, refl, ap, sym, subst, ◌∙◌, arith}
-use Rattle.std.proofs.lemmas.Bool.{false≢true, cases_lt, cases_Bool}
+use Rattle.std.proofs.Common.{◌≡◌, ℕ, zero, suc, ◌+◌, ◌-◌, ◌<◌, ◌≤◌, true, List, length, slice_get, inl, inr, refl, ap, sym, subst, ◌∙◌, arith}
+use Rattle.std.proofs.lemmas.Bool.{cases_lt, cases_Bool}
 use Rattle.std.proofs.lemmas.Bool.Decides.{Decides-ltb}
 use Rattle.std.proofs.lemmas.Option.{slice_get_within, same_Some}
 use Rattle.fixed_ops.specs.Arity.{arity_of}
-use Rattle.fixed_ops.specs.Points.{Point, step_value}
+use Rattle.fixed_ops.specs.Points.{Point}
 use Rattle.interval_ops.specs.declared.choice.Choice.{Choice}
 use Rattle.live_clauses.specs.declared.step.Step.{Step}
-use Rattle.live_clauses.specs.Choices.{step_at, choice_at, AreChoices, AreRight}
+use Rattle.live_clauses.specs.Choices.{step_at, AreChoices, AreRight}
 use Rattle.live_clauses.specs.Live.{representative, IsLive, is_needed, is_kept, kept_below, new_place, renumbered, live_below, live_of}
 use Rattle.live_clauses.specs.Live.IsLive.{Last, First, Second}
 use Rattle.live_clauses.specs.Steps.{IsStepAt, AreSteps, IsTape, value_at, tape_value}
 use Rattle.live_clauses.specs.ValueLaws.{step_value-same, value_at-step}
 use Rattle.live_clauses.proofs.Representatives.{slice_get-step_at, step_at-stands, representative-le, representative_holds}
 use Rattle.live_clauses.proofs.Needs.{Keeps, needed_on, needed_last, hands_on_first, hands_on_second, kept_keeps, keeps_kept, representative_keeps, kept_live, live_keeps}
-use Rattle.live_clauses.proofs.Kept.{kept_below-kept, kept_below-dropped, kept_below-later, kept_below-less, kept_below-le, length-live_below, live_below-at, kept_at, renumbered-fits}
+use Rattle.live_clauses.proofs.Kept.{kept_below-kept, kept_below-dropped, kept_below-less, kept_below-le, length-live_below, live_below-at, kept_at, renumbered-fits}
 
 module _ (steps : List Step) (choices : List Choice) (tape : IsTape steps) (choose : AreChoices steps choices) where
   abbrev stand : AreSteps steps
@@ -125,11 +125,11 @@ module _ (steps : List Step) (choices : List Choice) (tape : IsTape steps) (choo
         value_at-step p new (kept_below steps choices place) (renumbered (new_place steps choices) old) (live_below-stand (length steps)) there
         ∙ step_value-same old.op p old.value _ _ _ _
         (λ has. let first = first_kept place kept has in
-          rw ((Decides-ltb 0 (arity_of old.op)).1 has)
-          (kept-value bound (representative steps choices old.a) (omega (arith, first.1)) first.0 ∙ representative-value old.a (omega (arith, stands.fits.first has))))
+        rw ((Decides-ltb 0 (arity_of old.op)).1 has)
+        (kept-value bound (representative steps choices old.a) (omega (arith, first.1)) first.0 ∙ representative-value old.a (omega (arith, stands.fits.first has))))
         (λ has. let second = second_kept place kept has in
-          rw ((Decides-ltb 1 (arity_of old.op)).1 has)
-          (kept-value bound (representative steps choices old.b) (omega (arith, second.1)) second.0 ∙ representative-value old.b (omega (arith, stands.fits.second has))))
+        rw ((Decides-ltb 1 (arity_of old.op)).1 has)
+        (kept-value bound (representative steps choices old.b) (omega (arith, second.1)) second.0 ∙ representative-value old.b (omega (arith, stands.fits.second has))))
         ∙ sym (value_at-step p steps place old stand (slice_get-step_at steps place within))
 
     -- where the choices are right, the live list has the old list's value

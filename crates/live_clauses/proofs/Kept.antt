@@ -1,20 +1,14 @@
 -- Where the kept steps stand in the live list, and that the live list is a list of steps.
-use Rattle.std.proofs.Common.{◌≡◌, ◌≢◌, ℕ, zero, suc, ◌+◌, ◌-◌, ◌<◌, ◌≤◌, Bool, true, false, cond, ltb, List, [], ◌∷◌, ◌++◌, length, slice_get, Some, inl, inr, refl, ap, sym, subst, ◌∙◌, arith}
+use Rattle.std.proofs.Common.{◌≡◌, ℕ, zero, suc, ◌+◌, ◌<◌, ◌≤◌, true, false, cond, ltb, List, [], ◌∷◌, ◌++◌, length, slice_get, Some, inl, inr, refl, ap, sym, subst, ◌∙◌, arith}
 use Rattle.std.proofs.lemmas.List.{length-append, append-nil}
-use Rattle.std.proofs.lemmas.Bool.{false≢true, cases_lt, cases_Bool}
+use Rattle.std.proofs.lemmas.Bool.{cases_lt, cases_Bool}
 use Rattle.std.proofs.lemmas.Bool.Decides.{Decides-ltb}
-use Rattle.std.proofs.lemmas.Option.{slice_get_within, slice_get-get_or, get_or_from_slice_get}
-use Rattle.std.proofs.lemmas.List.{get_or_append_left, get_or_push}
 use Rattle.fixed_ops.specs.Arity.{arity_of}
-use Rattle.fixed_ops.specs.declared.operation.Op.{Op}
-use Rattle.solid_model.specs.Clauses.{FitsAt}
 use Rattle.interval_ops.specs.declared.choice.Choice.{Choice}
 use Rattle.live_clauses.specs.declared.step.Step.{Step}
-use Rattle.live_clauses.specs.Choices.{step_at, choice_at, AreChoices}
-use Rattle.live_clauses.specs.Live.{representative, IsLive, is_needed, is_kept, kept_below, new_place, renumbered, live_below, live_of}
-use Rattle.live_clauses.specs.Steps.{IsStepAt, AreSteps, IsTape}
-use Rattle.live_clauses.proofs.Representatives.{step_at-stands, representative-le, representative_both}
-use Rattle.live_clauses.proofs.Needs.{Keeps}
+use Rattle.live_clauses.specs.Choices.{step_at}
+use Rattle.live_clauses.specs.Live.{is_kept, kept_below, new_place, renumbered, live_below}
+use Rattle.live_clauses.specs.Steps.{IsStepAt}
 
 -- an element of a longer list
 slice_get-front : {A : Type 0} (xs ys : List A) (k : ℕ) (x : A) → slice_get xs k ≡ Some x → slice_get (xs ++ ys) k ≡ Some x

@@ -1,5 +1,5 @@
 -- Going down from the last step finds the needed steps, and the live ones are exactly those of them that stand for themselves.
-use Rattle.std.proofs.Common.{◌≡◌, ◌≢◌, ℕ, zero, suc, ◌+◌, ◌-◌, ◌<◌, ◌≤◌, Bool, true, false, ◌&&◌, ◌||◌, ◌⊎◌, eqb, ltb, List, length, inl, inr, refl, ap, sym, subst, ◌∙◌, arith}
+use Rattle.std.proofs.Common.{◌≡◌, ℕ, zero, suc, ◌-◌, ◌<◌, ◌≤◌, Bool, true, ◌&&◌, ◌⊎◌, eqb, ltb, List, length, inl, inr, refl, ap, sym, subst, ◌∙◌, arith}
 use Rattle.std.proofs.lemmas.Bool.{false≢true, cases_lt}
 use Rattle.std.proofs.lemmas.Bool.Decides.{Decides-eqb, Decides-ltb}
 use Rattle.fixed_ops.specs.Arity.{arity_of}
@@ -7,9 +7,9 @@ use Rattle.interval_ops.specs.declared.choice.Choice.{Choice}
 use Rattle.interval_ops.specs.declared.choice.Choice.TheVariants.{Left, Right, Both}
 use Rattle.live_clauses.specs.declared.step.Step.{Step}
 use Rattle.live_clauses.specs.Choices.{step_at, choice_at, AreChoices}
-use Rattle.live_clauses.specs.Live.{chosen, representative, IsLive, reads, hands_on, needed_after, is_needed, is_both, is_kept}
+use Rattle.live_clauses.specs.Live.{representative, IsLive, reads, hands_on, needed_after, is_needed, is_both, is_kept}
 use Rattle.live_clauses.specs.Live.IsLive.{Last, First, Second}
-use Rattle.live_clauses.specs.Steps.{IsStepAt, AreSteps}
+use Rattle.live_clauses.specs.Steps.{AreSteps}
 use Rattle.live_clauses.proofs.Representatives.{choice_cases, chosen_left, chosen_right, chosen_both, left_chooses, right_chooses, step_at-stands, choosing_operands, representative_left, representative_right, representative_both, representative_holds, representative-both}
 use Rattle.live_clauses.proofs.Tests.{both_true, true_both, one_true, true_left, true_right, same_tests}
 
@@ -49,9 +49,9 @@ hands_on_cases step choice place hands =
     elim (choice_cases choice) [
       | inl is ↦ inl (is, (Decides-eqb place step.a).0 (sym (chosen_left choice _ _ _ is) ∙ hands))
       | inr other ↦ elim other [
-          | inl is ↦ inr (inl (is, (Decides-eqb place step.b).0 (sym (chosen_right choice _ _ _ is) ∙ hands)))
-          | inr is ↦ inr (inr (is, reads_cases step place (sym (chosen_both choice _ _ _ is) ∙ hands)))
-        ]
+        | inl is ↦ inr (inl (is, (Decides-eqb place step.b).0 (sym (chosen_right choice _ _ _ is) ∙ hands)))
+        | inr is ↦ inr (inr (is, reads_cases step place (sym (chosen_both choice _ _ _ is) ∙ hands)))
+      ]
     ]
 
 is_both_Both : (choice : Choice) → is_both choice ≡ true → choice ≡ Both
@@ -70,12 +70,12 @@ module _ (steps : List Step) (choices : List Choice) (some : 0 < length steps) (
       elim (hands_on_cases (step_at steps at) (choice_at choices at) place handed) [
         | inl left ↦ let before = choosing_operands steps choices stand choose at within (left_chooses _ left.0) in omega (arith, before.1, left.1)
         | inr other ↦ elim other [
-            | inl right ↦ let before = choosing_operands steps choices stand choose at within (right_chooses _ right.0) in omega (arith, before.2, right.1)
-            | inr both ↦ elim both.1 [
-                | inl first ↦ omega (arith, stands.fits.first first.0, first.1)
-                | inr second ↦ omega (arith, stands.fits.second second.0, second.1)
-              ]
+          | inl right ↦ let before = choosing_operands steps choices stand choose at within (right_chooses _ right.0) in omega (arith, before.2, right.1)
+          | inr both ↦ elim both.1 [
+            | inl first ↦ omega (arith, stands.fits.first first.0, first.1)
+            | inr second ↦ omega (arith, stands.fits.second second.0, second.1)
           ]
+        ]
       ]
 
   -- what is needed after some turns is needed after more
@@ -94,9 +94,9 @@ module _ (steps : List Step) (choices : List Choice) (some : 0 < length steps) (
       elim (cases_lt n (length steps - 1 - place)) [
         | inl more ↦ let is : suc n ≡ length steps - 1 - place = omega arith in subst (λ k. needed_after k steps choices place ≡ true) is needed
         | inr fewer ↦ elim (one_true (needed_after n steps choices place) _ needed) [
-            | inl sooner ↦ needed_stays n place within fewer sooner
-            | inr now ↦ absurd (omega (arith, hands_on-before (length steps - 1 - n) place (omega arith) (both_true (needed_after n steps choices (length steps - 1 - n)) _ now).1))
-          ]
+          | inl sooner ↦ needed_stays n place within fewer sooner
+          | inr now ↦ absurd (omega (arith, hands_on-before (length steps - 1 - n) place (omega arith) (both_true (needed_after n steps choices (length steps - 1 - n)) _ now).1))
+        ]
       ]
 
   -- once the turns have come down to a place, it is settled
@@ -115,7 +115,7 @@ module _ (steps : List Step) (choices : List Choice) (some : 0 < length steps) (
       let there : length steps - 1 - turn ≡ at = omega arith in
       let settled = needed_stays (length steps) at within (omega arith) needed in
       let here : needed_after turn steps choices (length steps - 1 - turn) && hands (length steps - 1 - turn) place ≡ true =
-          subst (λ k. needed_after turn steps choices k && hands k place ≡ true) (sym there) (true_both _ _ settled handed) in
+      subst (λ k. needed_after turn steps choices k && hands k place ≡ true) (sym there) (true_both _ _ settled handed) in
       needed_later (suc turn) (length steps) place (omega arith) (true_right (needed_after turn steps choices place) _ here)
 
   -- and nothing past the end
@@ -145,14 +145,14 @@ module _ (steps : List Step) (choices : List Choice) (some : 0 < length steps) (
           elim (hands_on_cases (step_at steps at) (choice_at choices at) place handed) [
             | inl left ↦ rw left.1 (rw (representative_left steps choices stand choose at within left.0) at live)
             | inr other ↦ elim other [
-                | inl right ↦ rw right.1 (rw (representative_right steps choices stand choose at within right.0) at live)
-                | inr both ↦
-                    let itself : IsLive steps choices at = rw (representative_both steps choices stand choose at within both.0) at live in
-                    elim both.1 [
+              | inl right ↦ rw right.1 (rw (representative_right steps choices stand choose at within right.0) at live)
+              | inr both ↦
+                  let itself : IsLive steps choices at = rw (representative_both steps choices stand choose at within both.0) at live in
+                  elim both.1 [
                     | inl first ↦ rw first.1 (First at itself first.0)
                     | inr second ↦ rw second.1 (Second at itself second.0)
                   ]
-              ]
+            ]
           ]
 
   -- a needed step has a needed representative

@@ -1,5 +1,5 @@
 -- One step up a list: its number is that of what stands for it, and a live step is copied with new numbers.
-use Rattle.std.proofs.Common.{◌≡◌, ◌≢◌, ℕ, zero, suc, ◌+◌, ◌-◌, ◌<◌, ◌≤◌, Bool, true, false, cond, ◌&&◌, ltb, ◌⊎◌, List, [], ◌∷◌, ◌++◌, length, map, get_or, set, slice_index, inl, inr, refl, ap, sym, subst, ◌∙◌, arith}
+use Rattle.std.proofs.Common.{◌≡◌, ◌≢◌, ℕ, suc, ◌<◌, ◌≤◌, Bool, true, false, cond, ◌&&◌, ltb, ◌⊎◌, List, [], ◌∷◌, ◌++◌, length, map, get_or, set, slice_index, inl, inr, refl, ap, sym, subst, ◌∙◌, arith}
 use Rattle.std.proofs.lemmas.List.{length-map, get_or-set_same, get_or-set_other}
 use Rattle.std.proofs.lemmas.Bool.{false≢true, cases_lt}
 use Rattle.std.proofs.lemmas.Bool.Decides.{Decides-ltb}
@@ -9,8 +9,8 @@ use Rattle.interval_ops.specs.declared.choice.Choice.TheVariants.{Left, Right, B
 use Rattle.live_clauses.specs.declared.packed_step.PackedStep.{PackedStep}
 use Rattle.live_clauses.specs.declared.step.Step.{Step}
 use Rattle.live_clauses.specs.Choices.{step_at, choice_at, AreChoices}
-use Rattle.live_clauses.specs.Live.{chosen, representative, is_needed, is_both, is_kept, kept_below, new_place, renumbered, live_below}
-use Rattle.live_clauses.specs.Marks.{is_marked, AreMarks, AreNumbers, IsNumbered}
+use Rattle.live_clauses.specs.Live.{chosen, is_needed, is_both, is_kept, kept_below, new_place, renumbered, live_below}
+use Rattle.live_clauses.specs.Marks.{AreMarks, AreNumbers, IsNumbered}
 use Rattle.live_clauses.specs.Packed.{unpacked}
 use Rattle.live_clauses.specs.Steps.{IsTape}
 use Rattle.live_clauses.proofs.Representatives.{choice_cases, chosen_left, chosen_right, chosen_both, step_at-stands, choosing_operands, left_chooses, right_chooses, representative_left, representative_right, representative_both}
@@ -42,12 +42,12 @@ module _ (steps : List Step) (choices : List Choice) (tape : IsTape steps) (choo
               let there = needed_on steps choices tape.some tape.each choose at (step_at steps at).a within needed (hands_on_left (step_at steps at) _ left) in
               chosen_left _ _ _ count left ∙ are (step_at steps at).a before.1 there ∙ ap (kept_below steps choices) (sym (representative_left steps choices tape.each choose at within left))
           | inr other ↦ elim other [
-              | inl right ↦
-                  let before = choosing_operands steps choices tape.each choose at within (right_chooses _ right) in
-                  let there = needed_on steps choices tape.some tape.each choose at (step_at steps at).b within needed (hands_on_right (step_at steps at) _ right) in
-                  chosen_right _ _ _ count right ∙ are (step_at steps at).b before.2 there ∙ ap (kept_below steps choices) (sym (representative_right steps choices tape.each choose at within right))
-              | inr both ↦ chosen_both _ _ _ count both ∙ is ∙ ap (kept_below steps choices) (sym (representative_both steps choices tape.each choose at within both))
-            ]
+            | inl right ↦
+                let before = choosing_operands steps choices tape.each choose at within (right_chooses _ right) in
+                let there = needed_on steps choices tape.some tape.each choose at (step_at steps at).b within needed (hands_on_right (step_at steps at) _ right) in
+                chosen_right _ _ _ count right ∙ are (step_at steps at).b before.2 there ∙ ap (kept_below steps choices) (sym (representative_right steps choices tape.each choose at within right))
+            | inr both ↦ chosen_both _ _ _ count both ∙ is ∙ ap (kept_below steps choices) (sym (representative_both steps choices tape.each choose at within both))
+          ]
         ]
 
     -- the new form of a step that stands for itself
@@ -117,12 +117,12 @@ module _ (kept : List PackedStep) (choices : List Choice) (tape : IsTape (map un
       let choice = choice_at-read choices at (omega arith) in
       let count : length new ≡ kept_below steps choices at = sym (length-map new unpacked) ∙ ap length so.copied ∙ length-live_below steps choices at in
       let number_at : number ≡ chosen (choice_at choices at) (slice_index numbers (step_at steps at).a) (slice_index numbers (step_at steps at).b) (length new) =
-          number_is ∙ ap (λ c. chosen c (slice_index numbers read.a) (slice_index numbers read.b) (length new)) choice
-          ∙ ap (λ s. chosen (choice_at choices at) (slice_index numbers s.a) (slice_index numbers s.b) (length new)) step in
+      number_is ∙ ap (λ c. chosen c (slice_index numbers read.a) (slice_index numbers read.b) (length new)) choice
+      ∙ ap (λ s. chosen (choice_at choices at) (slice_index numbers s.a) (slice_index numbers s.b) (length new)) step in
       let after_at : map unpacked after ≡ live_below steps choices at ++ cond (is_both (choice_at choices at)) (renumbered (λ k. slice_index numbers k) (step_at steps at) ∷ []) [] =
-          after_is ∙ ap (λ l. l ++ cond (is_both (get_or choices at Left)) (renumbered (λ k. slice_index numbers k) (unpacked read) ∷ []) []) so.copied
-          ∙ ap (λ c. live_below steps choices at ++ cond (is_both c) (renumbered (λ k. slice_index numbers k) (unpacked read) ∷ []) []) choice
-          ∙ ap (λ s. live_below steps choices at ++ cond (is_both (choice_at choices at)) (renumbered (λ k. slice_index numbers k) s ∷ []) []) step in
+      after_is ∙ ap (λ l. l ++ cond (is_both (get_or choices at Left)) (renumbered (λ k. slice_index numbers k) (unpacked read) ∷ []) []) so.copied
+      ∙ ap (λ c. live_below steps choices at ++ cond (is_both c) (renumbered (λ k. slice_index numbers k) (unpacked read) ∷ []) []) choice
+      ∙ ap (λ s. live_below steps choices at ++ cond (is_both (choice_at choices at)) (renumbered (λ k. slice_index numbers k) s ∷ []) []) step in
       subst (λ n. IsNumbered n steps choices (set numbers at number) (map unpacked after)) (sym more) (record {
         numbers = numbers-visited steps choices tape choose at numbers there needed so.numbers number (omega arith) (number_at ∙ number-chosen steps choices tape choose at numbers there needed so.numbers (length new) count);
         marks = marks-visited steps choices tape choose at number numbers so.marks;

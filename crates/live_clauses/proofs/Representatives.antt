@@ -1,5 +1,5 @@
 -- Representatives: each is that of the chosen operand or the step itself, stands no later than its step, and stands for itself.
-use Rattle.std.proofs.Common.{◌≡◌, ◌≢◌, ℕ, zero, suc, ◌+◌, ◌-◌, ◌<◌, ◌≤◌, Bool, true, false, List, length, get_or, Some, slice_get, inl, inr, ◌⊎◌, refl, ap, sym, subst, ◌∙◌, arith}
+use Rattle.std.proofs.Common.{◌≡◌, ◌≢◌, ℕ, zero, suc, ◌<◌, ◌≤◌, List, length, Some, slice_get, inl, inr, ◌⊎◌, refl, ap, sym, subst, ◌∙◌, arith}
 use Rattle.std.proofs.lemmas.Option.{slice_get-get_or}
 use Rattle.fixed_ops.specs.declared.operation.Op.{Op}
 use Rattle.fixed_ops.specs.declared.operation.Op.TheVariants.{X, Y, Z, Const, Neg, Square, Sqrt, Abs, Add, Sub, Mul, Div, Min, Max}
@@ -8,7 +8,7 @@ use Rattle.interval_ops.specs.declared.choice.Choice.{Choice}
 use Rattle.interval_ops.specs.declared.choice.Choice.TheVariants.{Left, Right, Both}
 use Rattle.live_clauses.specs.declared.step.Step.{Step}
 use Rattle.live_clauses.specs.Choices.{step_at, choice_at, AreChoices}
-use Rattle.live_clauses.specs.Live.{chosen, represented, representative, is_both}
+use Rattle.live_clauses.specs.Live.{chosen, represented, representative}
 use Rattle.live_clauses.specs.Steps.{IsStepAt, AreSteps}
 
 -- the step at a place within the list
@@ -84,9 +84,10 @@ module _ (steps : List Step) (choices : List Choice) (stand : AreSteps steps) (c
       chosen_own (choice_at choices place) _ _ place (λ chooses. let before = choosing_operands place within chooses in omega (arith, before.1))
   represented_enough (suc m) (suc n) place within enough also =
       chosen_same (choice_at choices place) _ _ _ _ place (λ chooses.
-        let before = choosing_operands place within chooses in
-        (represented_enough m n (step_at steps place).a (omega (arith, before.1)) (omega (arith, before.1)) (omega (arith, before.1)),
-         represented_enough m n (step_at steps place).b (omega (arith, before.2)) (omega (arith, before.2)) (omega (arith, before.2))))
+      let before = choosing_operands place within chooses in (
+        represented_enough m n (step_at steps place).a (omega (arith, before.1)) (omega (arith, before.1)) (omega (arith, before.1)),
+        represented_enough m n (step_at steps place).b (omega (arith, before.2)) (omega (arith, before.2)) (omega (arith, before.2)),
+      ))
 
   -- the representative of a step is that of its chosen operand, or the step itself
   pub representative-chosen : (place : ℕ) → place < length steps
@@ -95,9 +96,10 @@ module _ (steps : List Step) (choices : List Choice) (stand : AreSteps steps) (c
   representative-chosen place within =
       represented_enough place (suc place) place within (omega arith) (omega arith)
       ∙ chosen_same (choice_at choices place) _ _ _ _ place (λ chooses.
-        let before = choosing_operands place within chooses in
-        (represented_enough place (step_at steps place).a (step_at steps place).a (omega (arith, before.1)) (omega (arith, before.1)) (omega arith),
-         represented_enough place (step_at steps place).b (step_at steps place).b (omega (arith, before.2)) (omega (arith, before.2)) (omega arith)))
+      let before = choosing_operands place within chooses in (
+        represented_enough place (step_at steps place).a (step_at steps place).a (omega (arith, before.1)) (omega (arith, before.1)) (omega arith),
+        represented_enough place (step_at steps place).b (step_at steps place).b (omega (arith, before.2)) (omega (arith, before.2)) (omega arith),
+      ))
 
   pub representative_left : (place : ℕ) → place < length steps → choice_at choices place ≡ Left → representative steps choices place ≡ representative steps choices (step_at steps place).a
   representative_left place within left = representative-chosen place within ∙ chosen_left _ _ _ place left
@@ -125,18 +127,18 @@ module _ (steps : List Step) (choices : List Choice) (stand : AreSteps steps) (c
                 let before = choosing_operands place within (left_chooses _ is) in
                 subst (P place) (sym (representative_left place within is)) (left place _ within is (below bound (step_at steps place).a (omega (arith, before.1)) (omega (arith, before.1))))
             | inr other ↦ elim other [
-                | inl is ↦
-                    let before = choosing_operands place within (right_chooses _ is) in
-                    subst (P place) (sym (representative_right place within is)) (right place _ within is (below bound (step_at steps place).b (omega (arith, before.2)) (omega (arith, before.2))))
-                | inr is ↦ subst (P place) (sym (representative_both place within is)) (own place within is)
-              ]
+              | inl is ↦
+                  let before = choosing_operands place within (right_chooses _ is) in
+                  subst (P place) (sym (representative_right place within is)) (right place _ within is (below bound (step_at steps place).b (omega (arith, before.2)) (omega (arith, before.2))))
+              | inr is ↦ subst (P place) (sym (representative_both place within is)) (own place within is)
+            ]
           ]
 
   -- it stands no later than the step
   pub representative-le : (place : ℕ) → place < length steps → representative steps choices place ≤ place
   representative-le = representative_holds (λ place at. at ≤ place) (λ place within is. omega arith)
-    (λ place at within is less. let before = choosing_operands place within (left_chooses _ is) in omega (arith, before.1))
-    (λ place at within is less. let before = choosing_operands place within (right_chooses _ is) in omega (arith, before.2))
+      (λ place at within is less. let before = choosing_operands place within (left_chooses _ is) in omega (arith, before.1))
+      (λ place at within is less. let before = choosing_operands place within (right_chooses _ is) in omega (arith, before.2))
 
   -- and stands for itself
   pub representative-both : (place : ℕ) → place < length steps → choice_at choices (representative steps choices place) ≡ Both

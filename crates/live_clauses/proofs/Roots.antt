@@ -1,18 +1,17 @@
 -- The clauses of a model are steps that no choice leaves out, and their root list has the solid's value.
-use Rattle.std.proofs.Common.{◌≡◌, ◌≢◌, ℕ, zero, suc, ◌<◌, ◌≤◌, ◌-◌, ◌++◌, ℤ, List, [], ◌∷◌, length, map, replicate, fold, get_or, slice_get, Some, inl, inr, refl, ap, sym, subst, ◌∙◌, arith}
+use Rattle.std.proofs.Common.{◌≡◌, ℕ, zero, suc, ◌++◌, ℤ, List, [], ◌∷◌, length, replicate, fold, slice_get, Some, inl, inr, refl, subst, ◌∙◌, arith}
 use Rattle.std.proofs.lemmas.List.{length-map, length-replicate, get_or-replicate, get_or_past}
 use Rattle.std.proofs.lemmas.Bool.{cases_lt}
-use Rattle.std.proofs.lemmas.Option.{slice_get-map, slice_get_within, slice_get_cases, same_Some}
+use Rattle.std.proofs.lemmas.Option.{same_Some}
 use Rattle.fixed_ops.specs.Points.{Point}
 use Rattle.solid_model.specs.declared.clause.Clause.{Clause}
 use Rattle.solid_model.specs.Clauses.{AreInOrder, IsModel}
-use Rattle.solid_model.specs.Values.{clause_value, solid_value} 
-use Rattle.interval_ops.specs.declared.choice.Choice.{Choice}
-use Rattle.interval_ops.specs.declared.choice.Choice.TheVariants.{Left, Right, Both}
+use Rattle.solid_model.specs.Values.{clause_value, solid_value}
+use Rattle.interval_ops.specs.declared.choice.Choice.TheVariants.{Both}
 use Rattle.live_clauses.specs.declared.step.Step.{Step}
 use Rattle.live_clauses.specs.Choices.{choice_at, AreChoices, AreRight}
 use Rattle.live_clauses.specs.Live.{root_of}
-use Rattle.live_clauses.specs.Steps.{IsStepAt, AreSteps, IsTape, value_after, values, tape_value, step_of, steps_of}
+use Rattle.live_clauses.specs.Steps.{IsStepAt, AreSteps, IsTape, value_after, tape_value, step_of, steps_of}
 use Rattle.live_clauses.proofs.Keeping.{live_of-value}
 use Rattle.live_clauses.proofs.Representatives.{left_chooses, right_chooses}
 

@@ -1,11 +1,9 @@
 -- One step down a list: what it reads lies in the list, and its marks are those of one more turn.
-use Rattle.std.proofs.Common.{◌≡◌, ◌≢◌, ℕ, zero, suc, ◌+◌, ◌-◌, ◌<◌, ◌≤◌, Bool, true, false, cond, ◌&&◌, ◌||◌, ltb, List, length, map, get_or, slice_index, inl, inr, refl, ap, sym, subst, ◌∙◌, arith}
+use Rattle.std.proofs.Common.{◌≡◌, ◌≢◌, ℕ, suc, ◌+◌, ◌-◌, ◌<◌, ◌≤◌, Bool, true, false, cond, ◌&&◌, ◌||◌, ltb, List, length, map, get_or, slice_index, inl, inr, refl, ap, sym, subst, ◌∙◌, arith}
 use Rattle.std.proofs.lemmas.List.{length-map, get_or-map, get_or_default}
-use Rattle.std.proofs.lemmas.Bool.{cases_Bool}
 use Rattle.std.proofs.lemmas.Bool.Decides.{Decides-ltb}
-use Rattle.fixed_ops.specs.Arity.{arity_of}
 use Rattle.interval_ops.specs.declared.choice.Choice.{Choice}
-use Rattle.interval_ops.specs.declared.choice.Choice.TheVariants.{Left, Right, Both}
+use Rattle.interval_ops.specs.declared.choice.Choice.TheVariants.{Left, Both}
 use Rattle.live_clauses.specs.declared.packed_step.PackedStep.{PackedStep}
 use Rattle.live_clauses.specs.declared.step.Step.{Step}
 use Rattle.live_clauses.specs.Choices.{step_at, choice_at, AreChoices}
@@ -44,12 +42,12 @@ module _ (steps : List Step) (choices : List Choice) (tape : IsTape steps) (choo
         first = λ has. omega (arith, stands.fits.first has);
         second = λ has. omega (arith, stands.fits.second has);
         two = elim (choice_cases (choice_at choices at)) [
-            | inl is ↦ inr (choosing_operands steps choices tape.each choose at within (left_chooses _ is)).0
-            | inr other ↦ elim other [
-                | inl is ↦ inr (choosing_operands steps choices tape.each choose at within (right_chooses _ is)).0
-                | inr is ↦ inl (ap is_both is)
-              ]
-          ];
+          | inl is ↦ inr (choosing_operands steps choices tape.each choose at within (left_chooses _ is)).0
+          | inr other ↦ elim other [
+            | inl is ↦ inr (choosing_operands steps choices tape.each choose at within (right_chooses _ is)).0
+            | inr is ↦ inl (ap is_both is)
+          ]
+        ];
       }
 
   -- a turn at a marked step
@@ -58,22 +56,22 @@ module _ (steps : List Step) (choices : List Choice) (tape : IsTape steps) (choo
       → AreMarksAfter next steps choices new
   marks-visited turns next at marks new within is more room are here marks_them =
       rw more (λ place there.
-        let from : length steps - 1 - turns ≡ at = omega arith in
-        let needed : needed_after turns steps choices at ≡ true = sym (are at within) ∙ here in
-        let grown : needed_after (suc turns) steps choices place ≡ needed_after turns steps choices place || hands_on (step_at steps at) (choice_at choices at) place =
-            rw from (ap (λ b. needed_after turns steps choices place || (b && hands_on (step_at steps at) (choice_at choices at) place)) needed) in
-        marks_them place (omega (arith, room)) ∙ ap (λ b. b || hands_on (step_at steps at) (choice_at choices at) place) (are place there) ∙ sym grown)
+      let from : length steps - 1 - turns ≡ at = omega arith in
+      let needed : needed_after turns steps choices at ≡ true = sym (are at within) ∙ here in
+      let grown : needed_after (suc turns) steps choices place ≡ needed_after turns steps choices place || hands_on (step_at steps at) (choice_at choices at) place =
+      rw from (ap (λ b. needed_after turns steps choices place || (b && hands_on (step_at steps at) (choice_at choices at) place)) needed) in
+      marks_them place (omega (arith, room)) ∙ ap (λ b. b || hands_on (step_at steps at) (choice_at choices at) place) (are place there) ∙ sym grown)
 
   -- a turn at a step that is not marked
   pub marks-passed : (turns next at : ℕ) (marks : List ℕ) → at < length steps → turns ≡ length steps - 1 - at → next ≡ suc turns
       → AreMarksAfter turns steps choices marks → is_marked marks at ≡ false → AreMarksAfter next steps choices marks
   marks-passed turns next at marks within is more are here =
       rw more (λ place there.
-        let from : length steps - 1 - turns ≡ at = omega arith in
-        let idle : needed_after turns steps choices at ≡ false = sym (are at within) ∙ here in
-        let grown : needed_after (suc turns) steps choices place ≡ needed_after turns steps choices place =
-            rw from (ap (λ b. needed_after turns steps choices place || (b && hands_on (step_at steps at) (choice_at choices at) place)) idle ∙ or_false (needed_after turns steps choices place) (hands_on (step_at steps at) (choice_at choices at) place)) in
-        are place there ∙ sym grown)
+      let from : length steps - 1 - turns ≡ at = omega arith in
+      let idle : needed_after turns steps choices at ≡ false = sym (are at within) ∙ here in
+      let grown : needed_after (suc turns) steps choices place ≡ needed_after turns steps choices place =
+      rw from (ap (λ b. needed_after turns steps choices place || (b && hands_on (step_at steps at) (choice_at choices at) place)) idle ∙ or_false (needed_after turns steps choices place) (hands_on (step_at steps at) (choice_at choices at) place)) in
+      are place there ∙ sym grown)
 
   -- whether the step of a turn is kept
   kept_at_turn : (turns at : ℕ) (marks : List ℕ) → at < length steps → turns ≡ length steps - 1 - at → AreMarksAfter turns steps choices marks
@@ -107,7 +105,7 @@ module _ (kept : List PackedStep) (choices : List Choice) (tape : IsTape (map un
         → Marks marks new (hands_on (unpacked read) (get_or choices (at - 1) Left)) → AreMarksAfter (length kept - (at - 1)) (map unpacked kept) choices new
     turn-visited new read room is here marks_them =
         let hands : Marks marks new (hands_on (step_at (map unpacked kept) (at - 1)) (choice_at choices (at - 1))) =
-            rw (← step_at-unpacked kept (at - 1) read (omega arith) is, ← choice_at-read choices (at - 1) (omega arith)) marks_them in
+        rw (← step_at-unpacked kept (at - 1) read (omega arith) is, ← choice_at-read choices (at - 1) (omega arith)) marks_them in
         marks-visited (map unpacked kept) choices tape choose (length kept - at) (length kept - (at - 1)) (at - 1) marks new (omega (arith, many)) (omega (arith, many)) (omega arith) (omega (arith, many, room))
         are (marked marks (at - 1) here) hands
 

@@ -1,13 +1,13 @@
 -- Where every step is kept, the live list is the list.
-use Rattle.std.proofs.Common.{◌≡◌, ℕ, zero, suc, ◌+◌, ◌<◌, ◌≤◌, true, false, cond, ltb, List, [], ◌∷◌, ◌++◌, length, take, ◌-◌, inl, inr, refl, ap, sym, subst, ◌∙◌, add-one, arith}
+use Rattle.std.proofs.Common.{◌≡◌, ℕ, zero, suc, ◌+◌, ◌<◌, ◌≤◌, true, cond, ltb, List, [], ◌∷◌, ◌++◌, length, take, ◌-◌, inl, inr, refl, ap, sym, subst, ◌∙◌, add-one, arith}
 use Rattle.std.proofs.lemmas.List.{take_more, take_all}
 use Rattle.std.proofs.lemmas.Bool.{cases_lt, cases_Bool}
 use Rattle.std.proofs.lemmas.Bool.Decides.{Decides-ltb}
 use Rattle.fixed_ops.specs.Arity.{arity_of}
 use Rattle.interval_ops.specs.declared.choice.Choice.{Choice}
 use Rattle.live_clauses.specs.declared.step.Step.{Step}
-use Rattle.live_clauses.specs.Choices.{step_at, choice_at, AreChoices}
-use Rattle.live_clauses.specs.Live.{representative, is_kept, kept_below, new_place, renumbered, live_below, live_of}
+use Rattle.live_clauses.specs.Choices.{step_at, AreChoices}
+use Rattle.live_clauses.specs.Live.{is_kept, kept_below, new_place, renumbered, live_below, live_of}
 use Rattle.live_clauses.specs.Steps.{IsStepAt, IsTape}
 use Rattle.live_clauses.proofs.Representatives.{step_at-stands, representative_both}
 use Rattle.live_clauses.proofs.Needs.{kept_keeps}
@@ -18,15 +18,15 @@ renumbered-own : (place : ℕ) (step : Step) (new : ℕ → ℕ) → IsStepAt pl
     → renumbered new step ≡ step
 renumbered-own place step new stands first second =
     let one : cond (ltb 0 (arity_of step.op)) (new step.a) 0 ≡ step.a =
-        elim (cases_lt 0 (arity_of step.op)) [
-          | inl has ↦ ap (λ b. cond b (new step.a) 0) ((Decides-ltb 0 (arity_of step.op)).1 has) ∙ first has
-          | inr none ↦ ap (λ b. cond b (new step.a) 0) (not_less 0 (arity_of step.op) none) ∙ sym (stands.fits.no_first (omega arith))
-        ] in
+    elim (cases_lt 0 (arity_of step.op)) [
+      | inl has ↦ ap (λ b. cond b (new step.a) 0) ((Decides-ltb 0 (arity_of step.op)).1 has) ∙ first has
+      | inr none ↦ ap (λ b. cond b (new step.a) 0) (not_less 0 (arity_of step.op) none) ∙ sym (stands.fits.no_first (omega arith))
+    ] in
     let two : cond (ltb 1 (arity_of step.op)) (new step.b) 0 ≡ step.b =
-        elim (cases_lt 1 (arity_of step.op)) [
-          | inl has ↦ ap (λ b. cond b (new step.b) 0) ((Decides-ltb 1 (arity_of step.op)).1 has) ∙ second has
-          | inr none ↦ ap (λ b. cond b (new step.b) 0) (not_less 1 (arity_of step.op) none) ∙ sym (stands.fits.no_second none)
-        ] in
+    elim (cases_lt 1 (arity_of step.op)) [
+      | inl has ↦ ap (λ b. cond b (new step.b) 0) ((Decides-ltb 1 (arity_of step.op)).1 has) ∙ second has
+      | inr none ↦ ap (λ b. cond b (new step.b) 0) (not_less 1 (arity_of step.op) none) ∙ sym (stands.fits.no_second none)
+    ] in
     let made : ℕ → ℕ → Step = λ x y. record { op = step.op; a = x; b = y; value = step.value } in
     ap (λ x. made x (cond (ltb 1 (arity_of step.op)) (new step.b) 0)) one ∙ ap (made step.a) two
 
@@ -63,8 +63,8 @@ module _ (steps : List Step) (choices : List Choice) (tape : IsTape steps) (choo
   live_below-own (suc n) within =
       let stands = step_at-stands steps n tape.each (omega arith) in
       let step : renumbered (new_place steps choices) (step_at steps n) ≡ step_at steps n =
-          renumbered-own n (step_at steps n) (new_place steps choices) stands
-          (λ has. new_place-own (step_at steps n).a (omega (arith, stands.fits.first has))) (λ has. new_place-own (step_at steps n).b (omega (arith, stands.fits.second has))) in
+      renumbered-own n (step_at steps n) (new_place steps choices) stands
+      (λ has. new_place-own (step_at steps n).a (omega (arith, stands.fits.first has))) (λ has. new_place-own (step_at steps n).b (omega (arith, stands.fits.second has))) in
       let more : take (n + 1) steps ≡ take n steps ++ step_at steps n ∷ [] = take_more steps n _ (omega arith) in
       live_below-kept steps choices n (each_kept n (omega arith))
       ∙ ap (λ l. l ++ renumbered (new_place steps choices) (step_at steps n) ∷ []) (live_below-own n (omega arith))

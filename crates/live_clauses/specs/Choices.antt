@@ -1,6 +1,5 @@
 -- Choices between the operands of steps, and where they are right.
-use Rattle.std.specs.Prelude.{◌≡◌, ◌≢◌, ℕ, ◌<◌, ℤ, pos, List, length, slice_get, slice_index_or, Some}
-use Rattle.fixed_ops.specs.declared.operation.Op.{Op}
+use Rattle.std.specs.Prelude.{◌≡◌, ◌≢◌, ℕ, pos, List, slice_get, slice_index_or, Some}
 use Rattle.fixed_ops.specs.declared.operation.Op.TheVariants.{X, Min, Max}
 use Rattle.fixed_ops.specs.Points.{Point}
 use Rattle.interval_ops.specs.declared.choice.Choice.{Choice}

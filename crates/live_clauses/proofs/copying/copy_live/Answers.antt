@@ -1,6 +1,5 @@
 -- Each place gets the number of what stands for its step, and a live step is copied.
-use Rattle.std.proofs.Common.{◌≡◌, ◌+◌, ◌<◌, ◌≤◌, ◌-◌, suc, map, length, add-one, arith, sym, ap, ◌∙◌}
-use Rattle.live_clauses.specs.Packed.{unpacked}
+use Rattle.std.proofs.Common.{◌≡◌, ◌+◌, suc, length, arith}
 use Rattle.live_clauses.proofs.Turns.{read_below}
 use Rattle.live_clauses.proofs.Numbering.{room-copied, visited, passed}
 use Rattle.live_clauses.proofs.copying.copy_live.Goals as goal
@@ -22,11 +21,11 @@ loop-at-preserved c =
     elim c.if-marks-at-ne0.branch [
       | then-marks-at-ne0+in_ok-marks w ↦
           let after = visited c.args.steps.now c.args.choices.now c.requires.tape c.requires.enough c.requires.choices c.loop-at.at (c.loop-at.at + 1) w.in_ok-marks.field-0 c.loop-at.marks c.loop-at.new.items w.copy_step.new.new.items
-            w.index-steps-at.result c.loop-at-test.true next w.index-steps-at.is w.if-marks-at-ne0.true (omega (arith, c.loop-at.auto.marks, c.requires.room)) c.loop-at.invariant
-            w.in_ok-marks.ensures.number w.in_ok-marks.ensures.copied in
+          w.index-steps-at.result c.loop-at-test.true next w.index-steps-at.is w.if-marks-at-ne0.true (omega (arith, c.loop-at.auto.marks, c.requires.room)) c.loop-at.invariant
+          w.in_ok-marks.ensures.number w.in_ok-marks.ensures.copied in
           rw (w.marks-is, w.new-is) after
       | else-marks-at-ne0 w ↦
           let after = passed c.args.steps.now c.args.choices.now c.requires.tape c.requires.enough c.requires.choices c.loop-at.at (c.loop-at.at + 1) c.loop-at.marks c.loop-at.new.items c.loop-at-test.true next
-            w.if-marks-at-ne0.false c.loop-at.invariant in
+          w.if-marks-at-ne0.false c.loop-at.invariant in
           rw (w.marks-is, w.new-is) after
     ]

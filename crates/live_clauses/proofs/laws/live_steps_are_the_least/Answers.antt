@@ -1,5 +1,4 @@
 -- The laws of live steps are lemmas.
-use Rattle.std.proofs.Common.{arith}
 use Rattle.live_clauses.proofs.Keeping.{live_of-tape, live_of-le}
 use Rattle.live_clauses.proofs.Needs.{kept_live, live_kept}
 use Rattle.live_clauses.proofs.Representatives.{representative-chosen}

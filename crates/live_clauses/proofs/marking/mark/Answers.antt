@@ -1,7 +1,6 @@
 -- Each turn marks what one more step needs, and counts the step where it is live.
-use Rattle.std.proofs.Common.{◌≡◌, ◌+◌, ◌<◌, ◌≤◌, ◌-◌, map, length, arith}
+use Rattle.std.proofs.Common.{◌≡◌, ◌-◌, map, length, arith}
 use Rattle.std.proofs.lemmas.List.{length-map, length-set}
-use Rattle.live_clauses.specs.Live.{kept_below}
 use Rattle.live_clauses.specs.Packed.{unpacked}
 use Rattle.live_clauses.proofs.Kept.{kept_below-le}
 use Rattle.live_clauses.proofs.Turns.{read_below, turn-visited, turn-passed, turn-counted, turn-uncounted}
@@ -16,7 +15,7 @@ visit-live-requires c =
 pub overflow_add-live : goal.overflow_add-live
 overflow_add-live c =
     let counted = turn-counted c.args.steps.now c.args.choices.now c.requires.tape c.requires.enough c.requires.choices c.loop-at.at c.loop-at.marks c.loop-at-test.true c.loop-at.invariant.within c.loop-at.invariant.marks
-      c.loop-at.live c.visit-live.result _ c.if-marks-at-ne0.true c.visit-live.ensures.live c.loop-at.invariant.counted in
+    c.loop-at.live c.visit-live.result _ c.if-marks-at-ne0.true c.visit-live.ensures.live c.loop-at.invariant.counted in
     omega (arith, counted, kept_below-le (map unpacked c.args.steps.now) c.args.choices.now (length c.args.steps.now), c.requires.tape.few, length-map c.args.steps.now unpacked)
 
 pub loop-at-preserved-then-marks-at-ne0 : goal.loop-at-preserved-then-marks-at-ne0

@@ -1,6 +1,5 @@
 -- The copied steps are a list that can be evaluated, and where every step is live they are the list.
-use Rattle.std.proofs.Common.{◌≡◌, IfOk, map, length, subst, sym, ap, ◌∙◌, arith}
-use Rattle.std.proofs.lemmas.List.{length-map}
+use Rattle.std.proofs.Common.{◌≡◌, map, length, sym, ap, ◌∙◌}
 use Rattle.std.proofs.lemmas.Result.{IfOk-weaker}
 use Rattle.fixed_ops.specs.Points.{Point}
 use Rattle.live_clauses.specs.Choices.{AreRight}
@@ -14,7 +13,7 @@ use Rattle.live_clauses.proofs.shortening.prune_with.Goals as goal
 pub returns-then-live-steps-clause-live : goal.returns-then-live-steps-clause-live
 returns-then-live-steps-clause-live c =
     let all : kept_below c.args.tape.now c.args.choices.now (length c.args.tape.now) ≡ length c.args.tape.now =
-        rw (← c.packed-steps.ensures.len) (rw (← c.packed-steps.ensures.steps) (sym c.mark-live.ensures.live ∙ c.if-live-steps.true)) in
+    rw (← c.packed-steps.ensures.len) (rw (← c.packed-steps.ensures.steps) (sym c.mark-live.ensures.live ∙ c.if-live-steps.true)) in
     let whole = live_of-whole c.args.tape.now c.args.choices.now c.packed-steps.ensures.tape c.requires.choices all in
     rw whole c.share.ensures
 

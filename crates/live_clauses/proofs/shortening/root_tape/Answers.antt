@@ -1,6 +1,5 @@
 -- The clauses of a model are steps, and the live list of all of them where no choice is made is the root list.
-use Rattle.std.proofs.Common.{◌≡◌, arith}
-use Rattle.live_clauses.proofs.Roots.{steps_of-tape, all_both-choices, root_of-value}
+use Rattle.live_clauses.proofs.Roots.{steps_of-tape}
 use Rattle.live_clauses.proofs.shortening.root_tape.Goals as goal
 
 pub from_packed-requires : goal.from_packed-requires
