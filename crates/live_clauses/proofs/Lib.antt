@@ -4,6 +4,7 @@ pub mod Needs
 pub mod Numbering
 pub mod Representatives
 pub mod Roots
+pub mod Sameness
 pub mod Tests
 pub mod Turns
 pub mod Whole

@@ -85,8 +85,9 @@ impl Tape {
     pub fn share(&self) -> Result<Tape, AllocError>
         ensures { IfOk result (λ tape. tape ≡ self.now) }
     {
-        let steps = self.steps.clone()?;
-        Ok(Tape { steps })
+        Ok(Tape {
+            steps: self.steps.clone()?,
+        })
     }
 }
 

@@ -1,5 +1,5 @@
 -- Each turn marks what one more step needs, and counts the step where it is live.
-use Rattle.std.proofs.Common.{◌≡◌, ◌-◌, map, length, arith}
+use Rattle.std.proofs.Common.{ℕ, ◌≡◌, ◌-◌, map, length, arith}
 use Rattle.std.proofs.lemmas.List.{length-map, length-set}
 use Rattle.live_clauses.specs.Packed.{unpacked}
 use Rattle.live_clauses.proofs.Kept.{kept_below-le}
@@ -8,7 +8,7 @@ use Rattle.live_clauses.proofs.marking.mark.Goals as goal
 
 pub visit-live-requires : goal.visit-live-requires
 visit-live-requires c =
-    let room : length c.loop-at.marks ≡ length c.args.steps.now = omega (arith, c.loop-at.auto.marks, length-set c.fill.new.self (length c.args.steps.now - 1) 1, c.fill.ensures.len, c.requires.room) in
+    let room : length c.loop-at.marks ≡ length c.args.steps.now = omega (arith, c.loop-at.auto.marks, length-set {A = ℕ}, c.fill.ensures.len, c.requires.room) in
     read_below c.args.steps.now c.args.choices.now c.requires.tape c.requires.enough c.requires.choices (c.loop-at.at - 1) (length c.loop-at.marks) c.index-steps-at.result
     (omega (arith, c.loop-at-test.true, c.loop-at.invariant.within)) (omega (arith, c.loop-at.invariant.within)) c.index-steps-at.is
 
@@ -20,7 +20,7 @@ overflow_add-live c =
 
 pub loop-at-preserved-then-marks-at-ne0 : goal.loop-at-preserved-then-marks-at-ne0
 loop-at-preserved-then-marks-at-ne0 c =
-    let room : length c.loop-at.marks ≡ length c.args.steps.now = omega (arith, c.loop-at.auto.marks, length-set c.fill.new.self (length c.args.steps.now - 1) 1, c.fill.ensures.len, c.requires.room) in
+    let room : length c.loop-at.marks ≡ length c.args.steps.now = omega (arith, c.loop-at.auto.marks, length-set {A = ℕ}, c.fill.ensures.len, c.requires.room) in
     record {
       within = omega (arith, c.loop-at.invariant.within);
       counted = turn-counted c.args.steps.now c.args.choices.now c.requires.tape c.requires.enough c.requires.choices c.loop-at.at c.loop-at.marks c.loop-at-test.true c.loop-at.invariant.within c.loop-at.invariant.marks
