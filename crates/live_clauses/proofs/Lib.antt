@@ -1,3 +1,4 @@
+pub mod Joined
 pub mod Keeping
 pub mod Kept
 pub mod Needs
@@ -5,6 +6,5 @@ pub mod Numbering
 pub mod Representatives
 pub mod Roots
 pub mod Sameness
-pub mod Tests
 pub mod Turns
 pub mod Whole

@@ -11,7 +11,7 @@ use Rattle.live_clauses.specs.Live.{representative, IsLive, reads, hands_on, nee
 use Rattle.live_clauses.specs.Live.IsLive.{Last, First, Second}
 use Rattle.live_clauses.specs.Steps.{AreSteps}
 use Rattle.live_clauses.proofs.Representatives.{choice_cases, chosen_left, chosen_right, chosen_both, left_chooses, right_chooses, step_at-stands, choosing_operands, representative_left, representative_right, representative_both, representative_holds, representative-both}
-use Rattle.live_clauses.proofs.Tests.{both_true, true_both, one_true, true_left, true_right, same_tests}
+use Rattle.live_clauses.proofs.Joined.{both_true, true_both, one_true, true_left, true_right, same_tests}
 
 reads_cases : (step : Step) (place : ℕ) → reads step place ≡ true
     → ((0 < arity_of step.op) × (place ≡ step.a)) ⊎ ((1 < arity_of step.op) × (place ≡ step.b))

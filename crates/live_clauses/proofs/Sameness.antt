@@ -10,7 +10,7 @@ use Rattle.live_clauses.specs.Packed.{unpacked, packed_of}
 use Rattle.live_clauses.specs.declared.packed_step.PackedStep.{PackedStep}
 use Rattle.live_clauses.specs.declared.step.Step.{Step}
 use Rattle.live_clauses.specs.contracts.packed_step.PackedStepPartialEq.TheImpl.{eq-value}
-use Rattle.live_clauses.proofs.Tests.{both_true, true_both}
+use Rattle.live_clauses.proofs.Joined.{both_true, true_both}
 
 same_fields : (a b : PackedStep) → a.op ≡ b.op → a.a ≡ b.a → a.b ≡ b.b → a.value ≡ b.value → a ≡ b
 same_fields a b op first second value =

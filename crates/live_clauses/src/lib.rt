@@ -13,3 +13,6 @@ pub use laws::{choices_keep_the_value, live_steps_are_the_least, root_has_the_va
 pub use shortening::{prune, prune_with, root_tape};
 pub use step::Step;
 pub use tape::{Steps, Tape, same};
+
+#[cfg(test)]
+mod tests;
