@@ -50,7 +50,8 @@ impl PackedStep {
     pub(crate) fn renumber(self, numbers: &[u16]) -> PackedStep
         requires a { 0 < arity_of self.op → self.a < length numbers.now }
         requires b { 1 < arity_of self.op → self.b < length numbers.now }
-        ensures { unpacked result ≡ renumbered (λ place. slice_index numbers.now place) (unpacked self) }
+        ensures { unpacked result
+            ≡ renumbered (λ place. slice_index numbers.now place) (unpacked self) }
     {
         let (a, b) = match self.op {
             Op::X | Op::Y | Op::Z | Op::Const => (0, 0),

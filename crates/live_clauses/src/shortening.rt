@@ -19,7 +19,8 @@ use std::alloc::{AllocError, Global};
 /// the last one does not need, and has the solid's value at each point.
 pub fn root_tape(alloc: Global, model: &Model) -> Result<Tape, AllocError>
     ensures live { IfOk result (λ tape. tape ≡ root_of model.now) }
-    ensures value { IfOk result (λ tape. (p : Point) → tape_value p tape ≡ solid_value p model.now) }
+    ensures value { IfOk result (λ tape. (p : Point)
+        → tape_value p tape ≡ solid_value p model.now) }
 {
     let count = model.len() as usize;
     let whole = Tape::from_packed(packed_clauses(alloc, model)?)?;
