@@ -1,3 +1,4 @@
 mod Evaluation
+mod Examples
 mod Outcomes
 mod Pixels

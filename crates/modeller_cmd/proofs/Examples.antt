@@ -1,0 +1,200 @@
+-- The definitions of a run, computed on words, texts and views that were worked out by hand.
+use Rattle.std.proofs.Common.{◌≡◌, ℕ, pos, negsuc, ◌+◌, List, [], ◌∷◌, ◌++◌, length, Err, refl, arith}
+use Rattle.std.specs.Prelude.{codes, ℤ}
+use Rattle.std.specs.Fmt.{digits}
+use Rattle.std.proofs.lemmas.Bool.{le-ltb, lt-ltb}
+use Rattle.clause_reader.specs.Reading.{text_read}
+use Rattle.clause_reader.specs.declared.text_reason.TextReason.TheVariants as text
+use Rattle.fixed_ops.specs.Counts.{no_counts, points_of}
+use Rattle.fixed_ops.specs.Operations.{op_result}
+use Rattle.fixed_ops.specs.Raw.{greatest, least}
+use Rattle.fixed_ops.specs.declared.operation.Op.TheVariants as op
+use Rattle.modeller_io.specs.Count.{last_count}
+use Rattle.view_settings.specs.Window.{Window}
+use Rattle.view_settings.specs.declared.job.Job.{Job}
+use Rattle.view_settings.specs.declared.job.Job.TheVariants.{Render}
+use Rattle.view_settings.specs.declared.word_fault.WordReason.TheVariants as word
+use Rattle.modeller_cmd.specs.Endings.{IsAnswer, NoFault}
+use Rattle.modeller_cmd.specs.Notes.{line_of}
+use Rattle.modeller_cmd.specs.Output.{Output, input_limit, made, output_as, output_of, parts_after}
+use Rattle.modeller_cmd.specs.declared.refusal.Refusal.TheVariants as refusal
+use Rattle.modeller_cmd.specs.declared.status.Status.{Status}
+use Rattle.modeller_cmd.specs.declared.status.Status.TheVariants as status
+use Rattle.modeller_cmd.specs.declared.stop.Stop.TheVariants as stop
+
+-- the window from -1 to 1 with so many columns and rows, at this raw height
+abbrev window : ℕ → ℕ → ℤ → Window
+window columns rows height = record {
+  x0 = negsuc 4294967295;
+  x1 = pos 4294967296;
+  y0 = negsuc 4294967295;
+  y1 = pos 4294967296;
+  z0 = negsuc 4294967295;
+  z1 = pos 4294967296;
+  z = height;
+  w = columns;
+  h = rows;
+  d = 255;
+  n = 64;
+}
+
+-- what a drawing of a text gives
+abbrev drawn : Window → List ℕ → Output
+drawn view input = output_as (made (Render view) input)
+
+-- a run that is done, with one part of these bytes that takes so many evaluations
+abbrev done : List ℕ → ℕ → Output
+done bytes work = record { status = status.Done; parts = record { bytes = bytes; work = points_of work } ∷ []; note = [] }
+
+-- a run that writes nothing but this note
+abbrev refused : Status → List ℕ → Output
+refused why note = record { status = why; parts = []; note = note }
+
+-- The square of x less the square of y is below 0 where x is 0 and y is not. It is 0 at the corners, which are outside.
+saddle_image : drawn (window 3 3 (pos 0)) (codes "a var-x\nb var-y\nc mul a a\nd mul b b\ne sub c d")
+    ≡ done (codes "P5\n3 3\n255\n" ++ 0 ∷ 255 ∷ 0 ∷ 0 ∷ 0 ∷ 0 ∷ 0 ∷ 255 ∷ 0 ∷ []) 45
+unfolding digits
+saddle_image = refl
+
+-- rows lie from the top on down: below 0 is the lower one of two
+lower_row_is_last : drawn (window 1 2 (pos 0)) (codes "y var-y") ≡ done (codes "P5\n1 2\n255\n" ++ 0 ∷ 255 ∷ []) 2
+unfolding digits
+lower_row_is_last = refl
+
+-- columns lie from the left on
+left_column_is_first : drawn (window 2 1 (pos 0)) (codes "x var-x") ≡ done (codes "P5\n2 1\n255\n" ++ 255 ∷ 0 ∷ []) 2
+unfolding digits
+left_column_is_first = refl
+
+-- the value zero is outside
+zero_is_outside : drawn (window 1 1 (pos 0)) (codes "z var-z") ≡ done (codes "P5\n1 1\n255\n" ++ 0 ∷ []) 1
+unfolding digits
+zero_is_outside = refl
+
+-- and the number next below it is inside
+next_below_is_inside : drawn (window 1 1 (negsuc 0)) (codes "z var-z") ≡ done (codes "P5\n1 1\n255\n" ++ 255 ∷ []) 1
+unfolding digits
+next_below_is_inside = refl
+
+-- comments and blanks are dropped where a model is written back, and nothing is evaluated
+text_is_written_back : output_of (codes "text" ∷ []) (codes "# x and -x\n a  var-x\r\nb neg\ta")
+    ≡ record { status = status.Done; parts = record { bytes = codes "a var-x\nb neg a\n"; work = no_counts } ∷ []; note = [] }
+text_is_written_back = refl
+
+-- lines are counted from 1 on, those that say nothing too
+bad_line : output_of (codes "text" ∷ []) (codes "x var-x\n\n# c\ny neg z\n") ≡ refused status.BadModel (codes "modeller: line 4: UnknownName\n")
+unfolding digits
+bad_line = refl
+
+empty_input : output_of (codes "text" ∷ []) [] ≡ refused status.BadModel (codes "modeller: line 0: Empty\n")
+unfolding digits
+empty_input = refl
+
+-- words are refused whatever the input is
+verb_not_built : (input : List ℕ) → output_of (codes "count" ∷ []) input ≡ refused status.Usage (codes "modeller: word 1: NotBuilt\n")
+unfolding digits
+verb_not_built input = refl
+
+unknown_verb : (input : List ℕ) → output_of (codes "draw" ∷ []) input ≡ refused status.Usage (codes "modeller: word 1: UnknownVerb\n")
+unfolding digits
+unknown_verb input = refl
+
+no_words : (input : List ℕ) → output_of [] input ≡ refused status.Usage (codes "modeller: word 0: NoVerb\n")
+unfolding digits
+no_words input = refl
+
+-- each kind of note line
+word_line : line_of (stop.Refused (refusal.Words (record { at = 12; reason = word.Twice }))) ≡ codes "modeller: word 12: Twice\n"
+unfolding digits
+word_line = refl
+
+model_line : line_of (stop.Refused (refusal.Model (record { line = 307; reason = text.WrongArity }))) ≡ codes "modeller: line 307: WrongArity\n"
+unfolding digits
+model_line = refl
+
+not_built_line : line_of (stop.Refused refusal.NotBuilt) ≡ codes "modeller: word 1: NotBuilt\n"
+unfolding digits
+not_built_line = refl
+
+too_long_line : line_of (stop.Refused refusal.TooLong) ≡ codes "modeller: input too long\n"
+too_long_line = refl
+
+read_fault_line : line_of stop.ReadFault ≡ codes "modeller: read fault\n"
+read_fault_line = refl
+
+write_fault_line : line_of stop.WriteFault ≡ codes "modeller: write fault\n"
+write_fault_line = refl
+
+no_memory_line : line_of stop.NoMemory ≡ codes "modeller: no memory\n"
+no_memory_line = refl
+
+-- an input of the most bytes is read
+limit_is_read : (job : Job) (input : List ℕ) → length input ≡ input_limit → made job input ≡ parts_after job (text_read input)
+limit_is_read job input full = rw (le-ltb input_limit (length input) (omega (arith, full))) refl
+
+-- and one byte more is too long, whatever the bytes are
+above_limit_is_refused : (job : Job) (input : List ℕ) → length input ≡ input_limit + 1 → made job input ≡ Err refusal.TooLong
+above_limit_is_refused job input more = rw (lt-ltb input_limit (length input) (omega (arith, more))) refl
+
+-- a count that stands tells of no fault
+count_that_stands : NoFault (λ (n : ℕ). n) 3 3
+count_that_stands = (omega arith, omega arith)
+
+-- a count that rose tells of one
+count_that_rose : NoFault (λ (n : ℕ). n) 3 4 → ⊥
+count_that_rose none = omega (arith, none.0)
+
+-- at its last value a count tells nothing, since it stands still there
+count_at_its_end : NoFault (λ (n : ℕ). n) last_count last_count → ⊥
+count_at_its_end none = omega (arith, none.1)
+
+-- a run answers the status that is expected
+expected_answer : IsAnswer status.BadModel status.BadModel
+expected_answer = refl
+
+-- or a fault of the source, or want of memory
+read_fault_answer : IsAnswer status.Usage status.ReadFault
+read_fault_answer = tt
+
+memory_answer : IsAnswer status.Done status.NoMemory
+memory_answer = tt
+
+-- a fault of the sink only where there is something to write
+write_fault_answer : IsAnswer status.Done status.WriteFault
+write_fault_answer = refl
+
+no_write_fault : IsAnswer status.BadModel status.WriteFault → ⊥
+no_write_fault same = grind (arith, same)
+
+-- and no status but the expected one
+no_other_answer : IsAnswer status.Done status.BadModel → ⊥
+no_other_answer same = grind (arith, same)
+
+no_done_answer : IsAnswer status.Usage status.Done → ⊥
+no_done_answer same = grind (arith, same)
+
+-- sums, differences and products are cut to the range of numbers
+sum_above : op_result op.Add greatest (pos 1) ≡ greatest
+sum_above = refl
+
+sum_within : op_result op.Add least greatest ≡ pos 0
+sum_within = refl
+
+sum_below : op_result op.Add least (negsuc 0) ≡ least
+sum_below = refl
+
+difference_above : op_result op.Sub greatest least ≡ greatest
+difference_above = refl
+
+difference_below : op_result op.Sub least (pos 1) ≡ least
+difference_below = refl
+
+product_above : op_result op.Mul least least ≡ greatest
+product_above = refl
+
+product_below : op_result op.Mul least greatest ≡ least
+product_below = refl
+
+-- products are rounded down
+product_rounds_down : op_result op.Mul (negsuc 0) (pos 1) ≡ negsuc 0
+product_rounds_down = refl
