@@ -1,0 +1,60 @@
+-- One more element is written, with the value that it stands for.
+use Rattle.std.proofs.Common.{◌≡◌, ℕ, ◌+◌, ◌<◌, ℤ, pos, ◌⊎◌, inl, inr, List, length, set, get_or, Some, slice_get, sym, subst, arith}
+use Rattle.std.proofs.lemmas.Bool.{cases_eq}
+use Rattle.std.proofs.lemmas.List.{get_or-set_same, get_or-set_other}
+use Rattle.fixed_ops.specs.Counts.{Counts, no_counts, plus, times}
+use Rattle.fixed_ops.specs.CountLaws.{IsAtMost-plus, RisesBy-none, RisesBy-then, plus-times}
+use Rattle.fixed_ops.specs.Points.{Point}
+use Rattle.live_clauses.specs.Steps.{AreSteps, value_after, value_at, values}
+use Rattle.live_clauses.specs.ValueLaws.{value_at-step}
+use Rattle.live_clauses.specs.declared.step.Step.{Step}
+use Rattle.choice_trace.specs.Meaning.{AreRead, StandForOperands, StandsForResults}
+use Rattle.choice_trace.specs.Work.{RisesWithin}
+
+-- no element is read at first
+pub none_read : {D : Type 0} (stands_for : D → ℤ → Type 0) (default : D) (elements : List D) (values : List ℤ) → AreRead stands_for default elements values 0
+none_read stands_for default elements values place h = absurd (omega (arith, h))
+
+-- an element more is read
+pub read_more : {D : Type 0} (stands_for : D → ℤ → Type 0) (default : D) (elements : List D) (values : List ℤ) (at : ℕ) (new : D)
+    → at < length elements → AreRead stands_for default elements values at → stands_for new (get_or values at (pos 0))
+    → AreRead stands_for default (set elements at new) values (at + 1)
+read_more stands_for default elements values at new room read stands place h = by (cases_eq place at)
+  where
+    by : (place ≡ at) ⊎ (place ≡ at → ⊥) → stands_for (get_or (set elements at new) place default) (get_or values place (pos 0))
+    by (inl e) =
+        subst (λ k. stands_for (get_or (set elements at new) k default) (get_or values k (pos 0))) (sym e)
+        (subst (λ d. stands_for d (get_or values at (pos 0))) (sym (get_or-set_same elements at new default room)) stands)
+    by (inr other) =
+        subst (λ d. stands_for d (get_or values place (pos 0))) (sym (get_or-set_other elements at place new default other))
+        (read place (omega (arith, h, other)))
+
+-- what a step makes of its operands stands for its value in the list
+pub step_stands : {D : Type 0} (stands_for : D → ℤ → Type 0) (p : Point) (steps : List Step) (at : ℕ) (step : Step) (a b new : D)
+    → AreSteps steps → slice_get steps at ≡ Some step → StandForOperands stands_for step.op a b (value_after p (values p steps) step)
+    → StandsForResults stands_for step.op a b new → stands_for new (value_at p steps at)
+step_stands stands_for p steps at step a b new stand is operands results =
+    subst (λ v. stands_for new v) (sym (value_at-step p steps at step stand is))
+    (subst (λ v. stands_for new v) operands.is (results operands.left operands.right operands.for_a operands.for_b))
+
+-- a tally that stands rises by no work
+pub within_none : (counts least most : Counts) → RisesWithin counts counts (times 0 least) (times 0 most)
+within_none counts least most = record {
+  by = no_counts;
+  enough = record { points = omega arith; spans = omega arith; corners = omega arith };
+  within = record { points = omega arith; spans = omega arith; corners = omega arith };
+  rises = RisesBy-none counts;
+}
+
+-- one more piece of work
+pub within_more : (before mid after least most : Counts) (n : ℕ) → RisesWithin before mid (times n least) (times n most) → RisesWithin mid after least most
+    → RisesWithin before after (times (n + 1) least) (times (n + 1) most)
+within_more before mid after least most n first second =
+    subst (λ c. RisesWithin before after c (times (n + 1) most)) (plus-times n least)
+    (subst (λ c. RisesWithin before after (plus (times n least) least) c) (plus-times n most)
+    (record {
+      by = plus first.by second.by;
+      enough = IsAtMost-plus (times n least) least first.by second.by first.enough second.enough;
+      within = IsAtMost-plus first.by second.by (times n most) most first.within second.within;
+      rises = RisesBy-then before mid after first.by second.by first.rises second.rises;
+    }))

@@ -1,0 +1,4 @@
+mod Elements
+mod HullLists
+mod StepHulls
+mod Traces

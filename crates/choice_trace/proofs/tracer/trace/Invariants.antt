@@ -1,0 +1,13 @@
+use Rattle.std.proofs.Common.{◌≡◌, drop, length, take}
+use Rattle.interval_ops.specs.HullCounts.{CountsHulls}
+use Rattle.choice_trace.specs.Hulls.{choices_over, hulls}
+use Rattle.choice_trace.proofs.tracer.trace.Given as goal
+
+abbrev pub invariant-loop-at : goal.invariant-loop-at
+invariant-loop-at l = record {
+  hulls : take l.at l.regs ≡ take l.at (hulls l.region l.steps);
+  chosen : take l.at l.choices ≡ take l.at (choices_over l.region l.steps);
+  hulls_rest : drop (length l.steps) l.regs ≡ drop (length l.steps) l.fn.regs;
+  choices_rest : drop (length l.steps) l.choices ≡ drop (length l.steps) l.fn.choices;
+  counted : CountsHulls l.at l.fn.tally l.tally;
+}

@@ -1,0 +1,4 @@
+pub mod Hulls
+pub mod Laws
+pub mod Meaning
+pub mod Work

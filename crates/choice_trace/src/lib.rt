@@ -1,0 +1,15 @@
+//! What evaluates a list of steps: one loop over any domain of elements that stand for numbers, and
+//! one that finds the hulls of a list over a region together with its choices.
+#![tactic(auto)]
+
+mod domain;
+mod evaluator;
+mod inputs;
+mod laws;
+mod tracer;
+
+pub use domain::Domain;
+pub use evaluator::evaluate;
+pub use inputs::Inputs;
+pub use laws::hulls_of_steps;
+pub use tracer::trace;

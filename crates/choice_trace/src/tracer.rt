@@ -1,0 +1,78 @@
+// The hulls and the choices of a list over a region.
+ghost use Rattle.std.specs.Prelude.{◌≡◌, ◌≤◌, ◌<◌, ℕ, List, drop, length, take};
+ghost use Rattle.fixed_ops.specs.Points.{Point};
+ghost use Rattle.interval_ops.specs.HullCounts.{CountsHulls};
+ghost use Rattle.interval_ops.specs.Spans.{Holds, Interval};
+ghost use Rattle.live_clauses.specs.Choices.{AreChoices, AreRight};
+ghost use Rattle.live_clauses.specs.Steps.{IsStepAt, tape_value};
+ghost use Rattle.choice_trace.specs.Hulls.{AreOperands, IsIn, choices_over, tape_hull};
+
+use fixed_ops::{Op, Tally};
+use interval_ops::{Choice, Region, Span, choose, span_apply};
+use live_clauses::{Step, Tape};
+
+/// The hull of a list over a region, with the choice of each step, which is right at every point of
+/// the region. `regs` has room for one range a step, and `choices` for one choice.
+#[inline]
+pub fn trace(
+    tape: &Tape,
+    region: Region,
+    regs: &mut [Span],
+    choices: &mut [Choice],
+    tally: &mut Tally,
+) -> Span
+    requires regs { length tape.now ≤ length regs.old }
+    requires choices { length tape.now ≤ length choices.old }
+    ensures hull { result ≡ tape_hull region tape.now }
+    ensures holds { (p : Point) → IsIn region p → Holds result (tape_value p tape.now) }
+    ensures choices { take (length tape.now) choices.new ≡ choices_over region tape.now }
+    ensures only { AreChoices tape.now choices.new }
+    ensures right { (p : Point) → IsIn region p → AreRight p tape.now choices.new }
+    ensures regs_rest { drop (length tape.now) regs.new ≡ drop (length tape.now) regs.old }
+    ensures choices_rest { drop (length tape.now) choices.new
+        ≡ drop (length tape.now) choices.old }
+    ensures counted { CountsHulls (length tape.now) tally.old tally.new }
+{
+    // The ends of a range are in order.
+    let _ends = (region.x.lo(), region.y.lo(), region.z.lo());
+    let steps = tape.steps();
+    let len = steps.len();
+    for at in 0..len {
+        let step = steps.step(at);
+        let (a, b) = operands(&step, &region, regs);
+        choices[at as usize] = choose(step.op, a, b);
+        regs[at as usize] = span_apply(step.op, a, b, tally);
+    }
+    regs[len as usize - 1]
+}
+
+// What the operation of a step is applied to: the range of a coordinate, the constant alone, or the
+// hulls of earlier steps. An operand that the operation lacks is read from the first step's place.
+#[inline]
+fn operands(step: &Step, region: &Region, regs: &[Span]) -> (Span, Span)
+    requires first { step.now.a < length regs.now }
+    requires second { step.now.b < length regs.now }
+    ensures { AreOperands region.now regs.now step.now result.0 result.1 }
+{
+    let a = regs[step.a as usize];
+    let b = regs[step.b as usize];
+    match step.op {
+        Op::X => (region.x, region.x),
+        Op::Y => (region.y, region.y),
+        Op::Z => (region.z, region.z),
+        Op::Const => {
+            let value = Span::new(step.value, step.value);
+            (value, value)
+        }
+        Op::Neg
+        | Op::Square
+        | Op::Sqrt
+        | Op::Abs
+        | Op::Add
+        | Op::Sub
+        | Op::Mul
+        | Op::Div
+        | Op::Min
+        | Op::Max => (a, b),
+    }
+}
