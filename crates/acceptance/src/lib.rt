@@ -12,6 +12,8 @@ mod refusals;
 #[cfg(test)]
 mod sure;
 #[cfg(test)]
+mod tapes;
+#[cfg(test)]
 mod texts;
 #[cfg(test)]
 mod trial;
