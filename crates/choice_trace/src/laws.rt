@@ -1,5 +1,6 @@
 // What always holds of the definitions that the contracts cite.
 ghost use Rattle.choice_trace.specs.Laws.{HullsHold, OnlyHullsHold};
+ghost use Rattle.choice_trace.specs.WorkLaws.{HullsAreExact, PointsAreExact};
 
 /// The hull of each step of a list over a region is the hull of all results on the values of its
 /// operands' hulls, or the range of a coordinate, or the constant alone. No other list of hulls is
@@ -7,4 +8,12 @@ ghost use Rattle.choice_trace.specs.Laws.{HullsHold, OnlyHullsHold};
 pub fn hulls_of_steps()
     ensures hold { HullsHold }
     ensures only { OnlyHullsHold }
+{}
+
+/// What an evaluation counts, where each step counts one evaluation at a point: exactly the length of
+/// the list in points, and nothing else. Where each step counts one hull of at most four corners:
+/// exactly the length in hulls, at most four times the length in corners, and no point.
+pub fn work_of_steps()
+    ensures points { PointsAreExact }
+    ensures hulls { HullsAreExact }
 {}
