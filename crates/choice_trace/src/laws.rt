@@ -1,5 +1,6 @@
 // What always holds of the definitions that the contracts cite.
 ghost use Rattle.choice_trace.specs.Laws.{HullsHold, OnlyHullsHold};
+ghost use Rattle.choice_trace.specs.PointLaws.{ChoicesAreOfSteps, ChoicesAreRight, ValuesAreHeld};
 ghost use Rattle.choice_trace.specs.WorkLaws.{HullsAreExact, PointsAreExact};
 
 /// The hull of each step of a list over a region is the hull of all results on the values of its
@@ -16,4 +17,12 @@ pub fn hulls_of_steps()
 pub fn work_of_steps()
     ensures points { PointsAreExact }
     ensures hulls { HullsAreExact }
+{}
+
+/// At each point of a region the hull of a list holds its value, and its choices are right.
+#[inline]
+pub fn traces_are_right()
+    ensures held { ValuesAreHeld }
+    ensures choices { ChoicesAreOfSteps }
+    ensures right { ChoicesAreRight }
 {}

@@ -11,5 +11,5 @@ mod tracer;
 pub use domain::Domain;
 pub use evaluator::evaluate;
 pub use inputs::Inputs;
-pub use laws::{hulls_of_steps, work_of_steps};
+pub use laws::{hulls_of_steps, traces_are_right, work_of_steps};
 pub use tracer::trace;

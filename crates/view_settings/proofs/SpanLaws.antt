@@ -1,17 +1,18 @@
 -- Places rise or fall along an axis.
-use Rattle.std.proofs.Common.{ℕ, zero, suc, ◌-◌, ◌*◌, ◌/◌, ◌≤◌, ℤ, pos, Bool, true, false, cond, arith}
+use Rattle.std.proofs.Common.{◌≡◌, ℕ, zero, suc, ◌-◌, ◌*◌, ◌/◌, ◌≤◌, ℤ, pos, Bool, true, false, cond, arith}
 use Rattle.std.specs.Prelude.{negsuc, ◌-ℤ◌, ◌≤ℤ◌, ◌==◌}
 use Rattle.std.proofs.lemmas.Int.{ints, clamps}
 use Rattle.std.proofs.lemmas.Nat.{le-div}
-use Rattle.std.proofs.Math.Nat.{mul-le-mul_left, div-mul-le_self}
+use Rattle.std.proofs.Math.Nat.{mul-le-mul_left, mul-div_cancel, div-mul-le_self}
+use Rattle.fixed_ops.specs.Raw.{IsRaw}
 use Rattle.view_settings.specs.declared.lattice.Axis.{Axis}
 use Rattle.view_settings.specs.declared.lattice.Axis.TheVariants as axes
 use Rattle.view_settings.specs.declared.lattice.Lattice.{Lattice}
 use Rattle.view_settings.specs.declared.lattice.Lattice.TheVariants.{Raster, Height, Grid}
-use Rattle.view_settings.specs.Laws.{RangesHold}
-use Rattle.view_settings.specs.Places.{place_of, place_up, place_down, way}
+use Rattle.view_settings.specs.Laws.{RangesAreSpans, RangesHold}
+use Rattle.view_settings.specs.Places.{place_of, place_up, place_down, steps_of, way}
 use Rattle.view_settings.specs.Spans.{IsRange, last_of, range_along}
-use Rattle.view_settings.specs.Window.{Window, AreEnds}
+use Rattle.view_settings.specs.Window.{Window, AreEnds, IsWindow}
 
 either : (b : Bool) (x y : ℕ) → x ≤ y → cond b (pos 0) (pos x) ≤ℤ cond b (pos 0) (pos y)
 either true x y le = omega (arith, ints)
@@ -68,3 +69,63 @@ ranges v Height axes.Z low high is le = rising v Height axes.Z low high le (λ i
 ranges v Grid axes.X low high is le = rising v Grid axes.X low high le (λ i j. rises v.x0 v.x1 v.n i j is.x)
 ranges v Grid axes.Y low high is le = rising v Grid axes.Y low high le (λ i j. rises v.y0 v.y1 v.n i j is.y)
 ranges v Grid axes.Z low high is le = rising v Grid axes.Z low high le (λ i j. rises v.z0 v.z1 v.n i j is.z_ends)
+
+-- the way is no longer than the whole
+way_short : (n steps i : ℕ) → i ≤ steps → way (pos n) steps i ≤ℤ pos n
+way_short n zero i le = omega (arith, ints)
+way_short n (suc d) i le =
+    let products : n * i ≤ n * suc d = mul-le-mul_left n le in
+    let quotients = le-div (n * i / suc d) (n * suc d) (suc d) (omega arith) (omega (arith, products, div-mul-le_self (n * i) (suc d))) in
+    let whole : n * suc d / suc d ≡ n = mul-div_cancel n (omega arith) in
+    by (suc d == 0) (omega (arith, quotients, whole))
+  where
+    by : (b : Bool) → n * i / suc d ≤ n → cond b (pos 0) (pos (n * i / suc d)) ≤ℤ pos n
+    by true h = omega (arith, ints)
+    by false h = omega (arith, ints, h)
+
+way_ahead : (n steps i : ℕ) → pos 0 ≤ℤ way (pos n) steps i
+way_ahead n zero i = omega (arith, ints)
+way_ahead n (suc d) i = by (suc d == 0)
+  where
+    by : (b : Bool) → pos 0 ≤ℤ cond b (pos 0) (pos (n * i / suc d))
+    by true = omega (arith, ints)
+    by false = omega (arith, ints)
+
+-- places lie between the ends of the axis
+way_within : (low high : ℤ) (steps i : ℕ) → AreEnds low high → i ≤ steps → (pos 0 ≤ℤ way (high -ℤ low) steps i) × (way (high -ℤ low) steps i ≤ℤ (high -ℤ low))
+way_within low high steps i ends le = by (high -ℤ low) (omega (arith, ints, ends.ordered))
+  where
+    by : (whole : ℤ) → pos 0 ≤ℤ whole → (pos 0 ≤ℤ way whole steps i) × (way whole steps i ≤ℤ whole)
+    by (pos n) h = (way_ahead n steps i, way_short n steps i le)
+    by (negsuc n) h = absurd (omega (arith, ints, h))
+
+raw_up : (low high : ℤ) (steps i : ℕ) → AreEnds low high → i ≤ steps → IsRaw (place_up low high steps i)
+raw_up low high steps i ends le =
+    let w = way_within low high steps i ends le in
+    (omega (arith, ints, w.0, ends.low_raw), omega (arith, ints, w.1, ends.high_raw))
+
+raw_down : (low high : ℤ) (steps i : ℕ) → AreEnds low high → i ≤ steps → IsRaw (place_down low high steps i)
+raw_down low high steps i ends le =
+    let w = way_within low high steps i ends le in
+    (omega (arith, ints, w.1, ends.low_raw), omega (arith, ints, w.0, ends.high_raw))
+
+raw_place_of : (v : Window) (lattice : Lattice) (axis : Axis) (i : ℕ) → IsWindow v → i ≤ steps_of v lattice axis → IsRaw (place_of v lattice axis i)
+raw_place_of v Raster axes.X i is le = raw_up v.x0 v.x1 (v.w - 1) i is.x le
+raw_place_of v Raster axes.Y i is le = raw_down v.y0 v.y1 (v.h - 1) i is.y le
+raw_place_of v Raster axes.Z i is le = is.z
+raw_place_of v Height axes.X i is le = raw_up v.x0 v.x1 (v.w - 1) i is.x le
+raw_place_of v Height axes.Y i is le = raw_down v.y0 v.y1 (v.h - 1) i is.y le
+raw_place_of v Height axes.Z i is le = raw_up v.z0 v.z1 (v.d - 1) i is.z_ends le
+raw_place_of v Grid axes.X i is le = raw_up v.x0 v.x1 v.n i is.x le
+raw_place_of v Grid axes.Y i is le = raw_up v.y0 v.y1 v.n i is.y le
+raw_place_of v Grid axes.Z i is le = raw_up v.z0 v.z1 v.n i is.z_ends le
+
+pub spans : RangesAreSpans
+spans v lattice axis low high is few last =
+    let first = raw_place_of v lattice axis low is few in
+    let end = raw_place_of v lattice axis (last_of lattice high) is last in
+    record {
+      lo = (omega (arith, ints, clamps, first.0, end.0), omega (arith, ints, clamps, first.1, end.1));
+      hi = (omega (arith, ints, clamps, first.0, end.0), omega (arith, ints, clamps, first.1, end.1));
+      order = omega (arith, ints, clamps);
+    }

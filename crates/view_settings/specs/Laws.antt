@@ -2,7 +2,9 @@
 use Rattle.std.specs.Prelude.{◌≡◌, ℕ, ◌≤◌, count_by, if◌then◌else◌}
 use Rattle.view_settings.specs.declared.lattice.Axis.{Axis}
 use Rattle.view_settings.specs.declared.lattice.Lattice.{Lattice}
+use Rattle.interval_ops.specs.Spans.{IsSpan}
 use Rattle.view_settings.specs.Boxes.{Indices, halves_of, has_sample}
+use Rattle.view_settings.specs.Places.{steps_of}
 use Rattle.view_settings.specs.Spans.{IsRange, last_of, range_along}
 use Rattle.view_settings.specs.Window.{Window, IsWindow}
 
@@ -16,3 +18,9 @@ abbrev pub RangesHold : Type 0
 RangesHold =
     (v : Window) (lattice : Lattice) (axis : Axis) (low high : ℕ) → IsWindow v → low ≤ last_of lattice high
     → IsRange v lattice axis low (last_of lattice high) (range_along v lattice axis low high)
+
+-- the range along an axis is a span: its ends are raw numbers in order
+abbrev pub RangesAreSpans : Type 0
+RangesAreSpans =
+    (v : Window) (lattice : Lattice) (axis : Axis) (low high : ℕ) → IsWindow v → low ≤ steps_of v lattice axis
+    → last_of lattice high ≤ steps_of v lattice axis → IsSpan (range_along v lattice axis low high)

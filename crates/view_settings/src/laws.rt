@@ -1,6 +1,6 @@
 // What always holds of the definitions that the contracts cite.
 ghost use Rattle.view_settings.specs.Grammar.{GivenSettingsAreExact, RefusedWordIsExact};
-ghost use Rattle.view_settings.specs.Laws.{HalvesPart, RangesHold};
+ghost use Rattle.view_settings.specs.Laws.{HalvesPart, RangesAreSpans, RangesHold};
 
 /// Each sample of a box lies in exactly one of its halves, and no other sample lies in any.
 pub fn halves_part()
@@ -15,7 +15,8 @@ pub fn words_are_exact()
 {}
 
 /// The range of places along an axis has the least and the greatest place of its samples as its
-/// ends.
+/// ends, which are raw numbers in order.
 pub fn ranges_hold()
-    ensures { RangesHold }
+    ensures ends { RangesHold }
+    ensures spans { RangesAreSpans }
 {}

@@ -1,6 +1,9 @@
--- The law of ranges is a lemma.
-use Rattle.view_settings.proofs.SpanLaws.{ranges}
+-- The laws of ranges are lemmas.
+use Rattle.view_settings.proofs.SpanLaws.{ranges, spans}
 use Rattle.view_settings.proofs.laws.ranges_hold.Goals as goal
 
-pub returns : goal.returns
-returns c = ranges
+pub returns-clause-ends : goal.returns-clause-ends
+returns-clause-ends c = ranges
+
+pub returns-clause-spans : goal.returns-clause-spans
+returns-clause-spans c = spans

@@ -1,0 +1,11 @@
+pub mod ChainLaws
+pub mod Chains
+pub mod Counts
+pub mod HalfLaws
+pub mod LawProofs
+pub mod Laws
+pub mod Placing
+pub mod SumLaws
+pub mod Sums
+pub mod ValueLaws
+pub mod WorkLaws

@@ -1,0 +1,24 @@
+-- Sums over the samples of a box.
+use Rattle.std.specs.Prelude.{ℕ, ◌-◌, ◌≤◌, ◌<◌}
+use Rattle.std.specs.List.{range_with_len, sum_by}
+use Rattle.view_settings.specs.Boxes.{Indices}
+
+-- a sample, by its index along each axis
+pub record Sample : Type 0 where
+  pub i : ℕ
+  pub j : ℕ
+  pub k : ℕ
+
+-- a sample lies in a box
+pub record LiesIn (b : Indices) (s : Sample) : Type 0 where
+  pub x : (b.x0 ≤ s.i) × (s.i < b.x1)
+  pub y : (b.y0 ≤ s.j) × (s.j < b.y1)
+  pub z : (b.z0 ≤ s.k) × (s.k < b.z1)
+
+-- the sum of f over the numbers from low on, up to the one below high
+abbrev pub sum_along : ℕ → ℕ → (ℕ → ℕ) → ℕ
+sum_along low high f = sum_by f (range_with_len low (high - low))
+
+-- the sum of f over the samples of a box
+abbrev pub sum_in : Indices → (Sample → ℕ) → ℕ
+sum_in b f = sum_along b.z0 b.z1 (λ k. sum_along b.y0 b.y1 (λ j. sum_along b.x0 b.x1 (λ i. f (record { i = i; j = j; k = k }))))

@@ -1,0 +1,47 @@
+// What always holds of chains of boxes and of the work that boxes take.
+ghost use Rattle.box_chains.specs.Laws.{ChainsGoOn, PointsAddUp, PointsAreBounded, SamplesAreTold, SpansAddUp, SpansAreBounded};
+ghost use Rattle.box_chains.specs.ValueLaws.{Lawful};
+
+use choice_trace::traces_are_right;
+use live_clauses::{choices_keep_the_value, live_steps_are_the_least};
+use view_settings::{halves_part, ranges_hold};
+
+/// What the layers below promise of boxes, lists and points, in one place.
+#[inline]
+pub fn layers_hold()
+    ensures { Lawful }
+{
+    halves_part();
+    ranges_hold();
+    live_steps_are_the_least();
+    choices_keep_the_value();
+    traces_are_right();
+}
+
+/// The way to a sample goes on from a box that is split into the half that holds the sample, and
+/// ends at any other box.
+pub fn chains_go_on()
+    ensures { ChainsGoOn }
+{
+    layers_hold();
+}
+
+/// The work of a box that is split is that of its halves, and the steps of its own list are traced
+/// once. A box takes no more evaluations than its list has steps, at each of its samples, and no more
+/// steps are traced over it than that for each of the sides of the boxes that hold a sample.
+pub fn work_adds_up()
+    ensures points { PointsAddUp }
+    ensures spans { SpansAddUp }
+    ensures points_bounded { PointsAreBounded }
+    ensures spans_bounded { SpansAreBounded }
+{
+    layers_hold();
+}
+
+/// The last box on the way to a sample tells whether the sample is inside: its decision is right,
+/// or the list that it hands on has the sample's value.
+pub fn samples_are_told()
+    ensures { SamplesAreTold }
+{
+    layers_hold();
+}

@@ -1,0 +1,12 @@
+//! Boxes, the lists of steps that they receive, and the chains of boxes that hold a sample.
+#![tactic(auto)]
+
+mod laws;
+mod leaves;
+mod places;
+mod workspace;
+
+pub use laws::{chains_go_on, layers_hold, samples_are_told, work_adds_up};
+pub use leaves::is_long;
+pub use places::Places;
+pub use workspace::Workspace;
