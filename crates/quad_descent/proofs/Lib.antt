@@ -1,0 +1,6 @@
+pub mod Bounds
+pub mod Drawn
+mod Examples
+pub mod Leaves
+pub mod PaintLaws
+pub mod Painted

@@ -1,0 +1,9 @@
+use Rattle.std.proofs.Common.{◌≡◌}
+use Rattle.quad_descent.specs.Painting.{Paints, byte_at, covers}
+use Rattle.quad_descent.proofs.quad_tree.QuadTree.paint_leaf.Given as goal
+
+abbrev pub invariant-loop-j : goal.invariant-loop-j
+invariant-loop-j l = record {
+  same : l.b ≡ l.fn.b;
+  paints : Paints (covers l.fn.self.view.w l.fn.band.row (record l.fn.b { y1 = l.j })) (byte_at l.fn.self.view l.fn.self.list l.fn.band.row) l.fn.pixels l.pixels;
+}

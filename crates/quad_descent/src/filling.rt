@@ -1,0 +1,79 @@
+// Rows of pixels of one box.
+ghost use Rattle.std.specs.Prelude.{◌≡◌, ◌+◌, ◌-◌, ◌*◌, ◌<◌, ◌≤◌, ℕ, true, length, if◌then◌else◌, IsTrue};
+ghost use Rattle.view_settings.specs.Spans.{IsInRoot};
+ghost use Rattle.quad_descent.specs.Nodes.{bits_of, insides, rows_of};
+ghost use Rattle.quad_descent.specs.Painting.{IsBand, Paints, among, byte_at, covers, meets};
+
+use crate::QuadTree;
+use crate::band::Band;
+use view_settings::{IndexBox, Lattice};
+
+impl QuadTree {
+    // Paints the samples of a box, which are all inside or all outside.
+    pub(crate) fn fill_box(&self, b: IndexBox, byte: u8, band: Band, pixels: &mut [u8])
+        requires within { IsInRoot self.now.view Lattice.Raster b }
+        requires band { IsBand self.now.view band (length pixels.old) }
+        requires meets { IsTrue (meets band b) }
+        requires byte { (p : ℕ) → p < length pixels.old → covers self.now.view.w band.row b p ≡ true
+            → byte_at self.now.view self.now.list band.row p ≡ byte }
+        ensures { Paints (covers self.now.view.w band.row b) (byte_at self.now.view self.now.list band.row) pixels.old pixels.new }
+    {
+        for j in b.y0.max(band.row)..b.y1.min(band.row + band.rows) {
+            let start = (j - band.row) as usize * self.view.w as usize;
+            fill(pixels, start + b.x0 as usize, start + b.x1 as usize, byte);
+        }
+    }
+
+    // Paints the samples of a leaf, whose rows are these.
+    pub(crate) fn paint_leaf(&self, rows: &[u8; 8], b: IndexBox, band: Band, pixels: &mut [u8])
+        requires within { IsInRoot self.now.view Lattice.Raster b }
+        requires band { IsBand self.now.view band (length pixels.old) }
+        requires meets { IsTrue (meets band b) }
+        requires low { b.y1 - b.y0 ≤ 8 }
+        requires rows { rows.now ≡ rows_of self.now.view Lattice.Raster self.now.list b }
+        ensures { Paints (covers self.now.view.w band.row b) (byte_at self.now.view self.now.list band.row) pixels.old pixels.new }
+    {
+        for j in b.y0.max(band.row)..b.y1.min(band.row + band.rows) {
+            self.paint_row(rows[(j - b.y0) as usize], b, j, band, pixels);
+        }
+    }
+
+    // Paints the samples of row j of a leaf, which are the digits of a number.
+    fn paint_row(&self, bits: u8, b: IndexBox, j: u32, band: Band, pixels: &mut [u8])
+        requires within { IsInRoot self.now.view Lattice.Raster b }
+        requires band { IsBand self.now.view band (length pixels.old) }
+        requires above { band.row ≤ j }
+        requires below { j < band.row + band.rows }
+        requires bits { bits ≡ bits_of (insides self.now.view Lattice.Raster self.now.list b j) }
+        ensures { Paints (among ((j - band.row) * self.now.view.w + b.x0) ((j - band.row) * self.now.view.w + b.x1))
+            (byte_at self.now.view self.now.list band.row) pixels.old pixels.new }
+    {
+        let start = (j - band.row) as usize * self.view.w as usize;
+        let mut rest = bits;
+        for n in 0..b.x1 - b.x0 {
+            let i = (b.x1 - 1 - n) as usize;
+            pixels[start + i] = pixel(rest % 2 == 1);
+            rest /= 2;
+        }
+    }
+}
+
+// Sets the bytes from a place on up to another.
+#[inline]
+fn fill(pixels: &mut [u8], from: usize, to: usize, byte: u8)
+    requires order { from ≤ to }
+    requires within { to ≤ length pixels.old }
+    ensures { Paints (among from to) (λ _. byte) pixels.old pixels.new }
+{
+    for p in from..to {
+        pixels[p] = byte;
+    }
+}
+
+// The byte of a pixel: 255 inside and 0 outside.
+#[inline]
+fn pixel(inside: bool) -> u8
+    ensures { result ≡ (if inside then 255 else 0) }
+{
+    if inside { 255 } else { 0 }
+}

@@ -1,0 +1,19 @@
+//! Images of lists of steps, drawn by boxes: what the hull of a list decides over a box is drawn
+//! whole, and undecided boxes are halved and evaluated over what is live there.
+#![tactic(auto)]
+
+mod band;
+mod desk;
+mod drawing;
+mod filling;
+mod laws;
+mod leaf;
+mod node;
+mod painting;
+mod pixels;
+mod quad_tree;
+
+pub use laws::fresh_work_is_bounded;
+pub use painting::rows;
+pub use pixels::{image, push_pixels};
+pub use quad_tree::{QuadTree, draw};

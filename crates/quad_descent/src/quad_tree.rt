@@ -1,0 +1,70 @@
+// An image by boxes.
+ghost use Rattle.std.specs.Prelude.{◌≡◌, IfOk, OnOk, OnErr};
+ghost use Rattle.view_settings.specs.Spans.{root_of};
+ghost use Rattle.quad_descent.specs.Raster.{CountsAtMost, CountsExactly, fresh_points, fresh_spans};
+
+use crate::desk::Desk;
+use crate::drawing::draw_box;
+use crate::node::Node;
+use fixed_ops::Tally;
+use live_clauses::Tape;
+use std::alloc::{AllocError, Global};
+use std::marker::Model;
+use view_settings::{IndexBox, Lattice, View};
+
+/// An image of a list of steps over a view, by boxes: which of them are decided, and what the samples
+/// of undecided leaves are. Contracts see the view and the list.
+#[derive(Debug, Drop)]
+pub struct QuadTree {
+    pub(crate) view: View,
+    pub(crate) list: Tape,
+    pub(crate) nodes: Vec<Node>,
+}
+
+impl Model for QuadTree {
+    ghost use Rattle.std.specs.Prelude.{◌≡◌};
+    ghost use Rattle.box_chains.specs.ValueLaws.{IsVisit};
+    ghost use Rattle.quad_descent.specs.Nodes.{nodes_of};
+    ghost use Rattle.quad_descent.specs.Raster.{Drawing, raster, whole};
+
+    ghost Value = { Drawing };
+
+    ghost view = { λ t. record { view = t.view; list = t.list } };
+
+    ghost invariant = { λ t. (t.nodes.items ≡ nodes_of (raster t.view) (whole t.view t.list))
+        × IsVisit (raster t.view) (whole t.view t.list) };
+}
+
+/// Draws a list of steps over a view. Each step that is traced over a box is counted, at most four
+/// corners with it, and each step that is evaluated at a sample: exactly those of a fresh image.
+/// AllocError: there is no memory for the tree.
+pub fn draw(
+    alloc: Global,
+    list: &Tape,
+    view: &View,
+    tally: &mut Tally,
+) -> Result<QuadTree, AllocError>
+    ensures tree { IfOk result (λ tree. tree ≡ record { view = view.now; list = list.now }) }
+    ensures counted { OnOk result (CountsExactly (fresh_points view.now list.now) (fresh_spans view.now list.now) tally.old tally.new) }
+    ensures at_most { OnErr result (CountsAtMost (fresh_points view.now list.now) (fresh_spans view.now list.now) tally.old tally.new) }
+{
+    let mut desk = Desk::new(alloc, view, list.len())?;
+    let mut nodes = Vec::new(alloc);
+    draw_box(alloc, &mut desk, root(view), list, &mut nodes, tally)?;
+    Ok(QuadTree {
+        view: *view,
+        list: list.share()?,
+        nodes,
+    })
+}
+
+/// The box of all samples of a raster.
+pub fn root(view: &View) -> IndexBox
+    ensures { result ≡ root_of view.now Lattice.Raster }
+{
+    IndexBox {
+        x1: view.w,
+        y1: view.h,
+        ..IndexBox::default()
+    }
+}
