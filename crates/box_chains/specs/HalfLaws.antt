@@ -39,7 +39,7 @@ upper-side leaf low high some e =
     record { above = omega (arith, long); some = omega (arith, long); below = omega arith; shorter = λ h. omega (arith, long) }
 
 -- what holds of all parts of each
-All-flat_map : {X Y : Type 0} (P : Y → Type 0) (f : X → List Y) (xs : List X) → All (λ x. All P (f x)) xs → All P (flat_map f xs)
+pub All-flat_map : {X Y : Type 0} (P : Y → Type 0) (f : X → List Y) (xs : List X) → All (λ x. All P (f x)) xs → All P (flat_map f xs)
 All-flat_map P f [] h = All-nil P
 All-flat_map P f (x ∷ xs) h =
     rw (flat_map-cons f x xs) (All-append P (f x) (flat_map f xs) (All-head (λ y. All P (f y)) x xs h) (All-flat_map P f xs (All-tail (λ y. All P (f y)) x xs h)))
@@ -130,7 +130,7 @@ part-is_shorter leaf b part long is =
     by false false false ex ey ez h = absurd (grind (arith, nat_tests, h))
 
 -- what an element that passes adds to a count
-counts : {X : Type 0} (p : X → Bool) (xs : List X) (x : X) → Contains xs x → p x ≡ true → 0 < count_by p xs
+pub counts : {X : Type 0} (p : X → Bool) (xs : List X) (x : X) → Contains xs x → p x ≡ true → 0 < count_by p xs
 counts p [] x (k, in', is) passes = absurd (omega (arith, in'))
 counts p (y ∷ ys) x (zero, in', is) passes =
     let same : p y ≡ true = ap p is ∙ passes in
@@ -174,7 +174,7 @@ part-lies leaf b part s is lies = record {
 }
 
 -- a sample that lies in no box is in none of them, and one that lies in a box is in one of its halves alone
-few-halves : (leaf : ℕ) (b : Indices) (s : Sample) → HalvesPart → count_by (λ half. has_sample s.i s.j s.k half) (halves_of leaf b) ≤ 1
+pub few-halves : (leaf : ℕ) (b : Indices) (s : Sample) → HalvesPart → count_by (λ half. has_sample s.i s.j s.k half) (halves_of leaf b) ≤ 1
 few-halves leaf b s law = by (has_sample s.i s.j s.k b) (law leaf b s.i s.j s.k)
   where
     by : (t : Bool) → count_by (has_sample s.i s.j s.k) (halves_of leaf b) ≡ cond t 1 0 → count_by (λ half. has_sample s.i s.j s.k half) (halves_of leaf b) ≤ 1

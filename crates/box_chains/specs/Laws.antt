@@ -1,6 +1,6 @@
 -- What always holds of chains of boxes and of the work that boxes take.
-use Rattle.std.specs.Prelude.{◌≡◌, ◌+◌, ◌*◌, ◌<◌, ◌≤◌, Bool, [], ◌∷◌, length, Some, None, if◌then◌else◌}
-use Rattle.std.specs.List.{sum_by}
+use Rattle.std.specs.Prelude.{◌≡◌, ◌≢◌, List, ◌+◌, ◌*◌, ◌<◌, ◌≤◌, Bool, [], ◌∷◌, length, Some, None, if◌then◌else◌}
+use Rattle.std.specs.List.{AllPairs, Contains, sum_by}
 use Rattle.fixed_ops.specs.Raw.{is_inside}
 use Rattle.live_clauses.specs.Steps.{tape_value}
 use Rattle.view_settings.specs.Boxes.{IsBox, halves_of}
@@ -42,3 +42,21 @@ pub record IsTold (d : Descent) (v : Visit) (s : Sample) : Type 0 where
 
 abbrev pub SamplesAreTold : Type 0
 SamplesAreTold = (d : Descent) (v : Visit) (s : Sample) → 0 < d.leaf → IsVisit d v → LiesIn v.box s → IsTold d v s
+
+-- a box is on the way to some sample
+pub record IsOnWay (d : Descent) (v w : Visit) : Type 0 where
+  pub sample : Sample
+  pub lies : LiesIn v.box sample
+  pub on : Contains (chain d v sample) w
+
+-- There is a list of exactly the boxes on the ways to the samples, none of them twice, and the lists that they receive are
+-- together as long as the steps that are traced.
+pub record CountsBoxesOnce (d : Descent) (v : Visit) : Type 0 where
+  pub boxes : List Visit
+  pub different : AllPairs (λ a b. a.box ≢ b.box) boxes
+  pub each : (w : Visit) → Contains boxes w → IsOnWay d v w
+  pub all : (w : Visit) → IsOnWay d v w → Contains boxes w
+  pub sum : spans_in d v ≡ sum_by (λ w. length w.list) boxes
+
+abbrev pub BoxesAreCountedOnce : Type 0
+BoxesAreCountedOnce = (d : Descent) (v : Visit) → 0 < d.leaf → IsBox v.box → CountsBoxesOnce d v

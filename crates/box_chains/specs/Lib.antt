@@ -1,3 +1,4 @@
+pub mod BoxLaws
 pub mod ChainLaws
 pub mod Chains
 pub mod Counts

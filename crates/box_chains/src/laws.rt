@@ -1,5 +1,5 @@
 // What always holds of chains of boxes and of the work that boxes take.
-ghost use Rattle.box_chains.specs.Laws.{ChainsGoOn, PointsAddUp, PointsAreBounded, SamplesAreTold, SpansAddUp, SpansAreBounded};
+ghost use Rattle.box_chains.specs.Laws.{BoxesAreCountedOnce, ChainsGoOn, PointsAddUp, PointsAreBounded, SamplesAreTold, SpansAddUp, SpansAreBounded};
 ghost use Rattle.box_chains.specs.ValueLaws.{Lawful};
 
 use choice_trace::traces_are_right;
@@ -44,4 +44,12 @@ pub fn samples_are_told()
     ensures { SamplesAreTold }
 {
     layers_hold();
+}
+
+/// The steps that are traced are those of the lists that the different boxes on the ways to the
+/// samples receive: each box is counted once.
+pub fn boxes_are_counted_once()
+    ensures { BoxesAreCountedOnce }
+{
+    halves_part();
 }

@@ -6,7 +6,7 @@ mod leaves;
 mod places;
 mod workspace;
 
-pub use laws::{chains_go_on, layers_hold, samples_are_told, work_adds_up};
+pub use laws::{boxes_are_counted_once, chains_go_on, layers_hold, samples_are_told, work_adds_up};
 pub use leaves::is_long;
 pub use places::Places;
 pub use workspace::Workspace;
