@@ -36,8 +36,8 @@ pub fn corner(op: Op, a: Fx, b: Fx, tally: &mut Tally) -> Fx
     Fx::from_raw(raw_result(op, a.raw(), b.raw()))
 }
 
-// The result of an operation on two raw numbers.
-#[inline]
+// The result of an operation on two raw numbers. It stands in the loop of each caller.
+#[inline(always)]
 fn raw_result(op: Op, a: i64, b: i64) -> i64
     requires left { IsRaw a }
     requires right { IsRaw b }

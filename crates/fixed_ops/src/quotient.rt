@@ -5,8 +5,8 @@ ghost use Rattle.fixed_ops.specs.Raw.{IsRaw};
 
 use crate::Fx;
 
-// The quotient of two raw numbers, rounded down and clamped.
-#[inline]
+// The quotient of two raw numbers, rounded down and clamped. It stays apart, as roots do.
+#[inline(never)]
 pub(crate) fn quotient(a: i64, b: i64) -> i64
     requires left { IsRaw a }
     requires right { IsRaw b }

@@ -4,8 +4,9 @@ ghost use Rattle.fixed_ops.specs.Operations.{root_of};
 ghost use Rattle.fixed_ops.specs.Raw.{IsRaw};
 ghost use Rattle.fixed_ops.specs.Root.{IsRoot, floor_root};
 
-// The square root of a raw number, rounded down, and 0 below 0.
-#[inline]
+// The square root of a raw number, rounded down, and 0 below 0. It stays apart, so that the operations
+// that take a moment are one match in the loops over lists.
+#[inline(never)]
 pub(crate) fn root(a: i64) -> i64
     requires { IsRaw a }
     ensures value { result ≡ root_of a }
