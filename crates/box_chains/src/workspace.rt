@@ -60,7 +60,11 @@ impl Workspace {
         ensures room { length self.new ≡ length self.old }
         ensures counted { CountsHulls (length tape.now) tally.old tally.new }
     {
-        decided(trace(tape, region, &mut self.hulls, &mut self.choices, tally))
+        // Counts that no other call sees stay in registers.
+        let mut work = Tally::new();
+        let hull = trace(tape, region, &mut self.hulls, &mut self.choices, &mut work);
+        tally.join(&work);
+        decided(hull)
     }
 
     /// What is live of the list that was looked at. AllocError: there is no memory for a shorter list.

@@ -53,12 +53,15 @@ fn row_bits(
 {
     let y = places.y(j);
     let z = places.z(b.z0);
+    // Counts that no other call sees stay in registers.
+    let mut work = Tally::new();
     let mut bits = 0;
     for i in b.x0..b.x1 {
         let x = places.x(i);
-        let value = evaluate(list, Inputs { x, y, z }, values, tally);
+        let value = evaluate(list, Inputs { x, y, z }, values, &mut work);
         bits = bits * 2 + digit(is_inside(value));
     }
+    tally.join(&work);
     bits
 }
 

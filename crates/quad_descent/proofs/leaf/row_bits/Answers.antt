@@ -1,4 +1,5 @@
 use Rattle.std.proofs.Common.{ℕ, Bool, ap, cond, arith, length, ◌∙◌}
+use Rattle.fixed_ops.specs.Counts.{no_counts}
 use Rattle.fixed_ops.specs.Raw.{is_inside}
 use Rattle.live_clauses.specs.Steps.{tape_value}
 use Rattle.view_settings.specs.Places.{place_of, point_of}
@@ -31,5 +32,5 @@ loop-i-preserved c =
     record {
       bits = row-more f c.args.b.x0 c.loop-i.i c.loop-i.bits c.digit.result (omega (arith, x0, c.loop-i.auto)) c.loop-i.invariant.bits
           (c.digit.ensures.digit ∙ ap (λ (t : Bool). cond {A = ℕ} t 1 0) (c.is_inside.ensures.value ∙ ap is_inside value));
-      counted = counted-more c.args.tally.now c.loop-i.tally c.evaluate-value.new.tally c.args.b.x0 c.loop-i.i (length c.args.list.now) (omega (arith, x0, c.loop-i.auto)) c.loop-i.invariant.counted c.evaluate-value.ensures.counted;
+      counted = counted-more no_counts c.loop-i.work c.evaluate-value.new.tally c.args.b.x0 c.loop-i.i (length c.args.list.now) (omega (arith, x0, c.loop-i.auto)) c.loop-i.invariant.counted c.evaluate-value.ensures.counted;
     }
