@@ -61,6 +61,8 @@ fn an_image_has_at_most_4096_samples_a_side(rt: HostRuntime) -> Result<(), Fail>
     let words = &["render", "w=4096", "h=4096"];
     assert_eq!(rt; trial.run(rt.alloc(), words)?, Status::Done);
     assert_eq!(rt; trial.out.held().map(|bytes| bytes.len()), Some(length));
-    assert_eq!(rt; trial.tally.points(), 16_777_216);
+    // Each quarter lies on one side of the line, and is decided.
+    assert_eq!(rt; trial.tally.points(), 0);
+    assert_eq!(rt; trial.tally.spans(), 5);
     Ok(())
 }

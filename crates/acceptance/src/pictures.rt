@@ -91,13 +91,15 @@ fn a_model_is_drawn_and_nothing_is_noted(rt: HostRuntime) -> Result<(), Fail> {
 }
 
 #[test]
-fn a_disc_is_drawn_with_one_evaluation_a_clause_and_sample(rt: HostRuntime) -> Result<(), Fail> {
+fn a_disc_of_one_leaf_takes_one_evaluation_a_clause_and_sample(
+    rt: HostRuntime,
+) -> Result<(), Fail> {
     let mut trial = Trial::new(rt.alloc(), DISC)?;
     assert_eq!(rt; trial.run(rt.alloc(), THREE_BY_THREE)?, Status::Done);
     trial.assert_holds(&rt, DISC_PICTURE, b"");
-    // 9 samples and 7 clauses.
+    // 9 samples and 7 clauses, each of which is traced once over the leaf.
     assert_eq!(rt; trial.tally.points(), 63);
-    assert_eq!(rt; trial.tally.spans(), 0);
-    assert_eq!(rt; trial.tally.corners(), 0);
+    assert_eq!(rt; trial.tally.spans(), 7);
+    assert!(rt; trial.tally.corners() <= 28);
     Ok(())
 }

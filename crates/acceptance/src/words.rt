@@ -5,7 +5,7 @@ use modeller_io::Source;
 use std::test::Fail;
 
 // Words, the number of the one that is noted, and the reason.
-const CASES: [(&[&str], u32, &str); 37] = [
+const CASES: [(&[&str], u32, &str); 36] = [
     (&[], 0, "NoVerb"),
     (&["draw"], 1, "UnknownVerb"),
     (&["Render", "w"], 1, "UnknownVerb"),
@@ -40,7 +40,6 @@ const CASES: [(&[&str], u32, &str); 37] = [
     (&["mesh", "n=256", "x0=0", "x1=0.001"], 0, "CellTooSmall"),
     (&["mesh", "n=256", "x0=1", "x1=0"], 0, "EmptySpan"),
     // Good words of verbs that are not built.
-    (&["count"], 1, "NotBuilt"),
     (&["height", "w=1024", "d=1"], 1, "NotBuilt"),
     (&["mesh", "z0=-2", "z1=2", "n=256"], 1, "NotBuilt"),
     (&["replay"], 1, "NotBuilt"),

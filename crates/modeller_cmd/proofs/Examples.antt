@@ -3,20 +3,22 @@ use Rattle.std.proofs.Common.{◌≡◌, ℕ, pos, negsuc, ◌+◌, List, [], �
 use Rattle.std.specs.Prelude.{codes, ℤ}
 use Rattle.std.specs.Fmt.{digits}
 use Rattle.std.proofs.lemmas.Bool.{le-ltb, lt-ltb}
+use Rattle.box_chains.specs.Chains.{chain_within}
+use Rattle.box_chains.specs.Counts.{points_in, spans_in}
 use Rattle.clause_reader.specs.Reading.{text_read}
 use Rattle.clause_reader.specs.declared.text_reason.TextReason.TheVariants as text
-use Rattle.fixed_ops.specs.Counts.{no_counts, points_of}
 use Rattle.fixed_ops.specs.Operations.{op_result}
 use Rattle.fixed_ops.specs.Raw.{greatest, least}
 use Rattle.fixed_ops.specs.declared.operation.Op.TheVariants as op
 use Rattle.modeller_io.specs.Count.{last_count}
 use Rattle.view_settings.specs.Window.{Window}
 use Rattle.view_settings.specs.declared.job.Job.{Job}
-use Rattle.view_settings.specs.declared.job.Job.TheVariants.{Render}
+use Rattle.view_settings.specs.declared.job.Job.TheVariants.{Count, Render}
 use Rattle.view_settings.specs.declared.word_fault.WordReason.TheVariants as word
 use Rattle.modeller_cmd.specs.Endings.{IsAnswer, NoFault}
 use Rattle.modeller_cmd.specs.Notes.{line_of}
 use Rattle.modeller_cmd.specs.Output.{Output, input_limit, made, output_as, output_of, parts_after}
+use Rattle.modeller_cmd.specs.Work.{no_work}
 use Rattle.modeller_cmd.specs.declared.refusal.Refusal.TheVariants as refusal
 use Rattle.modeller_cmd.specs.declared.status.Status.{Status}
 use Rattle.modeller_cmd.specs.declared.status.Status.TheVariants as status
@@ -42,9 +44,15 @@ window columns rows height = record {
 abbrev drawn : Window → List ℕ → Output
 drawn view input = output_as (made (Render view) input)
 
--- a run that is done, with one part of these bytes that takes so many evaluations
-abbrev done : List ℕ → ℕ → Output
-done bytes work = record { status = status.Done; parts = record { bytes = bytes; work = points_of work } ∷ []; note = [] }
+-- what counting the work of one gives
+abbrev counted : Window → List ℕ → Output
+counted view input = output_as (made (Count view) input)
+
+-- a run that is done, with one part of these bytes, and the work that it takes: the evaluations, the steps that are
+-- traced, and what plain evaluation takes
+abbrev done : List ℕ → ℕ → ℕ → ℕ → Output
+done bytes points spans plain =
+    record { status = status.Done; parts = record { bytes = bytes; work = record { points = points; spans = spans; plain = plain } } ∷ []; note = [] }
 
 -- a run that writes nothing but this note
 abbrev refused : Status → List ℕ → Output
@@ -52,33 +60,47 @@ refused why note = record { status = why; parts = []; note = note }
 
 -- The square of x less the square of y is below 0 where x is 0 and y is not. It is 0 at the corners, which are outside.
 saddle_image : drawn (window 3 3 (pos 0)) (codes "a var-x\nb var-y\nc mul a a\nd mul b b\ne sub c d")
-    ≡ done (codes "P5\n3 3\n255\n" ++ 0 ∷ 255 ∷ 0 ∷ 0 ∷ 0 ∷ 0 ∷ 0 ∷ 255 ∷ 0 ∷ []) 45
-unfolding digits
+    ≡ done (codes "P5\n3 3\n255\n" ++ 0 ∷ 255 ∷ 0 ∷ 0 ∷ 0 ∷ 0 ∷ 0 ∷ 255 ∷ 0 ∷ []) 45 5 45
+unfolding digits points_in spans_in chain_within
 saddle_image = refl
 
 -- rows lie from the top on down: below 0 is the lower one of two
-lower_row_is_last : drawn (window 1 2 (pos 0)) (codes "y var-y") ≡ done (codes "P5\n1 2\n255\n" ++ 0 ∷ 255 ∷ []) 2
-unfolding digits
+lower_row_is_last : drawn (window 1 2 (pos 0)) (codes "y var-y") ≡ done (codes "P5\n1 2\n255\n" ++ 0 ∷ 255 ∷ []) 2 1 2
+unfolding digits points_in spans_in chain_within
 lower_row_is_last = refl
 
 -- columns lie from the left on
-left_column_is_first : drawn (window 2 1 (pos 0)) (codes "x var-x") ≡ done (codes "P5\n2 1\n255\n" ++ 255 ∷ 0 ∷ []) 2
-unfolding digits
+left_column_is_first : drawn (window 2 1 (pos 0)) (codes "x var-x") ≡ done (codes "P5\n2 1\n255\n" ++ 255 ∷ 0 ∷ []) 2 1 2
+unfolding digits points_in spans_in chain_within
 left_column_is_first = refl
 
 -- the value zero is outside
-zero_is_outside : drawn (window 1 1 (pos 0)) (codes "z var-z") ≡ done (codes "P5\n1 1\n255\n" ++ 0 ∷ []) 1
-unfolding digits
+zero_is_outside : drawn (window 1 1 (pos 0)) (codes "z var-z") ≡ done (codes "P5\n1 1\n255\n" ++ 0 ∷ []) 0 1 1
+unfolding digits points_in spans_in chain_within
 zero_is_outside = refl
 
 -- and the number next below it is inside
-next_below_is_inside : drawn (window 1 1 (negsuc 0)) (codes "z var-z") ≡ done (codes "P5\n1 1\n255\n" ++ 255 ∷ []) 1
-unfolding digits
+next_below_is_inside : drawn (window 1 1 (negsuc 0)) (codes "z var-z") ≡ done (codes "P5\n1 1\n255\n" ++ 255 ∷ []) 0 1 1
+unfolding digits points_in spans_in chain_within
 next_below_is_inside = refl
+
+-- what is counted is told: a line through a leaf, and two halves that are decided
+leaf_is_counted : counted (window 8 1 (pos 0)) (codes "x var-x") ≡ done (codes "points 8\nspans 1\nplain 8\n") 8 1 8
+unfolding digits points_in spans_in chain_within
+leaf_is_counted = refl
+
+halves_are_counted : counted (window 16 1 (pos 0)) (codes "x var-x") ≡ done (codes "points 0\nspans 3\nplain 16\n") 0 3 16
+unfolding digits points_in spans_in chain_within
+halves_are_counted = refl
+
+-- a clause that is not live takes no work, but plain evaluation of it does
+plain_counts_all : counted (window 8 1 (pos 0)) (codes "u var-y\nx var-x") ≡ done (codes "points 8\nspans 1\nplain 16\n") 8 1 16
+unfolding digits points_in spans_in chain_within
+plain_counts_all = refl
 
 -- comments and blanks are dropped where a model is written back, and nothing is evaluated
 text_is_written_back : output_of (codes "text" ∷ []) (codes "# x and -x\n a  var-x\r\nb neg\ta")
-    ≡ record { status = status.Done; parts = record { bytes = codes "a var-x\nb neg a\n"; work = no_counts } ∷ []; note = [] }
+    ≡ record { status = status.Done; parts = record { bytes = codes "a var-x\nb neg a\n"; work = no_work } ∷ []; note = [] }
 text_is_written_back = refl
 
 -- lines are counted from 1 on, those that say nothing too
@@ -91,7 +113,7 @@ unfolding digits
 empty_input = refl
 
 -- words are refused whatever the input is
-verb_not_built : (input : List ℕ) → output_of (codes "count" ∷ []) input ≡ refused status.Usage (codes "modeller: word 1: NotBuilt\n")
+verb_not_built : (input : List ℕ) → output_of (codes "height" ∷ []) input ≡ refused status.Usage (codes "modeller: word 1: NotBuilt\n")
 unfolding digits
 verb_not_built input = refl
 

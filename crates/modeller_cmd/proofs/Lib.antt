@@ -1,4 +1,3 @@
-mod Evaluation
 mod Examples
+mod Frames
 mod Outcomes
-mod Pixels

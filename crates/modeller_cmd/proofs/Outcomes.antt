@@ -1,16 +1,21 @@
 -- What an outcome says of the status, the bytes and the work of a run.
-use Rattle.std.proofs.Common.{◌≡◌, ◌≢◌, ℕ, ◌+◌, ◌≤◌, false, List, length, nat_lt, Option, Some, None, Result, Ok, Err, IsOk, IfSome, refl, sym, ap, subst, arith}
+use Rattle.std.proofs.Common.{◌≡◌, ◌≢◌, ℕ, ◌+◌, ◌≤◌, false, List, [], length, nat_lt, Option, Some, None, Result, Ok, Err, IsOk, IfSome, append-nil, refl, sym, ap, subst, ◌∙◌, arith}
+use Rattle.std.specs.Prelude.{OnSome}
+use Rattle.std.specs.Io.KnownBytes.{Consumes}
 use Rattle.std.proofs.lemmas.Bool.{le-ltb}
 use Rattle.clause_reader.specs.Reading.{text_read}
-use Rattle.fixed_ops.specs.Counts.{points_of}
+use Rattle.modeller_io.specs.Count.{RoseBy}
+use Rattle.modeller_io.specs.Took.{LosesAtMost}
 use Rattle.solid_model.specs.declared.clause.Clause.{Clause}
 use Rattle.view_settings.specs.Window.{Window}
-use Rattle.view_settings.specs.declared.job.Job.TheVariants.{Render}
+use Rattle.view_settings.specs.declared.job.Job.{Job}
+use Rattle.view_settings.specs.declared.job.Job.TheVariants.{Count, Render, Text}
+use Rattle.modeller_cmd.specs.Asking.{asked}
 use Rattle.modeller_cmd.specs.Endings.{Ends, IsAnswer, Makes, status_after}
-use Rattle.modeller_cmd.specs.Images.{plain_points}
-use Rattle.modeller_cmd.specs.Output.{Part, bytes_of_parts, input_limit, made, output_as, work_of_parts}
+use Rattle.modeller_cmd.specs.Output.{Part, bytes_of_parts, input_limit, made, outcome, output_as, parts_of, work_of_parts}
 use Rattle.modeller_cmd.specs.Statuses.{status_of}
 use Rattle.modeller_cmd.specs.Stops.{status_at}
+use Rattle.modeller_cmd.specs.Work.{Work, both, frame_work, no_work}
 use Rattle.modeller_cmd.specs.declared.refusal.Refusal.{Refusal}
 use Rattle.modeller_cmd.specs.declared.refusal.Refusal.TheVariants as refusal
 use Rattle.modeller_cmd.specs.declared.status.Status.TheVariants as status
@@ -78,10 +83,54 @@ write_fault_of stop.ReadFault e = absurd (grind (arith, e))
 write_fault_of stop.WriteFault e = refl
 write_fault_of stop.NoMemory e = absurd (grind (arith, e))
 
--- the work of an image
-pub render_work : (view : Window) (input : List ℕ) (clauses : List Clause) → length input ≤ input_limit → text_read input ≡ Ok clauses
-    → work_of_parts (output_as (made (Render view) input)).parts ≡ points_of (plain_points view (length clauses))
-render_work view input clauses few reads =
+-- the work of what is made of a model that was read
+made_work : (job : Job) (input : List ℕ) (clauses : List Clause) → length input ≤ input_limit → text_read input ≡ Ok clauses
+    → work_of_parts (output_as (made job input)).parts ≡ work_of_parts (parts_of job clauses)
+made_work job input clauses few reads =
     let short : nat_lt input_limit (length input) ≡ false = le-ltb input_limit (length input) few in
-    let none : plain_points view (length clauses) + 0 ≡ plain_points view (length clauses) = omega arith in
-    rw (short, reads) (ap points_of none)
+    rw (short, reads) refl
+
+-- the work of one part alone
+one_work : (work : Work) → both work no_work ≡ work
+one_work work =
+    let p : work.points + 0 ≡ work.points = omega arith in
+    let s : work.spans + 0 ≡ work.spans = omega arith in
+    let n : work.plain + 0 ≡ work.plain = omega arith in
+    λ k. record { points = p k; spans = s k; plain = n k }
+
+-- the work of an image, of one that is counted, and of a text
+pub render_work : (job : Job) (view : Window) (input : List ℕ) (clauses : List Clause) → job ≡ Render view → length input ≤ input_limit → text_read input ≡ Ok clauses
+    → work_of_parts (output_as (made job input)).parts ≡ frame_work view clauses
+render_work job view input clauses is few reads =
+    made_work job input clauses few reads ∙ ap (λ j. work_of_parts (parts_of j clauses)) is ∙ one_work (frame_work view clauses)
+
+pub count_work : (job : Job) (view : Window) (input : List ℕ) (clauses : List Clause) → job ≡ Count view → length input ≤ input_limit → text_read input ≡ Ok clauses
+    → work_of_parts (output_as (made job input)).parts ≡ frame_work view clauses
+count_work job view input clauses is few reads =
+    made_work job input clauses few reads ∙ ap (λ j. work_of_parts (parts_of j clauses)) is ∙ one_work (frame_work view clauses)
+
+pub text_work : (job : Job) (input : List ℕ) (clauses : List Clause) → job ≡ Text → length input ≤ input_limit → text_read input ≡ Ok clauses
+    → work_of_parts (output_as (made job input)).parts ≡ no_work
+text_work job input clauses is few reads =
+    made_work job input clauses few reads ∙ ap (λ j. work_of_parts (parts_of j clauses)) is
+
+-- what words that are accepted make of an input
+pub asked_made : (words : List (List ℕ)) (job : Job) (input : List ℕ) → Ok job ≡ asked words → outcome words input ≡ made job input
+asked_made words job input e = rw (sym e) refl
+
+-- a source that was read to its end lost its bytes
+lost_all : (before after : Option (List ℕ)) (bytes : List ℕ) → IfSome before (λ rest. bytes ≡ rest) → OnSome before (after ≡ Some []) → Consumes before after bytes
+lost_all None after bytes all empty = tt
+lost_all (Some xs) None bytes all empty = (cc)
+lost_all (Some xs) (Some ys) bytes all empty =
+    let none : ys ≡ [] = (cc) in
+    rw none (sym all ∙ sym (append-nil bytes))
+
+pub read_whole : {S : Type 0} (rest : S → Option (List ℕ)) (taken : S → ℕ) (before after : S) (most : ℕ) (bytes : List ℕ) (len : ℕ) → len ≡ length bytes → len ≤ most
+    → RoseBy taken before after len → IfSome (rest before) (λ rest. bytes ≡ rest) → OnSome (rest before) (rest after ≡ Some []) → LosesAtMost rest taken before after most
+read_whole rest taken before after most bytes len many few rose all empty = record {
+  bytes = bytes;
+  within = omega (arith, many, few);
+  lost = lost_all (rest before) (rest after) bytes all empty;
+  counted = subst (RoseBy taken before after) many rose;
+}

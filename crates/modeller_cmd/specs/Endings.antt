@@ -2,13 +2,14 @@
 use Rattle.std.specs.Prelude.{◌≡◌, ℕ, ◌≤◌, ◌<◌, List, [], length, Option, Some, Result, Ok, Err, IfSome, IfErr, IsOk, ⊤}
 use Rattle.clause_reader.specs.Reading.{text_read}
 use Rattle.clause_reader.specs.declared.text_fault.TextFault.{TextFault}
-use Rattle.fixed_ops.specs.Counts.{Counts, RisesBy, points_of}
+use Rattle.fixed_ops.specs.Counts.{Counts}
 use Rattle.modeller_io.specs.Count.{last_count}
 use Rattle.modeller_io.specs.Held.{Gains, GainsPrefix}
 use Rattle.modeller_cmd.specs.Notes.{line_of, refusal_line}
-use Rattle.modeller_cmd.specs.Output.{Part, bytes_of_parts, input_limit}
+use Rattle.modeller_cmd.specs.Output.{Part, bytes_of_parts, input_limit, output_of, work_of_parts}
 use Rattle.modeller_cmd.specs.Stops.{status_at}
 use Rattle.modeller_cmd.specs.Asking.{asked}
+use Rattle.modeller_cmd.specs.Work.{CountsWithin, PointsRiseAtMost}
 use Rattle.modeller_cmd.specs.declared.refusal.Refusal.{Refusal}
 use Rattle.modeller_cmd.specs.declared.refusal.Refusal.TheVariants as refusal
 use Rattle.modeller_cmd.specs.declared.status.Status.{Status}
@@ -59,9 +60,12 @@ ReadsWhole rest before after =
 abbrev pub NoFault : {X : Type 0} → (X → ℕ) → X → X → Type 0
 NoFault faults before after = (faults after ≤ faults before) × (faults after < last_count)
 
--- the tally counted evaluations at points, and nothing else
-abbrev pub RisesInPoints : Counts → Counts → Type 0
-RisesInPoints before after = (number : ℕ) × RisesBy before after (points_of number)
+-- There is an input, no longer than is accepted, of whose output a tally counted at most the work.
+pub record CountsForSome (words : List (List ℕ)) (before after : Counts) : Type 0 where
+  pub input : List ℕ
+  pub few : length input ≤ input_limit
+  pub work : CountsWithin before after (work_of_parts (output_of words input).parts)
+  pub plain : PointsRiseAtMost before after (work_of_parts (output_of words input).parts).plain
 
 -- The notes took a line from its front on, and all of it where they counted no fault.
 pub record TakesLine {N : Type 0} (faults : N → ℕ) (held : N → Option (List ℕ)) (before after : N) (line : List ℕ) : Type 0 where

@@ -5,3 +5,4 @@ pub mod Notes
 pub mod Output
 pub mod Statuses
 pub mod Stops
+pub mod Work

@@ -3,14 +3,14 @@ use Rattle.std.specs.Prelude.{ℕ, nat_lt, List, [], ◌∷◌, ◌++◌, length
 use Rattle.clause_reader.specs.Reading.{text_read}
 use Rattle.clause_reader.specs.ModelText.{model_text}
 use Rattle.clause_reader.specs.declared.text_fault.TextFault.{TextFault}
-use Rattle.fixed_ops.specs.Counts.{Counts, no_counts, plus, points_of}
 use Rattle.solid_model.specs.declared.clause.Clause.{Clause}
 use Rattle.view_settings.specs.declared.job.Job.{Job}
-use Rattle.view_settings.specs.declared.job.Job.TheVariants.{Render, Text}
-use Rattle.modeller_cmd.specs.Images.{image_of, plain_points}
+use Rattle.view_settings.specs.declared.job.Job.TheVariants.{Count, Render, Text}
+use Rattle.modeller_cmd.specs.Images.{image_of}
 use Rattle.modeller_cmd.specs.Notes.{refusal_line}
 use Rattle.modeller_cmd.specs.Statuses.{status_of}
 use Rattle.modeller_cmd.specs.Asking.{asked}
+use Rattle.modeller_cmd.specs.Work.{Work, both, count_text, frame_work, no_work}
 use Rattle.modeller_cmd.specs.declared.refusal.Refusal.{Refusal}
 use Rattle.modeller_cmd.specs.declared.refusal.Refusal.TheVariants.{TooLong, Model}
 use Rattle.modeller_cmd.specs.declared.status.Status.{Status}
@@ -23,7 +23,7 @@ input_limit = 8388608
 -- a part of the bytes that a run writes, with the work that it takes
 pub record Part : Type 0 where
   pub bytes : List ℕ
-  pub work : Counts
+  pub work : Work
 
 -- the bytes of the parts, one after the other
 abbrev pub bytes_of_parts : List Part → List ℕ
@@ -31,15 +31,15 @@ bytes_of_parts [] = []
 bytes_of_parts (part ∷ parts) = part.bytes ++ bytes_of_parts parts
 
 -- the work of all the parts
-abbrev pub work_of_parts : List Part → Counts
-work_of_parts [] = no_counts
-work_of_parts (part ∷ parts) = plus part.work (work_of_parts parts)
+abbrev pub work_of_parts : List Part → Work
+work_of_parts [] = no_work
+work_of_parts (part ∷ parts) = both part.work (work_of_parts parts)
 
 -- the parts that a job makes of a model
 abbrev pub parts_of : Job → List Clause → List Part
-parts_of (Render view) clauses =
-    record { bytes = image_of view clauses; work = points_of (plain_points view (length clauses)) } ∷ []
-parts_of Text clauses = record { bytes = model_text clauses; work = no_counts } ∷ []
+parts_of (Render view) clauses = record { bytes = image_of view clauses; work = frame_work view clauses } ∷ []
+parts_of (Count view) clauses = record { bytes = count_text (frame_work view clauses); work = frame_work view clauses } ∷ []
+parts_of Text clauses = record { bytes = model_text clauses; work = no_work } ∷ []
 parts_of other clauses = []
 
 -- the parts that a job makes of a text that was read, or its refusal

@@ -33,5 +33,5 @@ fn built(job: Job) -> Result<Job, Refusal>
 fn is_built(job: &Job) -> bool
     ensures { result ≡ is_built job.now }
 {
-    matches!(job, Job::Render(_) | Job::Text)
+    matches!(job, Job::Render(_) | Job::Count(_) | Job::Text)
 }

@@ -1,17 +1,18 @@
 // The modeller's one call.
 ghost use Rattle.std.specs.Prelude.{◌≡◌, ◌≢◌, ◌+◌, ◌<◌, ◌≤◌, ◌↔◌, [], ℕ, length, Some, None, Ok, Err, IfOk, IfErr, IsErr, IfSome, OnOk, IsTrue};
-ghost use Rattle.fixed_ops.specs.Counts.{RisesAtMost, RisesBy};
 ghost use Rattle.modeller_io.specs.Count.{last_count, RoseBy, Stands};
 ghost use Rattle.modeller_io.specs.Held.{Gains, GainsPrefix, Grew};
 ghost use Rattle.modeller_io.specs.Took.{LosesAtMost};
 ghost use Rattle.view_settings.specs.Words.{bytes_of};
-ghost use Rattle.modeller_cmd.specs.Endings.{Ends, IsAnswer, IsRead, IsRefusal, IsTold, IsUnwritten, IsWorkStop, IsWorked, Makes, NoFault, ReadsWhole, RisesInPoints, TakesLine, Tells, status_after};
+ghost use Rattle.modeller_cmd.specs.Endings.{CountsForSome, Ends, IsAnswer, IsRead, IsRefusal, IsTold, IsUnwritten, IsWorkStop, IsWorked, Makes, NoFault, ReadsWhole, TakesLine, Tells, status_after};
 ghost use Rattle.modeller_cmd.specs.Notes.{line_of};
 ghost use Rattle.modeller_cmd.specs.Output.{WithOutput, bytes_of_parts, input_limit, made, outcome, output_as, work_of_parts};
 ghost use Rattle.modeller_cmd.specs.Asking.{asked, is_built};
+ghost use Rattle.modeller_cmd.specs.Work.{CountsWithin, CountsWork, PointsRiseAtMost};
 
 use crate::Status;
 use crate::asking::read_job;
+use crate::count::count;
 use crate::draw::draw;
 use crate::note::note_of;
 use crate::refusal::Refusal;
@@ -29,7 +30,7 @@ const INPUT_LIMIT: u64 = 8_388_608;
 /// `notes` that says why there is nothing.
 ///
 /// `source` and `out` may fail, and memory may be refused: then the status says so, and under a write fault
-/// `out` holds a front of the bytes. A failure of `notes` changes no status. `tally` counts each evaluation.
+/// `out` holds a front of the bytes. A failure of `notes` changes no status. `tally` counts the work.
 pub fn run<S: Source, K: Sink, N: Sink>(
     alloc: Global,
     words: &[String],
@@ -74,14 +75,16 @@ pub fn run<S: Source, K: Sink, N: Sink>(
 
     // The work that is counted: all of it where it was done, and never more, whatever the status.
     ensures counted { IsWorked result → WithOutput S.rest source.old (bytes_of words.now) (λ output.
-        RisesBy tally.old tally.new (work_of_parts output.parts)) }
+        CountsWork tally.old tally.new (work_of_parts output.parts)) }
     ensures uncounted { IsRefusal result → tally.new ≡ tally.old }
     ensures work { WithOutput S.rest source.old (bytes_of words.now) (λ output.
-        RisesAtMost tally.old tally.new (work_of_parts output.parts)) }
+        CountsWithin tally.old tally.new (work_of_parts output.parts)) }
+    ensures plain { WithOutput S.rest source.old (bytes_of words.now) (λ output.
+        PointsRiseAtMost tally.old tally.new (work_of_parts output.parts).plain) }
 
     // What is so where the source does not tell its bytes, too.
     ensures gained { Grew K.held out.old out.new }
-    ensures points_alone { RisesInPoints tally.old tally.new }
+    ensures untold { CountsForSome (bytes_of words.now) tally.old tally.new }
 {
     match perform(alloc, words, source, out, tally) {
         Ok(()) => Status::Done,
@@ -130,12 +133,14 @@ fn perform<S: Source, K: Sink>(
         Makes (outcome (bytes_of words.now) input) (GainsPrefix K.held out.old out.new)) }
 
     ensures counted { IsWorked (status_after result) → WithOutput S.rest source.old (bytes_of words.now) (λ output.
-        RisesBy tally.old tally.new (work_of_parts output.parts)) }
+        CountsWork tally.old tally.new (work_of_parts output.parts)) }
     ensures uncounted { IsRefusal (status_after result) → tally.new ≡ tally.old }
     ensures work { WithOutput S.rest source.old (bytes_of words.now) (λ output.
-        RisesAtMost tally.old tally.new (work_of_parts output.parts)) }
+        CountsWithin tally.old tally.new (work_of_parts output.parts)) }
+    ensures plain { WithOutput S.rest source.old (bytes_of words.now) (λ output.
+        PointsRiseAtMost tally.old tally.new (work_of_parts output.parts).plain) }
     ensures gained { Grew K.held out.old out.new }
-    ensures points_alone { RisesInPoints tally.old tally.new }
+    ensures untold { CountsForSome (bytes_of words.now) tally.old tally.new }
 {
     let job = read_job(words)?;
     let input = read_all(alloc, source, INPUT_LIMIT)?;
@@ -150,14 +155,15 @@ fn work(alloc: Global, job: &Job, input: &[u8], tally: &mut Tally) -> Result<Vec
     ensures bytes { IfOk result (λ bytes. Makes (made job.now input.now) (λ whole. bytes.items ≡ whole)) }
     ensures ends { Ends (made job.now input.now) result }
     ensures stop { IfErr result IsWorkStop }
-    ensures counted { OnOk result (RisesBy tally.old tally.new (work_of_parts (output_as (made job.now input.now)).parts)) }
+    ensures counted { OnOk result (CountsWork tally.old tally.new (work_of_parts (output_as (made job.now input.now)).parts)) }
     ensures uncounted { IsRefusal (status_after result) → tally.new ≡ tally.old }
-    ensures at_most { RisesAtMost tally.old tally.new (work_of_parts (output_as (made job.now input.now)).parts) }
-    ensures points_alone { RisesInPoints tally.old tally.new }
+    ensures at_most { CountsWithin tally.old tally.new (work_of_parts (output_as (made job.now input.now)).parts) }
+    ensures plain { PointsRiseAtMost tally.old tally.new (work_of_parts (output_as (made job.now input.now)).parts).plain }
 {
     let model = read_model(alloc, input)?;
     match job {
         Job::Render(view) => Ok(draw(alloc, &model, view, tally)?),
+        Job::Count(view) => Ok(count(alloc, &model, view, tally)?),
         Job::Text => Ok(write_model(alloc, &model)?),
         _ => Err(Stop::Refused(Refusal::NotBuilt)),
     }

@@ -3,8 +3,8 @@
 
 mod asking;
 mod command;
+mod count;
 mod draw;
-mod evaluate;
 mod note;
 mod refusal;
 mod status;

@@ -1,9 +1,27 @@
-use Rattle.fixed_ops.specs.CountLaws.{RisesAtMost-none}
-use Rattle.modeller_cmd.proofs.Outcomes.{some_all}
+use Rattle.std.proofs.Common.{arith}
+use Rattle.view_settings.specs.Words.{bytes_of}
+use Rattle.modeller_cmd.proofs.Frames.{some-none, within-none}
+use Rattle.modeller_cmd.proofs.Outcomes.{read_whole, some_all}
 use Rattle.modeller_cmd.proofs.command.perform.Goals as goal
 
 pub returns-in_err-job-clause-work : goal.returns-in_err-job-clause-work
-returns-in_err-job-clause-work g c = some_all (g.S.Source.rest c.args.source.now) _ (λ input. RisesAtMost-none c.args.tally.now _)
+returns-in_err-job-clause-work g c = some_all (g.S.Source.rest c.args.source.now) _ (λ input. within-none c.args.tally.now _)
 
 pub returns-in_err-input-clause-work : goal.returns-in_err-input-clause-work
-returns-in_err-input-clause-work g c = some_all (g.S.Source.rest c.args.source.now) _ (λ input. RisesAtMost-none c.args.tally.now _)
+returns-in_err-input-clause-work g c = some_all (g.S.Source.rest c.args.source.now) _ (λ input. within-none c.args.tally.now _)
+
+pub returns-in_err-job-clause-untold : goal.returns-in_err-job-clause-untold
+returns-in_err-job-clause-untold g c = some-none (bytes_of c.args.words.now) c.args.tally.now
+
+pub returns-in_err-input-clause-untold : goal.returns-in_err-input-clause-untold
+returns-in_err-input-clause-untold g c = some-none (bytes_of c.args.words.now) c.args.tally.now
+
+pub returns-in_err-write_all-clause-lost : goal.returns-in_err-write_all-clause-lost
+returns-in_err-write_all-clause-lost g c = λ _.
+    read_whole g.S.Source.rest g.S.Source.taken c.args.source.now c.read_all.new.source 8388609 c.in_ok-input.input.items c.in_ok-input.input.len
+    (omega arith) (omega (arith, c.in_ok-input.ensures.within)) c.in_ok-input.ensures.took c.in_ok-input.ensures.all c.in_ok-input.ensures.emptied
+
+pub returns-clause-lost : goal.returns-clause-lost
+returns-clause-lost g c = λ _.
+    read_whole g.S.Source.rest g.S.Source.taken c.args.source.now c.read_all.new.source 8388609 c.in_ok-input.input.items c.in_ok-input.input.len
+    (omega arith) (omega (arith, c.in_ok-input.ensures.within)) c.in_ok-input.ensures.took c.in_ok-input.ensures.all c.in_ok-input.ensures.emptied

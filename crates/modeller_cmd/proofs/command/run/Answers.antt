@@ -27,3 +27,6 @@ pub returns-in-Err-clause-front : goal.returns-in-Err-clause-front
 returns-in-Err-clause-front g c = λ same. some_follows (g.S.Source.rest c.args.source.now) _ _
     (λ input. made_bytes (outcome (bytes_of c.args.words.now) input) _)
     (c.in-Err.ensures.front (ap (λ s. Err s) (write_fault_of c.in-Err.stop (sym c.status.ensures ∙ same))))
+
+pub returns-in-Err-clause-lost : goal.returns-in-Err-clause-lost
+returns-in-Err-clause-lost g c = λ other. c.in-Err.ensures.lost (λ same. other (c.status.ensures ∙ same))

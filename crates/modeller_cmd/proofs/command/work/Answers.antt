@@ -1,22 +1,60 @@
-use Rattle.std.proofs.Common.{sym, subst}
-use Rattle.fixed_ops.specs.CountLaws.{RisesAtMost-exactly, RisesAtMost-none}
-use Rattle.fixed_ops.specs.Counts.{RisesAtMost}
-use Rattle.modeller_cmd.specs.Output.{made, output_as, work_of_parts}
-use Rattle.modeller_cmd.proofs.Outcomes.{render_work}
+use Rattle.std.proofs.Common.{subst, sym}
+use Rattle.modeller_cmd.specs.Work.{CountsWithin, CountsWork, PointsRiseAtMost, frame_work}
+use Rattle.modeller_cmd.proofs.Frames.{within-exactly, within-none, work-none}
+use Rattle.modeller_cmd.proofs.Outcomes.{count_work, render_work, text_work}
 use Rattle.modeller_cmd.proofs.command.work.Goals as goal
 
 pub returns-in_err-model-clause-at_most : goal.returns-in_err-model-clause-at_most
-returns-in_err-model-clause-at_most c = RisesAtMost-none c.args.tally.now _
+returns-in_err-model-clause-at_most c = within-none c.args.tally.now _
 
 pub returns-in-Render-clause-at_most : goal.returns-in-Render-clause-at_most
 returns-in-Render-clause-at_most c =
     let clauses = c.in_ok-model.model in
-    subst (λ job. RisesAtMost c.args.tally.now c.draw.new.tally (work_of_parts (output_as (made job c.args.input.now)).parts)) (sym c.in-Render.is)
-    (subst (RisesAtMost c.args.tally.now c.draw.new.tally) (sym (render_work c.in-Render.view c.args.input.now clauses c.requires.limit c.in_ok-model.ensures))
-    (RisesAtMost-exactly c.args.tally.now c.draw.new.tally _ c.in_ok-draw-in-Render.ensures.counted))
+    let view = c.in-Render.view in
+    subst (CountsWithin c.args.tally.now c.draw.new.tally)
+    (sym (render_work c.args.job.now view c.args.input.now clauses c.in-Render.is c.requires.limit c.in_ok-model.ensures))
+    (within-exactly c.args.tally.now c.draw.new.tally (frame_work view clauses) c.in_ok-draw-in-Render.ensures.counted)
+
+pub returns-in-Render-clause-plain : goal.returns-in-Render-clause-plain
+returns-in-Render-clause-plain c =
+    subst (λ w. PointsRiseAtMost c.args.tally.now c.draw.new.tally w.plain)
+    (sym (render_work c.args.job.now c.in-Render.view c.args.input.now c.in_ok-model.model c.in-Render.is c.requires.limit c.in_ok-model.ensures))
+    c.in_ok-draw-in-Render.ensures.plain
+
+pub returns-in_err-draw-in-Render-clause-plain : goal.returns-in_err-draw-in-Render-clause-plain
+returns-in_err-draw-in-Render-clause-plain c =
+    subst (λ w. PointsRiseAtMost c.args.tally.now c.draw.new.tally w.plain)
+    (sym (render_work c.args.job.now c.in-Render.view c.args.input.now c.in_ok-model.model c.in-Render.is c.requires.limit c.in_ok-model.ensures))
+    c.in_err-draw-in-Render.ensures.plain
+
+pub returns-in-Count-clause-at_most : goal.returns-in-Count-clause-at_most
+returns-in-Count-clause-at_most c =
+    let clauses = c.in_ok-model.model in
+    let view = c.in-Count.view in
+    subst (CountsWithin c.args.tally.now c.count.new.tally)
+    (sym (count_work c.args.job.now view c.args.input.now clauses c.in-Count.is c.requires.limit c.in_ok-model.ensures))
+    (within-exactly c.args.tally.now c.count.new.tally (frame_work view clauses) c.in_ok-count-in-Count.ensures.counted)
+
+pub returns-in-Count-clause-plain : goal.returns-in-Count-clause-plain
+returns-in-Count-clause-plain c =
+    subst (λ w. PointsRiseAtMost c.args.tally.now c.count.new.tally w.plain)
+    (sym (count_work c.args.job.now c.in-Count.view c.args.input.now c.in_ok-model.model c.in-Count.is c.requires.limit c.in_ok-model.ensures))
+    c.in_ok-count-in-Count.ensures.plain
+
+pub returns-in_err-count-in-Count-clause-plain : goal.returns-in_err-count-in-Count-clause-plain
+returns-in_err-count-in-Count-clause-plain c =
+    subst (λ w. PointsRiseAtMost c.args.tally.now c.count.new.tally w.plain)
+    (sym (count_work c.args.job.now c.in-Count.view c.args.input.now c.in_ok-model.model c.in-Count.is c.requires.limit c.in_ok-model.ensures))
+    c.in_err-count-in-Count.ensures.plain
 
 pub returns-in_err-write_model-in-Text-clause-at_most : goal.returns-in_err-write_model-in-Text-clause-at_most
-returns-in_err-write_model-in-Text-clause-at_most c = RisesAtMost-none c.args.tally.now _
+returns-in_err-write_model-in-Text-clause-at_most c = within-none c.args.tally.now _
 
 pub returns-in-Text-clause-at_most : goal.returns-in-Text-clause-at_most
-returns-in-Text-clause-at_most c = RisesAtMost-none c.args.tally.now _
+returns-in-Text-clause-at_most c = within-none c.args.tally.now _
+
+pub returns-in-Text-clause-counted : goal.returns-in-Text-clause-counted
+returns-in-Text-clause-counted c =
+    subst (CountsWork c.args.tally.now c.args.tally.now)
+    (sym (text_work c.args.job.now c.args.input.now c.in_ok-model.model c.in-Text.is c.requires.limit c.in_ok-model.ensures))
+    (work-none c.args.tally.now)

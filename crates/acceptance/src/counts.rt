@@ -1,0 +1,134 @@
+// What the work of an image is: how many evaluations, steps that are traced over boxes, and
+// evaluations that plain evaluation takes. The numbers were worked out by hand.
+use crate::trial::{DISC, Trial, sink, source};
+use modeller_cmd::Status;
+use std::alloc::{AllocError, Global};
+use std::test::Fail;
+
+// Words, a model, and its points, spans and plain.
+type Case = (&'static [&'static str], &'static str, u64, u64, u64);
+
+// Two bars of the width 0.5 round x = -0.5 and x = 0.5.
+const BARS: &str = "x var-x\np const -0.5\nq const 0.5\na sub x p\nb abs a\nc sub x q\nd abs c\ne min b d\nr const 0.25\nf sub e r";
+
+const CASES: [Case; 7] = [
+    // A quotient whose divisor may be 0 decides nothing.
+    (
+        &["count", "w=8", "h=1"],
+        "c const 1\nx var-x\nd div c x",
+        24,
+        3,
+        24,
+    ),
+    // Each half lies on one side, and is decided.
+    (&["count", "w=16", "h=1"], "x var-x", 0, 3, 16),
+    // A leaf is not halved.
+    (&["count", "w=8", "h=1"], "x var-x", 8, 1, 8),
+    // All is inside.
+    (&["count", "w=8", "h=8"], "a const -1", 0, 1, 64),
+    // The lower half has five samples, the last of which has the value 0.
+    (&["count", "w=9", "h=1"], "x var-x", 5, 3, 9),
+    // A clause that the last one does not need is not evaluated.
+    (
+        &["count", "w=8", "h=1"],
+        "u const 5\nx var-x",
+        8,
+        1,
+        16,
+    ),
+    // Each half has one bar, and its quarters receive the six steps of that.
+    (&["count", "w=32", "h=1"], BARS, 192, 54, 320),
+];
+
+// The lines that tell these numbers.
+fn lines(alloc: Global, points: u64, spans: u64, plain: u64) -> Result<String, AllocError> {
+    format!(in alloc; "points {points}\nspans {spans}\nplain {plain}\n")
+}
+
+#[test]
+fn the_work_of_an_image_is_counted_and_told(rt: HostRuntime) -> Result<(), Fail> {
+    for (words, model, points, spans, plain) in CASES {
+        let mut trial = Trial::new(rt.alloc(), model.as_bytes())?;
+        assert_eq!(rt; trial.run(rt.alloc(), words)?, Status::Done, "{model:?}");
+        let told = lines(rt.alloc(), points, spans, plain)?;
+        trial.assert_holds(&rt, told.as_bytes(), b"");
+        assert_eq!(rt; trial.tally.points(), points);
+        assert_eq!(rt; trial.tally.spans(), spans);
+        assert!(rt; trial.tally.corners() <= 4 * spans);
+    }
+    Ok(())
+}
+
+#[test]
+fn a_picture_takes_the_work_that_is_told(rt: HostRuntime) -> Result<(), Fail> {
+    let mut trial = Trial::new(rt.alloc(), BARS.as_bytes())?;
+    let words = &["render", "w=32", "h=1"];
+    assert_eq!(rt; trial.run(rt.alloc(), words)?, Status::Done);
+    // Inside at the places 4 to 11 and 20 to 27.
+    let picture = b"P5\n32 1\n255\n\x00\x00\x00\x00\xff\xff\xff\xff\xff\xff\xff\xff\x00\x00\x00\x00\x00\x00\x00\x00\xff\xff\xff\xff\xff\xff\xff\xff\x00\x00\x00\x00";
+    trial.assert_holds(&rt, picture, b"");
+    assert_eq!(rt; trial.tally.points(), 192);
+    assert_eq!(rt; trial.tally.spans(), 54);
+    Ok(())
+}
+
+#[test]
+fn what_was_counted_before_is_kept_and_not_told(rt: HostRuntime) -> Result<(), Fail> {
+    let mut trial = Trial::new(rt.alloc(), b"x var-x")?;
+    let words = &["render", "w=9", "h=1"];
+    assert_eq!(rt; trial.run(rt.alloc(), words)?, Status::Done);
+    assert_eq!(rt; trial.tally.points(), 5);
+    assert_eq!(rt; trial.tally.spans(), 3);
+    trial.out = sink(rt.alloc(), 8192, &[])?;
+    trial.source = source(rt.alloc(), b"x var-x", 8192, &[])?;
+    let words = &["count", "w=8", "h=1"];
+    assert_eq!(rt; trial.run(rt.alloc(), words)?, Status::Done);
+    trial.assert_holds(&rt, b"points 8\nspans 1\nplain 8\n", b"");
+    assert_eq!(rt; trial.tally.points(), 13);
+    assert_eq!(rt; trial.tally.spans(), 4);
+    Ok(())
+}
+
+#[test]
+fn what_is_refused_is_not_counted(rt: HostRuntime) -> Result<(), Fail> {
+    let cases: [(&[&str], &[u8], Status, &[u8]); 3] = [
+        (
+            &["count", "w=0"],
+            DISC,
+            Status::Usage,
+            b"modeller: word 2: OutOfRange\n",
+        ),
+        (
+            &["count", "d=3"],
+            DISC,
+            Status::Usage,
+            b"modeller: word 2: UnknownSetting\n",
+        ),
+        (
+            &["count"],
+            b"a var-x\nb neg c",
+            Status::BadModel,
+            b"modeller: line 2: UnknownName\n",
+        ),
+    ];
+    for (words, text, status, note) in cases {
+        let mut trial = Trial::new(rt.alloc(), text)?;
+        assert_eq!(rt; trial.run(rt.alloc(), words)?, status);
+        trial.assert_holds(&rt, b"", note);
+        assert_eq!(rt; trial.tally.points(), 0);
+        assert_eq!(rt; trial.tally.spans(), 0);
+    }
+    Ok(())
+}
+
+#[test]
+fn counts_that_can_not_be_written_are_counted(rt: HostRuntime) -> Result<(), Fail> {
+    let mut trial = Trial::new(rt.alloc(), b"x var-x")?;
+    trial.out = sink(rt.alloc(), 5, &[2])?;
+    let words = &["count", "w=9", "h=1"];
+    assert_eq!(rt; trial.run(rt.alloc(), words)?, Status::WriteFault);
+    trial.assert_holds(&rt, b"point", b"modeller: write fault\n");
+    assert_eq!(rt; trial.tally.points(), 5);
+    assert_eq!(rt; trial.tally.spans(), 3);
+    Ok(())
+}

@@ -1,0 +1,48 @@
+// The work of an image, as text.
+ghost use Rattle.std.specs.Prelude.{◌≡◌, length, IfOk, OnOk, OnErr};
+ghost use Rattle.modeller_cmd.specs.Images.{plain_points as plain_points_of};
+ghost use Rattle.modeller_cmd.specs.Work.{CountsWithin, CountsWork, PointsRiseAtMost, count_text, frame_work};
+
+use crate::draw::draw_tree;
+use fixed_ops::Tally;
+use solid_model::Model;
+use std::alloc::{AllocError, Global};
+use view_settings::View;
+
+/// The work that a fresh image of a model over a view takes, as text: the image is drawn, and no
+/// pixel of it is written. What the tally counted before is not told.
+#[tactic(auto, unfolding(crate::specs::Work::CountsWork, crate::specs::Work::CountsWithin))]
+pub fn count(
+    alloc: Global,
+    model: &Model,
+    view: &View,
+    tally: &mut Tally,
+) -> Result<Vec<u8>, AllocError>
+    ensures ok { IfOk result (λ text. text.items ≡ count_text (frame_work view.now model.now)) }
+    ensures counted { OnOk result (CountsWork tally.old tally.new (frame_work view.now model.now)) }
+    ensures at_most { OnErr result (CountsWithin tally.old tally.new (frame_work view.now model.now)) }
+    ensures plain { PointsRiseAtMost tally.old tally.new (plain_points_of view.now (length model.now)) }
+{
+    let mut frame = Tally::new();
+    let drawn = draw_tree(alloc, model, view, &mut frame);
+    tally.join(&frame);
+    drawn?;
+    let plain = plain_points(model, view);
+    count_lines(alloc, frame.points(), frame.spans(), plain)
+}
+
+// How many evaluations evaluating each clause of a model once at each sample would take.
+fn plain_points(model: &Model, view: &View) -> u64
+    ensures { result ≡ plain_points_of view.now (length model.now) }
+{
+    u64::from(view.w) * u64::from(view.h) * u64::from(model.len())
+}
+
+// The three lines of these counts.
+fn count_lines(alloc: Global, points: u64, spans: u64, plain: u64) -> Result<Vec<u8>, AllocError>
+    ensures { IfOk result (λ text. text.items
+        ≡ count_text (record { points = points; spans = spans; plain = plain })) }
+{
+    let text = format!(in alloc; "points {points}\nspans {spans}\nplain {plain}\n")?;
+    Ok(text.into_bytes())
+}
