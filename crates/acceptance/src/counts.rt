@@ -49,7 +49,7 @@ fn the_work_of_an_image_is_counted_and_told(rt: HostRuntime) -> Result<(), Fail>
         trial.assert_holds(&rt, told.as_bytes(), b"");
         assert_eq!(rt; trial.tally.points(), points);
         assert_eq!(rt; trial.tally.spans(), spans);
-        assert!(rt; trial.tally.corners() <= 4 * spans);
+        assert!(rt; trial.tally.corners() <= spans.saturating_mul(4));
     }
     Ok(())
 }
