@@ -1,0 +1,4 @@
+pub mod ArrangementLaws
+pub mod Checks
+pub mod EdgeLaws
+mod Examples

@@ -1,0 +1,42 @@
+-- What always holds of the arrangement of a tetrahedron and of its triangles.
+use Rattle.std.specs.Prelude.{◌≡◌, ℕ, ◌<◌, ◌≤◌, pos, negsuc, Bool, IsTrue, All, [], ◌∷◌, get_or, if◌then◌else◌}
+use Rattle.kuhn_cells.specs.declared.edge_key.EdgeKey.{EdgeKey}
+use Rattle.kuhn_cells.specs.declared.triple.Triple.{Triple}
+use Rattle.kuhn_cells.specs.Arrangement.{arrangement}
+use Rattle.kuhn_cells.specs.Corners.{corner, corner_determinant, is_negative}
+use Rattle.kuhn_cells.specs.Faces.{cell_triangles}
+use Rattle.kuhn_cells.specs.Grids.{is_mixed}
+use Rattle.kuhn_cells.specs.Triangles.{GridPoint}
+
+-- the sign of a tetrahedron, which is that of its order of the axes, is that of the determinant of the ways from
+-- v0 to v1, v2 and v3
+abbrev pub SignsAreDeterminants : Type 0
+SignsAreDeterminants =
+    (tetra : ℕ) → tetra < 6 → corner_determinant (corner tetra 0) (corner tetra 1) (corner tetra 2) (corner tetra 3) ≡ (if is_negative tetra then negsuc 0 else pos 1)
+
+-- however the corners of a tetrahedron lie, the determinant of the ways from a to b, c and d is positive: it is 1
+abbrev pub ArrangementsArePositive : Type 0
+ArrangementsArePositive =
+    (tetra : ℕ) (v0 v1 v2 v3 : Bool) → tetra < 6 → let corners = arrangement tetra (v0 ∷ v1 ∷ v2 ∷ v3 ∷ []) in
+    corner_determinant (get_or corners 0 0) (get_or corners 1 0) (get_or corners 2 0) (get_or corners 3 0) ≡ pos 1
+
+-- a fact of the three edges of a triangle
+pub record OfEdges (P : EdgeKey → Type 0) (t : Triple) : Type 0 where
+  pub a : P t.a
+  pub b : P t.b
+  pub c : P t.c
+
+-- a step along one axis at least
+pub record IsDirection (dir : ℕ) : Type 0 where
+  pub some : 1 ≤ dir
+  pub within : dir ≤ 7
+
+-- the edges of each triangle have a direction
+abbrev pub EdgesHaveDirections : Type 0
+EdgesHaveDirections =
+    (inside : GridPoint → Bool) (cell : GridPoint) → All (OfEdges (λ e. IsDirection e.dir)) (cell_triangles inside cell)
+
+-- each edge of each triangle has exactly one inside end
+abbrev pub EdgesAreMixed : Type 0
+EdgesAreMixed =
+    (inside : GridPoint → Bool) (cell : GridPoint) → All (OfEdges (λ e. IsTrue (is_mixed inside e))) (cell_triangles inside cell)

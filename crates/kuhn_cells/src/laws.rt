@@ -1,0 +1,20 @@
+// What always holds of the definitions that the contracts cite.
+ghost use Rattle.kuhn_cells.specs.Laws.{ArrangementsArePositive, EdgesAreMixed, EdgesHaveDirections, SignsAreDeterminants};
+
+/// The sign of a tetrahedron, which is that of its order of the axes, is the sign of the determinant
+/// of the ways from its corner v0 to v1, v2 and v3.
+pub fn signs_are_determinants()
+    ensures { SignsAreDeterminants }
+{}
+
+/// However the corners of a tetrahedron lie, those that are arranged as a, b, c and d turn one way:
+/// the determinant of the ways from a to b, c and d is positive.
+pub fn arrangements_are_positive()
+    ensures { ArrangementsArePositive }
+{}
+
+/// Each edge of each triangle has a direction, and exactly one of its ends is inside.
+pub fn edges_part_the_corners()
+    ensures directions { EdgesHaveDirections }
+    ensures mixed { EdgesAreMixed }
+{}

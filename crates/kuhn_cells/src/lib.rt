@@ -1,0 +1,19 @@
+//! Cells of a grid cut into tetrahedra, and the triangles that part the inside corners of a
+//! tetrahedron from the outside ones.
+#![tactic(auto)]
+
+mod cell;
+mod cell_list;
+mod corner;
+mod edge_key;
+mod laws;
+mod pattern;
+mod tetrahedron;
+mod triple;
+
+pub use cell_list::{CellList, CellValues};
+pub use corner::corner_of;
+pub use edge_key::EdgeKey;
+pub use laws::{arrangements_are_positive, edges_part_the_corners, signs_are_determinants};
+pub use tetrahedron::triangles;
+pub use triple::Triple;
