@@ -2,8 +2,8 @@
 ghost use Rattle.std.specs.Prelude.{◌≡◌, ◌<◌};
 ghost use Rattle.kuhn_cells.specs.Corners.{corner, is_negative as is_negative_of};
 
-// The corners v0 to v3 of each tetrahedron, which adds the axes in an order of its own: x y z, x z y,
-// y x z, y z x, z x y and z y x.
+// The corners v0 to v3 of each tetrahedron, which adds the axes in an order of its own: x y z,
+// x z y, y x z, y z x, z x y and z y x.
 const CORNERS: [[u8; 4]; 6] = [
     [0, 1, 3, 7],
     [0, 1, 5, 7],

@@ -1,8 +1,9 @@
 // What always holds of the definitions that the contracts cite.
-ghost use Rattle.kuhn_cells.specs.Laws.{ArrangementsArePositive, EdgesAreMixed, EdgesHaveDirections, SignsAreDeterminants};
+ghost use Rattle.kuhn_cells.specs.Laws.{ArrangementsArePositive, SignsAreDeterminants};
+ghost use Rattle.kuhn_cells.specs.Laws.{EdgesAreMixed, EdgesHaveDirections};
 
-/// The sign of a tetrahedron, which is that of its order of the axes, is the sign of the determinant
-/// of the ways from its corner v0 to v1, v2 and v3.
+/// The sign of a tetrahedron, which is that of its order of the axes, is the sign of the
+/// determinant of the ways from its corner v0 to v1, v2 and v3.
 pub fn signs_are_determinants()
     ensures { SignsAreDeterminants }
 {}

@@ -21,28 +21,21 @@ pub fn triangles(x: u16, y: u16, z: u16, tetra: u8, signs: u8) -> ArrayVec<Tripl
     let cell = Cell { x, y, z };
     let mut triangles = ArrayVec::new();
     match pattern.count() {
-        1 => triangles.push(Triple {
-            a: cell.edge(a, b),
-            b: cell.edge(a, c),
-            c: cell.edge(a, d),
-        }),
+        1 => triangles.push(cell.tip(a, b, c, d)),
         2 => {
+            let (ac, bd) = (cell.edge(a, c), cell.edge(b, d));
             triangles.push(Triple {
-                a: cell.edge(a, c),
+                a: ac,
                 b: cell.edge(a, d),
-                c: cell.edge(b, d),
+                c: bd,
             });
             triangles.push(Triple {
-                a: cell.edge(a, c),
-                b: cell.edge(b, d),
+                a: ac,
+                b: bd,
                 c: cell.edge(b, c),
             });
         }
-        3 => triangles.push(Triple {
-            a: cell.edge(a, b),
-            b: cell.edge(a, d),
-            c: cell.edge(a, c),
-        }),
+        3 => triangles.push(cell.tip(a, b, d, c)),
         _ => {}
     }
     triangles
