@@ -29,6 +29,7 @@ impl Cell {
             dir: a.max(b) - low,
         }
     }
+
     // The triangle between the three edges from a.
     #[inline]
     pub(crate) fn tip(self, a: u8, b: u8, c: u8, d: u8) -> Triple
