@@ -17,3 +17,6 @@ pub use edge_key::EdgeKey;
 pub use laws::{arrangements_are_positive, edges_part_the_corners, signs_are_determinants};
 pub use tetrahedron::triangles;
 pub use triple::Triple;
+
+#[cfg(test)]
+mod tests;
