@@ -2,3 +2,5 @@ pub mod ArrangementLaws
 pub mod Checks
 pub mod EdgeLaws
 mod Examples
+pub mod OrderLaws
+pub mod VertexLaws

@@ -1,11 +1,11 @@
 -- What always holds of the arrangement of a tetrahedron and of its triangles.
-use Rattle.std.specs.Prelude.{◌≡◌, ℕ, ◌<◌, ◌≤◌, pos, negsuc, Bool, IsTrue, All, [], ◌∷◌, get_or, if◌then◌else◌}
+use Rattle.std.specs.Prelude.{◌≡◌, ℕ, ◌<◌, ◌≤◌, pos, negsuc, Bool, IsTrue, All, AllPairs, Contains, ◌↔◌, ◌⊎◌, [], ◌∷◌, get_or, if◌then◌else◌}
 use Rattle.kuhn_cells.specs.declared.edge_key.EdgeKey.{EdgeKey}
 use Rattle.kuhn_cells.specs.declared.triple.Triple.{Triple}
 use Rattle.kuhn_cells.specs.Arrangement.{arrangement}
 use Rattle.kuhn_cells.specs.Corners.{corner, corner_determinant, is_negative}
 use Rattle.kuhn_cells.specs.Faces.{cell_triangles}
-use Rattle.kuhn_cells.specs.Grids.{is_mixed}
+use Rattle.kuhn_cells.specs.Grids.{Grid, is_inside_at, is_mixed, is_point, upper, vertices}
 use Rattle.kuhn_cells.specs.Triangles.{GridPoint}
 
 -- the sign of a tetrahedron, which is that of its order of the axes, is that of the determinant of the ways from
@@ -40,3 +40,21 @@ EdgesHaveDirections =
 abbrev pub EdgesAreMixed : Type 0
 EdgesAreMixed =
     (inside : GridPoint → Bool) (cell : GridPoint) → All (OfEdges (λ e. IsTrue (is_mixed inside e))) (cell_triangles inside cell)
+
+-- an edge of a grid with exactly one inside end
+pub record IsVertex (g : Grid) (e : EdgeKey) : Type 0 where
+  pub direction : IsDirection e.dir
+  pub within : IsTrue (is_point g (upper e))
+  pub mixed : IsTrue (is_mixed (is_inside_at g) e)
+
+-- the vertices are all edges with exactly one inside end, and nothing else
+abbrev pub VerticesAreMixedEdges : Type 0
+VerticesAreMixedEdges = (g : Grid) (e : EdgeKey) → Contains (vertices g) e ↔ IsVertex g e
+
+-- keys are ordered by z, then by y, then by x of the lower point, and then by direction
+abbrev pub IsBefore : EdgeKey → EdgeKey → Type 0
+IsBefore e f = (e.z < f.z) ⊎ ((e.z ≡ f.z) × ((e.y < f.y) ⊎ ((e.y ≡ f.y) × ((e.x < f.x) ⊎ ((e.x ≡ f.x) × (e.dir < f.dir))))))
+
+-- the vertices stand in the order of their keys, none twice
+abbrev pub VerticesRise : Type 0
+VerticesRise = (g : Grid) → AllPairs IsBefore (vertices g)

@@ -1,6 +1,7 @@
 // What always holds of the definitions that the contracts cite.
 ghost use Rattle.kuhn_cells.specs.Laws.{ArrangementsArePositive, SignsAreDeterminants};
 ghost use Rattle.kuhn_cells.specs.Laws.{EdgesAreMixed, EdgesHaveDirections};
+ghost use Rattle.kuhn_cells.specs.Laws.{VerticesAreMixedEdges, VerticesRise};
 
 /// The sign of a tetrahedron, which is that of its order of the axes, is the sign of the
 /// determinant of the ways from its corner v0 to v1, v2 and v3.
@@ -18,4 +19,11 @@ pub fn arrangements_are_positive()
 pub fn edges_part_the_corners()
     ensures directions { EdgesHaveDirections }
     ensures mixed { EdgesAreMixed }
+{}
+
+/// The vertices of a grid are all its edges with exactly one inside end, and nothing else, in the
+/// order of their keys, none twice.
+pub fn vertices_are_mixed_edges()
+    ensures edges { VerticesAreMixedEdges }
+    ensures order { VerticesRise }
 {}

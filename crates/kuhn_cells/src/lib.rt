@@ -14,7 +14,10 @@ mod triple;
 pub use cell_list::{CellList, CellValues};
 pub use corner::corner_of;
 pub use edge_key::EdgeKey;
-pub use laws::{arrangements_are_positive, edges_part_the_corners, signs_are_determinants};
+pub use laws::{
+    arrangements_are_positive, edges_part_the_corners, signs_are_determinants,
+    vertices_are_mixed_edges,
+};
 pub use tetrahedron::triangles;
 pub use triple::Triple;
 
