@@ -1,5 +1,5 @@
 -- The edges of triangles have a direction, and exactly one inside end.
-use Rattle.std.proofs.Common.{◌≡◌, ℕ, zero, suc, ◌+◌, ◌-◌, ◌<◌, Bool, true, false, List, [], ◌∷◌, refl, arith, ◌∙◌, sym, inl, inr}
+use Rattle.std.proofs.Common.{◌≡◌, ℕ, zero, suc, ◌+◌, ◌-◌, ◌/◌, ◌%◌, ◌<◌, ◌≤◌, Bool, true, false, List, [], ◌∷◌, refl, arith, ◌∙◌, sym, inl, inr}
 use Rattle.std.specs.Prelude.{◌==◌, ◌&&◌, ◌||◌, ◌⊎◌, not, min, max, nat_le, nat_lt, get_or, map, All, if◌then◌else◌}
 use Rattle.std.proofs.lemmas.Bool.{agree_below_at, agree_below, and_parts, eqb-true, leb-true, ltb-true, cases_order, not-true, true≢false, false≢true}
 use Rattle.std.proofs.lemmas.List.Elements.{All-append, All-cons, All-nil, All-weaker}
@@ -8,7 +8,7 @@ use Rattle.kuhn_cells.specs.declared.triple.Triple.{Triple}
 use Rattle.kuhn_cells.specs.Arrangement.{arranged, differ, inside_count, pattern_of}
 use Rattle.kuhn_cells.specs.Corners.{along_x, along_y, along_z, corner, is_negative}
 use Rattle.kuhn_cells.specs.Faces.{cell_triangles}
-use Rattle.kuhn_cells.specs.Grids.{is_mixed}
+use Rattle.kuhn_cells.specs.Grids.{is_mixed, upper}
 use Rattle.kuhn_cells.specs.Laws.{EdgesAreMixed, EdgesHaveDirections, IsDirection, OfEdges}
 use Rattle.kuhn_cells.specs.Triangles.{GridPoint, edge_between, further, triangles_among, triangles_in}
 use Rattle.kuhn_cells.proofs.Checks.{both_at, every, every_at}
@@ -27,10 +27,13 @@ differ_symmetric true false = refl
 differ_symmetric false true = refl
 differ_symmetric false false = refl
 
--- what an edge of a triangle has
-record IsParting (inside : GridPoint → Bool) (e : EdgeKey) : Type 0 where
-  direction : IsDirection e.dir
-  mixed : is_mixed inside e ≡ true
+-- what an edge of a triangle of a cell has
+pub record IsParting (inside : GridPoint → Bool) (cell : GridPoint) (e : EdgeKey) : Type 0 where
+  pub direction : IsDirection e.dir
+  pub mixed : is_mixed inside e ≡ true
+  pub near_x : (upper e).x ≤ cell.x + 1
+  pub near_y : (upper e).y ≤ cell.y + 1
+  pub near_z : (upper e).z ≤ cell.z + 1
 
 -- the steps of the lower of two corners and those of the direction make those of the upper one
 adds_up : ℕ → ℕ → ℕ → Bool
@@ -68,8 +71,11 @@ further_on : (cell : GridPoint) (low high : ℕ) → (along_x low + along_x (hig
 further_on cell low high x y z =
     rw (step_on cell.x (along_x low) (along_x (high - low)) (along_x high) x, step_on cell.y (along_y low) (along_y (high - low)) (along_y high) y, step_on cell.z (along_z low) (along_z (high - low)) (along_z high) z) refl
 
+one_step : (n k : ℕ) → k + n % 2 ≤ k + 1
+one_step n k = omega arith
+
 -- the edge between two corners of a tetrahedron of which one is inside
-parting : (inside : GridPoint → Bool) (cell : GridPoint) (tetra i j : ℕ) → tetra < 6 → i < 4 → j < 4 → differ (inside (further cell (corner tetra i))) (inside (further cell (corner tetra j))) ≡ true → (i == j) ≡ false → IsParting inside (edge_between cell (corner tetra i) (corner tetra j))
+parting : (inside : GridPoint → Bool) (cell : GridPoint) (tetra i j : ℕ) → tetra < 6 → i < 4 → j < 4 → differ (inside (further cell (corner tetra i))) (inside (further cell (corner tetra j))) ≡ true → (i == j) ≡ false → IsParting inside cell (edge_between cell (corner tetra i) (corner tetra j))
 unfolding adds_up
 parting inside cell tetra i j few fi fj parted apart =
     let low = min (corner tetra i) (corner tetra j) in
@@ -82,6 +88,9 @@ parting inside cell tetra i j few fi fj parted apart =
     record {
       direction = record { some = leb-true _ _ dir.0; within = leb-true _ _ dir.1 };
       mixed = rw (further_on cell low high x.0 y.0 z.0) (lower_upper (λ c. inside (further cell c)) (corner tetra i) (corner tetra j) ∙ parted);
+      near_x = rw (step_on cell.x (along_x low) (along_x (high - low)) (along_x high) x.0) (one_step high cell.x);
+      near_y = rw (step_on cell.y (along_y low) (along_y (high - low)) (along_y high) y.0) (one_step (high / 2) cell.y);
+      near_z = rw (step_on cell.z (along_z low) (along_z (high - low)) (along_z high) z.0) (one_step (high / 4) cell.z);
     }
 
 -- Which edges of the arranged corners are drawn by how many corners are inside: their ends are two of the four
@@ -140,7 +149,7 @@ pattern_at f tetra (suc (suc (suc zero))) few = refl
 pattern_at f tetra (suc (suc (suc (suc k)))) few = absurd (omega (arith, few))
 
 -- an edge of the arranged corners
-drawn : (inside : GridPoint → Bool) (cell : GridPoint) (tetra : ℕ) (ks : List ℕ) (i j : ℕ) → tetra < 6 → is_parted (pattern_of (λ c. inside (further cell c)) tetra) ks i j ≡ true → IsParting inside (edge_between cell (get_or (map (corner tetra) ks) i 0) (get_or (map (corner tetra) ks) j 0))
+drawn : (inside : GridPoint → Bool) (cell : GridPoint) (tetra : ℕ) (ks : List ℕ) (i j : ℕ) → tetra < 6 → is_parted (pattern_of (λ c. inside (further cell c)) tetra) ks i j ≡ true → IsParting inside cell (edge_between cell (get_or (map (corner tetra) ks) i 0) (get_or (map (corner tetra) ks) j 0))
 unfolding is_parted
 drawn inside cell tetra ks i j few h =
     let first = and_parts _ _ h in
@@ -153,7 +162,7 @@ drawn inside cell tetra ks i j few h =
     rw (corner_at tetra ks i, corner_at tetra ks j) (parting inside cell tetra (get_or ks i 0) (get_or ks j 0) few fi fj parted (not-true _ rest.0))
 
 abbrev Drawn : (GridPoint → Bool) → GridPoint → ℕ → List ℕ → ℕ → ℕ → Type 0
-Drawn inside cell tetra ks i j = IsParting inside (edge_between cell (get_or (map (corner tetra) ks) i 0) (get_or (map (corner tetra) ks) j 0))
+Drawn inside cell tetra ks i j = IsParting inside cell (edge_between cell (get_or (map (corner tetra) ks) i 0) (get_or (map (corner tetra) ks) j 0))
 
 three_drawn : (inside : GridPoint → Bool) (cell : GridPoint) (tetra : ℕ) (ks : List ℕ) → tetra < 6 → alone_parted (pattern_of (λ c. inside (further cell c)) tetra) ks ≡ true → Drawn inside cell tetra ks 0 1 × Drawn inside cell tetra ks 0 2 × Drawn inside cell tetra ks 0 3
 unfolding alone_parted
@@ -170,7 +179,7 @@ four_drawn inside cell tetra ks few h =
     let rest = and_parts _ _ second.1 in
     (drawn inside cell tetra ks 0 2 few first.0, drawn inside cell tetra ks 0 3 few second.0, drawn inside cell tetra ks 1 3 few rest.0, drawn inside cell tetra ks 1 2 few rest.1)
 
-one_tetrahedron : (inside : GridPoint → Bool) (cell : GridPoint) (tetra : ℕ) → tetra < 6 → All (OfEdges (IsParting inside)) (triangles_in cell tetra (λ c. inside (further cell c)))
+one_tetrahedron : (inside : GridPoint → Bool) (cell : GridPoint) (tetra : ℕ) → tetra < 6 → All (OfEdges (IsParting inside cell)) (triangles_in cell tetra (λ c. inside (further cell c)))
 unfolding all_parted are_parted alone_parted two_parted
 one_tetrahedron inside cell tetra few =
     let at = λ (c : ℕ). inside (further cell c) in
@@ -179,18 +188,18 @@ one_tetrahedron inside cell tetra few =
     let h = always_parted (is_negative tetra) (at (corner tetra 0)) (at (corner tetra 1)) (at (corner tetra 2)) (at (corner tetra 3)) in
     let one = and_parts _ _ h in
     let more = and_parts _ _ one.1 in
-    among (IsParting inside) (edge_between cell) (inside_count pattern) _ _ _ _ (λ e. three_drawn inside cell tetra ks few (implied _ _ one.0 e)) (λ e. three_drawn inside cell tetra ks few (implied _ _ more.0 e)) (λ e. four_drawn inside cell tetra ks few (implied _ _ more.1 e))
+    among (IsParting inside cell) (edge_between cell) (inside_count pattern) _ _ _ _ (λ e. three_drawn inside cell tetra ks few (implied _ _ one.0 e)) (λ e. three_drawn inside cell tetra ks few (implied _ _ more.0 e)) (λ e. four_drawn inside cell tetra ks few (implied _ _ more.1 e))
 
-all_tetrahedra : (inside : GridPoint → Bool) (cell : GridPoint) → All (OfEdges (IsParting inside)) (cell_triangles inside cell)
+pub all_tetrahedra : (inside : GridPoint → Bool) (cell : GridPoint) → All (OfEdges (IsParting inside cell)) (cell_triangles inside cell)
 all_tetrahedra inside cell =
     let one = λ (t : ℕ) (few : t < 6). one_tetrahedron inside cell t few in
-    let P = OfEdges (IsParting inside) in
+    let P = OfEdges (IsParting inside cell) in
     All-append P _ _ (one 0 (omega arith)) (All-append P _ _ (one 1 (omega arith)) (All-append P _ _ (one 2 (omega arith)) (All-append P _ _ (one 3 (omega arith)) (All-append P _ _ (one 4 (omega arith)) (All-append P _ _ (one 5 (omega arith)) (All-nil P))))))
 
 pub edges_have_directions : EdgesHaveDirections
 edges_have_directions inside cell =
-    All-weaker (OfEdges (IsParting inside)) (OfEdges (λ e. IsDirection e.dir)) (λ t h. record { a = h.a.direction; b = h.b.direction; c = h.c.direction }) (cell_triangles inside cell) (all_tetrahedra inside cell)
+    All-weaker (OfEdges (IsParting inside cell)) (OfEdges (λ e. IsDirection e.dir)) (λ t h. record { a = h.a.direction; b = h.b.direction; c = h.c.direction }) (cell_triangles inside cell) (all_tetrahedra inside cell)
 
 pub edges_are_mixed : EdgesAreMixed
 edges_are_mixed inside cell =
-    All-weaker (OfEdges (IsParting inside)) (OfEdges (λ e. is_mixed inside e ≡ true)) (λ t h. record { a = h.a.mixed; b = h.b.mixed; c = h.c.mixed }) (cell_triangles inside cell) (all_tetrahedra inside cell)
+    All-weaker (OfEdges (IsParting inside cell)) (OfEdges (λ e. is_mixed inside e ≡ true)) (λ t h. record { a = h.a.mixed; b = h.b.mixed; c = h.c.mixed }) (cell_triangles inside cell) (all_tetrahedra inside cell)

@@ -1,10 +1,10 @@
 -- What always holds of the arrangement of a tetrahedron and of its triangles.
-use Rattle.std.specs.Prelude.{◌≡◌, ℕ, ◌<◌, ◌≤◌, pos, negsuc, Bool, IsTrue, All, AllPairs, Contains, ◌↔◌, ◌⊎◌, [], ◌∷◌, get_or, if◌then◌else◌}
+use Rattle.std.specs.Prelude.{◌≡◌, ℕ, ◌<◌, ◌≤◌, pos, negsuc, Bool, IsTrue, All, AllPairs, Contains, ◌↔◌, ◌⊎◌, [], ◌∷◌, get_or, length, if◌then◌else◌}
 use Rattle.kuhn_cells.specs.declared.edge_key.EdgeKey.{EdgeKey}
 use Rattle.kuhn_cells.specs.declared.triple.Triple.{Triple}
 use Rattle.kuhn_cells.specs.Arrangement.{arrangement}
 use Rattle.kuhn_cells.specs.Corners.{corner, corner_determinant, is_negative}
-use Rattle.kuhn_cells.specs.Faces.{cell_triangles}
+use Rattle.kuhn_cells.specs.Faces.{all_triangles, cell_triangles, number_among}
 use Rattle.kuhn_cells.specs.Grids.{Grid, is_inside_at, is_mixed, is_point, upper, vertices}
 use Rattle.kuhn_cells.specs.Triangles.{GridPoint}
 
@@ -58,3 +58,12 @@ IsBefore e f = (e.z < f.z) ⊎ ((e.z ≡ f.z) × ((e.y < f.y) ⊎ ((e.y ≡ f.y)
 -- the vertices stand in the order of their keys, none twice
 abbrev pub VerticesRise : Type 0
 VerticesRise = (g : Grid) → AllPairs IsBefore (vertices g)
+
+-- each edge of each triangle is a vertex of the grid
+abbrev pub TrianglesHaveVertices : Type 0
+TrianglesHaveVertices = (g : Grid) → All (OfEdges (IsVertex g)) (all_triangles g)
+
+-- the number of a vertex is the place at which it stands
+abbrev pub NumbersArePlaces : Type 0
+NumbersArePlaces =
+    (g : Grid) (e d : EdgeKey) → IsVertex g e → let number = number_among (vertices g) e in (number < length (vertices g)) × (get_or (vertices g) number d ≡ e)

@@ -1,6 +1,7 @@
 // What always holds of the definitions that the contracts cite.
 ghost use Rattle.kuhn_cells.specs.Laws.{ArrangementsArePositive, SignsAreDeterminants};
 ghost use Rattle.kuhn_cells.specs.Laws.{EdgesAreMixed, EdgesHaveDirections};
+ghost use Rattle.kuhn_cells.specs.Laws.{NumbersArePlaces, TrianglesHaveVertices};
 ghost use Rattle.kuhn_cells.specs.Laws.{VerticesAreMixedEdges, VerticesRise};
 
 /// The sign of a tetrahedron, which is that of its order of the axes, is the sign of the
@@ -26,4 +27,11 @@ pub fn edges_part_the_corners()
 pub fn vertices_are_mixed_edges()
     ensures edges { VerticesAreMixedEdges }
     ensures order { VerticesRise }
+{}
+
+/// Each edge of each triangle of a grid is a vertex, and the number of a vertex is the place at
+/// which it stands.
+pub fn triangles_have_vertices()
+    ensures triangles { TrianglesHaveVertices }
+    ensures numbers { NumbersArePlaces }
 {}

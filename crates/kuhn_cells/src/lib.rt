@@ -16,7 +16,7 @@ pub use corner::corner_of;
 pub use edge_key::EdgeKey;
 pub use laws::{
     arrangements_are_positive, edges_part_the_corners, signs_are_determinants,
-    vertices_are_mixed_edges,
+    triangles_have_vertices, vertices_are_mixed_edges,
 };
 pub use tetrahedron::triangles;
 pub use triple::Triple;
