@@ -1,5 +1,7 @@
 -- What always holds of the arrangement of a tetrahedron and of its triangles.
 use Rattle.std.specs.Prelude.{◌≡◌, ℕ, ◌<◌, ◌≤◌, pos, negsuc, Bool, IsTrue, All, AllPairs, Contains, ◌↔◌, ◌⊎◌, [], ◌∷◌, get_or, length, if◌then◌else◌}
+use Rattle.std.specs.declared.cmp.Ordering.{Ordering}
+use Rattle.std.specs.declared.cmp.Ordering.TheVariants.{Less}
 use Rattle.kuhn_cells.specs.declared.edge_key.EdgeKey.{EdgeKey}
 use Rattle.kuhn_cells.specs.declared.triple.Triple.{Triple}
 use Rattle.kuhn_cells.specs.Arrangement.{arrangement}
@@ -54,6 +56,10 @@ VerticesAreMixedEdges = (g : Grid) (e : EdgeKey) → Contains (vertices g) e ↔
 -- keys are ordered by z, then by y, then by x of the lower point, and then by direction
 abbrev pub IsBefore : EdgeKey → EdgeKey → Type 0
 IsBefore e f = (e.z < f.z) ⊎ ((e.z ≡ f.z) × ((e.y < f.y) ⊎ ((e.y ≡ f.y) × ((e.x < f.x) ⊎ ((e.x ≡ f.x) × (e.dir < f.dir))))))
+
+-- a comparison of keys tells that order
+abbrev pub ComparesKeys : (EdgeKey → EdgeKey → Ordering) → Type 0
+ComparesKeys compare = (e f : EdgeKey) → (compare e f ≡ Less) ↔ IsBefore e f
 
 -- the vertices stand in the order of their keys, none twice
 abbrev pub VerticesRise : Type 0

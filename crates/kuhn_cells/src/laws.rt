@@ -1,8 +1,10 @@
 // What always holds of the definitions that the contracts cite.
-ghost use Rattle.kuhn_cells.specs.Laws.{ArrangementsArePositive, SignsAreDeterminants};
+ghost use Rattle.kuhn_cells.specs.Laws.{ArrangementsArePositive, ComparesKeys, SignsAreDeterminants};
 ghost use Rattle.kuhn_cells.specs.Laws.{EdgesAreMixed, EdgesHaveDirections};
 ghost use Rattle.kuhn_cells.specs.Laws.{NumbersArePlaces, TrianglesHaveVertices};
 ghost use Rattle.kuhn_cells.specs.Laws.{VerticesAreMixedEdges, VerticesRise};
+
+use crate::EdgeKey;
 
 /// The sign of a tetrahedron, which is that of its order of the axes, is the sign of the
 /// determinant of the ways from its corner v0 to v1, v2 and v3.
@@ -34,4 +36,9 @@ pub fn vertices_are_mixed_edges()
 pub fn triangles_have_vertices()
     ensures triangles { TrianglesHaveVertices }
     ensures numbers { NumbersArePlaces }
+{}
+
+/// Keys are compared by z, then by y, then by x of the lower point, and then by direction.
+pub fn keys_are_ordered()
+    ensures { ComparesKeys ⟦<EdgeKey as Ord>⟧.cmp }
 {}
