@@ -1,0 +1,37 @@
+-- The work of a height map is bounded by that of its box of all samples.
+use Rattle.std.proofs.Common.{◌≡◌, ◌+◌, ◌-◌, ◌*◌, ◌≤◌, List, length, subst, arith}
+use Rattle.box_chains.specs.Counts.{points_in}
+use Rattle.box_chains.specs.Laws.{PointsAreBounded, SpansAreBounded}
+use Rattle.box_chains.specs.SumLaws.{size}
+use Rattle.box_chains.specs.ValueLaws.{IsVisit}
+use Rattle.live_clauses.specs.Steps.{IsTape}
+use Rattle.live_clauses.specs.declared.step.Step.{Step}
+use Rattle.view_settings.specs.Spans.{root_of}
+use Rattle.view_settings.specs.Window.{Window, IsWindow}
+use Rattle.view_settings.specs.declared.lattice.Lattice.TheVariants.{Height}
+use Rattle.height_map.specs.Bound.{height_spans, is_near, layered, whole}
+use Rattle.height_map.specs.Laws.{HeightPointsAreBounded, HeightSpansAreBounded}
+use Rattle.height_map.proofs.WorkLaws.{points-all}
+
+pub whole-visit : (view : Window) (list : List Step) → IsWindow view → IsTape list → IsVisit (layered view) (whole view list)
+whole-visit view list window tape = record {
+  window = window;
+  box = record { x = window.w.some; y = window.h.some; z = window.d.some };
+  within = record { x = omega arith; y = omega arith; z = omega arith };
+  tape = tape;
+}
+
+whole-size : (view : Window) → size (root_of view Height) ≡ view.w * view.h * view.d
+whole-size view = grind arith
+
+pub points_bounded : PointsAreBounded → HeightPointsAreBounded
+points_bounded law view list window tape =
+    let all : points_in (layered view) (whole view list) ≤ view.w * view.h * view.d * length list =
+    subst (λ n. points_in (layered view) (whole view list) ≤ n * length list) (whole-size view) (law (layered view) (whole view list) (omega arith) (whole-visit view list window tape)) in
+    omega (arith, all, points-all (is_near view list) (layered view) (whole view list))
+
+pub spans_bounded : SpansAreBounded → HeightSpansAreBounded
+spans_bounded law view list window tape =
+    let sum : (view.w - 0) + (view.h - 0) + (view.d - 0) ≡ view.w + view.h + view.d = omega arith in
+    subst (λ m. height_spans view list ≤ view.w * view.h * view.d * (m * length list)) sum
+    (subst (λ n. height_spans view list ≤ n * (((view.w - 0) + (view.h - 0) + (view.d - 0)) * length list)) (whole-size view) (law (layered view) (whole view list) (omega arith) (whole-visit view list window tape)))

@@ -1,0 +1,69 @@
+-- The tops and the work of height maps, computed on lists that were worked out by hand.
+use Rattle.std.proofs.Common.{◌≡◌, ℕ, pos, negsuc, [], ◌∷◌, List, refl}
+use Rattle.box_chains.specs.Chains.{chain_within}
+use Rattle.box_chains.specs.Counts.{spans_in}
+use Rattle.fixed_ops.specs.declared.operation.Op.TheVariants.{Z, Const}
+use Rattle.live_clauses.specs.declared.step.Step.{Step}
+use Rattle.view_settings.specs.Window.{Window}
+use Rattle.height_map.specs.Bound.{height_points, height_spans, points_where}
+use Rattle.height_map.specs.Tops.{tops_of}
+
+-- from -1 to 1
+abbrev window : ℕ → ℕ → ℕ → Window
+window w h d = record {
+  x0 = negsuc 4294967295;
+  x1 = pos 4294967296;
+  y0 = negsuc 4294967295;
+  y1 = pos 4294967296;
+  z0 = negsuc 4294967295;
+  z1 = pos 4294967296;
+  z = pos 0;
+  w = w;
+  h = h;
+  d = d;
+  n = 1;
+}
+
+-- the coordinate z
+abbrev toward : List Step
+toward = record { op = Z; a = 0; b = 0; value = pos 0 } ∷ []
+
+-- the far half of the samples is inside
+toward_tops : tops_of (window 1 1 16) toward ≡ 8 ∷ []
+toward_tops = refl
+
+-- both halves are decided, since no sample lies at 0
+toward_points : height_points (window 1 1 16) toward ≡ 0
+unfolding points_where chain_within
+toward_points = refl
+
+toward_spans : height_spans (window 1 1 16) toward ≡ 3
+unfolding spans_in chain_within
+toward_spans = refl
+
+-- one leaf of eight samples: the four nearer ones and the first that is inside do not lie behind the top
+leaf_tops : tops_of (window 1 1 8) toward ≡ 4 ∷ []
+leaf_tops = refl
+
+leaf_points : height_points (window 1 1 8) toward ≡ 5
+unfolding points_where chain_within
+leaf_points = refl
+
+-- with three samples the one at 0 is not inside
+three_tops : tops_of (window 2 1 3) toward ≡ 1 ∷ 1 ∷ []
+three_tops = refl
+
+-- what is inside over all samples has its tops at the near end, and nothing is evaluated
+abbrev full : List Step
+full = record { op = Const; a = 0; b = 0; value = negsuc 4294967295 } ∷ []
+
+full_tops : tops_of (window 2 2 3) full ≡ 3 ∷ 3 ∷ 3 ∷ 3 ∷ []
+full_tops = refl
+
+full_points : height_points (window 2 2 3) full ≡ 0
+unfolding points_where chain_within
+full_points = refl
+
+-- and what is outside has none
+empty_tops : tops_of (window 2 1 3) (record { op = Const; a = 0; b = 0; value = pos 4294967296 } ∷ []) ≡ 0 ∷ 0 ∷ []
+empty_tops = refl

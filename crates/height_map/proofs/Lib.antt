@@ -1,0 +1,10 @@
+pub mod AlongLaws
+pub mod Bounds
+pub mod ChangeLaws
+pub mod Drawn
+mod Examples
+pub mod Leaves
+pub mod Maps
+pub mod Stacks
+pub mod TopLaws
+pub mod WorkLaws

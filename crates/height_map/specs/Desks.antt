@@ -1,0 +1,32 @@
+-- What drawing a box needs, and what it leaves.
+use Rattle.std.specs.Prelude.{◌≡◌, ℕ, ◌*◌, ◌≤◌, List, length}
+use Rattle.box_chains.specs.ValueLaws.{IsVisit}
+use Rattle.live_clauses.specs.declared.step.Step.{Step}
+use Rattle.view_settings.specs.Boxes.{Indices}
+use Rattle.view_settings.specs.Window.{Window}
+use Rattle.view_settings.specs.declared.lattice.Lattice.TheVariants.{Height}
+use Rattle.height_map.specs.Bound.{layered, visit}
+use Rattle.height_map.specs.declared.desk.Desk.{Desk}
+
+-- the box is one of the height map's, whose tops there are, and there is room for the list
+pub record MayDraw (desk : Desk) (b : Indices) (list : List Step) (len : ℕ) : Type 0 where
+  pub lattice : desk.places.lattice ≡ Height
+  pub visit_is : IsVisit (layered desk.places.view) (visit b list)
+  pub width : desk.w ≡ desk.places.view.w
+  pub tops : len ≡ desk.places.view.h * desk.places.view.w
+  pub room : length list ≤ length desk.room
+  pub values : length list ≤ length desk.values.items
+
+-- the places stay, and so does the room
+pub record KeepsDesk (before after : Desk) : Type 0 where
+  pub width : after.w ≡ before.w
+  pub places : after.places ≡ before.places
+  pub room : length after.room ≡ length before.room
+  pub values : length after.values.items ≡ length before.values.items
+
+-- the places of a height map, and room for lists of at most so many steps
+pub record IsDesk (view : Window) (len : ℕ) (desk : Desk) : Type 0 where
+  pub width : desk.w ≡ view.w
+  pub places : desk.places ≡ record { view = view; lattice = Height }
+  pub room : length desk.room ≡ len
+  pub values : length desk.values.items ≡ len

@@ -1,0 +1,7 @@
+pub mod Bound
+pub mod Columns
+pub mod CountLaws
+pub mod Desks
+pub mod Laws
+pub mod TopMaps
+pub mod Tops

@@ -1,0 +1,13 @@
+//! Height maps of lists of steps, drawn by boxes: which sample of each column that is inside lies
+//! nearest to the viewer, who looks down along z.
+#![tactic(auto)]
+
+mod columns;
+mod desk;
+mod drawing;
+mod laws;
+mod leaf;
+mod top_map;
+
+pub use laws::height_work_is_bounded;
+pub use top_map::{TopMap, heights};

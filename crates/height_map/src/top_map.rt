@@ -1,0 +1,74 @@
+// The tops of all columns.
+ghost use Rattle.std.specs.Prelude.{◌≡◌, IfOk};
+ghost use Rattle.view_settings.specs.Spans.{root_of};
+ghost use Rattle.view_settings.specs.Window.{FitsHeight};
+ghost use Rattle.height_map.specs.Bound.{CountsAtMost, height_points, height_spans};
+ghost use Rattle.height_map.specs.Tops.{tops_of};
+
+use crate::desk::Desk;
+use crate::drawing::draw_box;
+use fixed_ops::Tally;
+use live_clauses::Tape;
+use std::alloc::{AllocError, Global};
+use std::marker::Model;
+use view_settings::{IndexBox, Lattice, View};
+
+/// A height map: what lies nearest in each column of samples.
+#[derive(Debug, Drop)]
+pub struct TopMap {
+    /// The columns of a row.
+    pub w: u32,
+    /// The rows.
+    pub h: u32,
+    /// The samples of a column.
+    pub d: u32,
+    /// The tops, row by row from the top of the map on, and each row from the left on: 1 plus the
+    /// greatest index of a sample of the column that is inside, or 0 where none is.
+    pub tops: Vec<u16>,
+}
+
+impl Model for TopMap {
+    ghost use Rattle.height_map.specs.TopMaps.{Heights};
+
+    ghost Value = { Heights };
+
+    ghost view = { λ m. record { w = m.w; h = m.h; d = m.d; tops = m.tops.items } };
+}
+
+/// The height map of a list of steps over a view. Each step that is traced over a box is counted, at
+/// most four corners with it, and each step that is evaluated at a sample. No sample behind the
+/// nearest one that is inside is evaluated. AllocError: there is no memory for the map.
+pub fn heights(
+    alloc: Global,
+    list: &Tape,
+    view: &View,
+    tally: &mut Tally,
+) -> Result<TopMap, AllocError>
+    requires { FitsHeight view.now }
+    ensures map { IfOk result (λ map. map ≡ record { w = view.now.w; h = view.now.h; d = view.now.d; tops = tops_of view.now list.now }) }
+    ensures at_most { CountsAtMost (height_points view.now list.now) (height_spans view.now list.now) tally.old tally.new }
+{
+    let mut desk = Desk::new(alloc, view, list.len())?;
+    let mut tops = vec![in alloc; 0u16; view.w as usize * view.h as usize]?;
+    draw_box(alloc, &mut desk, root(view), list, &mut tops, tally)?;
+    Ok(TopMap {
+        w: view.w,
+        h: view.h,
+        d: view.d,
+        tops,
+    })
+}
+
+// The box of all samples of a height map.
+fn root(view: &View) -> IndexBox
+    ensures { result ≡ root_of view.now Lattice.Height }
+{
+    IndexBox {
+        x0: 0,
+        x1: view.w,
+        y0: 0,
+        y1: view.h,
+        z0: 0,
+        z1: view.d,
+    }
+}
