@@ -1,6 +1,7 @@
 pub mod Arity
 pub mod CountLaws
 pub mod Counts
+pub mod Cut
 pub mod Floor
 pub mod Laws
 pub mod NumberTexts

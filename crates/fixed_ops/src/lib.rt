@@ -3,6 +3,7 @@
 #![tactic(auto)]
 
 mod arithmetic;
+mod crossing;
 mod digits;
 mod fixed;
 mod laws;
@@ -16,6 +17,7 @@ mod rounding;
 mod tally;
 
 pub use arithmetic::{apply, corner};
+pub use crossing::cut;
 pub use fixed::{Fx, border, is_inside, le, lt, raw_range};
 pub use laws::{clamps, floors, number_texts, quotients, raw_results, spelled_values};
 pub use number_text::{write_number, write_raw};

@@ -251,6 +251,33 @@ fn a_border_is_never_inside(rt: HostRuntime) {
     }
 }
 
+// Where an edge is cut whose ends have these raw numbers, below 0 and not below 0.
+fn cut_between(inside: i64, outside: i64) -> Option<u32> {
+    let inside = number(inside)?;
+    let outside = number(outside)?;
+    if is_inside(inside) && !is_inside(outside) {
+        Some(cut(inside, outside))
+    } else {
+        None
+    }
+}
+
+#[test]
+fn cuts_are_rounded_down_and_never_at_an_end(rt: HostRuntime) {
+    for (inside, outside, place) in [
+        (-GREATEST, 0, 65_535),
+        (-1, GREATEST, 1),
+        (-GREATEST, GREATEST, 32_768),
+        (-ONE / 4, ONE / 4 * 3, 16_384),
+        (-ONE / 4, ONE / 4 * 7, 8192),
+        (-ONE / 4, ONE / 4 * 11, 5461),
+        (-281_474_976_710_656, 281_474_976_710_655, 32_768),
+        (-281_474_976_710_655, 1_125_899_906_842_624, 13_107),
+    ] {
+        assert_eq!(rt; cut_between(inside, outside), Some(place));
+    }
+}
+
 #[test]
 fn a_joined_tally_stands_still_at_the_top(rt: HostRuntime) {
     let (mut a, mut b) = (Tally::new(), Tally::new());
