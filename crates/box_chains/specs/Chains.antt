@@ -22,6 +22,9 @@ pub record Visit : Type 0 where
   pub box : Indices
   pub list : List Step
 
+abbrev pub visit : Indices → List Step → Visit
+visit b list = record { box = b; list = list }
+
 -- inside or outside, where the hull of the received list over the box decides it
 abbrev pub decision : Descent → Visit → Option Bool
 decision d v = decided_of (tape_hull (region_of d.view d.lattice v.box) v.list)

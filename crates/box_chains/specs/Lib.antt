@@ -9,5 +9,7 @@ pub mod Laws
 pub mod Placing
 pub mod SumLaws
 pub mod Sums
+pub mod Tallied
+pub mod TallyLaws
 pub mod ValueLaws
 pub mod WorkLaws

@@ -11,7 +11,7 @@ use Rattle.view_settings.specs.Boxes.{Indices, IsBox, halves_of, halves_x, halve
 use Rattle.box_chains.specs.Sums.{LiesIn, Sample, sum_along, sum_in}
 
 -- a sum over so many numbers from low on
-abbrev upto : ℕ → ℕ → (ℕ → ℕ) → ℕ
+abbrev pub upto : ℕ → ℕ → (ℕ → ℕ) → ℕ
 upto low n f = sum_by f (range_with_len low n)
 
 upto-suc : (low n : ℕ) (f : ℕ → ℕ) → upto low (suc n) f ≡ f low + upto (low + 1) n f
@@ -47,17 +47,18 @@ upto-le low (suc n) most f h =
     let others = upto-le (low + 1) n most f (λ i l k. h i (omega (arith, l)) (omega (arith, k))) in
     omega (arith, upto-suc low n f, first, others)
 
-upto-const : (low n c : ℕ) → upto low n (λ i. c) ≡ n * c
+pub upto-const : (low n c : ℕ) → upto low n (λ i. c) ≡ n * c
 upto-const low zero c = omega arith
 upto-const low (suc n) c = omega (arith, upto-suc low n (λ i. c), upto-const (low + 1) n c)
 
-along-same : (low high : ℕ) (f g : ℕ → ℕ) → ((i : ℕ) → low ≤ i → i < high → f i ≡ g i) → sum_along low high f ≡ sum_along low high g
+pub along-same : (low high : ℕ) (f g : ℕ → ℕ) → ((i : ℕ) → low ≤ i → i < high → f i ≡ g i) → sum_along low high f ≡ sum_along low high g
 along-same low high f g same = upto-same low (high - low) f g (λ i l h. same i l (omega (arith, l, h)))
 
-along-plus : (low high : ℕ) (f g : ℕ → ℕ) → sum_along low high (λ i. f i + g i) ≡ sum_along low high f + sum_along low high g
+pub along-plus : (low high : ℕ) (f g : ℕ → ℕ) → sum_along low high (λ i. f i + g i) ≡ sum_along low high f + sum_along low high g
 along-plus low high f g = upto-plus low (high - low) f g
 
-along-parts : (low mid high : ℕ) (f : ℕ → ℕ) → low ≤ mid → mid ≤ high → sum_along low mid f + sum_along mid high f ≡ sum_along low high f
+pub along-parts : (low mid high : ℕ) (f : ℕ → ℕ) → low ≤ mid → mid ≤ high
+    → sum_along low mid f + sum_along mid high f ≡ sum_along low high f
 along-parts low mid high f below above =
     let whole : (mid - low) + (high - mid) ≡ high - low = omega (arith, below, above) in
     let from : low + (mid - low) ≡ mid = omega (arith, below) in

@@ -8,6 +8,7 @@ pub mod NumberTexts
 pub mod Numerals
 pub mod OpNames
 pub mod Operations
+pub mod PointLaws
 pub mod Points
 pub mod Quotient
 pub mod Raw

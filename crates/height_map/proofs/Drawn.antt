@@ -27,9 +27,11 @@ use Rattle.view_settings.specs.Spans.{region_of}
 use Rattle.view_settings.specs.Window.{Window}
 use Rattle.view_settings.specs.declared.lattice.Lattice.{Lattice}
 use Rattle.view_settings.specs.declared.lattice.Lattice.TheVariants.{Height}
-use Rattle.height_map.specs.Bound.{CountsAtMost, halves_points, halves_spans, layered, open_points, open_spans, points_where, visit}
+use Rattle.box_chains.specs.Chains.{visit}
+use Rattle.box_chains.specs.Tallied.{CountsAtMost}
+use Rattle.height_map.specs.Bound.{halves_points, halves_spans, layered, open_points, open_spans, points_where}
 use Rattle.height_map.specs.Columns.{Changes, IsAmong, covers, is_open, leaf_cost, leaf_top, lifted}
-use Rattle.height_map.specs.CountLaws.{most-hulls, most-more, most-points, most-then}
+use Rattle.box_chains.specs.TallyLaws.{most-hulls, most-more, most-points, most-then}
 use Rattle.height_map.specs.Tops.{inside, top_among}
 use Rattle.height_map.proofs.ChangeLaws.{Changes-none, Changes-numbers, cell-of, covers-place, lifted-some, place-within}
 use Rattle.height_map.proofs.Stacks.{floor-halves, floor_of, halves-stacked, stacked-at}

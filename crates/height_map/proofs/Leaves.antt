@@ -13,7 +13,7 @@ use Rattle.view_settings.specs.Boxes.{Indices}
 use Rattle.view_settings.specs.Window.{Window}
 use Rattle.height_map.specs.Columns.{Changes, IsAmong, covers, leaf_cost}
 use Rattle.height_map.specs.Tops.{top_among}
-use Rattle.height_map.proofs.AlongLaws.{along-parts, along-plus, along-same, upto-const}
+use Rattle.box_chains.specs.SumLaws.{along-parts, along-plus, along-same, upto-const}
 use Rattle.height_map.proofs.ChangeLaws.{column-apart, covers-place, place-within, row-apart}
 
 -- one more sample of a column is counted

@@ -1,4 +1,3 @@
-pub mod AlongLaws
 pub mod Bounds
 pub mod ChangeLaws
 pub mod Drawn

@@ -16,9 +16,11 @@ use Rattle.view_settings.specs.Boxes.{Indices}
 use Rattle.view_settings.specs.Spans.{root_of}
 use Rattle.view_settings.specs.Window.{Window}
 use Rattle.view_settings.specs.declared.lattice.Lattice.TheVariants.{Height}
-use Rattle.height_map.specs.Bound.{CountsAtMost, height_points, height_spans, is_near, layered, points_where, visit, whole}
+use Rattle.box_chains.specs.Chains.{visit}
+use Rattle.box_chains.specs.Tallied.{CountsAtMost}
+use Rattle.height_map.specs.Bound.{height_points, height_spans, is_near, layered, points_where, whole}
 use Rattle.height_map.specs.Columns.{Changes, covers, is_open, leaf_top}
-use Rattle.height_map.specs.CountLaws.{most-more}
+use Rattle.box_chains.specs.TallyLaws.{most-more}
 use Rattle.height_map.specs.TopMaps.{Heights}
 use Rattle.height_map.specs.Tops.{row_of, top_of, tops_of}
 use Rattle.height_map.proofs.ChangeLaws.{lifted-none}

@@ -6,7 +6,7 @@ use Rattle.std.proofs.lemmas.Bool.{cond-false, cond-true, le-leb, lt-leb}
 use Rattle.box_chains.specs.Sums.{sum_along}
 use Rattle.height_map.specs.Columns.{lifted}
 use Rattle.height_map.specs.Tops.{greatest}
-use Rattle.height_map.proofs.AlongLaws.{along-parts, along-same, upto-const}
+use Rattle.box_chains.specs.SumLaws.{along-parts, along-same, upto-const}
 use Rattle.height_map.proofs.ChangeLaws.{lifted-none, lifted-some}
 
 abbrev item : (ℕ → Bool) → ℕ → ℕ

@@ -1,10 +1,9 @@
 -- Height maps as boxes of samples, with the work that one takes at most.
-use Rattle.std.specs.Prelude.{ℕ, ◌+◌, ◌*◌, nat_le, Bool, List, length, if◌then◌else◌}
+use Rattle.std.specs.Prelude.{ℕ, ◌+◌, nat_le, Bool, List, length, if◌then◌else◌}
 use Rattle.std.specs.List.{sum_by}
-use Rattle.box_chains.specs.Chains.{Descent, Visit, is_long}
+use Rattle.box_chains.specs.Chains.{Descent, Visit, is_long, visit}
 use Rattle.box_chains.specs.Counts.{cost, root_visit, spans_in}
 use Rattle.box_chains.specs.Sums.{Sample, sum_in}
-use Rattle.fixed_ops.specs.Counts.{Counts, IsAtMost, RisesBy}
 use Rattle.live_clauses.specs.declared.step.Step.{Step}
 use Rattle.view_settings.specs.Boxes.{Indices, halves_of}
 use Rattle.view_settings.specs.Window.{Window}
@@ -39,20 +38,7 @@ height_points view list = points_where (is_near view list) (layered view) (whole
 abbrev pub height_spans : Window → List Step → ℕ
 height_spans view list = spans_in (layered view) (whole view list)
 
--- so many evaluations and hulls, and so many corners
-abbrev pub work_of : ℕ → ℕ → ℕ → Counts
-work_of points spans corners = record { points = points; spans = spans; corners = corners }
-
--- a tally rises by at most so many evaluations and hulls, with at most four corners for each hull
-pub record CountsAtMost (points spans : ℕ) (before after : Counts) : Type 0 where
-  pub by : Counts
-  pub few : IsAtMost by (work_of points spans (4 * spans))
-  pub rises : RisesBy before after by
-
 -- the halves of a box that hands on a list, with the work that they take
-abbrev pub visit : Indices → List Step → Visit
-visit b list = record { box = b; list = list }
-
 abbrev pub halves_points : (Sample → Bool) → Descent → List Step → List Indices → ℕ
 halves_points test d list halves = sum_by (λ half. points_where test d (visit half list)) halves
 

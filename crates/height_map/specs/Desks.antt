@@ -5,7 +5,8 @@ use Rattle.live_clauses.specs.declared.step.Step.{Step}
 use Rattle.view_settings.specs.Boxes.{Indices}
 use Rattle.view_settings.specs.Window.{Window}
 use Rattle.view_settings.specs.declared.lattice.Lattice.TheVariants.{Height}
-use Rattle.height_map.specs.Bound.{layered, visit}
+use Rattle.box_chains.specs.Chains.{visit}
+use Rattle.height_map.specs.Bound.{layered}
 use Rattle.height_map.specs.declared.desk.Desk.{Desk}
 
 -- the box is one of the height map's, whose tops there are, and there is room for the list

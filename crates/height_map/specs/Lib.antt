@@ -1,6 +1,5 @@
 pub mod Bound
 pub mod Columns
-pub mod CountLaws
 pub mod Desks
 pub mod Laws
 pub mod TopMaps

@@ -3,7 +3,9 @@ ghost use Rattle.std.specs.Prelude.{◌≡◌, length, OnOk, IsTrue};
 ghost use Rattle.box_chains.specs.Chains.{is_long as is_long_for};
 ghost use Rattle.box_chains.specs.Counts.{spans_in};
 ghost use Rattle.view_settings.specs.Boxes.{halves_of};
-ghost use Rattle.height_map.specs.Bound.{CountsAtMost, halves_points, halves_spans, layered, open_points, open_spans, points_where, visit};
+ghost use Rattle.box_chains.specs.Chains.{visit};
+ghost use Rattle.box_chains.specs.Tallied.{CountsAtMost};
+ghost use Rattle.height_map.specs.Bound.{halves_points, halves_spans, layered, open_points, open_spans, points_where};
 ghost use Rattle.height_map.specs.Columns.{Changes, covers, is_open, leaf_top};
 ghost use Rattle.height_map.specs.Desks.{KeepsDesk, MayDraw};
 

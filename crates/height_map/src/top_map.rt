@@ -2,7 +2,8 @@
 ghost use Rattle.std.specs.Prelude.{◌≡◌, IfOk};
 ghost use Rattle.view_settings.specs.Spans.{root_of};
 ghost use Rattle.view_settings.specs.Window.{FitsHeight};
-ghost use Rattle.height_map.specs.Bound.{CountsAtMost, height_points, height_spans};
+ghost use Rattle.box_chains.specs.Tallied.{CountsAtMost};
+ghost use Rattle.height_map.specs.Bound.{height_points, height_spans};
 ghost use Rattle.height_map.specs.Tops.{tops_of};
 
 use crate::desk::Desk;

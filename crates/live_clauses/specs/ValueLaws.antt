@@ -2,29 +2,10 @@
 use Rattle.std.proofs.Common.{◌≡◌, ℕ, zero, suc, ◌+◌, ◌<◌, ℤ, pos, List, [], ◌∷◌, ◌++◌, length, get_or, fold, Some, slice_get, refl, ap, sym, subst, ◌∙◌, arith}
 use Rattle.std.proofs.lemmas.List.{length-append, get_or_append_left}
 use Rattle.std.proofs.Math.Seq.{get_or-append_seam}
-use Rattle.fixed_ops.specs.declared.operation.Op.{Op}
-use Rattle.fixed_ops.specs.declared.operation.Op.TheVariants.{X, Y, Z, Const, Neg, Square, Sqrt, Abs, Add, Sub, Mul, Div, Min, Max}
-use Rattle.fixed_ops.specs.Arity.{arity_of}
+use Rattle.fixed_ops.specs.PointLaws.{step_value-same}
 use Rattle.fixed_ops.specs.Points.{Point, step_value}
 use Rattle.live_clauses.specs.declared.step.Step.{Step}
 use Rattle.live_clauses.specs.Steps.{IsStepAt, AreSteps, value_after, values, value_at}
-
--- an operation reads only the operands that it has
-pub step_value-same : (op : Op) (p : Point) (value a b x y : ℤ) → (0 < arity_of op → a ≡ x) → (1 < arity_of op → b ≡ y) → step_value op p value a b ≡ step_value op p value x y
-step_value-same X p value a b x y first second = refl
-step_value-same Y p value a b x y first second = refl
-step_value-same Z p value a b x y first second = refl
-step_value-same Const p value a b x y first second = refl
-step_value-same Neg p value a b x y first second = let one = first (omega arith) in (cc)
-step_value-same Square p value a b x y first second = let one = first (omega arith) in (cc)
-step_value-same Sqrt p value a b x y first second = let one = first (omega arith) in (cc)
-step_value-same Abs p value a b x y first second = let one = first (omega arith) in (cc)
-step_value-same Add p value a b x y first second = let one = first (omega arith) in let two = second (omega arith) in (cc)
-step_value-same Sub p value a b x y first second = let one = first (omega arith) in let two = second (omega arith) in (cc)
-step_value-same Mul p value a b x y first second = let one = first (omega arith) in let two = second (omega arith) in (cc)
-step_value-same Div p value a b x y first second = let one = first (omega arith) in let two = second (omega arith) in (cc)
-step_value-same Min p value a b x y first second = let one = first (omega arith) in let two = second (omega arith) in (cc)
-step_value-same Max p value a b x y first second = let one = first (omega arith) in let two = second (omega arith) in (cc)
 
 -- a step has one value over lists that agree before its place
 value_after-same : (p : Point) (xs ys : List ℤ) (place : ℕ) (step : Step) → IsStepAt place step

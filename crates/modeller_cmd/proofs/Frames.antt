@@ -13,10 +13,11 @@ use Rattle.live_clauses.specs.Choices.{step_at}
 use Rattle.live_clauses.specs.Live.{is_kept, live_below, new_place, renumbered, root_of}
 use Rattle.live_clauses.specs.Steps.{IsTape, step_of, steps_of, tape_value}
 use Rattle.live_clauses.specs.declared.step.Step.{Step}
-use Rattle.quad_descent.specs.CountLaws.{exactly-none, most-exactly, most-none}
+use Rattle.box_chains.specs.TallyLaws.{exactly-none, most-exactly, most-none}
 use Rattle.quad_descent.specs.Laws.{FreshPointsAreBounded, FreshSpansAreBounded}
 use Rattle.quad_descent.specs.Pixels.{pixels_of as drawn_pixels}
-use Rattle.quad_descent.specs.Raster.{CountsAtMost, CountsExactly, Drawing, fresh_points, fresh_spans}
+use Rattle.box_chains.specs.Tallied.{CountsAtMost, CountsExactly}
+use Rattle.quad_descent.specs.Raster.{Drawing, fresh_points, fresh_spans}
 use Rattle.raster_pgm.specs.Pgm.{pgm_header_of}
 use Rattle.solid_model.specs.Values.{solid_value}
 use Rattle.solid_model.specs.declared.clause.Clause.{Clause}

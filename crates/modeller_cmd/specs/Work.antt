@@ -2,7 +2,8 @@
 use Rattle.std.specs.Prelude.{◌≡◌, ℕ, ◌+◌, ◌^◌, ◌<◌, ◌≤◌, List, ◌++◌, length, codes, decimal}
 use Rattle.fixed_ops.specs.Counts.{Counts, risen}
 use Rattle.live_clauses.specs.Live.{root_of}
-use Rattle.quad_descent.specs.Raster.{CountsAtMost, CountsExactly, fresh_points, fresh_spans}
+use Rattle.box_chains.specs.Tallied.{CountsAtMost, CountsExactly}
+use Rattle.quad_descent.specs.Raster.{fresh_points, fresh_spans}
 use Rattle.solid_model.specs.declared.clause.Clause.{Clause}
 use Rattle.view_settings.specs.Window.{Window}
 use Rattle.modeller_cmd.specs.Images.{plain_points}

@@ -28,10 +28,12 @@ use Rattle.view_settings.specs.Spans.{IsInRoot, region_of}
 use Rattle.view_settings.specs.Window.{Window}
 use Rattle.view_settings.specs.declared.lattice.Lattice.{Lattice}
 use Rattle.view_settings.specs.declared.lattice.Lattice.TheVariants.{Raster}
-use Rattle.quad_descent.specs.CountLaws.{exactly-hulls, exactly-points, exactly-same, exactly-then, most-exactly, most-then}
+use Rattle.box_chains.specs.TallyLaws.{exactly-hulls, exactly-points, exactly-same, exactly-then, most-exactly, most-after}
 use Rattle.quad_descent.specs.NodeLaws.{nodes-are}
-use Rattle.quad_descent.specs.Nodes.{halves_nodes, halves_points, halves_spans, nodes_of, open_nodes, open_points, open_spans, split_node, visit}
-use Rattle.quad_descent.specs.Raster.{CountsAtMost, CountsExactly, raster}
+use Rattle.box_chains.specs.Chains.{visit}
+use Rattle.quad_descent.specs.Nodes.{halves_nodes, halves_points, halves_spans, nodes_of, open_nodes, open_points, open_spans, split_node}
+use Rattle.box_chains.specs.Tallied.{CountsAtMost, CountsExactly}
+use Rattle.quad_descent.specs.Raster.{raster}
 use Rattle.quad_descent.specs.declared.node.Node.{Node}
 use Rattle.quad_descent.specs.declared.node.Node.TheVariants.{Outside, Inside, Split}
 
@@ -121,7 +123,7 @@ pub bounded-open : (d : Descent) (v : Visit) (live : List Step) (before mid afte
 bounded-open d v live before mid after some is law e same h below =
     let points = points-open d v some is law e ∙ ap (open_points d v.box) (sym same) in
     let spans = spans-open d v some is law e ∙ ap (λ l. length v.list + open_spans d v.box l) (sym same) in
-    most-then before mid after 0 (length v.list) (open_points d v.box live) (open_spans d v.box live) (points_in d v) (spans_in d v)
+    most-after before mid after 0 (length v.list) (open_points d v.box live) (open_spans d v.box live) (points_in d v) (spans_in d v)
     (omega (arith, points)) (omega (arith, spans)) (exactly-hulls before mid (length v.list) h) below
 
 -- a trace alone is among the work of its box
@@ -160,7 +162,7 @@ pub halves-bounded : (d : Descent) (list : List Step) (halves : List Indices) (i
 halves-bounded d list halves i half before mid after within read first second =
     let f : Indices → ℕ = λ h. points_in d (visit h list) in
     let g : Indices → ℕ = λ h. spans_in d (visit h list) in
-    most-then before mid after (sum_by f (take i halves)) (sum_by g (take i halves)) (f half) (g half) (sum_by f halves) (sum_by g halves)
+    most-after before mid after (sum_by f (take i halves)) (sum_by g (take i halves)) (f half) (g half) (sum_by f halves) (sum_by g halves)
     (omega (arith, sum_by_more_le f halves i half within, ap f read)) (omega (arith, sum_by_more_le g halves i half within, ap g read)) first second
 
 -- a half that is read is a part of the box

@@ -27,7 +27,8 @@ use Rattle.view_settings.specs.Window.{Window}
 use Rattle.view_settings.specs.declared.lattice.Lattice.TheVariants.{Raster}
 use Rattle.quad_descent.specs.Drawn.{AreDrawnAt, HasValues, IsDrawnAt, StandsAt, count_of}
 use Rattle.quad_descent.specs.NodeLaws.{nodes-are}
-use Rattle.quad_descent.specs.Nodes.{bits_of, box_nodes, halves_nodes, insides, nodes_of, rows_of, visit}
+use Rattle.box_chains.specs.Chains.{visit}
+use Rattle.quad_descent.specs.Nodes.{bits_of, box_nodes, halves_nodes, insides, nodes_of, rows_of}
 use Rattle.quad_descent.specs.Painting.{Paints, byte_at, covers}
 use Rattle.quad_descent.specs.Pixels.{pixel_at, row_at, rows_from}
 use Rattle.quad_descent.specs.Raster.{raster, whole}

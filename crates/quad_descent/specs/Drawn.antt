@@ -6,7 +6,8 @@ use Rattle.live_clauses.specs.Steps.{tape_value}
 use Rattle.live_clauses.specs.declared.step.Step.{Step}
 use Rattle.view_settings.specs.Boxes.{Indices}
 use Rattle.view_settings.specs.Window.{Window}
-use Rattle.quad_descent.specs.Nodes.{halves_nodes, nodes_of, visit}
+use Rattle.box_chains.specs.Chains.{visit}
+use Rattle.quad_descent.specs.Nodes.{halves_nodes, nodes_of}
 use Rattle.quad_descent.specs.Raster.{raster, whole}
 use Rattle.quad_descent.specs.declared.node.Node.{Node}
 use Rattle.quad_descent.specs.declared.node.Node.TheVariants.{Split}

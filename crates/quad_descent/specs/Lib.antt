@@ -1,4 +1,3 @@
-pub mod CountLaws
 pub mod Desks
 pub mod Drawn
 pub mod Laws

@@ -4,7 +4,7 @@ use Rattle.std.specs.List.{flat_map, range_with_len, sum_by}
 use Rattle.box_chains.specs.ChainLaws.{half_visit}
 use Rattle.box_chains.specs.Counts.{points_in, spans_in}
 use Rattle.box_chains.specs.SumLaws.{size}
-use Rattle.box_chains.specs.Chains.{Descent, Visit, decision, handed_on, is_long, sides}
+use Rattle.box_chains.specs.Chains.{Descent, Visit, decision, handed_on, is_long, sides, visit}
 use Rattle.fixed_ops.specs.Raw.{is_inside}
 use Rattle.live_clauses.specs.Steps.{tape_value}
 use Rattle.view_settings.specs.Boxes.{Indices, halves_of}
@@ -51,9 +51,6 @@ abbrev pub nodes_of : Descent → Visit → List Node
 nodes_of d v = nodes_within (sides v.box) d v
 
 -- the halves of a box that hands on a list, with the nodes and the work below it
-abbrev pub visit : Indices → List Step → Visit
-visit b list = record { box = b; list = list }
-
 abbrev pub halves_nodes : Descent → List Step → List Indices → List Node
 halves_nodes d list halves = flat_map (λ half. nodes_of d (visit half list)) halves
 

@@ -4,8 +4,10 @@ ghost use Rattle.box_chains.specs.Chains.{is_long as is_long_for};
 ghost use Rattle.box_chains.specs.Counts.{points_in, spans_in};
 ghost use Rattle.view_settings.specs.Boxes.{halves_of};
 ghost use Rattle.quad_descent.specs.Desks.{KeepsDesk, MayDraw};
-ghost use Rattle.quad_descent.specs.Nodes.{halves_nodes, halves_points, halves_spans, nodes_of, open_nodes, open_points, open_spans, split_node, visit};
-ghost use Rattle.quad_descent.specs.Raster.{CountsAtMost, CountsExactly, raster};
+ghost use Rattle.box_chains.specs.Chains.{visit};
+ghost use Rattle.quad_descent.specs.Nodes.{halves_nodes, halves_points, halves_spans, nodes_of, open_nodes, open_points, open_spans, split_node};
+ghost use Rattle.box_chains.specs.Tallied.{CountsAtMost, CountsExactly};
+ghost use Rattle.quad_descent.specs.Raster.{raster};
 
 use crate::desk::Desk;
 use crate::leaf::leaf_rows;

@@ -1,7 +1,8 @@
 // An image by boxes.
 ghost use Rattle.std.specs.Prelude.{◌≡◌, IfOk, OnOk, OnErr};
 ghost use Rattle.view_settings.specs.Spans.{root_of};
-ghost use Rattle.quad_descent.specs.Raster.{CountsAtMost, CountsExactly, fresh_points, fresh_spans};
+ghost use Rattle.box_chains.specs.Tallied.{CountsAtMost, CountsExactly};
+ghost use Rattle.quad_descent.specs.Raster.{fresh_points, fresh_spans};
 
 use crate::desk::Desk;
 use crate::drawing::draw_box;

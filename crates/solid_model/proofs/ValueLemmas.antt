@@ -4,33 +4,13 @@ use Rattle.std.proofs.lemmas.List.{length-append, get_or_append_left, ext_get_or
 use Rattle.std.proofs.lemmas.Int.{ints}
 use Rattle.std.proofs.Math.Seq.{get_or-append_seam}
 use Rattle.std.proofs.lemmas.Option.{slice_get-get_or, slice_get_within, get_or_from_slice_get, slice_get_cases}
-use Rattle.fixed_ops.specs.declared.operation.Op.{Op}
-use Rattle.fixed_ops.specs.declared.operation.Op.TheVariants.{X, Y, Z, Const, Neg, Square, Sqrt, Abs, Add, Sub, Mul, Div, Min, Max}
-use Rattle.fixed_ops.specs.Arity.{arity_of}
 use Rattle.solid_model.specs.declared.clause.Clause.{Clause}
+use Rattle.fixed_ops.specs.PointLaws.{step_value-same, IsRaw-step_value}
 use Rattle.fixed_ops.specs.Points.{Point, IsRawPoint, step_value}
 use Rattle.fixed_ops.specs.Raw.{IsRaw}
-use Rattle.fixed_ops.specs.ResultLaws.{IsRaw-op_result}
 use Rattle.solid_model.specs.Clauses.{IsClauseAt, AreInOrder}
 use Rattle.solid_model.specs.Laws.{AreValues}
 use Rattle.solid_model.specs.Values.{clause_value, values, solid_value}
-
--- an operation reads only the operands that it has
-step_value-same : (op : Op) (p : Point) (value a b x y : ℤ) → (0 < arity_of op → a ≡ x) → (1 < arity_of op → b ≡ y) → step_value op p value a b ≡ step_value op p value x y
-step_value-same X p value a b x y first second = refl
-step_value-same Y p value a b x y first second = refl
-step_value-same Z p value a b x y first second = refl
-step_value-same Const p value a b x y first second = refl
-step_value-same Neg p value a b x y first second = let one = first (omega arith) in (cc)
-step_value-same Square p value a b x y first second = let one = first (omega arith) in (cc)
-step_value-same Sqrt p value a b x y first second = let one = first (omega arith) in (cc)
-step_value-same Abs p value a b x y first second = let one = first (omega arith) in (cc)
-step_value-same Add p value a b x y first second = let one = first (omega arith) in let two = second (omega arith) in (cc)
-step_value-same Sub p value a b x y first second = let one = first (omega arith) in let two = second (omega arith) in (cc)
-step_value-same Mul p value a b x y first second = let one = first (omega arith) in let two = second (omega arith) in (cc)
-step_value-same Div p value a b x y first second = let one = first (omega arith) in let two = second (omega arith) in (cc)
-step_value-same Min p value a b x y first second = let one = first (omega arith) in let two = second (omega arith) in (cc)
-step_value-same Max p value a b x y first second = let one = first (omega arith) in let two = second (omega arith) in (cc)
 
 -- a clause has one value over lists that agree before its place
 clause_value-same : (p : Point) (xs ys : List ℤ) (place : ℕ) (clause : Clause) → IsClauseAt place clause
@@ -109,23 +89,6 @@ module _ (p : Point) (clauses : List Clause) (xs ys : List ℤ) (stand : AreInOr
 
 pub values-only : (p : Point) (clauses : List Clause) (all : List ℤ) → AreInOrder clauses → AreValues p clauses all → all ≡ values p clauses
 values-only p clauses all stand hold = agree p clauses all (values p clauses) stand hold (AreValues-values p clauses stand)
-
--- one step gives a raw number from raw numbers
-IsRaw-step_value : (op : Op) (p : Point) (constant a b : ℤ) → IsRawPoint p → IsRaw constant → IsRaw a → IsRaw b → IsRaw (step_value op p constant a b)
-IsRaw-step_value X p constant a b at raw left right = at.x
-IsRaw-step_value Y p constant a b at raw left right = at.y
-IsRaw-step_value Z p constant a b at raw left right = at.z
-IsRaw-step_value Const p constant a b at raw left right = raw
-IsRaw-step_value Neg p constant a b at raw left right = IsRaw-op_result Neg a b left right
-IsRaw-step_value Square p constant a b at raw left right = IsRaw-op_result Square a b left right
-IsRaw-step_value Sqrt p constant a b at raw left right = IsRaw-op_result Sqrt a b left right
-IsRaw-step_value Abs p constant a b at raw left right = IsRaw-op_result Abs a b left right
-IsRaw-step_value Add p constant a b at raw left right = IsRaw-op_result Add a b left right
-IsRaw-step_value Sub p constant a b at raw left right = IsRaw-op_result Sub a b left right
-IsRaw-step_value Mul p constant a b at raw left right = IsRaw-op_result Mul a b left right
-IsRaw-step_value Div p constant a b at raw left right = IsRaw-op_result Div a b left right
-IsRaw-step_value Min p constant a b at raw left right = IsRaw-op_result Min a b left right
-IsRaw-step_value Max p constant a b at raw left right = IsRaw-op_result Max a b left right
 
 -- each number that a list gives is raw, also the 0 that it gives past its end
 abbrev AreRaw : List ℤ → Type 0

@@ -4,9 +4,10 @@ use Rattle.box_chains.specs.HalfLaws.{part-is_shorter}
 use Rattle.box_chains.specs.ValueLaws.{IsVisit}
 use Rattle.live_clauses.specs.Choices.{AreChoices}
 use Rattle.view_settings.specs.Boxes.{halves_of}
-use Rattle.height_map.specs.Bound.{layered, visit}
+use Rattle.box_chains.specs.Chains.{visit}
+use Rattle.height_map.specs.Bound.{layered}
 use Rattle.height_map.specs.Columns.{Changes, covers, is_open, leaf_top}
-use Rattle.height_map.specs.CountLaws.{most-none}
+use Rattle.box_chains.specs.TallyLaws.{most-none}
 use Rattle.height_map.proofs.Drawn.{all-drawn, columns-there, decided-counted, drawn_to, half-part, half-visit, halves-bounded, handed, inside-drawn, leaf-counted, looked, next-counted, next-drawn, none-drawn, on_ok-then, outside-drawn, trace-counted, undecided-counted, undecided-drawn}
 use Rattle.height_map.proofs.drawing.+drawing.Goals as goal
 

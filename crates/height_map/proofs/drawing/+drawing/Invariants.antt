@@ -1,7 +1,8 @@
 use Rattle.std.proofs.Common.{◌≡◌, ◌+◌, ◌*◌, drop}
 use Rattle.box_chains.specs.Chains.{sides}
 use Rattle.view_settings.specs.Boxes.{halves_of}
-use Rattle.height_map.specs.Bound.{CountsAtMost, halves_points, halves_spans, layered}
+use Rattle.box_chains.specs.Tallied.{CountsAtMost}
+use Rattle.height_map.specs.Bound.{halves_points, halves_spans, layered}
 use Rattle.height_map.specs.Columns.{Changes, covers, is_open}
 use Rattle.height_map.specs.Desks.{KeepsDesk}
 use Rattle.height_map.proofs.Drawn.{drawn_to}

@@ -2,9 +2,11 @@ use Rattle.std.proofs.Common.{◌≡◌, ◌*◌, ◌<◌, ap, arith, length, re
 use Rattle.std.proofs.Math.Nat.{mul_comm}
 use Rattle.std.proofs.lemmas.List.{with_items_is}
 use Rattle.box_chains.specs.Counts.{spans_in}
-use Rattle.height_map.specs.Bound.{CountsAtMost, layered, points_where, visit}
+use Rattle.box_chains.specs.Chains.{visit}
+use Rattle.box_chains.specs.Tallied.{CountsAtMost}
+use Rattle.height_map.specs.Bound.{layered, points_where}
 use Rattle.height_map.specs.Columns.{Changes, covers, is_open, leaf_top}
-use Rattle.height_map.specs.CountLaws.{most-none}
+use Rattle.box_chains.specs.TallyLaws.{most-none}
 use Rattle.height_map.proofs.Maps.{map-counted, map-drawn, same_maps}
 use Rattle.height_map.proofs.top_map.heights.Goals as goal
 

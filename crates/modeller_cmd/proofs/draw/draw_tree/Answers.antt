@@ -1,7 +1,8 @@
 use Rattle.std.proofs.Common.{length, subst}
 use Rattle.std.specs.Prelude.{OnErr, OnOk}
 use Rattle.live_clauses.specs.Steps.{IsTape}
-use Rattle.quad_descent.specs.Raster.{CountsAtMost, CountsExactly, fresh_points, fresh_spans}
+use Rattle.box_chains.specs.Tallied.{CountsAtMost, CountsExactly}
+use Rattle.quad_descent.specs.Raster.{fresh_points, fresh_spans}
 use Rattle.modeller_cmd.specs.Images.{plain_points}
 use Rattle.modeller_cmd.specs.Work.{frame_work}
 use Rattle.modeller_cmd.proofs.Frames.{drawn_exactly, drawn_few, drawn_fits, drawn_plain, drawn_within, on_err, on_ok, within-none}

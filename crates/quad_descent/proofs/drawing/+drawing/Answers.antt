@@ -1,17 +1,19 @@
 use Rattle.std.proofs.Common.{◌++◌, ap, arith, sym, subst, ◌∙◌}
 use Rattle.std.specs.Prelude.{true, false, Some}
 use Rattle.box_chains.specs.Counts.{points_in, spans_in}
-use Rattle.quad_descent.specs.Nodes.{nodes_of, open_nodes, visit}
-use Rattle.quad_descent.specs.Raster.{CountsAtMost, CountsExactly, raster}
+use Rattle.box_chains.specs.Chains.{visit}
+use Rattle.quad_descent.specs.Nodes.{nodes_of, open_nodes}
+use Rattle.box_chains.specs.Tallied.{CountsAtMost, CountsExactly}
+use Rattle.quad_descent.specs.Raster.{raster}
 use Rattle.live_clauses.specs.Choices.{AreChoices}
-use Rattle.quad_descent.specs.CountLaws.{most-exactly}
+use Rattle.box_chains.specs.TallyLaws.{most-exactly}
 use Rattle.box_chains.specs.HalfLaws.{part-is_box}
 use Rattle.view_settings.specs.Boxes.{halves_of}
 use Rattle.view_settings.specs.Spans.{IsInRoot}
 use Rattle.view_settings.specs.declared.lattice.Lattice.TheVariants.{Raster}
 use Rattle.quad_descent.specs.declared.node.Node.TheVariants.{Split}
 use Rattle.quad_descent.specs.Nodes.{halves_nodes, halves_points, halves_spans}
-use Rattle.quad_descent.specs.CountLaws.{most-none}
+use Rattle.box_chains.specs.TallyLaws.{most-none}
 use Rattle.quad_descent.proofs.Drawn.{bounded-leaf, counted-leaf, half-part, half-shorter, half-within, halves-bounded, halves-counted, halves-more, split-set, bounded-open, bounded-trace, counted-decided, counted-open, handed, looked, nodes-decided, nodes-open, on_err, on_err-then, on_ok-then}
 use Rattle.quad_descent.proofs.drawing.+drawing.Goals as goal
 

@@ -2,7 +2,8 @@ use Rattle.std.proofs.Common.{◌≡◌, ◌+◌, ◌*◌, ◌++◌, take}
 use Rattle.box_chains.specs.Chains.{sides}
 use Rattle.quad_descent.specs.Desks.{KeepsDesk}
 use Rattle.quad_descent.specs.Nodes.{halves_nodes, halves_points, halves_spans}
-use Rattle.quad_descent.specs.Raster.{CountsExactly, raster}
+use Rattle.box_chains.specs.Tallied.{CountsExactly}
+use Rattle.quad_descent.specs.Raster.{raster}
 use Rattle.quad_descent.proofs.drawing.+drawing.Given as goal
 
 -- a box has four turns before its halves have theirs

@@ -1,8 +1,9 @@
 use Rattle.std.proofs.Common.{ap, arith, subst}
 use Rattle.box_chains.specs.Counts.{points_in, spans_in}
-use Rattle.quad_descent.specs.CountLaws.{most-exactly, most-none}
-use Rattle.quad_descent.specs.Nodes.{visit}
-use Rattle.quad_descent.specs.Raster.{CountsAtMost, CountsExactly, fresh_points, fresh_spans, raster}
+use Rattle.box_chains.specs.TallyLaws.{most-exactly, most-none}
+use Rattle.box_chains.specs.Chains.{visit}
+use Rattle.box_chains.specs.Tallied.{CountsAtMost, CountsExactly}
+use Rattle.quad_descent.specs.Raster.{fresh_points, fresh_spans, raster}
 use Rattle.quad_descent.proofs.Drawn.{on_err}
 use Rattle.quad_descent.proofs.quad_tree.draw.Goals as goal
 

@@ -2,7 +2,8 @@ use Rattle.std.proofs.Common.{◌+◌, take, arith, ap, sym, subst, ◌∙◌, r
 use Rattle.std.specs.Prelude.{true, false}
 use Rattle.std.proofs.lemmas.List.{take_all}
 use Rattle.box_chains.specs.Chains.{handed_on}
-use Rattle.quad_descent.specs.Nodes.{nodes_of, visit}
+use Rattle.box_chains.specs.Chains.{visit}
+use Rattle.quad_descent.specs.Nodes.{nodes_of}
 use Rattle.quad_descent.specs.Painting.{IsBand, byte_at, covers}
 use Rattle.quad_descent.specs.Raster.{raster, whole}
 use Rattle.quad_descent.proofs.Drawn.{half-part, half-shorter}
