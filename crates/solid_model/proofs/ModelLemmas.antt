@@ -26,14 +26,14 @@ slice_get-push (x ∷ xs) y zero z e = inl e
 slice_get-push (x ∷ xs) y (suc k) z e = elim (slice_get-push xs y k z e) [ inl old ↦ inl old | inr new ↦ inr (ap suc new.0, new.1) ]
 
 -- the parts of the clause that a form gives
-record Matches (clauses : List Clause) (name : List ℕ) (form : Parts) (clause : Clause) : Type 0 where
-  name_is : clause.name ≡ name
-  op_is : clause.op ≡ form.op
-  value_is : clause.value ≡ form.value
-  first : operand clauses form.args 0 ≡ Some clause.a
-  second : operand clauses form.args 1 ≡ Some clause.b
+pub record Matches (clauses : List Clause) (name : List ℕ) (form : Parts) (clause : Clause) : Type 0 where
+  pub name_is : clause.name ≡ name
+  pub op_is : clause.op ≡ form.op
+  pub value_is : clause.value ≡ form.value
+  pub first : operand clauses form.args 0 ≡ Some clause.a
+  pub second : operand clauses form.args 1 ≡ Some clause.b
 
-Matches-clause_after : (clauses : List Clause) (name : List ℕ) (form : Parts) (clause : Clause) → clause_after clauses name form ≡ Some clause → Matches clauses name form clause
+pub Matches-clause_after : (clauses : List Clause) (name : List ℕ) (form : Parts) (clause : Clause) → clause_after clauses name form ≡ Some clause → Matches clauses name form clause
 Matches-clause_after clauses name form clause e = by (operand clauses form.args 0) (operand clauses form.args 1) refl refl
   where
     by : (a b : Option ℕ) → operand clauses form.args 0 ≡ a → operand clauses form.args 1 ≡ b → Matches clauses name form clause
@@ -44,16 +44,16 @@ Matches-clause_after clauses name form clause e = by (operand clauses form.args 
     by None b p q = let is = rw p at e in (cc)
 
 -- an operand stands among the clauses
-operand-within : (clauses : List Clause) (args : List (List ℕ)) (k a : ℕ) → k < length args → operand clauses args k ≡ Some a → a < length clauses
+pub operand-within : (clauses : List Clause) (args : List (List ℕ)) (k a : ℕ) → k < length args → operand clauses args k ≡ Some a → a < length clauses
 operand-within clauses [] k a h e = absurd (omega arith)
 operand-within clauses (x ∷ args) zero a h e = position_within _ clauses a e
 operand-within clauses (x ∷ args) (suc k) a h e = operand-within clauses args k a (omega arith) e
 
 -- the place of an operand that the form lacks is 0
-operand-lacking : (clauses : List Clause) (args : List (List ℕ)) (k a : ℕ) → length args ≤ k → operand clauses args k ≡ Some a → a ≡ 0
+pub operand-lacking : (clauses : List Clause) (args : List (List ℕ)) (k a : ℕ) → length args ≤ k → operand clauses args k ≡ Some a → a ≡ 0
 operand-lacking clauses args k a h e = let past = slice_get_past args k h in let is = rw past at e in (cc)
 
-FitsAt-end : (clauses : List Clause) (name : List ℕ) (form : Parts) (clause : Clause) → IsForm form → Matches clauses name form clause
+pub FitsAt-end : (clauses : List Clause) (name : List ℕ) (form : Parts) (clause : Clause) → IsForm form → Matches clauses name form clause
     → FitsAt (length clauses) clause.op clause.a clause.b clause.value
 FitsAt-end clauses name form clause ok m =
     let arity : length form.args ≡ arity_of clause.op = ok.arity ∙ ap arity_of (sym m.op_is) in
@@ -65,7 +65,7 @@ FitsAt-end clauses name form clause ok m =
       no_value = λ h. m.value_is ∙ ok.no_value (λ e. h (m.op_is ∙ e));
     }
 
-IsClauseAt-end : (clauses : List Clause) (name : List ℕ) (form : Parts) (clause : Clause) → IsName name → IsForm form → Matches clauses name form clause
+pub IsClauseAt-end : (clauses : List Clause) (name : List ℕ) (form : Parts) (clause : Clause) → IsName name → IsForm form → Matches clauses name form clause
     → IsClauseAt (length clauses) clause
 IsClauseAt-end clauses name form clause named ok m = record {
   name = subst IsName (sym m.name_is) named;
@@ -73,13 +73,13 @@ IsClauseAt-end clauses name form clause named ok m = record {
   fits = FitsAt-end clauses name form clause ok m;
 }
 
-list_any-found : {A : Type 0} (p : A → Bool) (xs : List A) (i : ℕ) (x : A) → slice_get xs i ≡ Some x → p x ≡ true → list_any p xs ≡ true
+pub list_any-found : {A : Type 0} (p : A → Bool) (xs : List A) (i : ℕ) (x : A) → slice_get xs i ≡ Some x → p x ≡ true → list_any p xs ≡ true
 list_any-found p [] i x e h = (cc)
 list_any-found p (y ∷ ys) zero x e h = grind (arith)
 list_any-found p (y ∷ ys) (suc i) x e h = let rest = list_any-found p ys i x e h in grind (arith)
 
 -- where no clause has a name, none at a place has it
-no_clause_named : (clauses : List Clause) (name : List ℕ) (i : ℕ) (clause : Clause) → place_of clauses name ≡ None → slice_get clauses i ≡ Some clause → name ≡ clause.name → ⊥
+pub no_clause_named : (clauses : List Clause) (name : List ℕ) (i : ℕ) (clause : Clause) → place_of clauses name ≡ None → slice_get clauses i ≡ Some clause → name ≡ clause.name → ⊥
 no_clause_named clauses name i clause none at same =
     let found = list_any-found (λ c. bytes_eq name c.name) clauses i clause at ((bytes_decides name clause.name).1 same) in
     let absent = list_any-no_position (λ (c : Clause). bytes_eq name c.name) clauses none in

@@ -14,28 +14,26 @@ use Rattle.fixed_ops.specs.declared.operation.Op.{Op}
 use Rattle.fixed_ops.specs.declared.operation.Op.TheVariants.{X, Y, Z, Const, Neg, Square, Sqrt, Abs, Add, Sub, Mul, Div, Min, Max}
 use Rattle.fixed_ops.specs.Arity.{arity_of}
 use Rattle.solid_model.specs.declared.clause.Clause.{Clause}
-use Rattle.solid_model.specs.declared.edit.Edit.{Edit}
 use Rattle.solid_model.specs.declared.edit.Edit.TheVariants as edit
 use Rattle.solid_model.specs.declared.edit.EditFault.TheVariants.{DoubleName, Full}
 use Rattle.solid_model.specs.declared.push_fault.PushFault.TheVariants as push
 use Rattle.solid_model.specs.Adding.{with_clause, added}
-use Rattle.solid_model.specs.Clauses.{place_of, names_of, AreClauses, IsModel}
-use Rattle.solid_model.specs.Edits.{is_named, resolved, edited, IsEdit}
+use Rattle.solid_model.specs.Clauses.{place_of, names_of, AreClauses}
+use Rattle.solid_model.specs.Edits.{is_named, resolved, edited}
 use Rattle.solid_model.specs.Named.{Named, name_at, by_name, named_of, operand_place, by_place, placed}
 use Rattle.solid_model.specs.Parts.{Parts, IsForm}
 use Rattle.solid_model.specs.Pushing.{push_fault}
-use Rattle.solid_model.proofs.ModelLemmas.{IsModel-added}
 use Rattle.solid_model.proofs.Places.{prefix_len-map, list_any-by_place, position_within}
 
 -- the test of a name on clauses, and on named ones
-abbrev has : List ℕ → Clause → Bool
+abbrev pub has : List ℕ → Clause → Bool
 has name c = bytes_eq name c.name
 
-abbrev called : List ℕ → Named → Bool
+abbrev pub called : List ℕ → Named → Bool
 called name c = bytes_eq name c.name
 
 -- a name stands at the same place among clauses and among named ones
-place-named : (clauses : List Clause) (name : List ℕ) → position_or_len (called name) (named_of clauses) ≡ position_or_len (has name) clauses
+pub place-named : (clauses : List Clause) (name : List ℕ) → position_or_len (called name) (named_of clauses) ≡ position_or_len (has name) clauses
 place-named clauses name = prefix_len-map (λ c. by_name clauses c) (λ c. not (called name c)) clauses
 
 -- and at no other place when more follow
@@ -50,7 +48,7 @@ place-front name xs ys less = by (eqb (position_or_len (called name) xs) (length
     by false other e = e
 
 -- the place that a name has among clauses
-place-is : (clauses : List Clause) (name : List ℕ) (at : ℕ) → place_of clauses name ≡ Some at
+pub place-is : (clauses : List Clause) (name : List ℕ) (at : ℕ) → place_of clauses name ≡ Some at
     → (position_or_len (has name) clauses ≡ at) × (at < length clauses)
 place-is clauses name at e = by (ltb (position_or_len (has name) clauses) (length clauses)) refl e
   where
@@ -60,7 +58,7 @@ place-is clauses name at e = by (ltb (position_or_len (has name) clauses) (lengt
     by false less is = (cc)
 
 -- a name that stands among clauses stands there also among named ones that more follow
-place-found : (clauses : List Clause) (ys : List Named) (name : List ℕ) (at : ℕ) → place_of clauses name ≡ Some at
+pub place-found : (clauses : List Clause) (ys : List Named) (name : List ℕ) (at : ℕ) → place_of clauses name ≡ Some at
     → position_or_len (called name) (named_of clauses ++ ys) ≡ at
 place-found clauses ys name at e =
     let is = place-is clauses name at e in
@@ -69,7 +67,7 @@ place-found clauses ys name at e =
     place-front name (named_of clauses) ys (omega (arith, is.0, is.1, same, long)) ∙ same ∙ is.0
 
 -- the name of a clause stands at its place, since names are distinct
-place-own : (clauses : List Clause) (at : ℕ) (c : Clause) → AreClauses clauses → slice_get clauses at ≡ Some c → position_or_len (has c.name) clauses ≡ at
+pub place-own : (clauses : List Clause) (at : ℕ) (c : Clause) → AreClauses clauses → slice_get clauses at ≡ Some c → position_or_len (has c.name) clauses ≡ at
 place-own clauses at c are is =
     let within = slice_get_within clauses at c is in
     position_or_len_is (has c.name) clauses at c (omega arith)
@@ -85,7 +83,7 @@ place-own clauses at c are is =
     other k less false e = e
 
 -- the name at the place of a clause is the clause's
-name_at-is : (clauses : List Clause) (at : ℕ) (c : Clause) → slice_get clauses at ≡ Some c → name_at clauses at ≡ c.name
+pub name_at-is : (clauses : List Clause) (at : ℕ) (c : Clause) → slice_get clauses at ≡ Some c → name_at clauses at ≡ c.name
 name_at-is clauses at c is =
     get_or_from_slice_get (names_of clauses) at c.name [] (slice_get-map (λ d. d.name) clauses at ∙ ap (option_map (λ d. d.name)) is)
 
@@ -103,11 +101,11 @@ place-name_at clauses ys at are less =
     ]
 
 -- the first and the second of so many operands
-first_of : (n : ℕ) (x y : List ℕ) (f : List ℕ → ℕ) (a : ℕ) → (0 < n → f x ≡ a) → (n ≡ 0 → a ≡ 0) → option_map_or f (slice_get (take n (x ∷ y ∷ [])) 0) 0 ≡ a
+pub first_of : (n : ℕ) (x y : List ℕ) (f : List ℕ → ℕ) (a : ℕ) → (0 < n → f x ≡ a) → (n ≡ 0 → a ≡ 0) → option_map_or f (slice_get (take n (x ∷ y ∷ [])) 0) 0 ≡ a
 first_of zero x y f a some none = sym (none refl)
 first_of (suc n) x y f a some none = some (omega arith)
 
-second_of : (n : ℕ) (x y : List ℕ) (f : List ℕ → ℕ) (b : ℕ) → (1 < n → f y ≡ b) → (n ≤ 1 → b ≡ 0) → option_map_or f (slice_get (take n (x ∷ y ∷ [])) 1) 0 ≡ b
+pub second_of : (n : ℕ) (x y : List ℕ) (f : List ℕ → ℕ) (b : ℕ) → (1 < n → f y ≡ b) → (n ≤ 1 → b ≡ 0) → option_map_or f (slice_get (take n (x ∷ y ∷ [])) 1) 0 ≡ b
 second_of zero x y f b some none = sym (none (omega arith))
 second_of (suc zero) x y f b some none = sym (none (omega arith))
 second_of (suc (suc n)) x y f b some none = some (omega arith)
@@ -147,7 +145,7 @@ placed-push clauses n are =
     ∙ ap (λ front. front ++ by_place (named_of clauses ++ n ∷ []) n ∷ []) (placed-front clauses (n ∷ []) are)
 
 -- a name is found among named clauses where it is among clauses
-is_named-place : (clauses : List Clause) (name : List ℕ) → is_named (named_of clauses) name ≡ is_some (place_of clauses name)
+pub is_named-place : (clauses : List Clause) (name : List ℕ) → is_named (named_of clauses) name ≡ is_some (place_of clauses name)
 is_named-place clauses name =
     let same = place-named clauses name in
     let long : length (named_of clauses) ≡ length clauses = length-map clauses (λ c. by_name clauses c) in
@@ -207,7 +205,7 @@ edited-args clauses name op (x ∷ y ∷ []) value are few = by (place_of clause
         ∙ ap (λ (n : ℕ). record { name = name; op = op; a = a; b = n; value = value }) second))
 edited-args clauses name op (x ∷ y ∷ z ∷ more) value are few = absurd (omega arith)
 
-arity-two : (op : Op) → arity_of op ≤ 2
+pub arity-two : (op : Op) → arity_of op ≤ 2
 arity-two X = omega arith
 arity-two Y = omega arith
 arity-two Z = omega arith
@@ -228,7 +226,3 @@ pub edited-added : (clauses : List Clause) (name : List ℕ) (form : Parts) → 
     → edited clauses (edit.Add name form) ≡ added clauses name form
 edited-added clauses name form are ok =
     edited-args clauses name form.op form.args form.value are (omega (arith, ok.arity, arity-two form.op))
-
-pub edits-models : (clauses : List Clause) (change : Edit) (new : List Clause) → AreClauses clauses → IsEdit change → edited clauses change ≡ Ok new → IsModel new
-edits-models clauses (edit.Add name form) new are ok e =
-    IsModel-added clauses name form new are ok.0 ok.1 (sym (edited-added clauses name form are ok.1) ∙ e)

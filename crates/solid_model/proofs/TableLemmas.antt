@@ -1,15 +1,27 @@
--- What the set of names tells of the clauses.
-use Rattle.std.proofs.Common.{◌≡◌, ℕ, ◌<◌, true, false, cond, nat_le, List, length, Some, None, is_some, refl, ap, sym, ◌∙◌, arith}
-use Rattle.std.specs.List.{list_any, position_or_len}
+-- What the set of names tells of the clauses, how far a loop over them has come, and how both change together.
+use Rattle.std.proofs.Common.{◌≡◌, ℕ, zero, suc, ◌<◌, ◌≤◌, ◌⊎◌, inl, inr, Bool, true, false, cond, not, ltb, nat_le, List, [], ◌∷◌, ◌++◌, length, map, take, drop, set, get_or, Some, None, is_some, slice_get, refl, ap, sym, subst, ◌∙◌, arith}
+use Rattle.std.specs.List.{insert, list_any, position_or_len, remove}
+use Rattle.std.proofs.lemmas.Bool.{cases_lt}
 use Rattle.std.proofs.lemmas.Bool.Decides.{nat_tests}
+use Rattle.std.proofs.lemmas.List.{length-map, length-set, map-set, set-get_or}
+use Rattle.std.proofs.lemmas.List.Edits.{length-insert, length-remove}
+use Rattle.std.proofs.lemmas.List.Sums.{prefix_len-le-length}
+use Rattle.std.proofs.lemmas.Option.{slice_get_within}
+use Rattle.std.proofs.Math.Seq.{take-append_seam}
 use Rattle.std.specs.Str.{bytes_eq}
 use Rattle.std.specs.Global.{Vec}
+use Rattle.indexmap.specs.IndexMap.{move_index}
+use Rattle.fixed_ops.specs.Arity.{arity_of}
 use Rattle.solid_model.specs.declared.clause.Clause.{Clause}
-use Rattle.solid_model.specs.Clauses.{place_of}
+use Rattle.solid_model.specs.Clauses.{place_of, names_of, AreInOrder}
+use Rattle.solid_model.specs.Surgery.{moved}
 use Rattle.solid_model.specs.Tables.{IsTable}
 use Rattle.solid_model.specs.declared.push_fault.PushFault.TheVariants.{DoubleName}
 use Rattle.solid_model.specs.Pushing.{push_fault}
-use Rattle.solid_model.proofs.Places.{place_of-names, position-any}
+use Rattle.solid_model.proofs.NamePlaces.{map-cut, map-put}
+use Rattle.solid_model.proofs.Places.{list_any-by_place, list_any-no_position, place_of-names, position-any}
+use Rattle.solid_model.proofs.SurgeryLemmas.{name_there}
+use Rattle.solid_model.proofs.SurgeryModels.{names-moved}
 
 -- a name that the set lacks stands nowhere among the clauses
 pub absent : (clauses : List Clause) (names : List (Vec ℕ)) (key : List ℕ) → IsTable clauses names
@@ -28,3 +40,104 @@ no_push_fault clauses name new room = let free : nat_le 65535 (length clauses) �
 
 pub double_name : (clauses : List Clause) (name : List ℕ) → is_some (place_of clauses name) ≡ true → push_fault clauses name ≡ Some DoubleName
 double_name clauses name there = rw there refl
+
+-- what is not mapped yet is as it was
+pub rest-there : {A : Type 0} (f : A → A) (xs : List A) (i : ℕ) (d : A) → get_or (map f (take i xs) ++ drop i xs) i d ≡ get_or xs i d
+rest-there f [] zero d = refl
+rest-there f [] (suc i) d = refl
+rest-there f (x ∷ xs) zero d = refl
+rest-there f (x ∷ xs) (suc i) d = rest-there f xs i d
+
+-- past the end all is mapped
+pub all-mapped : {A : Type 0} (f : A → A) (xs ys : List A) (i : ℕ) → length xs ≤ i → ys ≡ map f (take i xs) ++ drop i xs → ys ≡ map f xs
+all-mapped {A = A} f xs ys i past so_far = so_far ∙ whole xs i past
+  where
+    whole : (zs : List A) (k : ℕ) → length zs ≤ k → map f (take k zs) ++ drop k zs ≡ map f zs
+    whole [] zero le = refl
+    whole [] (suc k) le = refl
+    whole (z ∷ zs) zero le = absurd (omega (arith, le))
+    whole (z ∷ zs) (suc k) le = ap (λ t. f z ∷ t) (whole zs k (omega (arith, le)))
+
+-- the operands of a clause stand before the greatest place
+pub operands-few : (clauses : List Clause) (place : ℕ) (c : Clause) → AreInOrder clauses → length clauses ≤ 65535 → slice_get clauses place ≡ Some c
+    → (c.a < 65535) × (c.b < 65535)
+operands-few clauses place c order few there =
+    let stands = order place c there in
+    let within = slice_get_within clauses place c there in (
+      by (cases_lt 0 (arity_of c.op)) (λ h. omega (arith, stands.fits.first h, within, few)) (λ h. omega (arith, stands.fits.no_first (omega (arith, h)))),
+      by (cases_lt 1 (arity_of c.op)) (λ h. omega (arith, stands.fits.second h, within, few)) (λ h. omega (arith, stands.fits.no_second h)),
+    )
+  where
+    by : {m n k : ℕ} → (m < n) ⊎ (n ≤ m) → (m < n → k < 65535) → (n ≤ m → k < 65535) → k < 65535
+    by (inl less) f g = f less
+    by (inr le) f g = g le
+
+-- what was written back into a list of room for it
+pub written_back : {A : Type 0} (xs ys : List A) (n : ℕ) → length xs ≡ n → take n (xs ++ drop (length xs) ys) ≡ xs
+written_back xs ys n long = subst (λ m. take m (xs ++ drop (length xs) ys) ≡ xs) long (take-append_seam xs (drop (length xs) ys))
+
+-- a key put last and then moved to a place is put in there
+removed-last : {A : Type 0} (xs : List A) (x : A) → remove (xs ++ x ∷ []) (length xs) ≡ xs
+removed-last [] x = refl
+removed-last (y ∷ xs) x = ap (λ ys. y ∷ ys) (removed-last xs x)
+
+last-there : {A : Type 0} (xs : List A) (x : A) → slice_get (xs ++ x ∷ []) (length xs) ≡ Some x
+last-there [] x = refl
+last-there (y ∷ xs) x = last-there xs x
+
+pub moved-last : {A : Type 0} (xs : List A) (x : A) (at : ℕ) → move_index (xs ++ x ∷ []) (length xs) at ≡ insert xs at x
+moved-last xs x at = rw (last-there xs x, removed-last xs x) refl
+
+-- a name that stands nowhere among the clauses is not in the set
+pub not_in_set : (clauses : List Clause) (names : List (Vec ℕ)) (key : List ℕ) → IsTable clauses names → place_of clauses key ≡ None
+    → list_any (λ n. bytes_eq key n.items) names ≡ false
+not_in_set clauses names key table none =
+    list_any-no_position (λ (n : Vec ℕ). bytes_eq key n.items) names (place_of-names clauses names key table.same ∙ none)
+
+-- a test that passes nowhere has the length as its place
+pub place-nowhere : {A : Type 0} (p : A → Bool) (xs : List A) → list_any p xs ≡ false → position_or_len p xs ≡ length xs
+place-nowhere p xs none =
+    let short = prefix_len-le-length (λ x. not (p x)) xs in
+    let past : ltb (position_or_len p xs) (length xs) ≡ false = sym (list_any-by_place p xs) ∙ none in
+    grind (arith, nat_tests)
+
+-- the clauses and the names with one more of each at a place
+pub IsTable-insert : (to : ℕ → ℕ) (clauses : List Clause) (names : List (Vec ℕ)) (at : ℕ) (clause : Clause) (key : Vec ℕ) → IsTable clauses names
+    → at ≤ length clauses → length clauses < 65535 → key.items ≡ clause.name → IsTable (insert (map (moved to) clauses) at clause) (insert names at key)
+IsTable-insert to clauses names at clause key table within room named = record {
+  few = omega (arith, room, length-insert (map (moved to) clauses) at clause (omega (arith, within, long)), long);
+  same =
+      map-put (λ n. n.items) names at key
+      ∙ ap (λ ns. insert ns at key.items) table.same
+      ∙ ap (λ (n : List ℕ). insert (names_of clauses) at n) named
+      ∙ sym (map-put (λ c. c.name) (map (moved to) clauses) at clause ∙ ap (λ ns. insert ns at clause.name) (names-moved to clauses));
+}
+  where
+    long : length (map (moved to) clauses) ≡ length clauses
+    long = length-map clauses (moved to)
+
+-- and with one less
+pub IsTable-remove : (to : ℕ → ℕ) (clauses : List Clause) (names : List (Vec ℕ)) (at : ℕ) → IsTable clauses names → at < length clauses
+    → IsTable (remove (map (moved to) clauses) at) (remove names at)
+IsTable-remove to clauses names at table within = record {
+  few = omega (arith, table.few, length-remove (map (moved to) clauses) at (omega (arith, within, long)), long);
+  same =
+      map-cut (λ n. n.items) names at
+      ∙ ap (λ ns. remove ns at) table.same
+      ∙ sym (map-cut (λ c. c.name) (map (moved to) clauses) at ∙ ap (λ ns. remove ns at) (names-moved to clauses));
+}
+  where
+    long : length (map (moved to) clauses) ≡ length clauses
+    long = length-map clauses (moved to)
+
+-- and with another clause of one name
+pub IsTable-set : (clauses : List Clause) (names : List (Vec ℕ)) (at : ℕ) (clause : Clause) → IsTable clauses names → place_of clauses clause.name ≡ Some at
+    → IsTable (set clauses at clause) names
+IsTable-set clauses names at clause table there = record {
+  few = omega (arith, table.few, length-set clauses at clause);
+  same =
+      table.same
+      ∙ sym (map-set (λ c. c.name) clauses at clause
+      ∙ ap (λ (n : List ℕ). set (names_of clauses) at n) (sym (name_there clauses at clause.name there))
+      ∙ set-get_or (names_of clauses) at []);
+}

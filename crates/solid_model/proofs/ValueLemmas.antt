@@ -6,7 +6,7 @@ use Rattle.std.proofs.Math.Seq.{get_or-append_seam}
 use Rattle.std.proofs.lemmas.Option.{slice_get-get_or, slice_get_within, get_or_from_slice_get, slice_get_cases}
 use Rattle.solid_model.specs.declared.clause.Clause.{Clause}
 use Rattle.fixed_ops.specs.PointLaws.{step_value-same, IsRaw-step_value}
-use Rattle.fixed_ops.specs.Points.{Point, IsRawPoint, step_value}
+use Rattle.fixed_ops.specs.Points.{Point, IsRawPoint}
 use Rattle.fixed_ops.specs.Raw.{IsRaw}
 use Rattle.solid_model.specs.Clauses.{IsClauseAt, AreInOrder}
 use Rattle.solid_model.specs.Laws.{AreValues}

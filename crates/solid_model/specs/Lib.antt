@@ -7,5 +7,6 @@ pub mod Names
 pub mod Parts
 pub mod Pushing
 pub mod Refusals
+pub mod Surgery
 pub mod Tables
 pub mod Values

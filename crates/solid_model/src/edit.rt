@@ -6,19 +6,35 @@ use thiserror::Error;
 /// A change to a model.
 #[derive(Debug, Drop)]
 pub enum Edit {
+    /// The clause of this name gets this form.
+    Set(Name, Form),
     /// A new clause of this name and form is the last one, and so the output.
     Add(Name, Form),
+    /// A new clause of the second name and this form stands directly before the clause of the first
+    /// name.
+    Put(Name, Name, Form),
+    /// The clause of this name is taken out. Where it was the output, the clause before it is.
+    Cut(Name),
 }
 
 /// Why an edit was refused.
 #[derive(Clone, Copy, Debug, PartialEq, Eq, Error)]
 pub enum EditFault {
-    /// An argument names no clause.
-    #[error("an argument names no clause")]
+    /// A name that should stand already, or an argument, names no clause.
+    #[error("a name or an argument names no clause")]
     UnknownName,
     /// The new name stands already.
     #[error("the name stands already")]
     DoubleName,
+    /// An argument stands at or after the place of the clause.
+    #[error("an argument does not stand before the clause")]
+    NotEarlier,
+    /// Another clause has this one as an argument; the place of the first that has.
+    #[error("the clause at place {0} has this one as an argument")]
+    InUse(u32),
+    /// The model has one clause.
+    #[error("the model has one clause")]
+    LastClause,
     /// The model has 65,535 clauses.
     #[error("the model is full")]
     Full,

@@ -2,7 +2,7 @@
 ghost use Rattle.std.specs.Prelude.{◌≡◌, ◌≢◌, ◌<◌, [], length, slice_get, IfErr, IfOk, OnErr, OnOk};
 ghost use Rattle.solid_model.specs.Clauses.{place_of, IsClauseAt, IsModel};
 ghost use Rattle.solid_model.specs.Edits.{edited};
-ghost use Rattle.solid_model.specs.declared.edit.Edit.TheVariants.{Add};
+ghost use Rattle.solid_model.specs.declared.edit.Edit.TheVariants.{Add, Cut, Put, Set};
 ghost use Rattle.solid_model.specs.Refusals.{RefusesAs, WantsMemoryFor};
 
 use crate::table::Table;
@@ -50,9 +50,11 @@ impl Model {
 
     /// Applies a change. After an `Err` the model is as it was, and the change is dropped.
     ///
-    /// The first of these that holds is answered. `UnknownName`: an argument names no clause.
-    /// `DoubleName`: the new name stands already. `Full`: the model has 65,535 clauses. `NoMemory`:
-    /// memory was refused, and none of these holds.
+    /// The first of these that holds is answered. `UnknownName`: an argument, or a name that should
+    /// stand already, names no clause. `DoubleName`: the new name stands already. `NotEarlier`: an
+    /// argument stands at or after the place of the clause. `InUse`: another clause has this one as
+    /// an argument. `LastClause`: the model has one clause. `Full`: the model has 65,535 clauses.
+    /// `NoMemory`: memory was refused, and none of these holds.
     pub fn apply(&mut self, edit: Edit) -> Result<(), EditFault>
         ensures ok { OnOk result (edited self.old edit ≡ Ok self.new) }
         ensures fault { RefusesAs (edited self.old edit) EditFault.NoMemory result }
@@ -60,18 +62,51 @@ impl Model {
         ensures err { OnErr result (self.new ≡ self.old) }
     {
         match edit {
+            Edit::Set(name, form) => self.set(name, form),
             Edit::Add(name, form) => self.add(name, form),
+            Edit::Put(next, name, form) => self.put(next, name, form),
+            Edit::Cut(name) => self.cut(name),
         }
+    }
+
+    // Gives the clause of this name another form.
+    fn set(&mut self, name: Name, form: Form) -> Result<(), EditFault>
+        ensures ok { OnOk result (edited self.old (Set name form) ≡ Ok self.new) }
+        ensures fault { IfErr result (λ fault. edited self.old (Set name form) ≡ Err fault) }
+        ensures err { OnErr result (self.new ≡ self.old) }
+    {
+        self.table.set(name, form)
     }
 
     // Adds a clause of this name and form as the last one.
     fn add(&mut self, name: Name, form: Form) -> Result<(), EditFault>
         ensures ok { OnOk result (edited self.old (Add name form) ≡ Ok self.new) }
         ensures fault { RefusesAs (edited self.old (Add name form)) EditFault.NoMemory result }
-        ensures no_memory { WantsMemoryFor (edited self.old (Add name form)) EditFault.NoMemory result }
+        ensures no_memory { WantsMemoryFor (edited self.old (Add name form)) EditFault.NoMemory
+            result }
         ensures err { OnErr result (self.new ≡ self.old) }
     {
         self.table.add(name, form)
+    }
+
+    // Puts a clause of this name and form directly before that of another name.
+    fn put(&mut self, next: Name, name: Name, form: Form) -> Result<(), EditFault>
+        ensures ok { OnOk result (edited self.old (Put next name form) ≡ Ok self.new) }
+        ensures fault { RefusesAs (edited self.old (Put next name form)) EditFault.NoMemory result }
+        ensures no_memory { WantsMemoryFor (edited self.old (Put next name form)) EditFault.NoMemory
+            result }
+        ensures err { OnErr result (self.new ≡ self.old) }
+    {
+        self.table.put(next, name, form)
+    }
+
+    // Takes out the clause of this name.
+    fn cut(&mut self, name: Name) -> Result<(), EditFault>
+        ensures ok { OnOk result (edited self.old (Cut name) ≡ Ok self.new) }
+        ensures fault { IfErr result (λ fault. edited self.old (Cut name) ≡ Err fault) }
+        ensures err { OnErr result (self.new ≡ self.old) }
+    {
+        self.table.cut(name)
     }
 
     // The model of a table, whose clauses are one.

@@ -1,16 +1,18 @@
 // A list of clauses in which a name is found at once.
-ghost use Rattle.std.specs.Prelude.{◌≡◌, ◌≢◌, ◌<◌, [], ◌∷◌, ◌++◌, length, slice_get, Some, None, IfErr, OnErr, OnOk};
+ghost use Rattle.std.specs.Prelude.{◌≡◌, ◌≢◌, ◌<◌, ◌≤◌, [], ◌∷◌, ◌++◌, length, map, slice_get, Some, None, IfErr, IfSome, OnErr, OnOk};
+ghost use Rattle.std.specs.List.{insert, position, remove};
 ghost use Rattle.std.specs.Option.{unwrap_or};
 ghost use Rattle.solid_model.specs.Adding.{added, clause_after, operand};
-ghost use Rattle.solid_model.specs.Clauses.{place_of};
+ghost use Rattle.solid_model.specs.Clauses.{place_of, AreInOrder};
 ghost use Rattle.solid_model.specs.Names.{IsName};
 ghost use Rattle.solid_model.specs.Parts.{IsForm};
 ghost use Rattle.solid_model.specs.Pushing.{push_fault};
 ghost use Rattle.solid_model.specs.Refusals.{RefusesAs, WantsMemoryFor};
+ghost use Rattle.solid_model.specs.Surgery.{down, formed, moved, put_in, reads, taken_out, up};
 
 use crate::{Clause, EditFault, Form, Name, PushFault};
 use indexmap::IndexSet;
-use std::alloc::Global;
+use std::alloc::{AllocError, Global};
 use std::marker::Model;
 
 // The most clauses that a table holds.
@@ -75,7 +77,8 @@ impl Table {
     // The place of the clause of this name.
     #[inline]
     pub(crate) fn position(&self, name: &[u8]) -> Option<u32>
-        ensures { result ≡ place_of self.now name.now }
+        ensures place { result ≡ place_of self.now name.now }
+        ensures within { IfSome result (λ at. at < length self.now) }
     {
         let at = self.names.get_index_of(name)?;
         Some(at as u32)
@@ -92,6 +95,68 @@ impl Table {
     {
         let clause = self.clause_after(name, form).ok_or(EditFault::UnknownName)?;
         self.push(clause)?;
+        Ok(())
+    }
+
+    // Gives the clause of this name another form.
+    pub(crate) fn set(&mut self, name: Name, form: Form) -> Result<(), EditFault>
+        ensures ok { OnOk result (formed self.old name form ≡ Ok self.new) }
+        ensures fault { IfErr result (λ fault. formed self.old name form ≡ Err fault) }
+        ensures err { OnErr result (self.new ≡ self.old) }
+        ensures name { IsName name }
+        ensures form { IsForm form }
+    {
+        let at = self.position(name.bytes()).ok_or(EditFault::UnknownName)?;
+        let clause = self.clause_after(name, form).ok_or(EditFault::UnknownName)?;
+        if !clause.reads_before(at) {
+            return Err(EditFault::NotEarlier);
+        }
+        self.clauses[at as usize] = clause;
+        Ok(())
+    }
+
+    // Puts a clause of this name and form directly before that of another name.
+    pub(crate) fn put(&mut self, next: Name, name: Name, form: Form) -> Result<(), EditFault>
+        requires in_order { AreInOrder self.old }
+        ensures ok { OnOk result (put_in self.old next name form ≡ Ok self.new) }
+        ensures fault { RefusesAs (put_in self.old next name form) EditFault.NoMemory result }
+        ensures no_memory { WantsMemoryFor (put_in self.old next name form) EditFault.NoMemory
+            result }
+        ensures err { OnErr result (self.new ≡ self.old) }
+        ensures name { IsName name }
+        ensures form { IsForm form }
+    {
+        let at = self.position(next.bytes()).ok_or(EditFault::UnknownName)?;
+        let clause = self.clause_after(name, form).ok_or(EditFault::UnknownName)?;
+        if self.position(clause.name.bytes()).is_some() {
+            return Err(EditFault::DoubleName);
+        }
+        if !clause.reads_before(at) {
+            return Err(EditFault::NotEarlier);
+        }
+        if self.len() >= MOST {
+            return Err(EditFault::Full);
+        }
+        match self.insert(at, clause) {
+            Ok(()) => Ok(()),
+            Err(_) => Err(EditFault::NoMemory),
+        }
+    }
+
+    // Takes out the clause of this name.
+    pub(crate) fn cut(&mut self, name: Name) -> Result<(), EditFault>
+        ensures ok { OnOk result (taken_out self.old name ≡ Ok self.new) }
+        ensures fault { IfErr result (λ fault. taken_out self.old name ≡ Err fault) }
+        ensures err { OnErr result (self.new ≡ self.old) }
+    {
+        let at = self.position(name.bytes()).ok_or(EditFault::UnknownName)?;
+        if let Some(user) = self.first_user(at) {
+            return Err(EditFault::InUse(user as u32));
+        }
+        if self.len() <= 1 {
+            return Err(EditFault::LastClause);
+        }
+        self.remove(at);
         Ok(())
     }
 
@@ -168,5 +233,62 @@ impl Table {
         } else {
             PushFault::NoMemory
         }
+    }
+
+    // Puts a clause of a new name in at a place, and moves the operands of the others. All room is
+    // made before the first of them moves.
+    fn insert(&mut self, at: u32, clause: Clause) -> Result<(), AllocError>
+        requires in_order { AreInOrder self.old }
+        requires within { at < length self.old }
+        requires room { length self.old < 65535 }
+        requires new { place_of self.old clause.name ≡ None }
+        ensures ok { OnOk result (self.new ≡ insert (map (moved (up at)) self.old) at clause) }
+        ensures err { OnErr result (self.new ≡ self.old) }
+    {
+        let key = Vec::from_slice(self.alloc, clause.name.bytes())?;
+        self.clauses.reserve(1)?;
+        self.names.shift_insert(at as usize, key)?;
+        raise(&mut self.clauses, at);
+        self.clauses.insert(at as usize, clause).unwrap();
+        Ok(())
+    }
+
+    // The place of the first clause that has the clause at a place as an operand.
+    fn first_user(&self, at: u32) -> Option<usize>
+        ensures place { result ≡ position (reads at) self.now }
+        ensures within { IfSome result (λ user. user < length self.now) }
+        ensures few { length self.now ≤ 65535 }
+    {
+        self.clauses.iter().position(|clause| clause.reads(at))
+    }
+
+    // Takes out the clause at a place, and moves the operands of the others.
+    fn remove(&mut self, at: u32)
+        requires { at < length self.old }
+        ensures { self.new ≡ remove (map (moved (down at)) self.old) at }
+    {
+        lower(&mut self.clauses, at);
+        self.clauses.remove(at as usize);
+        self.names.shift_remove_index(at as usize);
+    }
+}
+
+// Moves the operands of all clauses for one that is put in at a place.
+fn raise(clauses: &mut [Clause], at: u32)
+    requires in_order { AreInOrder clauses.old }
+    requires few { length clauses.old ≤ 65535 }
+    ensures { clauses.new ≡ map (moved (up at)) clauses.old }
+{
+    for clause in clauses.iter_mut() {
+        clause.raise(at);
+    }
+}
+
+// Moves the operands of all clauses for one that is taken out at a place.
+fn lower(clauses: &mut [Clause], at: u32)
+    ensures { clauses.new ≡ map (moved (down at)) clauses.old }
+{
+    for clause in clauses.iter_mut() {
+        clause.lower(at);
     }
 }

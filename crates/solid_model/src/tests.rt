@@ -125,6 +125,101 @@ fn refuses_and_stays(rt: HostRuntime) -> Result<(), Fail> {
 }
 
 #[test]
+fn refused_edits_tell_the_first_fault(rt: HostRuntime) -> Result<(), Fail> {
+    let alloc = rt.alloc();
+    let mut model = disc(alloc)?;
+    let name = |bytes: &[u8]| Name::new(alloc, bytes);
+    let sum = |first: &[u8], second: &[u8]| pair(alloc, Op::Add, first, second);
+    for (edit, fault) in [
+        (
+            Edit::Set(name(b"g")?, sum(b"a", b"b")?),
+            EditFault::UnknownName,
+        ),
+        (
+            Edit::Set(name(b"c")?, sum(b"f", b"g")?),
+            EditFault::UnknownName,
+        ),
+        (
+            Edit::Set(name(b"c")?, sum(b"a", b"c")?),
+            EditFault::NotEarlier,
+        ),
+        (
+            Edit::Put(name(b"g")?, name(b"h")?, sum(b"a", b"b")?),
+            EditFault::UnknownName,
+        ),
+        (
+            Edit::Put(name(b"c")?, name(b"a")?, sum(b"a", b"g")?),
+            EditFault::UnknownName,
+        ),
+        (
+            Edit::Put(name(b"c")?, name(b"a")?, sum(b"a", b"f")?),
+            EditFault::DoubleName,
+        ),
+        (
+            Edit::Put(name(b"c")?, name(b"g")?, sum(b"a", b"c")?),
+            EditFault::NotEarlier,
+        ),
+        (Edit::Cut(name(b"g")?), EditFault::UnknownName),
+        (Edit::Cut(name(b"a")?), EditFault::InUse(2)),
+        (Edit::Cut(name(b"e")?), EditFault::InUse(6)),
+    ] {
+        assert_eq!(rt; model.apply(edit), Err(fault));
+        assert_eq!(rt; model.len(), 7);
+        assert_eq!(rt; model.position(b"g"), None);
+    }
+    let mut only = Model::first(alloc, name(b"a")?, leaf(alloc, Op::X, Fx::from_raw(0)))?;
+    assert_eq!(rt;
+        only.apply(Edit::Cut(name(b"a")?)),
+        Err(EditFault::LastClause)
+    );
+    Ok(())
+}
+
+// The places of the operands of each clause.
+fn operands(alloc: Global, model: &Model) -> Result<Vec<(u32, u32)>, Fail> {
+    let mut places = Vec::new(alloc);
+    for at in 0..model.len() {
+        let clause = model.clause(at);
+        places.push((clause.a, clause.b))?;
+    }
+    Ok(places)
+}
+
+#[test]
+fn edits_move_the_operands(rt: HostRuntime) -> Result<(), Fail> {
+    let alloc = rt.alloc();
+    let mut model = disc(alloc)?;
+    let name = |bytes: &[u8]| Name::new(alloc, bytes);
+    model.apply(Edit::Put(name(b"c")?, name(b"g")?, pair(alloc, Op::Min, b"a", b"b")?))?;
+    assert_eq!(rt; model.position(b"g"), Some(2));
+    assert_eq!(rt;
+        operands(alloc, &model)?.as_slice(),
+        [
+            (0, 0),
+            (0, 0),
+            (0, 1),
+            (0, 0),
+            (1, 1),
+            (3, 4),
+            (0, 0),
+            (5, 6)
+        ]
+        .as_slice()
+    );
+    model.apply(Edit::Cut(name(b"g")?))?;
+    model.apply(Edit::Set(name(b"f")?, pair(alloc, Op::Sub, b"r", b"e")?))?;
+    assert_eq!(rt;
+        operands(alloc, &model)?.as_slice(),
+        [(0, 0), (0, 0), (0, 0), (1, 1), (2, 3), (0, 0), (5, 4)].as_slice()
+    );
+    model.apply(Edit::Cut(name(b"f")?))?;
+    assert_eq!(rt; model.len(), 6);
+    assert_eq!(rt; model.position(b"f"), None);
+    assert_eq!(rt; model.clause(5).op, Op::Const);
+    Ok(())
+}
+
+#[test]
 fn the_first_clause_has_no_argument(rt: HostRuntime) -> Result<(), Fail> {
     let alloc = rt.alloc();
     let form = pair(alloc, Op::Add, b"a", b"a")?;

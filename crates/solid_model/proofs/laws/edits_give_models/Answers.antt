@@ -1,5 +1,6 @@
 -- The laws of edits are lemmas.
-use Rattle.solid_model.proofs.NamedLemmas.{placed-named, edits-models}
+use Rattle.solid_model.proofs.NamedLemmas.{placed-named}
+use Rattle.solid_model.proofs.SurgeryModels.{edits-models}
 use Rattle.solid_model.proofs.laws.edits_give_models.Goals as goal
 
 pub returns-clause-places : goal.returns-clause-places
