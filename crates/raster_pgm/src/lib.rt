@@ -1,11 +1,13 @@
-//! Images, and their bytes as Netpbm PGM in the P5 form.
+//! Images and samples, and their bytes as Netpbm PGM in the P5 form.
 #![tactic(auto)]
 
 mod pgm;
 mod pixel_grid;
+mod samples;
 
 pub use pgm::{pgm_header, pgm_text};
 pub use pixel_grid::PixelGrid;
+pub use samples::samples_text;
 
 #[cfg(test)]
 mod tests;

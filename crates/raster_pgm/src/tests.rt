@@ -26,3 +26,17 @@ fn header_leaves_room_for_the_pixels(rt: HostRuntime) -> Result<(), Fail> {
     assert!(rt; text.capacity() >= 14 + 4096);
     Ok(())
 }
+
+#[test]
+fn samples_have_two_bytes_from_256_on(rt: HostRuntime) -> Result<(), Fail> {
+    let cases: [(u32, [u16; 2], &[u8]); 3] = [
+        (255, [0, 255], b"P5\n2 1\n255\n\x00\xff"),
+        (256, [1, 256], b"P5\n2 1\n256\n\x00\x01\x01\x00"),
+        (1024, [259, 1024], b"P5\n2 1\n1024\n\x01\x03\x04\x00"),
+    ];
+    for (d, samples, bytes) in cases {
+        let text = samples_text(rt.alloc(), 2, 1, d, &samples)?;
+        assert_eq!(rt; text.as_slice(), bytes);
+    }
+    Ok(())
+}
