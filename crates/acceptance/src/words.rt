@@ -5,7 +5,7 @@ use modeller_io::Source;
 use std::test::Fail;
 
 // Words, the number of the one that is noted, and the reason.
-const CASES: [(&[&str], u32, &str); 36] = [
+const CASES: [(&[&str], u32, &str); 49] = [
     (&[], 0, "NoVerb"),
     (&["draw"], 1, "UnknownVerb"),
     (&["Render", "w"], 1, "UnknownVerb"),
@@ -30,7 +30,6 @@ const CASES: [(&[&str], u32, &str); 36] = [
     (&["render", "w=99999999999999999999"], 2, "OutOfRange"),
     (&["render", "w=0"], 2, "OutOfRange"),
     (&["render", "h=3", "w=4097"], 3, "OutOfRange"),
-    (&["height", "w=1025"], 2, "OutOfRange"),
     (&["mesh", "n=257"], 2, "OutOfRange"),
     (&["forge", "solids=5001"], 2, "OutOfRange"),
     // The first bad word is noted, whatever stands after it.
@@ -39,8 +38,23 @@ const CASES: [(&[&str], u32, &str); 36] = [
     (&["render", "y1=-1.0000000003"], 0, "EmptySpan"),
     (&["mesh", "n=256", "x0=0", "x1=0.001"], 0, "CellTooSmall"),
     (&["mesh", "n=256", "x0=1", "x1=0"], 0, "EmptySpan"),
+    // Words of a height map.
+    (&["height", "w"], 2, "NotASetting"),
+    (&["height", "n=3"], 2, "UnknownSetting"),
+    (&["height", "z=0"], 2, "UnknownSetting"),
+    (&["height", "d=3", "d=4"], 3, "Twice"),
+    (&["height", "d=3.0"], 2, "BadValue"),
+    (&["height", "z0=1e"], 2, "BadValue"),
+    (&["height", "w=1025"], 2, "OutOfRange"),
+    (&["height", "h=1025"], 2, "OutOfRange"),
+    (&["height", "d=1025"], 2, "OutOfRange"),
+    (&["height", "w=0"], 2, "OutOfRange"),
+    (&["height", "h=0"], 2, "OutOfRange"),
+    (&["height", "d=0"], 2, "OutOfRange"),
+    (&["height", "x0=1", "x1=-1"], 0, "EmptySpan"),
+    (&["height", "y1=-2"], 0, "EmptySpan"),
+    (&["height", "z0=0.5", "z1=0.25"], 0, "EmptySpan"),
     // Good words of verbs that are not built.
-    (&["height", "w=1024", "d=1"], 1, "NotBuilt"),
     (&["mesh", "z0=-2", "z1=2", "n=256"], 1, "NotBuilt"),
     (&["replay"], 1, "NotBuilt"),
     (&["forge", "seed=18446744073709551615"], 1, "NotBuilt"),

@@ -1,5 +1,5 @@
 -- The definitions of a run, computed on words, texts and views that were worked out by hand.
-use Rattle.std.proofs.Common.{◌≡◌, ℕ, pos, negsuc, ◌+◌, List, [], ◌∷◌, ◌++◌, length, Err, refl, arith}
+use Rattle.std.proofs.Common.{◌≡◌, ℕ, true, false, pos, negsuc, ◌+◌, List, [], ◌∷◌, ◌++◌, length, Err, refl, arith}
 use Rattle.std.specs.Prelude.{codes, ℤ}
 use Rattle.std.specs.Fmt.{digits}
 use Rattle.std.proofs.lemmas.Bool.{le-ltb, lt-ltb}
@@ -10,12 +10,14 @@ use Rattle.clause_reader.specs.declared.text_reason.TextReason.TheVariants as te
 use Rattle.fixed_ops.specs.Operations.{op_result}
 use Rattle.fixed_ops.specs.Raw.{greatest, least}
 use Rattle.fixed_ops.specs.declared.operation.Op.TheVariants as op
+use Rattle.height_map.specs.Bound.{points_where}
 use Rattle.modeller_io.specs.Count.{last_count}
 use Rattle.view_settings.specs.Window.{Window}
 use Rattle.view_settings.specs.declared.job.Job.{Job}
-use Rattle.view_settings.specs.declared.job.Job.TheVariants.{Count, Render}
+use Rattle.view_settings.specs.declared.job.Job.TheVariants.{Count, Height, Render}
 use Rattle.view_settings.specs.declared.word_fault.WordReason.TheVariants as word
 use Rattle.modeller_cmd.specs.Endings.{IsAnswer, NoFault}
+use Rattle.modeller_cmd.specs.Heights.{heights_of}
 use Rattle.modeller_cmd.specs.Notes.{line_of}
 use Rattle.modeller_cmd.specs.Output.{Output, input_limit, made, output_as, output_of, parts_after}
 use Rattle.modeller_cmd.specs.Work.{no_work}
@@ -52,7 +54,7 @@ counted view input = output_as (made (Count view) input)
 -- traced, and what plain evaluation takes
 abbrev done : List ℕ → ℕ → ℕ → ℕ → Output
 done bytes points spans plain =
-    record { status = status.Done; parts = record { bytes = bytes; work = record { points = points; spans = spans; plain = plain } } ∷ []; note = [] }
+    record { status = status.Done; parts = record { bytes = bytes; exact = true; work = record { points = points; spans = spans; plain = plain } } ∷ []; note = [] }
 
 -- a run that writes nothing but this note
 abbrev refused : Status → List ℕ → Output
@@ -98,9 +100,27 @@ plain_counts_all : counted (window 8 1 (pos 0)) (codes "u var-y\nx var-x") ≡ d
 unfolding digits points_in spans_in chain_within
 plain_counts_all = refl
 
+-- a height map of a text, with the work that it takes at most
+abbrev mapped : Window → List ℕ → Output
+mapped view input = output_as (made (Height view) input)
+
+abbrev done_within : List ℕ → ℕ → ℕ → ℕ → Output
+done_within bytes points spans plain =
+    record { status = status.Done; parts = record { bytes = bytes; exact = false; work = record { points = points; spans = spans; plain = plain } } ∷ []; note = [] }
+
+-- of three samples of a column the one below 0 is the far one, whose top is 1: the nearer ones are evaluated, and it
+tops_are_written : mapped (record (window 1 1 (pos 0)) { d = 3 }) (codes "z var-z") ≡ done_within (codes "P5\n1 1\n3\n" ++ 1 ∷ []) 3 1 3
+unfolding digits points_in spans_in points_where heights_of chain_within
+tops_are_written = refl
+
+-- where the greatest top is above 255 each has two bytes
+two_bytes_are_written : mapped (record (window 1 1 (pos 0)) { d = 256 }) (codes "x var-x") ≡ done_within (codes "P5\n1 1\n256\n" ++ 1 ∷ 0 ∷ []) 0 1 256
+unfolding digits points_in spans_in points_where heights_of chain_within
+two_bytes_are_written = refl
+
 -- comments and blanks are dropped where a model is written back, and nothing is evaluated
 text_is_written_back : output_of (codes "text" ∷ []) (codes "# x and -x\n a  var-x\r\nb neg\ta")
-    ≡ record { status = status.Done; parts = record { bytes = codes "a var-x\nb neg a\n"; work = no_work } ∷ []; note = [] }
+    ≡ record { status = status.Done; parts = record { bytes = codes "a var-x\nb neg a\n"; exact = true; work = no_work } ∷ []; note = [] }
 text_is_written_back = refl
 
 -- lines are counted from 1 on, those that say nothing too
@@ -113,7 +133,7 @@ unfolding digits
 empty_input = refl
 
 -- words are refused whatever the input is
-verb_not_built : (input : List ℕ) → output_of (codes "height" ∷ []) input ≡ refused status.Usage (codes "modeller: word 1: NotBuilt\n")
+verb_not_built : (input : List ℕ) → output_of (codes "replay" ∷ []) input ≡ refused status.Usage (codes "modeller: word 1: NotBuilt\n")
 unfolding digits
 verb_not_built input = refl
 

@@ -1,3 +1,4 @@
+mod Depths
 mod Examples
 mod Frames
 mod Outcomes

@@ -1,6 +1,6 @@
 -- What an outcome says of the status, the bytes and the work of a run.
 use Rattle.std.proofs.Common.{◌≡◌, ◌≢◌, ℕ, ◌+◌, ◌≤◌, false, List, [], length, nat_lt, Option, Some, None, Result, Ok, Err, IsOk, IfSome, append-nil, refl, sym, ap, subst, ◌∙◌, arith}
-use Rattle.std.specs.Prelude.{OnSome}
+use Rattle.std.specs.Prelude.{All, IsTrue, OnSome, true}
 use Rattle.std.specs.Io.KnownBytes.{Consumes}
 use Rattle.std.proofs.lemmas.Bool.{le-ltb}
 use Rattle.clause_reader.specs.Reading.{text_read}
@@ -9,13 +9,13 @@ use Rattle.modeller_io.specs.Took.{LosesAtMost}
 use Rattle.solid_model.specs.declared.clause.Clause.{Clause}
 use Rattle.view_settings.specs.Window.{Window}
 use Rattle.view_settings.specs.declared.job.Job.{Job}
-use Rattle.view_settings.specs.declared.job.Job.TheVariants.{Count, Render, Text}
+use Rattle.view_settings.specs.declared.job.Job.TheVariants.{Count, Height, Render, Text}
 use Rattle.modeller_cmd.specs.Asking.{asked}
 use Rattle.modeller_cmd.specs.Endings.{Ends, IsAnswer, Makes, status_after}
-use Rattle.modeller_cmd.specs.Output.{Part, bytes_of_parts, input_limit, made, outcome, output_as, parts_of, work_of_parts}
+use Rattle.modeller_cmd.specs.Output.{AreExact, Part, bytes_of_parts, input_limit, made, outcome, output_as, parts_of, work_of_parts}
 use Rattle.modeller_cmd.specs.Statuses.{status_of}
 use Rattle.modeller_cmd.specs.Stops.{status_at}
-use Rattle.modeller_cmd.specs.Work.{Work, both, frame_work, no_work}
+use Rattle.modeller_cmd.specs.Work.{Work, both, frame_work, height_work, no_work}
 use Rattle.modeller_cmd.specs.declared.refusal.Refusal.{Refusal}
 use Rattle.modeller_cmd.specs.declared.refusal.Refusal.TheVariants as refusal
 use Rattle.modeller_cmd.specs.declared.status.Status.TheVariants as status
@@ -83,12 +83,16 @@ write_fault_of stop.ReadFault e = absurd (grind (arith, e))
 write_fault_of stop.WriteFault e = refl
 write_fault_of stop.NoMemory e = absurd (grind (arith, e))
 
--- the work of what is made of a model that was read
-made_work : (job : Job) (input : List ℕ) (clauses : List Clause) → length input ≤ input_limit → text_read input ≡ Ok clauses
-    → work_of_parts (output_as (made job input)).parts ≡ work_of_parts (parts_of job clauses)
-made_work job input clauses few reads =
+-- the parts of what is made of a model that was read, and their work
+made_parts : (job : Job) (input : List ℕ) (clauses : List Clause) → length input ≤ input_limit → text_read input ≡ Ok clauses
+    → (output_as (made job input)).parts ≡ parts_of job clauses
+made_parts job input clauses few reads =
     let short : nat_lt input_limit (length input) ≡ false = le-ltb input_limit (length input) few in
     rw (short, reads) refl
+
+made_work : (job : Job) (input : List ℕ) (clauses : List Clause) → length input ≤ input_limit → text_read input ≡ Ok clauses
+    → work_of_parts (output_as (made job input)).parts ≡ work_of_parts (parts_of job clauses)
+made_work job input clauses few reads = ap work_of_parts (made_parts job input clauses few reads)
 
 -- the work of one part alone
 one_work : (work : Work) → both work no_work ≡ work
@@ -98,7 +102,7 @@ one_work work =
     let n : work.plain + 0 ≡ work.plain = omega arith in
     λ k. record { points = p k; spans = s k; plain = n k }
 
--- the work of an image, of one that is counted, and of a text
+-- the work of an image, of one that is counted, of a height map, and of a text
 pub render_work : (job : Job) (view : Window) (input : List ℕ) (clauses : List Clause) → job ≡ Render view → length input ≤ input_limit → text_read input ≡ Ok clauses
     → work_of_parts (output_as (made job input)).parts ≡ frame_work view clauses
 render_work job view input clauses is few reads =
@@ -109,10 +113,25 @@ pub count_work : (job : Job) (view : Window) (input : List ℕ) (clauses : List 
 count_work job view input clauses is few reads =
     made_work job input clauses few reads ∙ ap (λ j. work_of_parts (parts_of j clauses)) is ∙ one_work (frame_work view clauses)
 
+pub height_work_of : (job : Job) (view : Window) (input : List ℕ) (clauses : List Clause) → job ≡ Height view → length input ≤ input_limit → text_read input ≡ Ok clauses
+    → work_of_parts (output_as (made job input)).parts ≡ height_work view clauses
+height_work_of job view input clauses is few reads =
+    made_work job input clauses few reads ∙ ap (λ j. work_of_parts (parts_of j clauses)) is ∙ one_work (height_work view clauses)
+
 pub text_work : (job : Job) (input : List ℕ) (clauses : List Clause) → job ≡ Text → length input ≤ input_limit → text_read input ≡ Ok clauses
     → work_of_parts (output_as (made job input)).parts ≡ no_work
 text_work job input clauses is few reads =
     made_work job input clauses few reads ∙ ap (λ j. work_of_parts (parts_of j clauses)) is
+
+-- the work of a height map is not exact
+pub height_bounded : (job : Job) (view : Window) (input : List ℕ) (clauses : List Clause) → job ≡ Height view → length input ≤ input_limit → text_read input ≡ Ok clauses
+    → AreExact (output_as (made job input)).parts → ⊥
+unfolding AreExact
+height_bounded job view input clauses is few reads exact =
+    let parts : (output_as (made job input)).parts ≡ parts_of (Height view) clauses =
+    made_parts job input clauses few reads ∙ ap (λ j. parts_of j clauses) is in
+    let none = subst (All (λ part. IsTrue part.exact)) parts exact 0 (record { bytes = []; exact = true; work = no_work }) (omega arith) in
+    grind (arith, none)
 
 -- what words that are accepted make of an input
 pub asked_made : (words : List (List ℕ)) (job : Job) (input : List ℕ) → Ok job ≡ asked words → outcome words input ≡ made job input

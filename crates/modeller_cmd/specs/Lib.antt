@@ -1,5 +1,6 @@
 pub mod Asking
 pub mod Endings
+pub mod Heights
 pub mod Images
 pub mod Notes
 pub mod Output

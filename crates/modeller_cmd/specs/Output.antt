@@ -1,16 +1,17 @@
 -- What a run gives for its words and its input: a status, the bytes in their parts, and a note line.
-use Rattle.std.specs.Prelude.{ℕ, nat_lt, List, [], ◌∷◌, ◌++◌, length, Option, Result, Ok, Err, IfSome, if◌then◌else◌}
+use Rattle.std.specs.Prelude.{ℕ, nat_lt, Bool, true, false, IsTrue, List, All, [], ◌∷◌, ◌++◌, length, Option, Result, Ok, Err, IfSome, if◌then◌else◌}
 use Rattle.clause_reader.specs.Reading.{text_read}
 use Rattle.clause_reader.specs.ModelText.{model_text}
 use Rattle.clause_reader.specs.declared.text_fault.TextFault.{TextFault}
 use Rattle.solid_model.specs.declared.clause.Clause.{Clause}
 use Rattle.view_settings.specs.declared.job.Job.{Job}
-use Rattle.view_settings.specs.declared.job.Job.TheVariants.{Count, Render, Text}
+use Rattle.view_settings.specs.declared.job.Job.TheVariants.{Count, Height, Render, Text}
+use Rattle.modeller_cmd.specs.Heights.{heights_of}
 use Rattle.modeller_cmd.specs.Images.{image_of}
 use Rattle.modeller_cmd.specs.Notes.{refusal_line}
 use Rattle.modeller_cmd.specs.Statuses.{status_of}
 use Rattle.modeller_cmd.specs.Asking.{asked}
-use Rattle.modeller_cmd.specs.Work.{Work, both, count_text, frame_work, no_work}
+use Rattle.modeller_cmd.specs.Work.{Work, both, count_text, frame_work, height_work, no_work}
 use Rattle.modeller_cmd.specs.declared.refusal.Refusal.{Refusal}
 use Rattle.modeller_cmd.specs.declared.refusal.Refusal.TheVariants.{TooLong, Model}
 use Rattle.modeller_cmd.specs.declared.status.Status.{Status}
@@ -20,9 +21,10 @@ use Rattle.modeller_cmd.specs.declared.status.Status.TheVariants as status
 abbrev pub input_limit : ℕ
 input_limit = 8388608
 
--- a part of the bytes that a run writes, with the work that it takes
+-- a part of the bytes that a run writes, with the work that it takes: exactly so much, or else at most
 pub record Part : Type 0 where
   pub bytes : List ℕ
+  pub exact : Bool
   pub work : Work
 
 -- the bytes of the parts, one after the other
@@ -35,11 +37,16 @@ abbrev pub work_of_parts : List Part → Work
 work_of_parts [] = no_work
 work_of_parts (part ∷ parts) = both part.work (work_of_parts parts)
 
+-- all the parts take exactly their work
+unfoldable pub AreExact : List Part → Type 0
+AreExact parts = All (λ part. IsTrue part.exact) parts
+
 -- the parts that a job makes of a model
 abbrev pub parts_of : Job → List Clause → List Part
-parts_of (Render view) clauses = record { bytes = image_of view clauses; work = frame_work view clauses } ∷ []
-parts_of (Count view) clauses = record { bytes = count_text (frame_work view clauses); work = frame_work view clauses } ∷ []
-parts_of Text clauses = record { bytes = model_text clauses; work = no_work } ∷ []
+parts_of (Render view) clauses = record { bytes = image_of view clauses; exact = true; work = frame_work view clauses } ∷ []
+parts_of (Height view) clauses = record { bytes = heights_of view clauses; exact = false; work = height_work view clauses } ∷ []
+parts_of (Count view) clauses = record { bytes = count_text (frame_work view clauses); exact = true; work = frame_work view clauses } ∷ []
+parts_of Text clauses = record { bytes = model_text clauses; exact = true; work = no_work } ∷ []
 parts_of other clauses = []
 
 -- the parts that a job makes of a text that was read, or its refusal

@@ -1,11 +1,13 @@
 -- The work that a run takes, how it is counted, and what `count` writes of it.
 use Rattle.std.specs.Prelude.{◌≡◌, ℕ, ◌+◌, ◌^◌, ◌<◌, ◌≤◌, List, ◌++◌, length, codes, decimal}
 use Rattle.fixed_ops.specs.Counts.{Counts, risen}
+use Rattle.height_map.specs.Bound.{height_points, height_spans}
 use Rattle.live_clauses.specs.Live.{root_of}
 use Rattle.box_chains.specs.Tallied.{CountsAtMost, CountsExactly}
 use Rattle.quad_descent.specs.Raster.{fresh_points, fresh_spans}
 use Rattle.solid_model.specs.declared.clause.Clause.{Clause}
 use Rattle.view_settings.specs.Window.{Window}
+use Rattle.modeller_cmd.specs.Heights.{plain_depths}
 use Rattle.modeller_cmd.specs.Images.{plain_points}
 
 -- the evaluations at samples, the steps that are traced over boxes, and the evaluations that evaluating each clause
@@ -33,6 +35,15 @@ frame_work view clauses = record {
   points = fresh_points view (root_of clauses);
   spans = fresh_spans view (root_of clauses);
   plain = plain_points view (length clauses);
+}
+
+-- the work that a height map of a solid over a view takes at most: that of its root list, and beside it what all clauses
+-- would take
+abbrev pub height_work : Window → List Clause → Work
+height_work view clauses = record {
+  points = height_points view (root_of clauses);
+  spans = height_spans view (root_of clauses);
+  plain = plain_depths view (length clauses);
 }
 
 -- the three lines that tell the work of an image

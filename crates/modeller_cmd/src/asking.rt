@@ -1,5 +1,6 @@
 // What the words of a run ask for.
 ghost use Rattle.std.specs.Prelude.{◌≡◌, Ok, Err, IfOk, IsTrue, if◌then◌else◌};
+ghost use Rattle.view_settings.specs.Settings.{IsJob};
 ghost use Rattle.view_settings.specs.Words.{bytes_of};
 ghost use Rattle.modeller_cmd.specs.Asking.{asked, is_built};
 
@@ -10,6 +11,7 @@ use view_settings::{Job, read_words};
 pub fn read_job(words: &[String]) -> Result<Job, Refusal>
     ensures job { result ≡ asked (bytes_of words.now) }
     ensures built { IfOk result (λ job. IsTrue (is_built job)) }
+    ensures keeps { IfOk result IsJob }
 {
     match read_words(words) {
         Ok(job) => built(job),
@@ -33,5 +35,8 @@ fn built(job: Job) -> Result<Job, Refusal>
 fn is_built(job: &Job) -> bool
     ensures { result ≡ is_built job.now }
 {
-    matches!(job, Job::Render(_) | Job::Count(_) | Job::Text)
+    matches!(
+        job,
+        Job::Render(_) | Job::Height(_) | Job::Count(_) | Job::Text
+    )
 }

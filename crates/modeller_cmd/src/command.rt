@@ -3,10 +3,11 @@ ghost use Rattle.std.specs.Prelude.{◌≡◌, ◌≢◌, ◌+◌, ◌<◌, ◌�
 ghost use Rattle.modeller_io.specs.Count.{last_count, RoseBy, Stands};
 ghost use Rattle.modeller_io.specs.Held.{Gains, GainsPrefix, Grew};
 ghost use Rattle.modeller_io.specs.Took.{LosesAtMost};
+ghost use Rattle.view_settings.specs.Settings.{IsJob};
 ghost use Rattle.view_settings.specs.Words.{bytes_of};
 ghost use Rattle.modeller_cmd.specs.Endings.{CountsForSome, Ends, IsAnswer, IsRead, IsRefusal, IsTold, IsUnwritten, IsWorkStop, IsWorked, Makes, NoFault, ReadsWhole, TakesLine, Tells, status_after};
 ghost use Rattle.modeller_cmd.specs.Notes.{line_of};
-ghost use Rattle.modeller_cmd.specs.Output.{WithOutput, bytes_of_parts, input_limit, made, outcome, output_as, work_of_parts};
+ghost use Rattle.modeller_cmd.specs.Output.{AreExact, WithOutput, bytes_of_parts, input_limit, made, outcome, output_as, work_of_parts};
 ghost use Rattle.modeller_cmd.specs.Asking.{asked, is_built};
 ghost use Rattle.modeller_cmd.specs.Work.{CountsWithin, CountsWork, PointsRiseAtMost};
 
@@ -14,6 +15,7 @@ use crate::Status;
 use crate::asking::read_job;
 use crate::count::count;
 use crate::draw::draw;
+use crate::height::height;
 use crate::note::note_of;
 use crate::refusal::Refusal;
 use crate::stop::Stop;
@@ -73,9 +75,9 @@ pub fn run<S: Source, K: Sink, N: Sink>(
     // The one line of the notes.
     ensures note { Tells (bytes_of words.now) (S.rest source.old) result (TakesLine N.faults N.held notes.old notes.new) }
 
-    // The work that is counted: all of it where it was done, and never more, whatever the status.
+    // The work that is counted: all of it where it was done and is exact, and never more, whatever the status.
     ensures counted { IsWorked result → WithOutput S.rest source.old (bytes_of words.now) (λ output.
-        CountsWork tally.old tally.new (work_of_parts output.parts)) }
+        AreExact output.parts → CountsWork tally.old tally.new (work_of_parts output.parts)) }
     ensures uncounted { IsRefusal result → tally.new ≡ tally.old }
     ensures work { WithOutput S.rest source.old (bytes_of words.now) (λ output.
         CountsWithin tally.old tally.new (work_of_parts output.parts)) }
@@ -133,7 +135,7 @@ fn perform<S: Source, K: Sink>(
         Makes (outcome (bytes_of words.now) input) (GainsPrefix K.held out.old out.new)) }
 
     ensures counted { IsWorked (status_after result) → WithOutput S.rest source.old (bytes_of words.now) (λ output.
-        CountsWork tally.old tally.new (work_of_parts output.parts)) }
+        AreExact output.parts → CountsWork tally.old tally.new (work_of_parts output.parts)) }
     ensures uncounted { IsRefusal (status_after result) → tally.new ≡ tally.old }
     ensures work { WithOutput S.rest source.old (bytes_of words.now) (λ output.
         CountsWithin tally.old tally.new (work_of_parts output.parts)) }
@@ -151,11 +153,13 @@ fn perform<S: Source, K: Sink>(
 // What a job makes of an input: the table of the verbs.
 fn work(alloc: Global, job: &Job, input: &[u8], tally: &mut Tally) -> Result<Vec<u8>, Stop>
     requires built { IsTrue (is_built job.now) }
+    requires keeps { IsJob job.now }
     requires limit { length input.now ≤ input_limit }
     ensures bytes { IfOk result (λ bytes. Makes (made job.now input.now) (λ whole. bytes.items ≡ whole)) }
     ensures ends { Ends (made job.now input.now) result }
     ensures stop { IfErr result IsWorkStop }
-    ensures counted { OnOk result (CountsWork tally.old tally.new (work_of_parts (output_as (made job.now input.now)).parts)) }
+    ensures counted { OnOk result (AreExact (output_as (made job.now input.now)).parts
+        → CountsWork tally.old tally.new (work_of_parts (output_as (made job.now input.now)).parts)) }
     ensures uncounted { IsRefusal (status_after result) → tally.new ≡ tally.old }
     ensures at_most { CountsWithin tally.old tally.new (work_of_parts (output_as (made job.now input.now)).parts) }
     ensures plain { PointsRiseAtMost tally.old tally.new (work_of_parts (output_as (made job.now input.now)).parts).plain }
@@ -163,6 +167,7 @@ fn work(alloc: Global, job: &Job, input: &[u8], tally: &mut Tally) -> Result<Vec
     let model = read_model(alloc, input)?;
     match job {
         Job::Render(view) => Ok(draw(alloc, &model, view, tally)?),
+        Job::Height(view) => Ok(height(alloc, &model, view, tally)?),
         Job::Count(view) => Ok(count(alloc, &model, view, tally)?),
         Job::Text => Ok(write_model(alloc, &model)?),
         _ => Err(Stop::Refused(Refusal::NotBuilt)),

@@ -54,9 +54,9 @@ pub fn draw_tree(
     draw_list(alloc, &list, view, tally)
 }
 
-// Lets a proof know what every view keeps.
+/// Lets a proof know what every view keeps.
 #[inline]
-fn window_holds(view: &View)
+pub fn window_holds(view: &View)
     ensures { IsWindow view.now }
 {
     let _width = view.w;

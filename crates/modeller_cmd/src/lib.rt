@@ -5,6 +5,7 @@ mod asking;
 mod command;
 mod count;
 mod draw;
+mod height;
 mod note;
 mod refusal;
 mod status;

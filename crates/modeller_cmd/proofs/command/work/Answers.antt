@@ -1,7 +1,7 @@
 use Rattle.std.proofs.Common.{subst, sym}
 use Rattle.modeller_cmd.specs.Work.{CountsWithin, CountsWork, PointsRiseAtMost, frame_work}
 use Rattle.modeller_cmd.proofs.Frames.{within-exactly, within-none, work-none}
-use Rattle.modeller_cmd.proofs.Outcomes.{count_work, render_work, text_work}
+use Rattle.modeller_cmd.proofs.Outcomes.{count_work, height_bounded, height_work_of, render_work, text_work}
 use Rattle.modeller_cmd.proofs.command.work.Goals as goal
 
 pub returns-in_err-model-clause-at_most : goal.returns-in_err-model-clause-at_most
@@ -54,7 +54,35 @@ pub returns-in-Text-clause-at_most : goal.returns-in-Text-clause-at_most
 returns-in-Text-clause-at_most c = within-none c.args.tally.now _
 
 pub returns-in-Text-clause-counted : goal.returns-in-Text-clause-counted
-returns-in-Text-clause-counted c =
+returns-in-Text-clause-counted c = λ exact.
     subst (CountsWork c.args.tally.now c.args.tally.now)
     (sym (text_work c.args.job.now c.args.input.now c.in_ok-model.model c.in-Text.is c.requires.limit c.in_ok-model.ensures))
     (work-none c.args.tally.now)
+
+pub returns-in-Height-clause-counted : goal.returns-in-Height-clause-counted
+returns-in-Height-clause-counted c = λ exact.
+    absurd (height_bounded c.args.job.now c.in-Height.view c.args.input.now c.in_ok-model.model c.in-Height.is c.requires.limit c.in_ok-model.ensures exact)
+
+pub returns-in-Height-clause-at_most : goal.returns-in-Height-clause-at_most
+returns-in-Height-clause-at_most c =
+    subst (CountsWithin c.args.tally.now c.height.new.tally)
+    (sym (height_work_of c.args.job.now c.in-Height.view c.args.input.now c.in_ok-model.model c.in-Height.is c.requires.limit c.in_ok-model.ensures))
+    c.in_ok-height-in-Height.ensures.at_most
+
+pub returns-in_err-height-in-Height-clause-at_most : goal.returns-in_err-height-in-Height-clause-at_most
+returns-in_err-height-in-Height-clause-at_most c =
+    subst (CountsWithin c.args.tally.now c.height.new.tally)
+    (sym (height_work_of c.args.job.now c.in-Height.view c.args.input.now c.in_ok-model.model c.in-Height.is c.requires.limit c.in_ok-model.ensures))
+    c.in_err-height-in-Height.ensures.at_most
+
+pub returns-in-Height-clause-plain : goal.returns-in-Height-clause-plain
+returns-in-Height-clause-plain c =
+    subst (λ w. PointsRiseAtMost c.args.tally.now c.height.new.tally w.plain)
+    (sym (height_work_of c.args.job.now c.in-Height.view c.args.input.now c.in_ok-model.model c.in-Height.is c.requires.limit c.in_ok-model.ensures))
+    c.in_ok-height-in-Height.ensures.plain
+
+pub returns-in_err-height-in-Height-clause-plain : goal.returns-in_err-height-in-Height-clause-plain
+returns-in_err-height-in-Height-clause-plain c =
+    subst (λ w. PointsRiseAtMost c.args.tally.now c.height.new.tally w.plain)
+    (sym (height_work_of c.args.job.now c.in-Height.view c.args.input.now c.in_ok-model.model c.in-Height.is c.requires.limit c.in_ok-model.ensures))
+    c.in_err-height-in-Height.ensures.plain
