@@ -1,0 +1,196 @@
+// Height maps. The tops were worked out with exact integers, sample by sample.
+use crate::trial::{DISC, Trial, sink};
+use modeller_cmd::Status;
+use modeller_io::MemSink;
+use std::test::Fail;
+
+// Words, a model, and the map.
+type Case = (&'static [&'static str], &'static str, &'static [u8]);
+
+// Below the plane z = x + y, which rises to the right and to the top.
+const PLANE: &str = "x var-x\ny var-y\nz var-z\ns add x y\nf sub z s";
+
+// A ball of radius 0.4 round x = -0.4, z = 0.5, before a slab that ends at z = -0.3.
+const BODIES: &str =
+    "x var-x\ny var-y\nz var-z\ncx const -0.4\ncz const 0.5\ndx sub x cx\ndz sub z cz\nx2 square dx\ny2 square y\nz2 square dz\na add x2 y2\nb add a z2\nr const 0.16\nball sub b r\nl const -0.3\nslab sub z l\nu min ball slab";
+
+// A ball of radius 0.9 that is hollow up to 0.6.
+const HOLLOW: &str =
+    "x var-x\ny var-y\nz var-z\nx2 square x\ny2 square y\nz2 square z\na add x2 y2\nb add a z2\nr sqrt b\no const 0.9\ni const 0.6\nout sub r o\nin sub i r\ns max out in";
+
+const CASES: [Case; 17] = [
+    // The places -1, 0 and 1, of which 0 is outside.
+    (
+        &["height", "w=1", "h=1", "d=3"],
+        "z var-z",
+        b"P5\n1 1\n3\n\x01",
+    ),
+    (
+        &["height", "w=1", "h=1", "d=300"],
+        "z var-z",
+        b"P5\n1 1\n300\n\x00\x96",
+    ),
+    // All of a column, and nothing of it.
+    (
+        &["height", "w=1", "h=1", "d=3"],
+        "a const -1",
+        b"P5\n1 1\n3\n\x03",
+    ),
+    (
+        &["height", "w=1", "h=1", "d=3"],
+        "a const 1",
+        b"P5\n1 1\n3\n\x00",
+    ),
+    // A lone sample of a column lies at z0.
+    (
+        &["height", "w=1", "h=1", "d=1", "z0=-0.5", "z1=9"],
+        "z var-z",
+        b"P5\n1 1\n1\n\x01",
+    ),
+    // Rows lie from the top on, and none of a column may be inside, or all.
+    (
+        &["height", "w=4", "h=2", "d=255"],
+        PLANE,
+        b"P5\n4 2\n255\n\x7f\xd4\xff\xff\x00\x00\x2b\x7f",
+    ),
+    (
+        &["height", "w=4", "h=2", "d=256"],
+        PLANE,
+        b"P5\n4 2\n256\n\x00\x80\x00\xd5\x01\x00\x01\x00\x00\x00\x00\x00\x00\x2b\x00\x80",
+    ),
+    (
+        &["height", "w=4", "h=2", "d=300"],
+        PLANE,
+        b"P5\n4 2\n300\n\x00\x96\x00\xfa\x01\x2c\x01\x2c\x00\x00\x00\x00\x00\x32\x00\x96",
+    ),
+    (
+        &["height", "w=4", "h=2", "d=1024"],
+        PLANE,
+        b"P5\n4 2\n1024\n\x02\x00\x03\x55\x04\x00\x04\x00\x00\x00\x00\x00\x00\xab\x02\x00",
+    ),
+    // Where the ball lies before the slab, the slab is not seen.
+    (
+        &["height", "w=6", "h=1", "y0=0", "y1=0", "d=255"],
+        BODIES,
+        b"P5\n6 1\n255\n\x59\xeb\xeb\x59\x59\x59",
+    ),
+    (
+        &["height", "w=6", "h=1", "y0=0", "y1=0", "d=256"],
+        BODIES,
+        b"P5\n6 1\n256\n\x00\x5a\x00\xec\x00\xec\x00\x5a\x00\x5a\x00\x5a",
+    ),
+    (
+        &["height", "w=6", "h=1", "y0=0", "y1=0", "d=300"],
+        BODIES,
+        b"P5\n6 1\n300\n\x00\x69\x01\x15\x01\x15\x00\x69\x00\x69\x00\x69",
+    ),
+    (
+        &["height", "w=6", "h=1", "y0=0", "y1=0", "d=1024"],
+        BODIES,
+        b"P5\n6 1\n1024\n\x01\x67\x03\xb1\x03\xb1\x01\x67\x01\x67\x01\x67",
+    ),
+    // Cut open at z = 0, so that its far inner side is seen, its shell, and nothing beside it.
+    (
+        &[
+            "height", "w=7", "h=1", "x0=0", "y0=0.1", "y1=0.1", "z1=0", "d=255",
+        ],
+        HOLLOW,
+        b"P5\n7 1\n255\n\x68\x6e\x82\xae\xff\xff\x00",
+    ),
+    (
+        &[
+            "height", "w=7", "h=1", "x0=0", "y0=0.1", "y1=0.1", "z1=0", "d=256",
+        ],
+        HOLLOW,
+        b"P5\n7 1\n256\n\x00\x69\x00\x6f\x00\x83\x00\xaf\x01\x00\x01\x00\x00\x00",
+    ),
+    (
+        &[
+            "height", "w=7", "h=1", "x0=0", "y0=0.1", "y1=0.1", "z1=0", "d=300",
+        ],
+        HOLLOW,
+        b"P5\n7 1\n300\n\x00\x7b\x00\x82\x00\x99\x00\xcd\x01\x2c\x01\x2c\x00\x00",
+    ),
+    (
+        &[
+            "height", "w=7", "h=1", "x0=0", "y0=0.1", "y1=0.1", "z1=0", "d=1024",
+        ],
+        HOLLOW,
+        b"P5\n7 1\n1024\n\x01\xa2\x01\xbb\x02\x0b\x02\xbc\x04\x00\x04\x00\x00\x00",
+    ),
+];
+
+#[test]
+fn the_nearest_sample_inside_is_the_top(rt: HostRuntime) -> Result<(), Fail> {
+    for (words, model, map) in CASES {
+        let mut trial = Trial::new(rt.alloc(), model.as_bytes())?;
+        assert_eq!(rt; trial.run(rt.alloc(), words)?, Status::Done, "{words:?}");
+        trial.assert_holds(&rt, map, b"");
+    }
+    Ok(())
+}
+
+#[test]
+fn halves_that_are_decided_are_not_evaluated(rt: HostRuntime) -> Result<(), Fail> {
+    let mut trial = Trial::new(rt.alloc(), b"z var-z")?;
+    let words = &["height", "w=1", "h=1", "d=16"];
+    assert_eq!(rt; trial.run(rt.alloc(), words)?, Status::Done);
+    trial.assert_holds(&rt, b"P5\n1 1\n16\n\x08", b"");
+    assert_eq!(rt; trial.tally.points(), 0);
+    assert!(rt; trial.tally.spans() <= 3);
+    assert!(rt; trial.tally.corners() <= 12);
+    Ok(())
+}
+
+#[test]
+fn a_height_map_has_at_most_1024_samples_along_each_axis(rt: HostRuntime) -> Result<(), Fail> {
+    // Two bytes for each of 1024 * 1024 columns, after the 18 bytes `P5`, `1024 1024` and `1024`
+    // with their line feeds.
+    let length = 2_097_170;
+    let mut trial = Trial::new(rt.alloc(), b"z var-z")?;
+    let room = vec![in rt.alloc(); 0; length]?;
+    trial.out = MemSink::new(8192, Vec::new(rt.alloc()), room);
+    let words = &["height", "w=1024", "h=1024", "d=1024"];
+    assert_eq!(rt; trial.run(rt.alloc(), words)?, Status::Done);
+    assert_eq!(rt; trial.out.held().map(|bytes| bytes.len()), Some(length));
+    // Each eighth lies on one side of the plane, and is decided.
+    assert_eq!(rt; trial.tally.points(), 0);
+    assert!(rt; trial.tally.spans() <= 9);
+    Ok(())
+}
+
+#[test]
+fn a_map_of_no_model_is_not_counted(rt: HostRuntime) -> Result<(), Fail> {
+    let cases: [(&[&str], &[u8], Status, &[u8]); 2] = [
+        (
+            &["height", "d=0"],
+            DISC,
+            Status::Usage,
+            b"modeller: word 2: OutOfRange\n",
+        ),
+        (
+            &["height"],
+            b"a var-x\nb neg c",
+            Status::BadModel,
+            b"modeller: line 2: UnknownName\n",
+        ),
+    ];
+    for (words, text, status, note) in cases {
+        let mut trial = Trial::new(rt.alloc(), text)?;
+        assert_eq!(rt; trial.run(rt.alloc(), words)?, status);
+        trial.assert_holds(&rt, b"", note);
+        assert_eq!(rt; trial.tally.points(), 0);
+        assert_eq!(rt; trial.tally.spans(), 0);
+    }
+    Ok(())
+}
+
+#[test]
+fn a_map_that_can_not_be_written_leaves_a_front(rt: HostRuntime) -> Result<(), Fail> {
+    let mut trial = Trial::new(rt.alloc(), b"z var-z")?;
+    trial.out = sink(rt.alloc(), 5, &[3])?;
+    let words = &["height", "w=1", "h=1", "d=300"];
+    assert_eq!(rt; trial.run(rt.alloc(), words)?, Status::WriteFault);
+    trial.assert_holds(&rt, b"P5\n1 1\n300", b"modeller: write fault\n");
+    Ok(())
+}
