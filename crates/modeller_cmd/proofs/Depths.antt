@@ -28,20 +28,24 @@ use Rattle.modeller_cmd.specs.Work.{CountsWithin, PointsRiseAtMost, height_work}
 use Rattle.modeller_cmd.proofs.Frames.{root-few}
 
 -- a top is of the values of its column: where a list has the solid's value, its tops are the solid's
-pub tops-same : (view : Window) (clauses : List Clause) (list : List Step) → ((p : Point) → tape_value p list ≡ solid_value p clauses)
+tops-same : (view : Window) (clauses : List Clause) (list : List Step) → ((p : Point) → tape_value p list ≡ solid_value p clauses)
     → drawn_tops view list ≡ tops_of view clauses
 tops-same view clauses list same =
     let deep : view.d - 0 ≡ view.d = omega arith in
-    λ k. flat_map (λ j. map (λ i. greatest (map (λ n. if is_inside (same (point_of view Height i j n) k) then n + 1 else 0) (range_with_len 0 (deep k))))
-    (range_with_len 0 view.w)) (range_with_len 0 view.h)
+    λ k. flat_map (λ j. map (λ i. greatest (map
+    (λ n. if is_inside (same (point_of view Height i j n) k) then n + 1 else 0)
+    (range_with_len 0 (deep k)))) (range_with_len 0 view.w)) (range_with_len 0 view.h)
 
--- and so is the map of these tops
+-- the map of some tops
+abbrev map_with : Window → List ℕ → Heights
+map_with view tops = record { w = view.w; h = view.h; d = view.d; tops = tops }
+
 pub map-same : {E : Type 0} (r : Result Heights E) (view : Window) (clauses : List Clause) (list : List Step)
     → ((p : Point) → tape_value p list ≡ solid_value p clauses)
     → IfOk r (λ map. map ≡ record { w = view.w; h = view.h; d = view.d; tops = drawn_tops view list })
     → IfOk r (λ map. map ≡ record { w = view.w; h = view.h; d = view.d; tops = tops_of view clauses })
 map-same r view clauses list same =
-    subst (λ tops. IfOk r (λ map. map ≡ record { w = view.w; h = view.h; d = view.d; tops = tops })) (tops-same view clauses list same)
+    subst (λ tops. IfOk r (λ map. map ≡ map_with view tops)) (tops-same view clauses list same)
 
 -- there are as many tops as columns
 pub tops-count : (view : Window) (clauses : List Clause) → length (tops_of view clauses) ≡ view.w * view.h
@@ -50,13 +54,16 @@ tops-count view clauses = rows 0 view.h
     rows : (from n : ℕ) → length (flat_map (tops_at view clauses) (range_with_len from n)) ≡ view.w * n
     rows from zero = omega arith
     rows from (suc n) =
+        let row = tops_at view clauses in
+        let others = range_with_len (from + 1) n in
         let first = length-map-range_with_len (λ i. top_at view clauses i from) 0 view.w in
-        let both = ap length (flat_map-cons (tops_at view clauses) from (range_with_len (from + 1) n)) ∙ length-append (tops_at view clauses from) (flat_map (tops_at view clauses) (range_with_len (from + 1) n)) in
+        let both = ap length (flat_map-cons row from others) ∙ length-append (row from) (flat_map row others) in
         let more : view.w * suc n ≡ view.w + view.w * n = grind arith in
         omega (arith, first, both, more, rows (from + 1) n)
 
 -- no top lies above the samples
-top-below : (inside : ℕ → Bool) (from n : ℕ) → greatest (map (λ k. if inside k then k + 1 else 0) (range_with_len from n)) ≤ from + n
+top-below : (inside : ℕ → Bool) (from n : ℕ)
+    → greatest (map (λ k. if inside k then k + 1 else 0) (range_with_len from n)) ≤ from + n
 top-below inside from zero = omega arith
 top-below inside from (suc n) = omega (arith, item (inside from), top-below inside (from + 1) n)
   where
@@ -67,29 +74,40 @@ top-below inside from (suc n) = omega (arith, item (inside from), top-below insi
 pub tops-below : (view : Window) (clauses : List Clause) → All (λ top. top ≤ view.d) (tops_of view clauses)
 tops-below view clauses = rows 0 view.h
   where
-    row : (j from n : ℕ) → All (λ top. top ≤ view.d) (map (λ i. top_at view clauses i j) (range_with_len from n))
-    row j from zero = All-nil (λ top. top ≤ view.d)
-    row j from (suc n) =
-        All-cons (λ top. top ≤ view.d) (top_at view clauses from j) (map (λ i. top_at view clauses i j) (range_with_len (from + 1) n))
-        (subst (λ n. top_at view clauses from j ≤ n) (zero-add view.d) (top-below (λ k. is_inside (solid_value (point_of view Height from j k) clauses)) 0 view.d))
-        (row j (from + 1) n)
+    Low : ℕ → Type 0
+    Low top = top ≤ view.d
 
-    rows : (from n : ℕ) → All (λ top. top ≤ view.d) (flat_map (tops_at view clauses) (range_with_len from n))
-    rows from zero = All-nil (λ top. top ≤ view.d)
+    top : (i j : ℕ) → top_at view clauses i j ≤ view.d
+    top i j =
+        subst (λ n. top_at view clauses i j ≤ n) (zero-add view.d)
+        (top-below (λ k. is_inside (solid_value (point_of view Height i j k) clauses)) 0 view.d)
+
+    row : (j from n : ℕ) → All Low (map (λ i. top_at view clauses i j) (range_with_len from n))
+    row j from zero = All-nil Low
+    row j from (suc n) =
+        All-cons Low (top_at view clauses from j) (map (λ i. top_at view clauses i j) (range_with_len (from + 1) n))
+        (top from j) (row j (from + 1) n)
+
+    rows : (from n : ℕ) → All Low (flat_map (tops_at view clauses) (range_with_len from n))
+    rows from zero = All-nil Low
     rows from (suc n) =
-        subst (All (λ top. top ≤ view.d)) (sym (flat_map-cons (tops_at view clauses) from (range_with_len (from + 1) n)))
-        (All-append (λ top. top ≤ view.d) (tops_at view clauses from) (flat_map (tops_at view clauses) (range_with_len (from + 1) n)) (row from 0 view.w) (rows (from + 1) n))
+        let first = tops_at view clauses from in
+        let others = range_with_len (from + 1) n in
+        subst (All Low) (sym (flat_map-cons (tops_at view clauses) from others))
+        (All-append Low first (flat_map (tops_at view clauses) others) (row from 0 view.w) (rows (from + 1) n))
 
 -- what is counted of a list is counted of its root list
 pub heights_within : (before after : Counts) (view : Window) (clauses : List Clause) (list : List Step) → list ≡ root_of clauses
-    → CountsAtMost (height_points view list) (height_spans view list) before after → CountsWithin before after (height_work view clauses)
+    → CountsAtMost (height_points view list) (height_spans view list) before after
+    → CountsWithin before after (height_work view clauses)
 unfolding CountsWithin
 heights_within before after view clauses list is h =
     subst (λ l. CountsAtMost (height_points view l) (height_spans view l) before after) is h
 
 -- a height map takes no more evaluations than evaluating each clause at each sample
-pub heights_plain : (before after : Counts) (view : Window) (clauses : List Clause) (list : List Step) → list ≡ root_of clauses → IsWindow view → IsTape list
-    → HeightPointsAreBounded → CountsWithin before after (height_work view clauses) → PointsRiseAtMost before after (plain_depths view (length clauses))
+pub heights_plain : (before after : Counts) (view : Window) (clauses : List Clause) (list : List Step) → list ≡ root_of clauses
+    → IsWindow view → IsTape list → HeightPointsAreBounded → CountsWithin before after (height_work view clauses)
+    → PointsRiseAtMost before after (plain_depths view (length clauses))
 unfolding CountsWithin
 heights_plain before after view clauses list is window tape points h =
     let few = points view (root_of clauses) window (subst IsTape is tape) in
@@ -99,9 +117,9 @@ heights_plain before after view clauses list is window tape points h =
       rises = ap (λ c. c.points) h.rises;
     }
 
--- and so are the bytes of such a map
-pub bytes-same : {T E : Type 0} (r : Result T E) (items : T → List ℕ) (view : Window) (clauses : List Clause) (map : Heights) (tops : List ℕ)
-    → map ≡ record { w = view.w; h = view.h; d = view.d; tops = tops_of view clauses } → tops ≡ map.tops
+-- the bytes of a map of the solid's tops are those of the solid's height map
+pub bytes-same : {T E : Type 0} (r : Result T E) (items : T → List ℕ) (view : Window) (clauses : List Clause) (map : Heights)
+    (tops : List ℕ) → map ≡ record { w = view.w; h = view.h; d = view.d; tops = tops_of view clauses } → tops ≡ map.tops
     → IfOk r (λ text. items text ≡ samples_of map.w map.h map.d tops) → IfOk r (λ text. items text ≡ heights_of view clauses)
 unfolding heights_of
 bytes-same r items view clauses map tops is same put =

@@ -14,7 +14,8 @@ use Rattle.view_settings.specs.declared.lattice.Lattice.TheVariants.{Height}
 -- top, or 0 where none is
 abbrev pub top_at : Window → List Clause → ℕ → ℕ → ℕ
 top_at view clauses i j =
-    greatest (map (λ k. if is_inside (solid_value (point_of view Height i j k) clauses) then k + 1 else 0) (range_with_len 0 view.d))
+    greatest (map (λ k. if is_inside (solid_value (point_of view Height i j k) clauses) then k + 1 else 0)
+    (range_with_len 0 view.d))
 
 -- the tops of row j
 abbrev pub tops_at : Window → List Clause → ℕ → List ℕ
