@@ -1,0 +1,11 @@
+//! Meshes of triangles between the inside and the outside of a solid, and where their vertices
+//! lie.
+#![tactic(auto)]
+
+mod face;
+mod mesh;
+mod vertex;
+
+pub use face::Face;
+pub use mesh::Mesh;
+pub use vertex::Vertex;
