@@ -1,2 +1,3 @@
 pub mod Meshes
 pub mod Places
+pub mod Ways

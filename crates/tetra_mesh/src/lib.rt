@@ -4,8 +4,10 @@
 
 mod face;
 mod mesh;
+mod place;
 mod vertex;
 
 pub use face::Face;
 pub use mesh::Mesh;
+pub use place::vertex_raw;
 pub use vertex::Vertex;
