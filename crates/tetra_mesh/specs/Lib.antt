@@ -1,3 +1,4 @@
 pub mod Meshes
 pub mod Places
+pub mod Tables
 pub mod Ways

@@ -3,11 +3,13 @@
 #![tactic(auto)]
 
 mod face;
+mod grid_places;
 mod mesh;
 mod place;
 mod vertex;
 
 pub use face::Face;
+pub use grid_places::GridPlaces;
 pub use mesh::Mesh;
 pub use place::vertex_raw;
 pub use vertex::Vertex;

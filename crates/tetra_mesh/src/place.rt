@@ -26,7 +26,7 @@ pub fn vertex_raw(view: &View, v: &Vertex, axis: Axis) -> i64
 
 // The index of the lower point of an edge along an axis.
 #[inline]
-fn index_along(key: EdgeKey, axis: Axis) -> u32
+pub(crate) fn index_along(key: EdgeKey, axis: Axis) -> u32
     ensures index { result ≡ index_along_of axis (lower key) }
     ensures small { result ≤ 65535 }
 {
@@ -39,7 +39,7 @@ fn index_along(key: EdgeKey, axis: Axis) -> u32
 
 // Whether an edge leads along an axis.
 #[inline]
-fn leads_along(key: EdgeKey, axis: Axis) -> bool
+pub(crate) fn leads_along(key: EdgeKey, axis: Axis) -> bool
     ensures { result ≡ (steps_along axis key.dir == 1) }
 {
     match axis {
@@ -51,7 +51,7 @@ fn leads_along(key: EdgeKey, axis: Axis) -> bool
 
 // The number that lies t parts of 65536 from one raw number towards another, rounded down.
 #[inline]
-fn between(low: i64, high: i64, t: u32) -> i64
+pub(crate) fn between(low: i64, high: i64, t: u32) -> i64
     requires low { IsRaw low }
     requires high { IsRaw high }
     requires part { t ≤ 65535 }

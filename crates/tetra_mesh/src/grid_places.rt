@@ -1,0 +1,91 @@
+// The places of the points of a grid.
+ghost use Rattle.std.specs.Prelude.{◌≡◌, ◌≤◌};
+ghost use Rattle.fixed_ops.specs.Raw.{IsRaw};
+ghost use Rattle.view_settings.specs.declared.lattice.Lattice.TheVariants.{Grid};
+ghost use Rattle.view_settings.specs.Places.{place_of};
+ghost use Rattle.tetra_mesh.specs.Places.{IsPlaced, vertex_place};
+ghost use Rattle.tetra_mesh.specs.Tables.{IsTable};
+
+use crate::Vertex;
+use crate::place::{between, index_along, leads_along};
+use std::marker::Model;
+use view_settings::{Axis, Lattice, View, raw_place};
+
+// A grid has at most so many points along an axis.
+const POINTS: usize = 257;
+
+/// The raw places of the points of a view's grid along each axis, each worked out once, for the
+/// places of many vertices.
+#[derive(Debug, Drop)]
+pub struct GridPlaces {
+    view: View,
+    x: [i64; POINTS],
+    y: [i64; POINTS],
+    z: [i64; POINTS],
+}
+
+impl Model for GridPlaces {
+    ghost use Rattle.view_settings.specs.declared.lattice.Axis.TheVariants.{X, Y, Z};
+    ghost use Rattle.view_settings.specs.Window.{Window};
+    ghost use Rattle.tetra_mesh.specs.Tables.{AreTables};
+
+    ghost Value = { Window };
+
+    ghost view = { λ p. p.view };
+
+    ghost invariant = { λ p. AreTables p.view p.x p.y p.z };
+}
+
+impl GridPlaces {
+    /// The places of the points of a view's grid.
+    pub fn new(view: &View) -> GridPlaces
+        ensures { result ≡ view.now }
+    {
+        GridPlaces {
+            view: *view,
+            x: table(view, Axis::X),
+            y: table(view, Axis::Y),
+            z: table(view, Axis::Z),
+        }
+    }
+
+    /// The raw place of a vertex along an axis, as `vertex_raw` gives it.
+    #[inline]
+    pub fn raw(&self, v: &Vertex, axis: Axis) -> i64
+        requires { IsPlaced self.now v.now }
+        ensures place { result ≡ vertex_place self.now v.now axis }
+        ensures raw { IsRaw result }
+    {
+        let index = index_along(v.key, axis);
+        let low = self.point(axis, index);
+        if !leads_along(v.key, axis) {
+            return low;
+        }
+        between(low, self.point(axis, index + 1), v.t)
+    }
+
+    // The raw place of a point of the grid along an axis.
+    #[inline]
+    fn point(&self, axis: Axis, index: u32) -> i64
+        requires { index ≤ self.now.n }
+        ensures place { result ≡ place_of self.now Grid axis index }
+        ensures raw { IsRaw result }
+    {
+        match axis {
+            Axis::X => self.x[index as usize],
+            Axis::Y => self.y[index as usize],
+            Axis::Z => self.z[index as usize],
+        }
+    }
+}
+
+// The raw places of the points of a view's grid along an axis.
+fn table(view: &View, axis: Axis) -> [i64; POINTS]
+    ensures { IsTable view.now axis result }
+{
+    let mut places = [0; POINTS];
+    for i in 0..view.n + 1 {
+        places[i as usize] = raw_place(view, Lattice::Grid, axis, i);
+    }
+    places
+}
