@@ -1,10 +1,10 @@
 -- Digits of numbers, and how many there are.
-use Rattle.std.proofs.Common.{◌≡◌, ◌+◌, ◌-◌, ◌*◌, ◌/◌, ◌%◌, ◌^◌, ◌<◌, ◌≤◌, ℕ, zero, suc, List, [], ◌∷◌, ◌++◌, length, replicate, inl, inr, refl, sym, ap, ◌∙◌, arith, append_assoc, length-append, eq-zero-or-pos, drop, set, lit≤}
+use Rattle.std.proofs.Common.{◌≡◌, ◌+◌, ◌-◌, ◌*◌, ◌/◌, ◌%◌, ◌^◌, ◌<◌, ◌≤◌, ℕ, suc, List, [], ◌∷◌, ◌++◌, length, replicate, inl, inr, refl, sym, ap, ◌∙◌, arith, append_assoc, length-append, eq-zero-or-pos}
 use Rattle.std.specs.Prelude.{decimal}
-use Rattle.std.proofs.Math.Nat.{pow-suc}
 use Rattle.std.proofs.lemmas.Fmt.{decimal_digit, decimal_step, length-decimal-le}
-use Rattle.std.proofs.lemmas.List.{length-replicate, replicate_more}
+use Rattle.std.proofs.lemmas.List.{replicate_more}
 use Rattle.fixed_ops.specs.NumberTexts.{size_text, zero_padded}
+use Rattle.ply_writer.specs.Digits.{pair_text}
 
 -- a count has at most ten digits
 pub count_short : (n : ℕ) → n < 2 ^ 32 → length (decimal n) ≤ 10
@@ -39,40 +39,64 @@ single k n h =
 padded_step : (k n : ℕ) → n < 2 ^ 64 → zero_padded (suc (suc k)) n ≡ zero_padded (suc k) (n / 10) ++ (48 + n % 10) ∷ []
 padded_step k n few = elim (eq-zero-or-pos (n / 10)) [ inl z ↦ single k n z | inr g ↦ several k n g few ]
 
--- the digits of a power of ten and a lesser number are a one, and the padded digits of the lesser
-padded_front : (k p n : ℕ) → p ≡ 10 ^ suc k → n < p → p ≤ 10 ^ 18 → decimal (p + n) ≡ 49 ∷ zero_padded (suc k) n
-padded_front zero p n e small few =
-    let ten : p ≡ 10 = e in
-    let a : (p + n) / 10 ≡ 1 = omega arith in
-    let b : (p + n) % 10 ≡ n = omega arith in
-    let digit : decimal n ≡ (48 + n) ∷ [] = decimal_digit n (omega arith) in
-    let one : decimal 1 ≡ 49 ∷ [] = decimal_digit 1 (omega arith) in
-    decimal_step (p + n) (omega arith) (omega arith) ∙ rw (a, b, digit, one) refl
-padded_front (suc k) p n e small few =
-    let tenth : p ≡ 10 ^ suc k * 10 = e ∙ pow-suc 10 (suc k) in
-    let a : (p + n) / 10 ≡ 10 ^ suc k + n / 10 = omega (arith, tenth) in
-    let b : (p + n) % 10 ≡ n % 10 = omega (arith, tenth) in
-    let front = padded_front k (10 ^ suc k) (n / 10) refl (omega (arith, tenth)) (omega (arith, tenth)) in
-    decimal_step (p + n) (omega (arith, tenth)) (omega arith) ∙ rw (a, b, front) (ap (λ (d : List ℕ). 49 ∷ d) (sym (padded_step k n (omega arith))))
+-- one pair more
+padded_pair : (k n : ℕ) → n < 2 ^ 64 → zero_padded (suc (suc (suc k))) n ≡ zero_padded (suc k) (n / 100) ++ pair_text (n % 100)
+padded_pair k n few =
+    let hundredth : n / 10 / 10 ≡ n / 100 = omega arith in
+    let tens : n / 10 % 10 ≡ n % 100 / 10 = omega arith in
+    let ones : n % 10 ≡ n % 100 % 10 = omega arith in
+    padded_step (suc k) n few ∙ rw (padded_step k (n / 10) (omega arith), hundredth, tens, ← ones) (append_assoc (zero_padded (suc k) (n / 100)) ((48 + n % 100 / 10) ∷ []) ((48 + n % 10) ∷ []))
 
--- ten padded digits are those of 10^10 and the number, but for the first
-pub ten_padded : (n : ℕ) → n < 10 ^ 10 → decimal (10 ^ 10 + n) ≡ 49 ∷ zero_padded 10 n
-ten_padded n h = padded_front 9 (10 ^ 10) n refl h (lit≤ tt)
+-- two padded digits are a pair
+first_pair : (n : ℕ) → n < 100 → zero_padded 2 n ≡ pair_text n
+first_pair n h =
+    let tens : decimal (n / 10) ≡ (48 + n / 10) ∷ [] = decimal_digit (n / 10) (omega arith) in
+    padded_step 0 n (omega arith) ∙ rw tens refl
 
--- and they are ten
-pub eleven_digits : (n : ℕ) → n < 10 ^ 10 → length (decimal (10 ^ 10 + n)) ≡ 11
-eleven_digits n h =
-    let short = length-decimal-le 10 n (omega arith) h (omega arith) in
-    ap length (ten_padded n h) ∙ omega (arith, length-append (replicate (10 - length (decimal n)) 48) (decimal n), length-replicate {A = ℕ} (10 - length (decimal n)) 48)
+-- Two decimals more of a fraction: those before them stay, the two stand in the upper half of a hundred times the
+-- lower half, and the lower half of that is the same as of the whole product.
+next_pair : (x : ℕ) → (x * 100 / 2 ^ 32 / 100 ≡ x / 2 ^ 32) × (x * 100 / 2 ^ 32 % 100 ≡ x % 2 ^ 32 * 100 / 2 ^ 32) × (x % 2 ^ 32 * 100 % 2 ^ 32 ≡ x * 100 % 2 ^ 32)
+next_pair x = (omega arith, omega arith, omega arith)
 
--- what stands from a place on, with another first element
-pub first_changed : (xs : List ℕ) (at x y : ℕ) (ys : List ℕ) → drop at xs ≡ y ∷ ys → (drop at (set xs at x) ≡ x ∷ ys) × (at < length xs)
-first_changed [] zero x y ys e = absurd cc
-first_changed [] (suc at) x y ys e = absurd cc
-first_changed (z ∷ zs) zero x y ys e = (cc, omega arith)
-first_changed (z ∷ zs) (suc at) x y ys e =
-    let r = first_changed zs at x y ys e in
-    (r.0, omega (arith, r.1))
+-- the padded decimals of a fraction, and those before the last two
+fraction_step : (k x : ℕ) → x < 2 ^ 64 → zero_padded (suc (suc (suc k))) (x * 100 / 2 ^ 32) ≡ zero_padded (suc k) (x / 2 ^ 32) ++ pair_text (x % 2 ^ 32 * 100 / 2 ^ 32)
+fraction_step k x few =
+    let next = next_pair x in
+    padded_pair k (x * 100 / 2 ^ 32) (omega arith) ∙ rw (next.0, next.1) refl
+
+-- the next product, by the whole one
+product_step : (x a : ℕ) → a ≡ x % 2 ^ 32 * 100 → a % 2 ^ 32 * 100 ≡ x * 100 % 2 ^ 32 * 100
+product_step x a e = ap (λ (y : ℕ). y % 2 ^ 32 * 100) e ∙ ap (λ (y : ℕ). y * 100) (next_pair x).2
+
+-- five pairs are ten padded decimals of a fraction, where each is the upper half of a hundred times the lower half of
+-- the product before
+five_pairs : (f a b c d : ℕ) → f < 2 ^ 32 → a ≡ f * 100 % 2 ^ 32 * 100 → b ≡ a % 2 ^ 32 * 100 → c ≡ b % 2 ^ 32 * 100 → d ≡ c % 2 ^ 32 * 100
+    → zero_padded 10 (f * 10 ^ 10 / 2 ^ 32)
+    ≡ (((pair_text (f * 100 / 2 ^ 32) ++ pair_text (a / 2 ^ 32)) ++ pair_text (b / 2 ^ 32)) ++ pair_text (c / 2 ^ 32)) ++ pair_text (d / 2 ^ 32)
+five_pairs f a b c d h ea eb ec ed =
+    let second : b ≡ f * 100 * 100 % 2 ^ 32 * 100 = eb ∙ product_step (f * 100) a ea in
+    let third : c ≡ f * 100 * 100 * 100 % 2 ^ 32 * 100 = ec ∙ product_step (f * 100 * 100) b second in
+    let fourth : d ≡ f * 100 * 100 * 100 * 100 % 2 ^ 32 * 100 = ed ∙ product_step (f * 100 * 100 * 100) c third in
+    let whole : f * 10 ^ 10 ≡ f * 100 * 100 * 100 * 100 * 100 = omega arith in
+    rw (ea, second, third, fourth, whole) (
+    fraction_step 7 (f * 100 * 100 * 100 * 100) (omega arith)
+    ∙ ap (λ (t : List ℕ). t ++ pair_text (f * 100 * 100 * 100 * 100 % 2 ^ 32 * 100 / 2 ^ 32)) (
+    fraction_step 5 (f * 100 * 100 * 100) (omega arith)
+    ∙ ap (λ (t : List ℕ). t ++ pair_text (f * 100 * 100 * 100 % 2 ^ 32 * 100 / 2 ^ 32)) (
+    fraction_step 3 (f * 100 * 100) (omega arith)
+    ∙ ap (λ (t : List ℕ). t ++ pair_text (f * 100 * 100 % 2 ^ 32 * 100 / 2 ^ 32)) (
+    fraction_step 1 (f * 100) (omega arith)
+    ∙ ap (λ (t : List ℕ). t ++ pair_text (f * 100 % 2 ^ 32 * 100 / 2 ^ 32)) (first_pair (f * 100 / 2 ^ 32) (omega arith))
+    )
+    )
+    )
+    )
+
+-- and so are they with what stands after them
+pub fraction_pairs : (f a b c d : ℕ) (rest : List ℕ) → f < 2 ^ 32 → a ≡ f * 100 % 2 ^ 32 * 100 → b ≡ a % 2 ^ 32 * 100 → c ≡ b % 2 ^ 32 * 100 → d ≡ c % 2 ^ 32 * 100
+    → pair_text (f * 100 / 2 ^ 32) ++ (pair_text (a / 2 ^ 32) ++ (pair_text (b / 2 ^ 32) ++ (pair_text (c / 2 ^ 32) ++ (pair_text (d / 2 ^ 32) ++ rest))))
+    ≡ zero_padded 10 (f * 10 ^ 10 / 2 ^ 32) ++ rest
+fraction_pairs f a b c d rest h ea eb ec ed = sym (ap (λ (t : List ℕ). t ++ rest) (five_pairs f a b c d h ea eb ec ed))
 
 -- the parts of the text of a size
 pub size_pieces : (n : ℕ) (rest : List ℕ) → decimal (n / 2 ^ 32) ++ (46 ∷ zero_padded 10 (n % 2 ^ 32 * 10 ^ 10 / 2 ^ 32) ++ rest) ≡ size_text n ++ rest

@@ -2,11 +2,20 @@
 ghost use Rattle.std.specs.Prelude.{◌≡◌, ◌+◌, ◌*◌, ◌/◌, ◌%◌, ◌≤◌, ◌<◌, ◌^◌, ◌∷◌, ◌++◌, length, drop, decimal};
 ghost use Rattle.fixed_ops.specs.NumberTexts.{number_text, size_text, zero_padded};
 ghost use Rattle.fixed_ops.specs.Raw.{IsRaw};
+ghost use Rattle.ply_writer.specs.Digits.{pair_text};
 
 use itoa::write_digits;
 
 /// The longest text of a number: a minus, ten digits, a point and ten decimals.
 pub(crate) const NUMBER: usize = 22;
+
+// The two digits of each number below a hundred.
+static PAIRS: [u8; 200] = *b"\
+    0001020304050607080910111213141516171819\
+    2021222324252627282930313233343536373839\
+    4041424344454647484950515253545556575859\
+    6061626364656667686970717273747576777879\
+    8081828384858687888990919293949596979899";
 
 /// The longest text of a count.
 pub(crate) const COUNT: usize = 10;
@@ -64,30 +73,53 @@ fn size_before(n: u64, line: &mut [u8], end: usize) -> usize
     ensures before { result ≤ end }
     ensures written { drop result line.new ≡ size_text n ++ drop end line.old }
 {
-    let point = decimals_before(decimals(n), line, end);
+    let point = decimals_before(n, line, end);
     write_digits(n >> 32, line, point)
 }
 
-// The ten decimals of the number n / 2^32, cut towards zero. 10^10 / 2^32 is 5^10 / 2^22.
+// Writes a point and the ten decimals of the number n / 2^32, cut towards zero, before `end`, and
+// returns where the point stands. Each product has two digits more in its upper half.
 #[inline]
-fn decimals(n: u64) -> u64
-    ensures { result ≡ n % 2 ^ 32 * 10 ^ 10 / 2 ^ 32 }
-{
-    (n & 0xffff_ffff) * 9_765_625 >> 22
-}
-
-// Writes a point and ten digits of n before `end`, and returns where the point stands. The digits
-// are those of 10^10 + n, with the point in place of the first one.
-#[inline]
-#[tactic(auto, using(crate::proofs::DigitLaws::eleven_digits))]
 fn decimals_before(n: u64, line: &mut [u8], end: usize) -> usize
-    requires size { n < 10 ^ 10 }
     requires room { 11 ≤ end }
     requires within { end ≤ length line.old }
     ensures start { result + 11 ≡ end }
-    ensures written { drop result line.new ≡ 46 ∷ zero_padded 10 n ++ drop end line.old }
+    ensures written { drop result line.new
+        ≡ 46 ∷ zero_padded 10 (n % 2 ^ 32 * 10 ^ 10 / 2 ^ 32) ++ drop end line.old }
 {
-    let point = write_digits(10_000_000_000 + n, line, end);
-    line[point] = b'.';
-    point
+    let first = next_product(n);
+    let second = next_product(first);
+    let third = next_product(second);
+    let fourth = next_product(third);
+    let end = pair_before(next_product(fourth) >> 32, line, end);
+    let end = pair_before(fourth >> 32, line, end);
+    let end = pair_before(third >> 32, line, end);
+    let end = pair_before(second >> 32, line, end);
+    let end = pair_before(first >> 32, line, end);
+    byte_before(b'.', line, end)
+}
+
+// A hundred times the lower half.
+#[inline(always)]
+fn next_product(product: u64) -> u64
+    ensures { result ≡ product % 2 ^ 32 * 100 }
+{
+    (product & 0xffff_ffff) * 100
+}
+
+// Writes two digits before `end`, and returns where they start.
+#[inline(always)]
+fn pair_before(pair: u64, line: &mut [u8], end: usize) -> usize
+    requires pair { pair < 100 }
+    requires some { 2 ≤ end }
+    requires within { end ≤ length line.old }
+    ensures start { result + 2 ≡ end }
+    ensures written { drop result line.new ≡ pair_text pair ++ drop end line.old }
+{
+    let from = pair as usize * 2;
+    let (tens, ones) = (PAIRS[from], PAIRS[from + 1]);
+    let start = end - 2;
+    line[start] = tens;
+    line[start + 1] = ones;
+    start
 }

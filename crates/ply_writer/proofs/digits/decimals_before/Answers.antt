@@ -1,15 +1,23 @@
--- The point in place of the first of eleven digits.
-use Rattle.std.proofs.Common.{◌++◌, drop}
-use Rattle.fixed_ops.specs.NumberTexts.{zero_padded}
-use Rattle.ply_writer.proofs.DigitLaws.{first_changed, ten_padded}
+-- The point and the five pairs.
+use Rattle.std.proofs.Common.{◌%◌, ◌^◌, ◌∷◌, ℕ, List, ap, drop, arith}
+use Rattle.ply_writer.proofs.DigitLaws.{fraction_pairs}
 use Rattle.ply_writer.proofs.digits.decimals_before.Goals as goal
-
-pub bounds-line-point : goal.bounds-line-point
-bounds-line-point c =
-    let digits = rw (ten_padded c.args.n c.requires.size) at c.write_digits-point.ensures.written in
-    (first_changed c.write_digits-point.new.buf c.write_digits-point.result 46 49 (zero_padded 10 c.args.n ++ drop c.args.end c.args.line.now) digits).1
 
 pub returns-clause-written : goal.returns-clause-written
 returns-clause-written c =
-    let digits = rw (ten_padded c.args.n c.requires.size) at c.write_digits-point.ensures.written in
-    (first_changed c.write_digits-point.new.buf c.write_digits-point.result 46 49 (zero_padded 10 c.args.n ++ drop c.args.end c.args.line.now) digits).0
+    rw (
+      c.byte_before.ensures.written,
+      c.pair_before-end-5.ensures.written,
+      c.pair_before-end-4.ensures.written,
+      c.pair_before-end-3.ensures.written,
+      c.pair_before-end-2.ensures.written,
+      c.pair_before-end.ensures.written,
+    )
+    (
+    ap (λ (text : List ℕ). 46 ∷ text) (
+    rw c.next_product-first.ensures (
+    fraction_pairs (c.args.n % 2 ^ 32) c.next_product-second.result c.next_product-third.result c.next_product-fourth.result c.next_product.result (drop c.args.end c.args.line.now) (omega arith)
+    (rw c.next_product-first.ensures at c.next_product-second.ensures) c.next_product-third.ensures c.next_product-fourth.ensures c.next_product.ensures
+    )
+    )
+    )

@@ -3,4 +3,4 @@ use Rattle.ply_writer.proofs.digits.size_before.Goals as goal
 
 pub returns-clause-written : goal.returns-clause-written
 returns-clause-written c =
-    rw (c.write_digits.ensures.written, c.decimals_before-point.ensures.written, c.decimals.ensures) (size_pieces c.args.n _)
+    rw (c.write_digits.ensures.written, c.decimals_before-point.ensures.written) (size_pieces c.args.n _)
