@@ -8,8 +8,8 @@ use itoa::Buffer;
 use tetra_mesh::Mesh;
 use view_settings::View;
 
-// The header without its two counts, and room for these.
-const HEADER: usize = 192;
+// The header: 155 bytes and two counts of at most ten digits.
+const HEADER: usize = 175;
 
 /// A bound on the bytes of the text of a mesh, near to them: no number is longer than the longer
 /// end of its axis, and none of a vertex longer than the count of vertices.

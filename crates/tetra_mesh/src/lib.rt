@@ -13,3 +13,6 @@ pub use grid_places::GridPlaces;
 pub use mesh::Mesh;
 pub use place::vertex_raw;
 pub use vertex::Vertex;
+
+#[cfg(test)]
+mod tests;
