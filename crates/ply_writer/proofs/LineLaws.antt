@@ -1,15 +1,15 @@
 -- The parts of a line, and of the header.
-use Rattle.std.proofs.Common.{◌≡◌, ℕ, List, [], ◌∷◌, ◌++◌, ◌∙◌, Result, Ok, Err, OnOk, append_assoc}
+use Rattle.std.proofs.Common.{◌≡◌, ℕ, List, ◌∷◌, ◌++◌, ◌∙◌, Result, Ok, Err, OnOk, append_assoc}
 use Rattle.std.specs.Prelude.{codes, decimal, is_ok, if◌then◌else◌}
 use Rattle.ply_writer.specs.Ply.{ply_header}
 
--- the line of a vertex
-pub vertex_pieces : (x y z : List ℕ) → x ++ 32 ∷ (y ++ 32 ∷ (z ++ 10 ∷ [])) ≡ x ++ codes " " ++ y ++ codes " " ++ z ++ codes "\n"
-vertex_pieces x y z = simp append_assoc
+-- the line of a vertex, and what stands after it
+pub vertex_pieces : (x y z rest : List ℕ) → x ++ 32 ∷ (y ++ 32 ∷ (z ++ 10 ∷ rest)) ≡ (x ++ codes " " ++ y ++ codes " " ++ z ++ codes "\n") ++ rest
+vertex_pieces x y z rest = simp append_assoc
 
--- the line of a face
-pub face_pieces : (a b c : List ℕ) → 51 ∷ 32 ∷ (a ++ 32 ∷ (b ++ 32 ∷ (c ++ 10 ∷ []))) ≡ codes "3 " ++ a ++ codes " " ++ b ++ codes " " ++ c ++ codes "\n"
-face_pieces a b c = simp append_assoc
+-- the line of a face, and what stands after it
+pub face_pieces : (a b c rest : List ℕ) → 51 ∷ 32 ∷ (a ++ 32 ∷ (b ++ 32 ∷ (c ++ 10 ∷ rest))) ≡ (codes "3 " ++ a ++ codes " " ++ b ++ codes " " ++ c ++ codes "\n") ++ rest
+face_pieces a b c rest = simp append_assoc
 
 -- the header
 pub header_pieces : (text : List ℕ) (vertices faces : ℕ)

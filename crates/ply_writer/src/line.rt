@@ -1,5 +1,6 @@
-// The lines of vertices and of faces.
-ghost use Rattle.std.specs.Prelude.{◌≡◌, ◌≤◌, drop};
+// The lines of vertices and of faces, written into a block from the last to the first.
+ghost use Rattle.std.specs.Prelude.{◌≡◌, ◌+◌, ◌≤◌, ◌++◌, All, drop, length};
+ghost use Rattle.std.specs.List.{flat_map};
 ghost use Rattle.tetra_mesh.specs.Places.{IsPlaced};
 ghost use Rattle.ply_writer.specs.Ply.{face_line as face_line_of, vertex_line as vertex_line_of};
 
@@ -7,36 +8,83 @@ use crate::digits::{byte_before, count_before, number_before};
 use tetra_mesh::{Face, GridPlaces, Vertex};
 use view_settings::Axis;
 
-/// Room for the longest line: three numbers, two spaces and a line feed.
-pub(crate) const LINE: usize = 72;
+/// How many lines a block has room for.
+pub(crate) const LINES: usize = 64;
 
-/// Writes the line of a vertex at the end of `line`, and returns where it starts.
-#[inline]
-pub(crate) fn vertex_line(places: &GridPlaces, v: &Vertex, line: &mut [u8; LINE]) -> usize
-    requires { IsPlaced places.now v.now }
-    ensures within { result ≤ LINE }
-    ensures line { drop result line.new ≡ vertex_line_of places.now v.now }
+/// The longest line of a vertex: three numbers, two spaces and a line feed.
+const VERTEX: usize = 69;
+
+/// The longest line of a face: 3, three counts, three spaces and a line feed.
+const FACE: usize = 35;
+
+/// The room of a block.
+pub(crate) const BLOCK: usize = LINES * VERTEX;
+
+/// Writes the lines of vertices at the end of a block, and returns where they start.
+pub(crate) fn vertex_lines(
+    places: &GridPlaces,
+    vertices: &[Vertex],
+    block: &mut [u8; BLOCK],
+) -> usize
+    requires placed { All (IsPlaced places.now) vertices.now }
+    requires few { length vertices.now ≤ LINES }
+    ensures within { result ≤ BLOCK }
+    ensures lines { drop result block.new ≡ flat_map (vertex_line_of places.now) vertices.now }
 {
-    let end = byte_before(b'\n', line, LINE);
-    let end = number_before(places.raw(v, Axis::Z), line, end);
-    let end = byte_before(b' ', line, end);
-    let end = number_before(places.raw(v, Axis::Y), line, end);
-    let end = byte_before(b' ', line, end);
-    number_before(places.raw(v, Axis::X), line, end)
+    let mut start = BLOCK;
+    for i in (0..vertices.len()).rev() {
+        start = vertex_line(places, &vertices[i], block, start);
+    }
+    start
 }
 
-/// Writes the line of a face at the end of `line`, and returns where it starts.
-#[inline]
-pub(crate) fn face_line(face: &Face, line: &mut [u8; LINE]) -> usize
-    ensures within { result ≤ LINE }
-    ensures line { drop result line.new ≡ face_line_of face.now }
+/// Writes the lines of faces at the end of a block, and returns where they start.
+pub(crate) fn face_lines(faces: &[Face], block: &mut [u8; BLOCK]) -> usize
+    requires { length faces.now ≤ LINES }
+    ensures within { result ≤ BLOCK }
+    ensures lines { drop result block.new ≡ flat_map face_line_of faces.now }
 {
-    let end = byte_before(b'\n', line, LINE);
-    let end = count_before(face.c, line, end);
-    let end = byte_before(b' ', line, end);
-    let end = count_before(face.b, line, end);
-    let end = byte_before(b' ', line, end);
-    let end = count_before(face.a, line, end);
-    let end = byte_before(b' ', line, end);
-    byte_before(b'3', line, end)
+    let mut start = BLOCK;
+    for i in (0..faces.len()).rev() {
+        start = face_line(&faces[i], block, start);
+    }
+    start
+}
+
+// Writes the line of a vertex before `end`, and returns where it starts.
+#[inline]
+fn vertex_line(places: &GridPlaces, v: &Vertex, block: &mut [u8], end: usize) -> usize
+    requires placed { IsPlaced places.now v.now }
+    requires room { VERTEX ≤ end }
+    requires within { end ≤ length block.old }
+    ensures few { end ≤ result + VERTEX }
+    ensures before { result ≤ end }
+    ensures line { drop result block.new
+        ≡ vertex_line_of places.now v.now ++ drop end block.old }
+{
+    let start = byte_before(b'\n', block, end);
+    let start = number_before(places.raw(v, Axis::Z), block, start);
+    let start = byte_before(b' ', block, start);
+    let start = number_before(places.raw(v, Axis::Y), block, start);
+    let start = byte_before(b' ', block, start);
+    number_before(places.raw(v, Axis::X), block, start)
+}
+
+// Writes the line of a face before `end`, and returns where it starts.
+#[inline]
+fn face_line(face: &Face, block: &mut [u8], end: usize) -> usize
+    requires room { FACE ≤ end }
+    requires within { end ≤ length block.old }
+    ensures few { end ≤ result + FACE }
+    ensures before { result ≤ end }
+    ensures line { drop result block.new ≡ face_line_of face.now ++ drop end block.old }
+{
+    let start = byte_before(b'\n', block, end);
+    let start = count_before(face.c, block, start);
+    let start = byte_before(b' ', block, start);
+    let start = count_before(face.b, block, start);
+    let start = byte_before(b' ', block, start);
+    let start = count_before(face.a, block, start);
+    let start = byte_before(b' ', block, start);
+    byte_before(b'3', block, start)
 }

@@ -5,7 +5,7 @@ ghost use Rattle.std.specs.List.{flat_map};
 ghost use Rattle.tetra_mesh.specs.Places.{IsPlaced};
 ghost use Rattle.ply_writer.specs.Ply.{face_line as face_line_of, ply_header, ply_of, vertex_line as vertex_line_of};
 
-use crate::line::{LINE, face_line, vertex_line};
+use crate::line::{BLOCK, LINES, face_lines, vertex_lines};
 use crate::room::room_for;
 use itoa::Buffer;
 use std::alloc::{AllocError, Global};
@@ -60,10 +60,13 @@ fn push_vertices(
     ensures { OnOk result
         (text.new.items ≡ text.old.items ++ flat_map (vertex_line_of places.now) vertices.now) }
 {
-    let mut line = [0; LINE];
-    for v in vertices {
-        let start = vertex_line(places, v, &mut line);
-        text.extend_from_slice(&line[start..])?;
+    let mut block = [0; BLOCK];
+    let mut rest = vertices;
+    while !rest.is_empty() {
+        let (batch, after) = rest.split_at(rest.len().min(LINES));
+        let start = vertex_lines(places, batch, &mut block);
+        text.extend_from_slice(&block[start..])?;
+        rest = after;
     }
     Ok(())
 }
@@ -73,10 +76,13 @@ fn push_faces(text: &mut Vec<u8>, faces: &[Face]) -> Result<(), AllocError>
     ensures { OnOk result
         (text.new.items ≡ text.old.items ++ flat_map face_line_of faces.now) }
 {
-    let mut line = [0; LINE];
-    for face in faces {
-        let start = face_line(face, &mut line);
-        text.extend_from_slice(&line[start..])?;
+    let mut block = [0; BLOCK];
+    let mut rest = faces;
+    while !rest.is_empty() {
+        let (batch, after) = rest.split_at(rest.len().min(LINES));
+        let start = face_lines(batch, &mut block);
+        text.extend_from_slice(&block[start..])?;
+        rest = after;
     }
     Ok(())
 }

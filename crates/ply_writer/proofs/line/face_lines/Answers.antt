@@ -1,0 +1,12 @@
+-- Nothing is written at first.
+use Rattle.std.proofs.Common.{length, refl, arith}
+use Rattle.std.proofs.lemmas.List.{drop_all}
+use Rattle.ply_writer.proofs.line.face_lines.Goals as goal
+
+pub loop-i-init : goal.loop-i-init
+loop-i-init c = record {
+  room = omega arith;
+  within = omega arith;
+  full = omega arith;
+  lines = rw (drop_all 4416 c.args.block.now (omega arith), drop_all (length c.args.faces.now) c.args.faces.now (omega arith)) refl;
+}

@@ -1,0 +1,12 @@
+use Rattle.std.proofs.Common.{◌≡◌, ◌*◌, ◌≤◌, drop, length}
+use Rattle.std.specs.List.{flat_map}
+use Rattle.ply_writer.specs.Ply.{face_line}
+use Rattle.ply_writer.proofs.line.face_lines.Given as goal
+
+abbrev pub invariant-loop-i : goal.invariant-loop-i
+invariant-loop-i l = record {
+  room : l.i * 35 ≤ l.start;
+  within : l.start ≤ 4416;
+  full : length l.block ≡ 4416;
+  lines : drop l.start l.block ≡ flat_map face_line (drop l.i l.faces);
+}

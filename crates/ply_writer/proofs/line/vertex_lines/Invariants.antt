@@ -1,0 +1,12 @@
+use Rattle.std.proofs.Common.{◌≡◌, ◌*◌, ◌≤◌, drop, length}
+use Rattle.std.specs.List.{flat_map}
+use Rattle.ply_writer.specs.Ply.{vertex_line}
+use Rattle.ply_writer.proofs.line.vertex_lines.Given as goal
+
+abbrev pub invariant-loop-i : goal.invariant-loop-i
+invariant-loop-i l = record {
+  room : l.i * 69 ≤ l.start;
+  within : l.start ≤ 4416;
+  full : length l.block ≡ 4416;
+  lines : drop l.start l.block ≡ flat_map (vertex_line l.places) (drop l.i l.vertices);
+}
