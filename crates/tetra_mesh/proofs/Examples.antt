@@ -1,0 +1,46 @@
+-- Places, computed on vertices that were worked out by hand.
+use Rattle.std.proofs.Common.{◌≡◌, ℕ, pos, negsuc, refl}
+use Rattle.tetra_mesh.specs.declared.vertex.Vertex.{Vertex}
+use Rattle.tetra_mesh.specs.Places.{lattice_place, vertex_place}
+use Rattle.view_settings.specs.declared.lattice.Axis.TheVariants.{X, Y, Z}
+use Rattle.view_settings.specs.Window.{Window}
+
+-- two cells along each axis, from -1 to 1
+cells : Window
+cells = record {
+  x0 = negsuc 4294967295;
+  x1 = pos 4294967296;
+  y0 = negsuc 4294967295;
+  y1 = pos 4294967296;
+  z0 = negsuc 4294967295;
+  z1 = pos 4294967296;
+  z = pos 0;
+  w = 1;
+  h = 1;
+  d = 1;
+  n = 2;
+}
+
+-- the vertex of an edge in a direction from the point (1, 0, 1)
+abbrev from_side : ℕ → ℕ → Vertex
+from_side dir t = record { key = record { x = 1; y = 0; z = 1; dir = dir }; t = t }
+
+-- along an axis of the direction the part is added, and along no other
+lattice_along : lattice_place (from_side 6 8192) Z ≡ 73728
+lattice_along = refl
+
+lattice_beside : lattice_place (from_side 6 8192) X ≡ 65536
+lattice_beside = refl
+
+-- so are the raw places, which are rounded down
+raw_along : vertex_place cells (from_side 2 5461) Y ≡ negsuc 3937075199
+unfolding cells
+raw_along = refl
+
+raw_beside : vertex_place cells (from_side 2 5461) Z ≡ pos 0
+unfolding cells
+raw_beside = refl
+
+raw_rounds_down : vertex_place (record cells { y1 = negsuc 4294967288 }) (from_side 2 65535) Y ≡ negsuc 4294967293
+unfolding cells
+raw_rounds_down = refl
