@@ -34,6 +34,7 @@ pub record IsParting (inside : GridPoint → Bool) (cell : GridPoint) (e : EdgeK
   pub near_x : (upper e).x ≤ cell.x + 1
   pub near_y : (upper e).y ≤ cell.y + 1
   pub near_z : (upper e).z ≤ cell.z + 1
+  pub above : cell.z ≤ e.z
 
 -- the steps of the lower of two corners and those of the direction make those of the upper one
 adds_up : ℕ → ℕ → ℕ → Bool
@@ -91,6 +92,7 @@ parting inside cell tetra i j few fi fj parted apart =
       near_x = rw (step_on cell.x (along_x low) (along_x (high - low)) (along_x high) x.0) (one_step high cell.x);
       near_y = rw (step_on cell.y (along_y low) (along_y (high - low)) (along_y high) y.0) (one_step (high / 2) cell.y);
       near_z = rw (step_on cell.z (along_z low) (along_z (high - low)) (along_z high) z.0) (one_step (high / 4) cell.z);
+      above = omega arith;
     }
 
 -- Which edges of the arranged corners are drawn by how many corners are inside: their ends are two of the four

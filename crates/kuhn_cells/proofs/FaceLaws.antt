@@ -20,11 +20,11 @@ all_within P f a zero each = All-nil P
 all_within P f a (suc n) each =
     All-append P (f a) (flat_map f (range_with_len (a + 1) n)) (each a (omega arith)) (all_within P f (a + 1) n (λ k few. each k (omega (arith, few))))
 
-all_in_block : {A : Type 0} (P : A → Type 0) (nx ny nz : ℕ) (at : GridPoint → List A) → ((p : GridPoint) → p.x < nx → p.y < ny → p.z < nz → All P (at p)) → All P (over_block nx ny nz at)
+pub all_in_block : {A : Type 0} (P : A → Type 0) (nx ny nz : ℕ) (at : GridPoint → List A) → ((p : GridPoint) → p.x < nx → p.y < ny → p.z < nz → All P (at p)) → All P (over_block nx ny nz at)
 all_in_block P nx ny nz at each =
     all_within P _ 0 nz (λ z fz. all_within P _ 0 ny (λ y fy. all_within P _ 0 nx (λ x fx. each (point x y z) (omega (arith, fx)) (omega (arith, fy)) (omega (arith, fz)))))
 
-vertex_of : (g : Grid) (cell : GridPoint) (e : EdgeKey) → cell.x < g.x → cell.y < g.y → cell.z < g.z → IsParting (is_inside_at g) cell e → IsVertex g e
+pub vertex_of : (g : Grid) (cell : GridPoint) (e : EdgeKey) → cell.x < g.x → cell.y < g.y → cell.z < g.z → IsParting (is_inside_at g) cell e → IsVertex g e
 vertex_of g cell e fx fy fz h =
     let x = h.near_x in
     let y = h.near_y in

@@ -1,4 +1,5 @@
 pub mod ArrangementLaws
+pub mod CellLaws
 pub mod Checks
 pub mod EdgeLaws
 mod Examples

@@ -34,7 +34,7 @@ later R f P each before i a (suc n) less k d within =
     All-append (R (get_or (f i) k d)) (f a) (flat_map f (range_with_len (a + 1) n)) (across R (P i) (P a) (f i) (f a) (λ x y. before i a x y less) (each i) (each a) k d within) (later R f P each before i (a + 1) n (omega (arith, less)) k d within)
 
 -- a block of lists, each in order, and each before the later ones
-in_order : {A : Type 0} (R : A → A → Type 0) (f : ℕ → List A) (P : ℕ → A → Type 0) → ((i : ℕ) → AllPairs R (f i)) → ((i : ℕ) → All (P i) (f i)) → ((i j : ℕ) (x y : A) → i < j → P i x → P j y → R x y) → (a n : ℕ) → AllPairs R (flat_map f (range_with_len a n))
+pub in_order : {A : Type 0} (R : A → A → Type 0) (f : ℕ → List A) (P : ℕ → A → Type 0) → ((i : ℕ) → AllPairs R (f i)) → ((i : ℕ) → All (P i) (f i)) → ((i j : ℕ) (x y : A) → i < j → P i x → P j y → R x y) → (a n : ℕ) → AllPairs R (flat_map f (range_with_len a n))
 in_order R f P one each before a zero = λ i j d less within. absurd (omega (arith, within))
 in_order R f P one each before a (suc n) =
     pairs_append R (f a) (flat_map f (range_with_len (a + 1) n)) (one a) (in_order R f P one each before (a + 1) n) (later R f P each before a (a + 1) n (omega arith))

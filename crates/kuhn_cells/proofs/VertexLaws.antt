@@ -23,16 +23,16 @@ all_block P nx ny nz at each =
 
 -- ---- an element of a block
 
-in_tail : {A : Type 0} (y : A) (xs : List A) (x : A) → Contains xs x → Contains (y ∷ xs) x
+pub in_tail : {A : Type 0} (y : A) (xs : List A) (x : A) → Contains xs x → Contains (y ∷ xs) x
 in_tail y xs x h = Contains-append_right (y ∷ []) xs x h
 
-in_head : {A : Type 0} (xs : List A) (x : A) → Contains (x ∷ xs) x
+pub in_head : {A : Type 0} (xs : List A) (x : A) → Contains (x ∷ xs) x
 in_head xs x = (0, omega arith, refl)
 
-not_in_none : {A : Type 0} (x : A) → Contains [] x → ⊥
+pub not_in_none : {A : Type 0} (x : A) → Contains [] x → ⊥
 not_in_none x h = omega (arith, h.1)
 
-head_or_tail : {A : Type 0} (y : A) (ys : List A) (x : A) → Contains (y ∷ ys) x → (y ≡ x) ⊎ Contains ys x
+pub head_or_tail : {A : Type 0} (y : A) (ys : List A) (x : A) → Contains (y ∷ ys) x → (y ≡ x) ⊎ Contains ys x
 head_or_tail {A} y ys x h = at h.0 h.1 h.2
   where
     at : (k : ℕ) → k < length (y ∷ ys) → get_or (y ∷ ys) k x ≡ x → (y ≡ x) ⊎ Contains ys x

@@ -1,10 +1,12 @@
 -- What always holds of the arrangement of a tetrahedron and of its triangles.
-use Rattle.std.specs.Prelude.{◌≡◌, ℕ, ◌<◌, ◌≤◌, pos, negsuc, Bool, IsTrue, All, AllPairs, Contains, ◌↔◌, ◌⊎◌, [], ◌∷◌, get_or, length, if◌then◌else◌}
+use Rattle.std.specs.Prelude.{◌≡◌, ℕ, ◌*◌, ◌<◌, ◌≤◌, pos, negsuc, Bool, IsTrue, All, AllPairs, Contains, ◌↔◌, ◌⊎◌, [], ◌∷◌, flat_map, get_or, length, if◌then◌else◌}
 use Rattle.std.specs.declared.cmp.Ordering.{Ordering}
 use Rattle.std.specs.declared.cmp.Ordering.TheVariants.{Less}
+use Rattle.kuhn_cells.specs.declared.cell_list.CellValues.{CellValues}
 use Rattle.kuhn_cells.specs.declared.edge_key.EdgeKey.{EdgeKey}
 use Rattle.kuhn_cells.specs.declared.triple.Triple.{Triple}
 use Rattle.kuhn_cells.specs.Arrangement.{arrangement}
+use Rattle.kuhn_cells.specs.Cells.{HasCell, IsBordered, IsCellOf, edges_of, mixed_cells, triangles_of_cell}
 use Rattle.kuhn_cells.specs.Corners.{corner, corner_determinant, is_negative}
 use Rattle.kuhn_cells.specs.Faces.{all_triangles, cell_triangles, number_among}
 use Rattle.kuhn_cells.specs.Grids.{Grid, is_inside_at, is_mixed, is_point, upper, vertices}
@@ -73,3 +75,33 @@ TrianglesHaveVertices = (g : Grid) → All (OfEdges (IsVertex g)) (all_triangles
 abbrev pub NumbersArePlaces : Type 0
 NumbersArePlaces =
     (g : Grid) (e d : EdgeKey) → IsVertex g e → let number = number_among (vertices g) e in (number < length (vertices g)) × (get_or (vertices g) number d ≡ e)
+
+-- ---- the mixed cells suffice
+
+-- the mixed cells of a grid lie within it, and have its values
+abbrev pub CellsAreOfTheGrid : Type 0
+CellsAreOfTheGrid = (g : Grid) → All (IsCellOf g) (mixed_cells g)
+
+-- cells are ordered by z, then by y, then by x
+abbrev pub IsCellBefore : CellValues → CellValues → Type 0
+IsCellBefore c d = (c.z < d.z) ⊎ ((c.z ≡ d.z) × ((c.y < d.y) ⊎ ((c.y ≡ d.y) × (c.x < d.x))))
+
+-- the mixed cells stand in that order, none twice
+abbrev pub CellsRise : Type 0
+CellsRise = (g : Grid) → AllPairs IsCellBefore (mixed_cells g)
+
+-- there are no more of them than cells
+abbrev pub CellsAreFew : Type 0
+CellsAreFew = (g : Grid) → length (mixed_cells g) ≤ g.x * (g.y * g.z)
+
+-- the vertices are the edges from the lowest corners of the mixed cells with exactly one inside end
+abbrev pub CellsHaveVertices : Type 0
+CellsHaveVertices = (g : Grid) → IsBordered g → vertices g ≡ flat_map edges_of (mixed_cells g)
+
+-- the triangles are those of the mixed cells
+abbrev pub CellsHaveTriangles : Type 0
+CellsHaveTriangles = (g : Grid) → all_triangles g ≡ flat_map triangles_of_cell (mixed_cells g)
+
+-- each edge of each triangle of a mixed cell is one from the lowest corner of a mixed cell
+abbrev pub EdgesHaveCells : Type 0
+EdgesHaveCells = (g : Grid) → IsBordered g → All (λ c. All (OfEdges (HasCell (mixed_cells g) c)) (triangles_of_cell c)) (mixed_cells g)

@@ -1,4 +1,5 @@
 pub mod Arrangement
+pub mod Cells
 pub mod Corners
 pub mod Faces
 pub mod Grids

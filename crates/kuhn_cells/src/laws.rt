@@ -1,5 +1,7 @@
 // What always holds of the definitions that the contracts cite.
 ghost use Rattle.kuhn_cells.specs.Laws.{ArrangementsArePositive, ComparesKeys, SignsAreDeterminants};
+ghost use Rattle.kuhn_cells.specs.Laws.{CellsAreFew, CellsAreOfTheGrid, CellsRise};
+ghost use Rattle.kuhn_cells.specs.Laws.{CellsHaveTriangles, CellsHaveVertices, EdgesHaveCells};
 ghost use Rattle.kuhn_cells.specs.Laws.{EdgesAreMixed, EdgesHaveDirections};
 ghost use Rattle.kuhn_cells.specs.Laws.{NumbersArePlaces, TrianglesHaveVertices};
 ghost use Rattle.kuhn_cells.specs.Laws.{VerticesAreMixedEdges, VerticesRise};
@@ -41,4 +43,16 @@ pub fn triangles_have_vertices()
 /// Keys are compared by z, then by y, then by x of the lower point, and then by direction.
 pub fn keys_are_ordered()
     ensures { ComparesKeys ⟦<EdgeKey as Ord>⟧.cmp }
+{}
+
+/// The mixed cells of a grid, which stand in the order of their places, have all of its triangles.
+/// Where its outermost layer is outside, the edges from their lowest corners are all of its
+/// vertices, and each edge of each of their triangles is among these.
+pub fn mixed_cells_suffice()
+    ensures cells { CellsAreOfTheGrid }
+    ensures order { CellsRise }
+    ensures few { CellsAreFew }
+    ensures vertices { CellsHaveVertices }
+    ensures triangles { CellsHaveTriangles }
+    ensures edges { EdgesHaveCells }
 {}

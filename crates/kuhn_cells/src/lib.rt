@@ -15,8 +15,8 @@ pub use cell_list::{CellList, CellValues};
 pub use corner::corner_of;
 pub use edge_key::EdgeKey;
 pub use laws::{
-    arrangements_are_positive, edges_part_the_corners, keys_are_ordered, signs_are_determinants,
-    triangles_have_vertices, vertices_are_mixed_edges,
+    arrangements_are_positive, edges_part_the_corners, keys_are_ordered, mixed_cells_suffice,
+    signs_are_determinants, triangles_have_vertices, vertices_are_mixed_edges,
 };
 pub use tetrahedron::triangles;
 pub use triple::Triple;
