@@ -4,6 +4,7 @@ pub mod Corners
 pub mod Faces
 pub mod Grids
 pub mod Laws
+pub mod Lists
 pub mod Patterns
 pub mod Triangles
 pub mod Vectors

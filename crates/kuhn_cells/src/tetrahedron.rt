@@ -9,6 +9,7 @@ use arrayvec::ArrayVec;
 
 /// The triangles of a tetrahedron of the cell at (x, y, z), which part its inside corners from its
 /// outside ones. Bit c of signs is 1 where the cell's corner c is inside.
+#[inline]
 pub fn triangles(x: u16, y: u16, z: u16, tetra: u8, signs: u8) -> ArrayVec<Triple, 2>
     requires x { x ≤ 65534 }
     requires y { y ≤ 65534 }

@@ -1,2 +1,9 @@
 mod Examples
+pub mod Bits
+pub mod FaceLaws
+pub mod GridLaws
+pub mod NumberLaws
+pub mod ReachLaws
+pub mod TriangleLaws
+pub mod VertexLaws
 pub mod WayLaws

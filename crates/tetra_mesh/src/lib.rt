@@ -2,12 +2,18 @@
 //! lie.
 #![tactic(auto)]
 
+mod building;
+mod entry;
 mod face;
+mod faces;
 mod grid_places;
 mod mesh;
+mod numbering;
 mod place;
+mod sides;
 mod vertex;
 
+pub use building::build;
 pub use face::Face;
 pub use grid_places::GridPlaces;
 pub use mesh::Mesh;

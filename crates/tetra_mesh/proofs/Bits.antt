@@ -1,0 +1,203 @@
+-- Binary numbers whose digits tell which corners pass a test.
+use Rattle.std.proofs.Common.{◌≡◌, ℕ, zero, suc, ◌+◌, ◌-◌, ◌*◌, ◌/◌, ◌%◌, ◌^◌, ◌<◌, ◌≤◌, Bool, true, false, List, [], ◌∷◌, refl, ap, sym, ◌∙◌, arith}
+use Rattle.std.specs.Prelude.{◌==◌, ◌&&◌, filter, get_or, length, ℤ, pos}
+use Rattle.std.specs.Int.RustNames.{count_ones}
+use Rattle.std.specs.List.{range_with_len}
+use Rattle.std.proofs.lemmas.Bool.{agree_below, agree_below_at, and_parts, eqb-true}
+use lib.Bits.{bit_and}
+use lib.Count.{ones_step}
+use Rattle.std.proofs.lemmas.Nat.{and_mask}
+use mir.Val.{bool_byte}
+use Rattle.std.proofs.Math.Nat.{mod-le}
+use Rattle.std.proofs.lemmas.List.{get_or_default}
+use Rattle.fixed_ops.specs.Raw.{is_inside}
+use Rattle.kuhn_cells.specs.declared.cell_list.CellValues.{CellValues}
+use Rattle.kuhn_cells.specs.Arrangement.{differ}
+use Rattle.kuhn_cells.specs.Cells.{has_inside}
+use Rattle.kuhn_cells.specs.Triangles.{has_sign}
+use Rattle.tetra_mesh.specs.Numbering.{digits, directions_below, mask_of, one_if, rank_of, signs_of}
+
+-- a test of both truth values
+both : (Bool → Bool) → Bool
+both p = p true && p false
+
+both_at : (p : Bool → Bool) → both p ≡ true → (b : Bool) → p b ≡ true
+unfolding both
+both_at p h true = (and_parts (p true) (p false) h).0
+both_at p h false = (and_parts (p true) (p false) h).1
+
+-- a test of all choices of four truth values
+four : (Bool → Bool → Bool → Bool → Bool) → Bool
+four p = both (λ a. both (λ b. both (λ c. both (λ d. p a b c d))))
+
+four_at : (p : Bool → Bool → Bool → Bool → Bool) → four p ≡ true → (a b c d : Bool) → p a b c d ≡ true
+unfolding four
+four_at p h a b c d =
+    both_at (λ d. p a b c d) (both_at (λ c. both (λ d. p a b c d)) (both_at (λ b. both (λ c. both (λ d. p a b c d))) (both_at (λ a. both (λ b. both (λ c. both (λ d. p a b c d)))) h a) b) c) d
+
+-- ---- the digits
+
+-- the number with these digits, from the lowest on
+number : Bool → Bool → Bool → Bool → Bool → Bool → Bool → Bool → ℕ
+number a b c d e f g h = one_if a + 2 * one_if b + 4 * one_if c + 8 * one_if d + 16 * one_if e + 32 * one_if f + 64 * one_if g + 128 * one_if h
+
+abbrev eight : Bool → Bool → Bool → Bool → Bool → Bool → Bool → Bool → List Bool
+eight a b c d e f g h = a ∷ b ∷ c ∷ d ∷ e ∷ f ∷ g ∷ h ∷ []
+
+listed : (f : ℕ → Bool) (k : ℕ) → k < 8 → get_or (eight (f 0) (f 1) (f 2) (f 3) (f 4) (f 5) (f 6) (f 7)) k false ≡ f k
+listed f zero few = refl
+listed f (suc zero) few = refl
+listed f (suc (suc zero)) few = refl
+listed f (suc (suc (suc zero))) few = refl
+listed f (suc (suc (suc (suc zero)))) few = refl
+listed f (suc (suc (suc (suc (suc zero))))) few = refl
+listed f (suc (suc (suc (suc (suc (suc zero)))))) few = refl
+listed f (suc (suc (suc (suc (suc (suc (suc zero))))))) few = refl
+listed f (suc (suc (suc (suc (suc (suc (suc (suc k)))))))) few = absurd (omega (arith, few))
+
+reads : Bool → Bool → Bool → Bool → Bool → Bool → Bool → Bool → Bool
+reads a b c d e f g h = agree_below (has_sign (number a b c d e f g h)) (λ k. get_or (eight a b c d e f g h) k false) 8
+
+all_read : four (λ a b c d. four (λ e f g h. reads a b c d e f g h)) ≡ true
+unfolding four both reads number
+all_read = refl
+
+reads_at : (a b c d e f g h : Bool) → reads a b c d e f g h ≡ true
+reads_at a b c d e f g h =
+    four_at (λ e f g h. reads a b c d e f g h) (four_at (λ a b c d. four (λ e f g h. reads a b c d e f g h)) all_read a b c d) e f g h
+
+-- each digit tells of its corner
+pub digit : (f : ℕ → Bool) (k : ℕ) → k < 8 → has_sign (digits f) k ≡ f k
+unfolding reads number
+digit f k few =
+    agree_below_at (has_sign (digits f)) (λ k. get_or (eight (f 0) (f 1) (f 2) (f 3) (f 4) (f 5) (f 6) (f 7)) k false) 8 k (reads_at (f 0) (f 1) (f 2) (f 3) (f 4) (f 5) (f 6) (f 7)) few ∙ listed f k few
+
+-- ---- how many digits stand below one
+
+digit_sum : ℕ → ℕ
+digit_sum n =
+    n % 2 + (n / 2 % 2 + (n / 2 / 2 % 2 + (n / 2 / 2 / 2 % 2 + (n / 2 / 2 / 2 / 2 % 2 + (n / 2 / 2 / 2 / 2 / 2 % 2 + (n / 2 / 2 / 2 / 2 / 2 / 2 % 2 + n / 2 / 2 / 2 / 2 / 2 / 2 / 2 % 2))))))
+
+no_ones : count_ones 0 ≡ 0
+unfolding count_ones
+no_ones = refl
+
+small_ones : (n : ℕ) → n < 256 → count_ones n ≡ digit_sum n
+unfolding digit_sum
+small_ones n few =
+    let h = ones_step n in
+    let h1 = ones_step (n / 2) in
+    let h2 = ones_step (n / 2 / 2) in
+    let h3 = ones_step (n / 2 / 2 / 2) in
+    let h4 = ones_step (n / 2 / 2 / 2 / 2) in
+    let h5 = ones_step (n / 2 / 2 / 2 / 2 / 2) in
+    let h6 = ones_step (n / 2 / 2 / 2 / 2 / 2 / 2) in
+    let h7 = ones_step (n / 2 / 2 / 2 / 2 / 2 / 2 / 2) in
+    let end : n / 2 / 2 / 2 / 2 / 2 / 2 / 2 / 2 ≡ 0 = omega (arith, few) in
+    let none = ap count_ones end ∙ no_ones in
+    omega (arith, h, h1, h2, h3, h4, h5, h6, h7, none)
+
+ranks : Bool → Bool → Bool → Bool → Bool → Bool → Bool → Bool
+ranks b c d e f g h =
+    agree_below (λ k. digit_sum (number false b c d e f g h % 2 ^ k) == length (filter (λ i. get_or (eight false b c d e f g h) i false) (range_with_len 1 (k - 1)))) (λ k. true) 8
+
+all_ranked : four (λ a b c d. four (λ e f g h. ranks b c d e f g h)) ≡ true
+unfolding four both ranks number digit_sum
+all_ranked = refl
+
+filter_range_same : (p q : ℕ → Bool) (a n : ℕ) → ((k : ℕ) → a ≤ k → k < a + n → p k ≡ q k) → filter p (range_with_len a n) ≡ filter q (range_with_len a n)
+filter_range_same p q a zero each = refl
+filter_range_same p q a (suc n) each =
+    let first = each a (omega arith) (omega arith) in
+    let others = filter_range_same p q (a + 1) n (λ k low high. each k (omega (arith, low)) (omega (arith, high))) in
+    rw (first, others) refl
+
+few_ones : (b : Bool) → one_if b ≤ 1
+few_ones true = omega arith
+few_ones false = omega arith
+
+small : (f : ℕ → Bool) → digits f < 256
+small f =
+    omega (arith, few_ones (f 0), few_ones (f 1), few_ones (f 2), few_ones (f 3), few_ones (f 4), few_ones (f 5), few_ones (f 6), few_ones (f 7))
+
+with_first : (f : ℕ → Bool) → f 0 ≡ false → digits f ≡ number false (f 1) (f 2) (f 3) (f 4) (f 5) (f 6) (f 7)
+unfolding number
+with_first f e = ap (λ b. one_if b + 2 * one_if (f 1) + 4 * one_if (f 2) + 8 * one_if (f 3) + 16 * one_if (f 4) + 32 * one_if (f 5) + 64 * one_if (f 6) + 128 * one_if (f 7)) e
+
+ranked : (f : ℕ → Bool) (k : ℕ) → f 0 ≡ false → k < 8 → count_ones (digits f % 2 ^ k) ≡ length (filter f (range_with_len 1 (k - 1)))
+unfolding ranks
+ranked f k e few =
+    let n = number false (f 1) (f 2) (f 3) (f 4) (f 5) (f 6) (f 7) in
+    let list = λ (b : Bool). eight b (f 1) (f 2) (f 3) (f 4) (f 5) (f 6) (f 7) in
+    let least = mod-le (digits f) (2 ^ k) in
+    let below = small f in
+    let checked = four_at (λ a b c d. ranks (f 1) (f 2) (f 3) a b c d) (four_at (λ a b c d. four (λ e f g h. ranks b c d e f g h)) all_ranked false (f 1) (f 2) (f 3)) (f 4) (f 5) (f 6) (f 7) in
+    small_ones (digits f % 2 ^ k) (omega (arith, least, below))
+    ∙ ap (λ m. digit_sum (m % 2 ^ k)) (with_first f e)
+    ∙ eqb-true _ _ (agree_below_at (λ k. digit_sum (n % 2 ^ k) == length (filter (λ i. get_or (list false) i false) (range_with_len 1 (k - 1)))) (λ k. true) 8 k checked few)
+    ∙ ap length (filter_range_same (λ i. get_or (list false) i false) f 1 (k - 1) (λ i low high. ap (λ b. get_or (list b) i false) (sym e) ∙ listed f i (omega (arith, few, low, high))))
+
+itself : (b : Bool) → differ b b ≡ false
+itself true = refl
+itself false = refl
+
+-- the rank of a direction is how many lesser ones lead to the other side
+pub rank : (c : CellValues) (dir : ℕ) → dir < 8 → rank_of (mask_of c) dir ≡ length (directions_below c dir)
+unfolding rank_of mask_of
+rank c dir few = ranked (λ d. differ (has_inside c 0) (has_inside c d)) dir (itself (has_inside c 0)) few
+
+pub rank-few : (mask dir : ℕ) → mask < 256 → rank_of mask dir ≤ 8
+unfolding rank_of digit_sum
+rank-few mask dir few =
+    let least = mod-le mask (2 ^ dir) in
+    let m = mask % 2 ^ dir in
+    let e = small_ones m (omega (arith, least, few)) in
+    omega (arith, e)
+
+-- ---- the signs of a cell
+
+byte : (b : Bool) → bool_byte b ≡ one_if b
+byte true = refl
+byte false = refl
+
+pub corner_bit : (c : CellValues) (k n : ℕ) (b : Bool) (v : ℤ) → length c.values ≡ 8 → k < 8 → b ≡ is_inside (get_or c.values k v) → n ≡ bool_byte b → n ≡ one_if (has_inside c k)
+corner_bit c k n b v eight few inside is =
+    is ∙ byte b ∙ ap one_if (inside ∙ ap is_inside (get_or_default c.values k v (pos 0) (omega (arith, eight, few))))
+
+other : (a b : Bool) → a ≡ true → one_if (differ a b) + one_if b ≡ 1
+other true true e = refl
+other true false e = refl
+other false b e = absurd (cc)
+
+same_side : (a b : Bool) → a ≡ false → one_if (differ a b) ≡ one_if b
+same_side true b e = absurd (cc)
+same_side false b e = refl
+
+pub signs_turned : (c : CellValues) → has_inside c 0 ≡ true → 255 - signs_of c ≡ mask_of c
+unfolding signs_of mask_of
+signs_turned c e =
+    let at = λ (k : ℕ). other (has_inside c 0) (has_inside c k) e in
+    omega (arith, at 0, at 1, at 2, at 3, at 4, at 5, at 6, at 7)
+
+pub signs_kept : (c : CellValues) → has_inside c 0 ≡ false → signs_of c ≡ mask_of c
+unfolding signs_of mask_of
+signs_kept c e =
+    let at = λ (k : ℕ). same_side (has_inside c 0) (has_inside c k) e in
+    omega (arith, at 0, at 1, at 2, at 3, at 4, at 5, at 6, at 7)
+
+pub signs-few : (c : CellValues) → signs_of c < 256
+unfolding signs_of
+signs-few c = small (has_inside c)
+
+pub corner_side : (c : CellValues) (k : ℕ) (b : Bool) (v : ℤ) → length c.values ≡ 8 → k < 8 → b ≡ is_inside (get_or c.values k v) → has_inside c k ≡ b
+corner_side c k b v eight few inside =
+    sym (inside ∙ ap is_inside (get_or_default c.values k v (pos 0) (omega (arith, eight, few))))
+
+-- ---- the low digits of a number
+
+byte_power : (k : ℕ) → k < 8 → 1 * 2 ^ k % 256 ≡ 2 ^ k
+byte_power k few =
+    eqb-true _ _ (agree_below_at (λ k. 1 * 2 ^ k % 256 == 2 ^ k) (λ k. true) 8 k refl few)
+
+pub masked : (m k : ℕ) → k < 8 → bit_and m (1 * 2 ^ k % 256 - 1) ≡ m % 2 ^ k
+masked m k few = rw (byte_power k few) (and_mask m k)

@@ -1,0 +1,125 @@
+-- The mesh of the mixed cells of a grid is the mesh of the grid.
+use Rattle.std.proofs.Common.{◌≡◌, ℕ, ◌*◌, ◌<◌, ◌≤◌, List, [], ◌∷◌, ◌++◌, refl, ap, sym, ◌∙◌, subst, add-zero, Result, Ok, Err, arith}
+use Rattle.std.specs.Prelude.{pos, map, flat_map, get_or, All, IfOk}
+use Rattle.std.specs.List.{range_with_len}
+use Rattle.std.proofs.Math.Nat.{mul-le-mul_left}
+use Rattle.std.proofs.lemmas.List.{map-append}
+use Rattle.std.proofs.lemmas.List.Elements.{All-filter, All-head, All-tail, All-weaker}
+use Rattle.std.proofs.lemmas.List.FromFn.{get_or-map-range_with_len, get_or-range_with_len}
+use Rattle.kuhn_cells.specs.declared.cell_list.CellList.{CellList}
+use Rattle.kuhn_cells.specs.declared.cell_list.CellValues.{CellValues}
+use Rattle.kuhn_cells.specs.Arrangement.{differ}
+use Rattle.kuhn_cells.specs.Cells.{IsBordered, IsCellOf, cell_at, directions_of, edges_of, has_inside, mixed_cells, place_of}
+use Rattle.kuhn_cells.specs.Faces.{Face, all_triangles, face_among, faces}
+use Rattle.kuhn_cells.specs.Grids.{Grid, value_at, vertices}
+use Rattle.kuhn_cells.specs.Laws.{CellsAreFew, CellsAreOfTheGrid, CellsHaveTriangles, CellsHaveVertices, CellsRise, EdgesHaveCells}
+use Rattle.kuhn_cells.specs.Lists.{ListsCells}
+use Rattle.kuhn_cells.specs.Triangles.{GridPoint, edge_from, further}
+use Rattle.tetra_mesh.specs.declared.vertex.Vertex.{Vertex}
+use Rattle.tetra_mesh.specs.Cuts.{mesh_of, vertex_of, way_up}
+use Rattle.tetra_mesh.specs.Meshes.{Triangulation}
+use Rattle.tetra_mesh.specs.Numbering.{AreCells, IsIn, all_faces, vertex_on, vertices_on}
+
+-- ---- the cells
+
+few_cells : (n x y z : ℕ) → n ≤ 256 → x ≡ n → y ≡ n → z ≡ n → x * (y * z) ≤ 16777216
+few_cells n x y z few ex ey ez =
+    let square : n * n ≤ 256 * n = grind arith in
+    let cube : n * (n * n) ≤ n * (256 * n) = mul-le-mul_left n square in
+    let square' : 256 * (n * n) ≤ 256 * (256 * n) = mul-le-mul_left 256 square in
+    let same : x * (y * z) ≡ n * (n * n) = ap (λ i. i * (y * z)) ex ∙ ap (λ i. n * (i * z)) ey ∙ ap (λ i. n * (n * i)) ez in
+    omega (arith, cube, square', same, few)
+
+pub are_cells : CellsAreOfTheGrid → CellsRise → CellsAreFew → EdgesHaveCells → (n : ℕ) (list : CellList) (g : Grid) → n ≤ 256 → ListsCells n list g → AreCells n list.cells.items
+are_cells of_grid rise few edges n list g narrow is =
+    let P : List CellValues → Type 0 = λ l. AreCells n l in
+    let x = is.x in
+    let y = is.y in
+    let z = is.z in
+    let within : All (IsIn n) (mixed_cells g) =
+    All-weaker (IsCellOf g) (IsIn n) (λ c h. let fx = h.x in let fy = h.y in let fz = h.z in record { x = omega (arith, fx, x); y = omega (arith, fy, y); z = omega (arith, fz, z) }) (mixed_cells g) (of_grid g) in
+    let count = few g in
+    let most = few_cells n g.x g.y g.z narrow x y z in
+    subst P (sym is.cells) (record { narrow = narrow; few = omega (arith, count, most); within = within; rise = rise g; edges = edges g is.border })
+
+-- ---- the vertices
+
+map_flat : {X A B : Type 0} (f : A → B) (h : X → List A) (xs : List X) → map f (flat_map h xs) ≡ flat_map (λ x. map f (h x)) xs
+map_flat f h [] = refl
+map_flat f h (x ∷ xs) = map-append f (h x) (flat_map h xs) ∙ ap (λ l. map f (h x) ++ l) (map_flat f h xs)
+
+flat_same : {X A : Type 0} (f h : X → List A) (xs : List X) → All (λ x. f x ≡ h x) xs → flat_map f xs ≡ flat_map h xs
+flat_same f h [] same = refl
+flat_same f h (x ∷ xs) same =
+    let first = All-head (λ x. f x ≡ h x) x xs same in
+    let rest = flat_same f h xs (All-tail (λ x. f x ≡ h x) x xs same) in
+    cc
+
+map_map : {X A B : Type 0} (f : A → B) (h : X → A) (k : X → B) (xs : List X) → All (λ x. f (h x) ≡ k x) xs → map f (map h xs) ≡ map k xs
+map_map f h k [] same = refl
+map_map f h k (x ∷ xs) same =
+    let first = All-head (λ x. f (h x) ≡ k x) x xs same in
+    let rest = map_map f h k xs (All-tail (λ x. f (h x) ≡ k x) x xs same) in
+    cc
+
+directions_near : (c : CellValues) → All (λ d. d < 8) (directions_of c)
+unfolding directions_of
+directions_near c =
+    All-filter (λ d. differ (has_inside c 0) (has_inside c d)) (λ d. d < 8) (range_with_len 1 7) (λ k d few. let h : k < 7 = omega (arith, few) in rw (get_or-range_with_len 1 7 k d h) (omega (arith, h)))
+
+starts : (p : GridPoint) → further p 0 ≡ p
+starts p = rw (add-zero p.x, add-zero p.y, add-zero p.z) refl
+
+-- the value at a corner of a cell
+corner_value : (g : Grid) (c : CellValues) (k : ℕ) → c ≡ cell_at g (place_of c) → k < 8 → get_or c.values k (pos 0) ≡ value_at g (further (place_of c) k)
+corner_value g c k is few =
+    ap (λ (x : CellValues). get_or x.values k (pos 0)) is ∙ get_or-map-range_with_len (λ d. value_at g (further (place_of c) d)) 0 8 k k (pos 0) few (omega arith)
+
+vertices_of_cell : (g : Grid) (c : CellValues) → IsCellOf g c → map (vertex_of g) (edges_of c) ≡ vertices_on c
+vertices_of_cell g c is =
+    let p = place_of c in
+    let low = sym (ap (value_at g) (starts p)) ∙ sym (corner_value g c 0 is.«is» (omega arith)) in
+    map_map (vertex_of g) (edge_from p) (vertex_on c) (directions_of c)
+    (All-weaker (λ d. d < 8) (λ d. vertex_of g (edge_from p d) ≡ vertex_on c d) (λ d few.
+    let high = sym (corner_value g c d is.«is» few) in
+    let make : ℕ → Vertex = λ t. record { key = edge_from p d; t = t } in
+    ap make (ap (λ v. way_up v (value_at g (further p d))) low ∙ ap (λ v. way_up (get_or c.values 0 (pos 0)) v) high)) (directions_of c) (directions_near c))
+
+all_vertices : CellsAreOfTheGrid → CellsHaveVertices → (g : Grid) → IsBordered g → flat_map vertices_on (mixed_cells g) ≡ map (vertex_of g) (vertices g)
+all_vertices of_grid have g border =
+    sym (ap (map (vertex_of g)) (have g border)
+    ∙ map_flat (vertex_of g) edges_of (mixed_cells g)
+    ∙ flat_same (λ c. map (vertex_of g) (edges_of c)) vertices_on (mixed_cells g) (All-weaker (IsCellOf g) (λ c. map (vertex_of g) (edges_of c) ≡ vertices_on c) (vertices_of_cell g) (mixed_cells g) (of_grid g)))
+
+-- ---- the faces
+
+faces_of_cells : CellsHaveVertices → CellsHaveTriangles → (g : Grid) → IsBordered g → all_faces (mixed_cells g) (mixed_cells g) ≡ faces g
+unfolding faces
+faces_of_cells have triangles g border =
+    sym (ap (λ l. map (face_among l) (all_triangles g)) (have g border) ∙ ap (map (face_among (flat_map edges_of (mixed_cells g)))) (triangles g))
+
+-- ---- the mesh
+
+pub mesh_is : CellsAreOfTheGrid → CellsHaveVertices → CellsHaveTriangles → (n : ℕ) (list : CellList) (g : Grid) (mesh : Triangulation) → ListsCells n list g → mesh ≡ record { vertices = flat_map vertices_on list.cells.items; faces = all_faces list.cells.items list.cells.items } → mesh ≡ mesh_of g
+mesh_is of_grid have triangles n list g mesh is made =
+    let make : List Vertex → List Face → Triangulation = λ v f. record { vertices = v; faces = f } in
+    let of : List CellValues → Triangulation = λ l. make (flat_map vertices_on l) (all_faces l l) in
+    made
+    ∙ ap of is.cells
+    ∙ ap (λ v. make v (all_faces (mixed_cells g) (mixed_cells g))) (all_vertices of_grid have g is.border)
+    ∙ ap (make (map (vertex_of g) (vertices g))) (faces_of_cells have triangles g is.border)
+
+pub same_mesh : (v v' : List Vertex) (f f' : List Face) (mesh : Triangulation) → mesh ≡ record { vertices = v; faces = f } → v ≡ v' → f ≡ f' → mesh ≡ record { vertices = v'; faces = f' }
+same_mesh v v' f f' mesh is e h =
+    let make : List Vertex → List Face → Triangulation = λ v f. record { vertices = v; faces = f } in
+    is ∙ ap (λ l. make l f) e ∙ ap (make v') h
+
+pub cells_of : (n m : ℕ) (cells items : List CellValues) → AreCells n cells → n ≡ m → items ≡ cells → AreCells m items
+cells_of n m cells items are same equal =
+    let P : ℕ → Type 0 = λ i. AreCells i items in
+    let Q : List CellValues → Type 0 = λ l. AreCells n l in
+    subst P same (subst Q (sym equal) are)
+
+pub ok_weaker : {T E : Type 0} (P Q : T → Type 0) (r : Result T E) → ((x : T) → P x → Q x) → IfOk r P → IfOk r Q
+ok_weaker P Q (Ok x) weaker h = weaker x h
+ok_weaker P Q (Err e) weaker h = tt

@@ -1,0 +1,132 @@
+-- How the vertices of a list of mixed cells are numbered.
+use Rattle.std.specs.Prelude.{◌≡◌, ℕ, ◌+◌, ◌-◌, ◌*◌, ◌%◌, ◌^◌, ◌<◌, ◌≤◌, pos, Bool, List, ◌++◌, map, flat_map, filter, take, set, get_or, length, All, AllPairs, if◌then◌else◌}
+use Rattle.std.specs.Int.RustNames.{count_ones}
+use Rattle.std.specs.List.{range_with_len}
+use Rattle.kuhn_cells.specs.declared.cell_list.CellValues.{CellValues}
+use Rattle.kuhn_cells.specs.declared.edge_key.EdgeKey.{EdgeKey}
+use Rattle.kuhn_cells.specs.declared.triple.Triple.{Triple}
+use Rattle.kuhn_cells.specs.Arrangement.{differ}
+use Rattle.kuhn_cells.specs.Cells.{HasCell, directions_of, edges_of, has_inside, place_of, triangles_of_cell}
+use Rattle.kuhn_cells.specs.Faces.{Face, face_among}
+use Rattle.kuhn_cells.specs.Laws.{IsCellBefore, OfEdges}
+use Rattle.kuhn_cells.specs.Triangles.{edge_from, triangles_in}
+use Rattle.tetra_mesh.specs.declared.entry.Entry.{Entry}
+use Rattle.tetra_mesh.specs.declared.numbering.Numbering.{Numbering}
+use Rattle.tetra_mesh.specs.declared.vertex.Vertex.{Vertex}
+use Rattle.tetra_mesh.specs.Cuts.{way_up}
+
+abbrev pub one_if : Bool → ℕ
+one_if b = if b then 1 else 0
+
+-- the binary number whose digit of weight 2 ^ k says whether corner k passes a test
+abbrev pub digits : (ℕ → Bool) → ℕ
+digits f =
+    one_if (f 0) + 2 * one_if (f 1) + 4 * one_if (f 2) + 8 * one_if (f 3) + 16 * one_if (f 4) + 32 * one_if (f 5) + 64 * one_if (f 6) + 128 * one_if (f 7)
+
+-- which corners of a cell are inside
+unfoldable pub signs_of : CellValues → ℕ
+signs_of c = digits (has_inside c)
+
+-- which corners of a cell are not on the side of its lowest corner
+unfoldable pub mask_of : CellValues → ℕ
+mask_of c = digits (λ d. differ (has_inside c 0) (has_inside c d))
+
+-- how many digits of a number stand below one of them
+unfoldable pub rank_of : ℕ → ℕ → ℕ
+rank_of mask dir = count_ones (mask % 2 ^ dir)
+
+-- those of the directions from the lowest corner of a cell to the other side that are less than one
+abbrev pub directions_below : CellValues → ℕ → List ℕ
+directions_below c dir = filter (λ d. differ (has_inside c 0) (has_inside c d)) (range_with_len 1 (dir - 1))
+
+-- the triangles of the first tetrahedra of a cell
+abbrev pub first_triangles : CellValues → ℕ → List Triple
+first_triangles c tetra = flat_map (λ t. triangles_in (place_of c) t (has_inside c)) (range_with_len 0 tetra)
+
+-- the vertices on the edges from the lowest corner of a cell
+abbrev pub vertex_on : CellValues → ℕ → Vertex
+vertex_on c d = record { key = edge_from (place_of c) d; t = way_up (get_or c.values 0 (pos 0)) (get_or c.values d (pos 0)) }
+
+abbrev pub vertices_on : CellValues → List Vertex
+vertices_on c = map (vertex_on c) (directions_of c)
+
+-- the place in two layers at which what is known of a cell is kept
+abbrev pub slot_of : ℕ → ℕ → ℕ → ℕ → ℕ
+slot_of n x y z = (z % 2 * n + y) * n + x
+
+-- what is kept of a cell after others: how many vertices stand before its own, and which edges have one
+abbrev pub entry_after : List CellValues → CellValues → Entry
+entry_after cells c = record { base = length (flat_map edges_of cells); mask = mask_of c }
+
+abbrev pub no_entry : Entry
+no_entry = record { base = 0; mask = 0 }
+
+-- a cell lies in a grid of n cells along each axis
+pub record IsIn (n : ℕ) (c : CellValues) : Type 0 where
+  pub x : c.x < n
+  pub y : c.y < n
+  pub z : c.z < n
+
+-- mixed cells, of which each edge of each triangle starts at one
+pub record AreCells (n : ℕ) (cells : List CellValues) : Type 0 where
+  pub narrow : n ≤ 256
+  pub few : length cells ≤ 16777216
+  pub within : All (IsIn n) cells
+  pub rise : AllPairs IsCellBefore cells
+  pub edges : All (λ c. All (OfEdges (HasCell cells c)) (triangles_of_cell c)) cells
+
+-- a base is small enough that numbers above it fit
+abbrev pub IsSmall : Entry → Type 0
+IsSmall e = e.base < 2 ^ 31
+
+-- Of cells, so many are numbered. Those are kept that lie in the highest two layers among them.
+pub record IsNumbered (cells : List CellValues) (n : ℕ) (s : Numbering) : Type 0 where
+  pub width : s.n ≡ n
+  pub some : s.ahead ≤ length cells
+  pub vertices : s.vertices.items ≡ flat_map vertices_on (take s.ahead cells)
+  pub room : length s.slots.items ≡ 2 * n * n
+  pub small : All IsSmall s.slots.items
+  pub kept : (j : ℕ) (d : CellValues) (e : Entry) → j < s.ahead → ((k : ℕ) → k < s.ahead → (get_or cells k d).z ≤ (get_or cells j d).z + 1) → let c = get_or cells j d in get_or s.slots.items (slot_of n c.x c.y c.z) e ≡ entry_after (take j cells) c
+
+-- no numbered cell lies more than one layer above z
+abbrev pub LiesBelow : List CellValues → ℕ → ℕ → Type 0
+LiesBelow cells ahead z = (k : ℕ) (d : CellValues) → k < ahead → (get_or cells k d).z ≤ z + 1
+
+-- every cell that lies at most one layer above z is numbered
+abbrev pub ReachesAbove : List CellValues → ℕ → ℕ → Type 0
+ReachesAbove cells ahead z = (k : ℕ) (d : CellValues) → k < length cells → (get_or cells k d).z ≤ z + 1 → k < ahead
+
+-- The first cells of a list are numbered, and no numbered cell lies more than one layer above any of the others.
+pub record HasReached (cells : List CellValues) (ahead done : ℕ) : Type 0 where
+  pub first : done ≤ ahead
+  pub near : (j k : ℕ) (d : CellValues) → j < ahead → done ≤ k → k < length cells → (get_or cells j d).z ≤ (get_or cells k d).z + 1
+
+-- one more cell is numbered
+pub record Numbers (c : CellValues) (old new : Numbering) : Type 0 where
+  pub width : new.n ≡ old.n
+  pub ahead : new.ahead ≡ old.ahead + 1
+  pub vertices : new.vertices.items ≡ old.vertices.items ++ vertices_on c
+  pub slots : new.slots.items ≡ set old.slots.items (slot_of old.n c.x c.y c.z) (record { base = length old.vertices.items; mask = mask_of c })
+
+-- the number of a vertex by what is kept of its cell
+abbrev pub number_in : ℕ → List Entry → EdgeKey → ℕ
+number_in n slots e = let entry = get_or slots (slot_of n e.x e.y e.z) no_entry in entry.base + rank_of entry.mask e.dir
+
+abbrev pub face_in : ℕ → List Entry → Triple → Face
+face_in n slots t = record { a = number_in n slots t.a; b = number_in n slots t.b; c = number_in n slots t.c }
+
+-- the faces of cells, by the places of their vertices among those of all cells
+abbrev pub all_faces : List CellValues → List CellValues → List Face
+all_faces all cells = map (face_among (flat_map edges_of all)) (flat_map triangles_of_cell cells)
+
+-- two layers of what is kept
+pub record AreSlots (n : ℕ) (slots : List Entry) : Type 0 where
+  pub narrow : n ≤ 256
+  pub room : length slots ≡ 2 * n * n
+  pub small : All IsSmall slots
+
+-- an edge whose vertex may be looked up
+pub record IsKept (n : ℕ) (e : EdgeKey) : Type 0 where
+  pub x : e.x < n
+  pub y : e.y < n
+  pub dir : e.dir < 8
