@@ -1,6 +1,7 @@
 mod Examples
 pub mod Bits
 pub mod FaceLaws
+pub mod GridExamples
 pub mod GridLaws
 pub mod NumberLaws
 pub mod ReachLaws

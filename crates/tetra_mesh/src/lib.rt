@@ -21,4 +21,6 @@ pub use place::vertex_raw;
 pub use vertex::Vertex;
 
 #[cfg(test)]
+mod building_tests;
+#[cfg(test)]
 mod tests;
