@@ -65,7 +65,7 @@ lower_upper f m n = by (cases_order m n)
     by (inr (inr more)) = let low : min m n ≡ n = omega (arith, more) in let high : max m n ≡ m = omega (arith, more) in rw (low, high) (differ_symmetric (f n) (f m))
 
 -- one step after another
-step_on : (x a b c : ℕ) → (a + b == c) ≡ true → (x + a) + b ≡ x + c
+pub step_on : (x a b c : ℕ) → (a + b == c) ≡ true → (x + a) + b ≡ x + c
 step_on x a b c h = let e = eqb-true (a + b) c h in omega (arith, e)
 
 further_on : (cell : GridPoint) (low high : ℕ) → (along_x low + along_x (high - low) == along_x high) ≡ true → (along_y low + along_y (high - low) == along_y high) ≡ true → (along_z low + along_z (high - low) == along_z high) ≡ true → further (further cell low) (high - low) ≡ further cell high
@@ -138,12 +138,12 @@ among Q edge count a b c d one three two = by (count == 1) (count == 3) (count =
     by false false false h k l = All-nil (OfEdges Q)
 
 -- what a corner at a position is, and whether it is inside
-corner_at : (tetra : ℕ) (ks : List ℕ) (i : ℕ) → get_or (map (corner tetra) ks) i 0 ≡ corner tetra (get_or ks i 0)
+pub corner_at : (tetra : ℕ) (ks : List ℕ) (i : ℕ) → get_or (map (corner tetra) ks) i 0 ≡ corner tetra (get_or ks i 0)
 corner_at tetra [] i = refl
 corner_at tetra (k ∷ ks) zero = refl
 corner_at tetra (k ∷ ks) (suc i) = corner_at tetra ks i
 
-pattern_at : (f : ℕ → Bool) (tetra k : ℕ) → k < 4 → get_or (pattern_of f tetra) k false ≡ f (corner tetra k)
+pub pattern_at : (f : ℕ → Bool) (tetra k : ℕ) → k < 4 → get_or (pattern_of f tetra) k false ≡ f (corner tetra k)
 pattern_at f tetra zero few = refl
 pattern_at f tetra (suc zero) few = refl
 pattern_at f tetra (suc (suc zero)) few = refl

@@ -15,7 +15,7 @@ use Rattle.kuhn_cells.proofs.VertexLaws.{in_vertices}
 
 -- ---- the triangles of a grid
 
-all_within : {A : Type 0} (P : A → Type 0) (f : ℕ → List A) (a n : ℕ) → ((k : ℕ) → k < a + n → All P (f k)) → All P (flat_map f (range_with_len a n))
+pub all_within : {A : Type 0} (P : A → Type 0) (f : ℕ → List A) (a n : ℕ) → ((k : ℕ) → k < a + n → All P (f k)) → All P (flat_map f (range_with_len a n))
 all_within P f a zero each = All-nil P
 all_within P f a (suc n) each =
     All-append P (f a) (flat_map f (range_with_len (a + 1) n)) (each a (omega arith)) (all_within P f (a + 1) n (λ k few. each k (omega (arith, few))))

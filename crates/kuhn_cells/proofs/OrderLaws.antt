@@ -13,10 +13,10 @@ use Rattle.kuhn_cells.proofs.VertexLaws.{all_edges, all_flat}
 
 -- ---- lists put behind one another
 
-first_before : {A : Type 0} (R : A → A → Type 0) (x : A) (xs : List A) → AllPairs R (x ∷ xs) → All (R x) xs
+pub first_before : {A : Type 0} (R : A → A → Type 0) (x : A) (xs : List A) → AllPairs R (x ∷ xs) → All (R x) xs
 first_before R x xs h k d within = h 0 (suc k) d (omega arith) (omega (arith, within))
 
-rest_in_order : {A : Type 0} (R : A → A → Type 0) (x : A) (xs : List A) → AllPairs R (x ∷ xs) → AllPairs R xs
+pub rest_in_order : {A : Type 0} (R : A → A → Type 0) (x : A) (xs : List A) → AllPairs R (x ∷ xs) → AllPairs R xs
 rest_in_order R x xs h i j d less within = h (suc i) (suc j) d (omega (arith, less)) (omega (arith, within))
 
 pairs_append : {A : Type 0} (R : A → A → Type 0) (xs ys : List A) → AllPairs R xs → AllPairs R ys → All (λ x. All (R x) ys) xs → AllPairs R (xs ++ ys)

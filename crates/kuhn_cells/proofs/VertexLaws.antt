@@ -39,7 +39,7 @@ head_or_tail {A} y ys x h = at h.0 h.1 h.2
     at zero within e = inl e
     at (suc k) within e = inr (k, omega (arith, within), e)
 
-in_range : (a n k : ℕ) → a ≤ k → k < a + n → Contains (range_with_len a n) k
+pub in_range : (a n k : ℕ) → a ≤ k → k < a + n → Contains (range_with_len a n) k
 in_range a zero k low high = absurd (omega (arith, low, high))
 in_range a (suc n) k low high = by (cases_order a k) (λ less. in_range (a + 1) n k (omega (arith, less)) (omega (arith, high)))
   where
@@ -48,7 +48,7 @@ in_range a (suc n) k low high = by (cases_order a k) (λ less. in_range (a + 1) 
     by (inr (inl less)) next = in_tail a (range_with_len (a + 1) n) k (next less)
     by (inr (inr more)) next = absurd (omega (arith, low, more))
 
-in_flat : {X A : Type 0} (f : X → List A) (ys : List X) (y : X) (x : A) → Contains ys y → Contains (f y) x → Contains (flat_map f ys) x
+pub in_flat : {X A : Type 0} (f : X → List A) (ys : List X) (y : X) (x : A) → Contains ys y → Contains (f y) x → Contains (flat_map f ys) x
 in_flat f [] y x h k = absurd (not_in_none y h)
 in_flat f (z ∷ zs) y x h k = by (head_or_tail z zs y h) (λ later. in_flat f zs y x later k)
   where
@@ -56,7 +56,7 @@ in_flat f (z ∷ zs) y x h k = by (head_or_tail z zs y h) (λ later. in_flat f z
     by (inl same) next = Contains-append_left (f z) (flat_map f zs) x (rw same k)
     by (inr later) next = Contains-append_right (f z) (flat_map f zs) x (next later)
 
-in_map : {X A : Type 0} (f : X → A) (ys : List X) (y : X) → Contains ys y → Contains (map f ys) (f y)
+pub in_map : {X A : Type 0} (f : X → A) (ys : List X) (y : X) → Contains ys y → Contains (map f ys) (f y)
 in_map f [] y h = absurd (not_in_none y h)
 in_map f (z ∷ zs) y h = by (head_or_tail z zs y h) (λ later. in_map f zs y later)
   where

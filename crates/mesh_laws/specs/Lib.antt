@@ -1,0 +1,3 @@
+pub mod Closed
+pub mod Frames
+pub mod Laws
