@@ -21,7 +21,7 @@ implied_or : (a b : Bool) → (a || b) ≡ true → a ≡ false → b ≡ true
 implied_or true b h e = absurd (true≢false e)
 implied_or false b h e = h
 
-differ_symmetric : (a b : Bool) → differ a b ≡ differ b a
+pub differ_symmetric : (a b : Bool) → differ a b ≡ differ b a
 differ_symmetric true true = refl
 differ_symmetric true false = refl
 differ_symmetric false true = refl

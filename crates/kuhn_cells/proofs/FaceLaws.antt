@@ -45,14 +45,14 @@ triangles_have_vertices g =
 
 -- ---- numbers
 
-same_is_equal : (e f : EdgeKey) → same_edge e f ≡ true → e ≡ f
+pub same_is_equal : (e f : EdgeKey) → same_edge e f ≡ true → e ≡ f
 same_is_equal e f h =
     let x = and_parts _ _ h in
     let y = and_parts _ _ x.1 in
     let z = and_parts _ _ y.1 in
     rw (eqb-true e.x f.x x.0, eqb-true e.y f.y y.0, eqb-true e.z f.z z.0, eqb-true e.dir f.dir z.1) refl
 
-same_as_itself : (e : EdgeKey) → same_edge e e ≡ true
+pub same_as_itself : (e : EdgeKey) → same_edge e e ≡ true
 same_as_itself e = and_from _ _ (eq-eqb e.x e.x refl) (and_from _ _ (eq-eqb e.y e.y refl) (and_from _ _ (eq-eqb e.z e.z refl) (eq-eqb e.dir e.dir refl)))
 
 stands : (all : List EdgeKey) (e : EdgeKey) → Contains all e → number_among all e < length all

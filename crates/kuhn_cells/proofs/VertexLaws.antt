@@ -64,7 +64,7 @@ in_map f (z ∷ zs) y h = by (head_or_tail z zs y h) (λ later. in_map f zs y la
     by (inl same) next = rw same (in_head (map f zs) (f y))
     by (inr later) next = in_tail (f z) (map f zs) (f y) (next later)
 
-in_filter : {A : Type 0} (p : A → Bool) (ys : List A) (x : A) → Contains ys x → p x ≡ true → Contains (filter p ys) x
+pub in_filter : {A : Type 0} (p : A → Bool) (ys : List A) (x : A) → Contains ys x → p x ≡ true → Contains (filter p ys) x
 in_filter p [] x h passes = absurd (not_in_none x h)
 in_filter p (y ∷ ys) x h passes = by (head_or_tail y ys x h) (λ later. in_filter p ys x later passes)
   where

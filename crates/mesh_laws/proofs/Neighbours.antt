@@ -8,7 +8,7 @@ use Rattle.kuhn_cells.specs.Arrangement.{arranged}
 use Rattle.kuhn_cells.specs.Corners.{along_x, along_y, along_z, corner, is_negative}
 use Rattle.kuhn_cells.proofs.Checks.{both, every}
 use Rattle.mesh_laws.proofs.Owners.{direction, low}
-use Rattle.mesh_laws.proofs.Turns.{Way, turns_in, way}
+use Rattle.mesh_laws.proofs.Turns.{Way, turns_in, way, ways_in}
 
 -- ---- the position of the corner that a turn leaves out, or 4 where it leaves out none
 
@@ -92,7 +92,7 @@ are_met negative v0 v1 v2 v3 =
     list_all (is_met negative (λ k. get_or pattern k false) turns) turns
 
 pub always_met : both (λ negative. every (are_met negative)) ≡ true
-unfolding are_met is_met has_turn same_way turns_in arranged
+unfolding are_met is_met has_turn same_way ways_in arranged
 always_met = refl
 
 -- ---- the check of the tetrahedra beyond the faces

@@ -13,7 +13,7 @@ use Rattle.kuhn_cells.specs.Triangles.{GridPoint, further}
 use Rattle.kuhn_cells.proofs.Checks.{every, every_at}
 use Rattle.kuhn_cells.proofs.EdgeLaws.{pattern_at as pattern_is}
 use Rattle.mesh_laws.proofs.Lists.{Differ, differ_by, distinct, same_numbers}
-use Rattle.mesh_laws.proofs.Turns.{Way, keys_of, pattern_at, turns_at, turns_in}
+use Rattle.mesh_laws.proofs.Turns.{Way, keys_of, pattern_at, turns_at, turns_in, ways_in}
 
 -- ---- a number for each turn of the tetrahedra near a place
 
@@ -89,7 +89,7 @@ all_good : List (ℕ × ℕ) → Bool
 all_good entries = agree_below (λ tetra. every (are_good entries tetra)) (λ _. true) 6
 
 always_good : all_good table ≡ true
-unfolding all_good are_good is_good is_same found table turn_code code turns_in arranged
+unfolding all_good are_good is_good is_same found table turn_code code ways_in arranged
 always_good = refl
 
 -- ---- what the check says of the turns of a cell

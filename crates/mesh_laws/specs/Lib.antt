@@ -1,3 +1,5 @@
 pub mod Closed
 pub mod Frames
 pub mod Laws
+pub mod Places
+pub mod Separating

@@ -1,8 +1,8 @@
 // What always holds of the meshes that kuhn_cells defines. The functions compute nothing: what they
 // ensure is the law.
-ghost use Rattle.mesh_laws.specs.Laws.{EdgesArePaired};
+ghost use Rattle.mesh_laws.specs.Laws.{EdgesArePaired, Separates};
 
-use kuhn_cells::triangles_have_vertices;
+use kuhn_cells::{triangles_have_vertices, vertices_are_mixed_edges};
 
 /// The mesh of each grid is closed: the three vertices of a face differ, each directed edge occurs
 /// in one place only, and so does the same edge in the other direction.
@@ -10,4 +10,14 @@ pub fn edges_paired()
     ensures { EdgesArePaired }
 {
     triangles_have_vertices();
+}
+
+/// The mesh of each grid separates its inside points from the outside ones: an edge of the grid
+/// holds a vertex exactly where one of its ends is inside and the other is not, and each face has
+/// the inside ends of its edges behind it.
+pub fn separates()
+    ensures { Separates }
+{
+    triangles_have_vertices();
+    vertices_are_mixed_edges();
 }

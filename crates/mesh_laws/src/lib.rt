@@ -3,4 +3,4 @@
 
 mod laws;
 
-pub use laws::edges_paired;
+pub use laws::{edges_paired, separates};
