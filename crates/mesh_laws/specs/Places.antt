@@ -1,6 +1,8 @@
 -- Where the vertices of a mesh lie.
-use Rattle.std.specs.Prelude.{ℕ, ◌+◌, ◌-◌, ◌*◌, pos, if◌then◌else◌}
+use Rattle.std.specs.Prelude.{◌≡◌, ℕ, ◌+◌, ◌-◌, ◌*◌, ◌==◌, ◌<◌, ℤ, pos, ◌+ℤ◌, ◌-ℤ◌, ◌*ℤ◌, ◌≤ℤ◌, List, [], ◌∷◌, ◌++◌, get_or, length, All, if◌then◌else◌}
 use Rattle.fixed_ops.specs.Cut.{cut_of}
+use Rattle.fixed_ops.specs.NumberTexts.{number_text}
+use Rattle.fixed_ops.specs.Raw.{IsRaw, floor_div}
 use Rattle.kuhn_cells.specs.declared.edge_key.EdgeKey.{EdgeKey}
 use Rattle.kuhn_cells.specs.Corners.{along_x, along_y, along_z}
 use Rattle.kuhn_cells.specs.Grids.{Grid, is_inside_at, lower, upper, value_at}
@@ -36,3 +38,44 @@ inner_of g p q = if is_inside_at g p then p else q
 
 abbrev pub inner_end : Grid → EdgeKey → GridPoint
 inner_end g e = inner_of g (lower e) (upper e)
+
+-- Where a vertex lies between the raw places of the lower and of the upper end of its edge along an axis that the edge
+-- runs along, by the share of the way: rounded down.
+abbrev pub between : ℤ → ℤ → ℕ → ℤ
+between p q t = p +ℤ floor_div ((q -ℤ p) *ℤ pos t) 65536
+
+-- the raw place of a vertex along an axis: index and steps are those of its edge's lower end and of its direction
+abbrev pub raw_along : List ℤ → ℕ → ℕ → ℕ → ℤ
+raw_along places index steps t =
+    let at = λ (k : ℕ). get_or places k (pos 0) in
+    if steps == 1 then between (at index) (at (index + 1)) t else at index
+
+-- the raw places of the points of a grid along each axis
+pub record RawPlaces : Type 0 where
+  pub along_x : List ℤ
+  pub along_y : List ℤ
+  pub along_z : List ℤ
+
+-- the raw place of a vertex
+abbrev pub raw_place : RawPlaces → Grid → EdgeKey → Vector
+raw_place places g e =
+    record {
+      x = raw_along places.along_x e.x (along_x e.dir) (share g e);
+      y = raw_along places.along_y e.y (along_y e.dir) (share g e);
+      z = raw_along places.along_z e.z (along_z e.dir) (share g e);
+    }
+
+-- the line of a vertex at a raw place: its number texts, with spaces between them, and a line feed
+abbrev pub place_line : Vector → List ℕ
+place_line v = number_text v.x ++ 32 ∷ (number_text v.y ++ 32 ∷ (number_text v.z ++ 10 ∷ []))
+
+-- raw numbers along an axis of so many cells, each at least 65536 above the one before
+pub record AreApart (count : ℕ) (places : List ℤ) : Type 0 where
+  pub points : length places ≡ count + 1
+  pub raw : All IsRaw places
+  pub rise : (k : ℕ) → k < count → (get_or places k (pos 0) +ℤ pos 65536) ≤ℤ get_or places (k + 1) (pos 0)
+
+pub record AreAllApart (g : Grid) (places : RawPlaces) : Type 0 where
+  pub x : AreApart g.x places.along_x
+  pub y : AreApart g.y places.along_y
+  pub z : AreApart g.z places.along_z

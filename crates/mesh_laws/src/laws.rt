@@ -1,7 +1,8 @@
 // What always holds of the meshes that kuhn_cells defines. The functions compute nothing: what they
 // ensure is the law.
-ghost use Rattle.mesh_laws.specs.Laws.{EdgesArePaired, Separates};
+ghost use Rattle.mesh_laws.specs.Laws.{EdgesArePaired, PlacesAreDistinct, Separates};
 
+use fixed_ops::number_texts;
 use kuhn_cells::{triangles_have_vertices, vertices_are_mixed_edges};
 
 /// The mesh of each grid is closed: the three vertices of a face differ, each directed edge occurs
@@ -19,5 +20,15 @@ pub fn separates()
     ensures { Separates }
 {
     triangles_have_vertices();
+    vertices_are_mixed_edges();
+}
+
+/// Different vertices have different places on the lattice of 65536 steps a cell. Where the raw
+/// places of the points of the grid rise by at least 65536 along each axis, they also have
+/// different raw places and different lines.
+pub fn places_distinct()
+    ensures { PlacesAreDistinct }
+{
+    number_texts();
     vertices_are_mixed_edges();
 }
