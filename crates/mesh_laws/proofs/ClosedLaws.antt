@@ -21,7 +21,7 @@ use Rattle.mesh_laws.proofs.Turns.{all_turns, turns_are_all, turns_of}
 
 -- ---- an edge of a list without repetition occurs once
 
-goes_is : (e f : ℕ × ℕ) → goes e.0 e.1 f ≡ true → f ≡ e
+pub goes_is : (e f : ℕ × ℕ) → goes e.0 e.1 f ≡ true → f ≡ e
 goes_is e f h = let p = and_parts _ _ h in rw (eqb-true f.0 e.0 p.0, eqb-true f.1 e.1 p.1) refl
 
 goes_itself : (e : ℕ × ℕ) → goes e.0 e.1 e ≡ true
@@ -30,13 +30,13 @@ goes_itself e = and_from _ _ (eq-eqb e.0 e.0 refl) (eq-eqb e.1 e.1 refl)
 other_goes : (e f : ℕ × ℕ) → Differ f e → goes e.0 e.1 f ≡ false
 other_goes e f differ = false_from_ne_true (goes e.0 e.1 f) (λ h. differ (goes_is e f h))
 
-none_goes : (e : ℕ × ℕ) (fs : List (ℕ × ℕ)) → All (Differ e) fs → occurrences fs e.0 e.1 ≡ 0
+pub none_goes : (e : ℕ × ℕ) (fs : List (ℕ × ℕ)) → All (Differ e) fs → occurrences fs e.0 e.1 ≡ 0
 none_goes e [] h = refl
 none_goes e (f ∷ fs) h =
     let other = other_goes e f (λ same. All-head (Differ e) f fs h (sym same)) in
     sum_by-cons (λ x. cond (goes e.0 e.1 x) 1 0) f fs ∙ rw (other, none_goes e fs (All-tail (Differ e) f fs h)) refl
 
-occurs_once : (e : ℕ × ℕ) (fs : List (ℕ × ℕ)) → AllPairs Differ fs → Contains fs e → occurrences fs e.0 e.1 ≡ 1
+pub occurs_once : (e : ℕ × ℕ) (fs : List (ℕ × ℕ)) → AllPairs Differ fs → Contains fs e → occurrences fs e.0 e.1 ≡ 1
 occurs_once e [] differ h = absurd (not_in_none e h)
 occurs_once e (f ∷ fs) differ h =
     sum_by-cons (λ x. cond (goes e.0 e.1 x) 1 0) f fs ∙ by (head_or_tail f fs e h) (λ later. occurs_once e fs (rest_in_order Differ f fs differ) later)
@@ -49,7 +49,7 @@ occurs_once e (f ∷ fs) differ h =
     by (inr later) next = rw (other_goes e f (All-contains (Differ f) fs e (first_before Differ f fs differ) later), next later) refl
 
 -- a function that tells the elements of a list apart keeps them apart
-differ_mapped : {A B : Type 0} (f : A → B) (P : A → Type 0) → ((x y : A) → P x → P y → f x ≡ f y → x ≡ y) → (xs : List A) → All P xs → AllPairs Differ xs → AllPairs Differ (map f xs)
+pub differ_mapped : {A B : Type 0} (f : A → B) (P : A → Type 0) → ((x y : A) → P x → P y → f x ≡ f y → x ≡ y) → (xs : List A) → All P xs → AllPairs Differ xs → AllPairs Differ (map f xs)
 differ_mapped f P tells [] h differ = λ i j d less within. absurd (omega (arith, within))
 differ_mapped f P tells (x ∷ xs) h differ =
     AllPairs-cons Differ (f x) (map f xs) (All-map (Differ (f x)) f xs (λ k d within same. first_before Differ x xs differ k d within (tells x _ (All-head P x xs h) (All-tail P x xs h k d within) same))) (differ_mapped f P tells xs (All-tail P x xs h) (rest_in_order Differ x xs differ))
@@ -65,7 +65,7 @@ each_triangle P (t ∷ ts) h =
 
 -- ---- the numbers of the vertices
 
-abbrev number : Grid → EdgeKey → ℕ
+abbrev pub number : Grid → EdgeKey → ℕ
 number g e = number_among (vertices g) e
 
 abbrev numbered : Grid → EdgeKey × EdgeKey → ℕ × ℕ
@@ -81,11 +81,11 @@ are_vertices triangles g =
     subst (λ ks. All (AreVertices g) ks) (turns_are_all g) (all_of_flat (OfEdges (IsVertex g)) (AreVertices g) turns_of three (all_triangles g) (triangles g))
 
 -- vertices with one number are one
-one_vertex : NumbersArePlaces → (g : Grid) (e f : EdgeKey) → IsVertex g e → IsVertex g f → number g e ≡ number g f → e ≡ f
+pub one_vertex : NumbersArePlaces → (g : Grid) (e f : EdgeKey) → IsVertex g e → IsVertex g f → number g e ≡ number g f → e ≡ f
 one_vertex numbers g e f v w same =
     sym (numbers g e e v).1 ∙ ap (λ k. get_or (vertices g) k e) same ∙ (numbers g f e w).1
 
-pair_same : (x y : EdgeKey × EdgeKey) → x.0 ≡ y.0 → x.1 ≡ y.1 → x ≡ y
+pub pair_same : (x y : EdgeKey × EdgeKey) → x.0 ≡ y.0 → x.1 ≡ y.1 → x ≡ y
 pair_same x y p q = rw (p, q) refl
 
 tells : NumbersArePlaces → (g : Grid) (x y : EdgeKey × EdgeKey) → AreVertices g x → AreVertices g y → numbered g x ≡ numbered g y → x ≡ y
@@ -116,6 +116,11 @@ Once es = All (λ e. occurrences es e.0 e.1 ≡ 1) es
 
 abbrev Back : List (ℕ × ℕ) → Type 0
 Back es = All (λ e. occurrences es e.1 e.0 ≡ 1) es
+
+-- no directed edge stands in two places
+pub edges_differ : TrianglesHaveVertices → NumbersArePlaces → (g : Grid) → AllPairs Differ (directed_edges (faces g))
+edges_differ triangles numbers g =
+    subst (λ es. AllPairs Differ es) (sym (edges_are_turns g)) (differ_mapped (numbered g) (AreVertices g) (tells numbers g) (all_turns g) (are_vertices triangles g) (all_differ g))
 
 pub edges_are_paired : TrianglesHaveVertices → NumbersArePlaces → EdgesArePaired
 edges_are_paired triangles numbers g framed =

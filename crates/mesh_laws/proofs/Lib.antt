@@ -2,6 +2,9 @@ pub mod ClosedLaws
 pub mod Determinants
 mod Examples
 pub mod Facing
+pub mod FanArcs
+pub mod FanLaws
+pub mod Fans
 pub mod Lattice
 pub mod Lines
 pub mod Lists
@@ -10,6 +13,7 @@ pub mod Owners
 pub mod Partners
 pub mod Paths
 pub mod Raws
+pub mod Rings
 pub mod Sides
 pub mod Single
 pub mod Turns

@@ -51,7 +51,7 @@ place tetra t = low tetra t.0 + 8 * tetra
 table : List (ℕ × ℕ)
 table = flat_map (λ tetra. flat_map (λ pattern. map (λ (t : Way × Way). (turn_code tetra t, place tetra t)) (turns_in (is_negative tetra) pattern)) patterns) (range_with_len 0 6)
 
-found : List (ℕ × ℕ) → ℕ → ℕ
+unfoldable pub found : List (ℕ × ℕ) → ℕ → ℕ
 found [] number = 0
 found (entry ∷ rest) number = if entry.0 == number then entry.1 else found rest number
 

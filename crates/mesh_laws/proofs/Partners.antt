@@ -29,9 +29,9 @@ not_both (negsuc a) h k = omega (arith, ints, k)
 not_outer : (g : Grid) → IsFramed g → (p : GridPoint) → is_point g p ≡ true → is_inside_at g p ≡ true → IsOuter g p → ⊥
 not_outer g framed p h k o = not_both _ k (framed.frame p h o)
 
-record IsWithin (count index : ℕ) : Type 0 where
-  low : 1 ≤ index
-  high : index + 1 ≤ count
+pub record IsWithin (count index : ℕ) : Type 0 where
+  pub low : 1 ≤ index
+  pub high : index + 1 ≤ count
 
 within : (count index : ℕ) → index ≤ count → (index ≡ 0 → ⊥) → (index ≡ count → ⊥) → IsWithin count index
 within count index most first last = by (cases_eq index 0) (cases_eq index count)
@@ -41,12 +41,12 @@ within count index most first last = by (cases_eq index 0) (cases_eq index count
     by (inr e) (inl f) = absurd (last f)
     by (inr e) (inr f) = record { low = omega (arith, e); high = omega (arith, f, most) }
 
-record IsInner (g : Grid) (p : GridPoint) : Type 0 where
-  x : IsWithin g.x p.x
-  y : IsWithin g.y p.y
-  z : IsWithin g.z p.z
+pub record IsInner (g : Grid) (p : GridPoint) : Type 0 where
+  pub x : IsWithin g.x p.x
+  pub y : IsWithin g.y p.y
+  pub z : IsWithin g.z p.z
 
-inner : (g : Grid) → IsFramed g → (p : GridPoint) → p.x ≤ g.x → p.y ≤ g.y → p.z ≤ g.z → is_inside_at g p ≡ true → IsInner g p
+pub inner : (g : Grid) → IsFramed g → (p : GridPoint) → p.x ≤ g.x → p.y ≤ g.y → p.z ≤ g.z → is_inside_at g p ≡ true → IsInner g p
 inner g framed p x y z h =
     let out = not_outer g framed p (and_from _ _ (le-leb p.x g.x x) (and_from _ _ (le-leb p.y g.y y) (le-leb p.z g.z z))) h in
     record {

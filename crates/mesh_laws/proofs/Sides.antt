@@ -2,7 +2,7 @@
 use Rattle.std.proofs.Common.{◌≡◌, ℕ, ◌+◌, ◌<◌, Bool, true, false, List, [], ◌∷◌, refl, ap, sym, ◌∙◌, inl, inr}
 use Rattle.std.specs.Prelude.{◌==◌, ◌&&◌, ◌⊎◌, not, nat_le, nat_lt, get_or, All, if◌then◌else◌}
 use Rattle.std.specs.List.{list_all}
-use Rattle.std.proofs.lemmas.Bool.{agree_below, agree_below_at, and_parts, eqb-true, leb-true, ltb-true, not-true}
+use Rattle.std.proofs.lemmas.Bool.{agree_below, agree_below_at, and_parts, eqb-true, leb-true, ltb-true, ne_eqb, not-true, true≢false}
 use Rattle.std.proofs.lemmas.List.Elements.{All-weaker}
 use Rattle.std.proofs.lemmas.List.Sums.{AllPass-from_list_all}
 use Rattle.kuhn_cells.specs.Arrangement.{arranged}
@@ -73,6 +73,9 @@ always_out = refl
 pub record HasEnds (inside : GridPoint → Bool) (cell : GridPoint) (tetra : ℕ) (w : Way) : Type 0 where
   pub lit : inside (further cell (corner tetra w.inner)) ≡ true
   pub dark : inside (further cell (corner tetra w.outer)) ≡ false
+  pub inner : w.inner < 4
+  pub outer : w.outer < 4
+  pub apart : (w.inner == w.outer) ≡ false
   pub ends : AreEnds (key_of cell tetra w) (further cell (corner tetra w.inner)) (further cell (corner tetra w.outer))
 
 ends_of : (cell : GridPoint) (tetra : ℕ) (w : Way) (rises : Bool) → low tetra w ≡ corner tetra (if rises then w.inner else w.outer) → further (further cell (low tetra w)) (direction tetra w) ≡ further cell (corner tetra (if rises then w.outer else w.inner)) → AreEnds (key_of cell tetra w) (further cell (corner tetra w.inner)) (further cell (corner tetra w.outer))
@@ -96,6 +99,9 @@ has_ends inside cell tetra w h =
     let at = λ (c : ℕ). inside (further cell c) in
     record {
       lit = sym (pattern_is at tetra w.inner (ltb-true _ _ p0.0)) ∙ p2.0;
+      inner = ltb-true _ _ p0.0;
+      outer = ltb-true _ _ p1.0;
+      apart = ne_eqb w.inner w.outer (λ same. true≢false (sym p2.0 ∙ ap (λ k. get_or (pattern_at inside cell tetra) k false) same ∙ not-true _ p3.0));
       dark = sym (pattern_is at tetra w.outer (ltb-true _ _ p1.0)) ∙ not-true _ p3.0;
       ends = ends_of cell tetra w (nat_lt w.inner w.outer) (eqb-true _ _ p4.0) (upper_is cell (low tetra w) (direction tetra w) _ p5.0 p6.0 p6.1);
     }

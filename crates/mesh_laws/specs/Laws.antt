@@ -1,16 +1,21 @@
 -- The laws of meshes.
-use Rattle.std.specs.Prelude.{◌≢◌, Contains}
+use Rattle.std.specs.Prelude.{◌≢◌, Contains, length}
 use Rattle.kuhn_cells.specs.declared.edge_key.EdgeKey.{EdgeKey}
 use Rattle.kuhn_cells.specs.Faces.{faces}
 use Rattle.kuhn_cells.specs.Grids.{Grid, vertices}
 use Rattle.mesh_laws.specs.Closed.{IsClosed}
 use Rattle.mesh_laws.specs.Frames.{IsFramed}
+use Rattle.mesh_laws.specs.Manifold.{IsManifold}
 use Rattle.mesh_laws.specs.Places.{AreAllApart, RawPlaces, lattice_place, place_line, raw_place}
 use Rattle.mesh_laws.specs.Separating.{IsSeparating}
 
 -- the mesh of each grid is closed
 abbrev pub EdgesArePaired : Type 0
 EdgesArePaired = (g : Grid) → IsFramed g → IsClosed (faces g)
+
+-- the mesh of each grid is a manifold
+abbrev pub HaveOneCycle : Type 0
+HaveOneCycle = (g : Grid) → IsFramed g → IsManifold (length (vertices g)) (faces g)
 
 -- the mesh of each grid separates its inside points from the outside ones
 abbrev pub Separates : Type 0

@@ -1,6 +1,6 @@
 // What always holds of the meshes that kuhn_cells defines. The functions compute nothing: what they
 // ensure is the law.
-ghost use Rattle.mesh_laws.specs.Laws.{EdgesArePaired, PlacesAreDistinct, Separates};
+ghost use Rattle.mesh_laws.specs.Laws.{EdgesArePaired, HaveOneCycle, PlacesAreDistinct, Separates};
 
 use fixed_ops::number_texts;
 use kuhn_cells::{triangles_have_vertices, vertices_are_mixed_edges};
@@ -11,6 +11,15 @@ pub fn edges_paired()
     ensures { EdgesArePaired }
 {
     triangles_have_vertices();
+}
+
+/// The mesh of each grid is a manifold: the arcs that the faces of a vertex leave opposite it are
+/// exactly those of one cycle through three different vertices at least.
+pub fn one_cycle()
+    ensures { HaveOneCycle }
+{
+    triangles_have_vertices();
+    vertices_are_mixed_edges();
 }
 
 /// The mesh of each grid separates its inside points from the outside ones: an edge of the grid

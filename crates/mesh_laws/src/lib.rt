@@ -3,4 +3,4 @@
 
 mod laws;
 
-pub use laws::{edges_paired, places_distinct, separates};
+pub use laws::{edges_paired, one_cycle, places_distinct, separates};
