@@ -1,14 +1,30 @@
--- The mesh of the grid of which the middle point alone is inside is closed. It is not where one of its faces is turned
--- or missing.
-use Rattle.std.proofs.Common.{◌≡◌, pos, negsuc, Bool, List, [], ◌∷◌, ◌++◌, length, refl}
-use Rattle.std.specs.Prelude.{◌==◌, ◌&&◌, not, All, replicate}
+-- The mesh of the grid of which the middle point alone is inside is closed, has one fan of faces at each vertex, and
+-- faces out. A mesh with a face turned, one with a face missing, and two cones that share a tip are refused.
+use Rattle.std.proofs.Common.{◌≡◌, ℕ, ◌≤◌, ℤ, pos, negsuc, Bool, true, false, List, [], ◌∷◌, ◌++◌, length, refl, arith, sym, subst, ◌∙◌, inl, inr}
+use Rattle.std.specs.Prelude.{◌==◌, ◌&&◌, ◌||◌, ◌⊎◌, ◌≤ℤ◌, ◌<ℤ◌, int_le, int_lt, nat_lt, not, get_or, All, Contains, replicate}
 use Rattle.std.specs.Bool.{Decides}
-use Rattle.std.specs.List.{list_all}
+use Rattle.std.specs.List.{list_all, range_with_len}
 use Rattle.std.proofs.lemmas.Bool.Decides.{Decides-and, Decides-by_and, Decides-eqb, Decides-like, Decides-not, not_from_Decides}
-use Rattle.kuhn_cells.specs.Arrangement.{arranged}
+use Rattle.kuhn_cells.specs.Arrangement.{arranged, differ}
 use Rattle.kuhn_cells.specs.Faces.{Face, all_triangles, faces}
-use Rattle.kuhn_cells.specs.Grids.{Grid, vertices}
+use Rattle.kuhn_cells.specs.Grids.{Grid, value_at, vertices}
+use Rattle.kuhn_cells.specs.Triangles.{GridPoint, point}
+use Rattle.kuhn_cells.specs.Vectors.{determinant_at}
+use Rattle.kuhn_cells.specs.declared.edge_key.EdgeKey.{EdgeKey}
+use Rattle.kuhn_cells.proofs.VertexLaws.{in_map, not_in_none}
+use Rattle.fixed_ops.specs.Raw.{IsRaw, greatest, least}
 use Rattle.mesh_laws.specs.Closed.{IsClosed, IsTriangle, directed_edges, occurrences}
+use Rattle.mesh_laws.specs.Frames.{IsFramed, IsOuter}
+use Rattle.mesh_laws.specs.Manifold.{HasFan, IsManifold, arcs, arcs_on, cycle_arcs}
+use Rattle.mesh_laws.specs.Places.{inner_end, lattice_place, point_place}
+use Rattle.mesh_laws.specs.Separating.{FacesOut}
+use Rattle.mesh_laws.proofs.FanLaws.{counted, cycle_sources, occurs}
+use Rattle.mesh_laws.proofs.Owners.{found}
+use Rattle.mesh_laws.proofs.Rings.{cycle_of, follow, is_fan}
+use Rattle.std.proofs.lemmas.Bool.{agree_below, agree_below_at, and_parts, eqb-true, leb-true, not-true, or_cases, true≢false}
+use Rattle.std.proofs.lemmas.Int.{ints}
+use Rattle.std.proofs.lemmas.List.Elements.{All-cons, All-contains, All-head, All-nil, All-tail, All-weaker, Contains-get_or}
+use Rattle.std.proofs.lemmas.List.Sums.{AllPass-from_list_all}
 
 -- ---- a test of closed meshes
 
@@ -71,3 +87,148 @@ turned_is_not_closed = not_from_Decides (is_closed (first_turned (faces middle_i
 open_is_not_closed : IsClosed (first_missing (faces middle_inside)) → ⊥
 unfolding first_missing is_closed is_triangle faces all_triangles vertices arranged
 open_is_not_closed = not_from_Decides (is_closed (first_missing (faces middle_inside))) (closed_decides (first_missing (faces middle_inside))) refl
+
+-- ---- it is framed
+
+at_most : (a b : ℤ) → int_le a b ≡ true → a ≤ℤ b
+at_most a b h = omega (arith, ints, h)
+
+is_raw : ℤ → Bool
+is_raw v = int_le least v && int_le v greatest
+
+raw_of : (v : ℤ) → is_raw v ≡ true → IsRaw v
+unfolding is_raw
+raw_of v h = let p = and_parts _ _ h in (at_most least v p.0, at_most v greatest p.1)
+
+-- all points but the middle one are outside
+is_right : ℕ → ℕ → ℕ → Bool
+is_right x y z = (x == 1 && (y == 1 && z == 1)) || int_le (pos 0) (value_at middle_inside (point x y z))
+
+abbrev yes : ℕ → Bool
+yes k = true
+
+all_right : agree_below (λ x. agree_below (λ y. agree_below (is_right x y) yes 3) yes 3) yes 3 ≡ true
+unfolding is_right
+all_right = refl
+
+outer_is_not_middle : (p : GridPoint) → IsOuter middle_inside p → p.x ≡ 1 → p.y ≡ 1 → p.z ≡ 1 → ⊥
+outer_is_not_middle p (inl (inl h)) x y z = omega (arith, h, x)
+outer_is_not_middle p (inl (inr h)) x y z = omega (arith, h, x)
+outer_is_not_middle p (inr (inl (inl h))) x y z = omega (arith, h, y)
+outer_is_not_middle p (inr (inl (inr h))) x y z = omega (arith, h, y)
+outer_is_not_middle p (inr (inr (inl h))) x y z = omega (arith, h, z)
+outer_is_not_middle p (inr (inr (inr h))) x y z = omega (arith, h, z)
+
+outer_is_outside : (p : GridPoint) → is_right p.x p.y p.z ≡ true → IsOuter middle_inside p → pos 0 ≤ℤ value_at middle_inside p
+unfolding is_right
+outer_is_outside p h outer = by (or_cases _ _ h)
+  where
+    by : ((p.x == 1 && (p.y == 1 && p.z == 1)) ≡ true) ⊎ (int_le (pos 0) (value_at middle_inside p) ≡ true) → pos 0 ≤ℤ value_at middle_inside p
+    by (inl middle) =
+        let x = and_parts _ _ middle in
+        let y = and_parts _ _ x.1 in
+        absurd (outer_is_not_middle p outer (eqb-true p.x 1 x.0) (eqb-true p.y 1 y.0) (eqb-true p.z 1 y.1))
+    by (inr outside) = at_most (pos 0) (value_at middle_inside p) outside
+
+middle_is_framed : IsFramed middle_inside
+unfolding is_raw
+middle_is_framed =
+    record {
+      x = record { some = omega arith; within = omega arith };
+      y = record { some = omega arith; within = omega arith };
+      z = record { some = omega arith; within = omega arith };
+      points = refl;
+      raw = All-weaker (λ v. is_raw v ≡ true) IsRaw raw_of middle_inside.values (AllPass-from_list_all is_raw middle_inside.values refl);
+      frame = λ p within outer.
+          let x = and_parts _ _ within in
+          let y = and_parts _ _ x.1 in
+          let fx = leb-true p.x 2 x.0 in
+          let fy = leb-true p.y 2 y.0 in
+          let fz = leb-true p.z 2 y.1 in
+          outer_is_outside p (agree_below_at (is_right p.x p.y) yes 3 p.z (agree_below_at (λ y. agree_below (is_right p.x y) yes 3) yes 3 p.y (agree_below_at (λ x. agree_below (λ y. agree_below (is_right x y) yes 3) yes 3) yes 3 p.x all_right (omega (arith, fx))) (omega (arith, fy))) (omega (arith, fz))) outer;
+    }
+
+-- ---- it has one fan of faces at each vertex
+
+middle_has_fans : list_all (λ u. is_fan (arcs (faces middle_inside) u)) (range_with_len 0 14) ≡ true
+unfolding is_fan cycle_of follow found faces all_triangles vertices arranged
+middle_has_fans = refl
+
+abbrev face : ℕ → ℕ → ℕ → Face
+face a b c = record { a = a; b = b; c = c }
+
+-- two tetrahedra that share the vertex 0 and nothing else
+two_cones : List Face
+two_cones = face 0 1 2 ∷ face 0 2 3 ∷ face 0 3 1 ∷ face 1 3 2 ∷ face 0 4 5 ∷ face 0 5 6 ∷ face 0 6 4 ∷ face 4 6 5 ∷ []
+
+cones_are_closed : IsClosed two_cones
+unfolding is_closed is_triangle two_cones
+cones_are_closed = (closed_decides two_cones).0 refl
+
+-- the arcs of a cycle lead from each of its vertices to each other one
+kept_on : (s : ℕ → Bool) (first v : ℕ) (ws : List ℕ) → All (λ (a : ℕ × ℕ). s a.0 ≡ s a.1) (arcs_on first v ws) → All (λ w. s w ≡ s v) (v ∷ ws)
+kept_on s first v [] h = All-cons (λ w. s w ≡ s v) v [] refl (All-nil (λ w. s w ≡ s v))
+kept_on s first v (w ∷ ws) h =
+    let here = All-head (λ (a : ℕ × ℕ). s a.0 ≡ s a.1) (v, w) (arcs_on first w ws) h in
+    let later = kept_on s first w ws (All-tail (λ (a : ℕ × ℕ). s a.0 ≡ s a.1) (v, w) (arcs_on first w ws) h) in
+    All-cons (λ x. s x ≡ s v) v (w ∷ ws) refl (All-weaker (λ x. s x ≡ s w) (λ x. s x ≡ s v) (λ x e. e ∙ sym here) (w ∷ ws) later)
+
+kept_round : (s : ℕ → Bool) (c : List ℕ) (x y : ℕ) → All (λ (a : ℕ × ℕ). s a.0 ≡ s a.1) (cycle_arcs c) → Contains c x → Contains c y → s x ≡ s y
+kept_round s [] x y h p q = absurd (not_in_none x p)
+kept_round s (v ∷ vs) x y h p q =
+    let all = kept_on s v v vs h in
+    All-contains (λ w. s w ≡ s v) (v ∷ vs) x all p ∙ sym (All-contains (λ w. s w ≡ s v) (v ∷ vs) y all q)
+
+starts_in : (c : List ℕ) (a : ℕ × ℕ) → Contains (cycle_arcs c) a → Contains c a.0
+starts_in c a h = subst (λ (xs : List ℕ). Contains xs a.0) (cycle_sources c) (in_map (λ (a : ℕ × ℕ). a.0) (cycle_arcs c) a h)
+
+alike : (a b : Bool) → differ a b ≡ false → a ≡ b
+alike true true h = refl
+alike true false h = absurd (true≢false h)
+alike false true h = absurd (true≢false h)
+alike false false h = refl
+
+abbrev is_low : ℕ → Bool
+is_low v = nat_lt v 4
+
+cones_have_no_fan : HasFan two_cones 0 → ⊥
+unfolding two_cones
+cones_have_no_fan fan =
+    let c = fan.cycle in
+    let exact = fan.exact in
+    let es = arcs two_cones 0 in
+    let kept : All (λ (a : ℕ × ℕ). is_low a.0 ≡ is_low a.1) es = All-weaker (λ (a : ℕ × ℕ). not (differ (is_low a.0) (is_low a.1)) ≡ true) (λ a. is_low a.0 ≡ is_low a.1) (λ a h. alike (is_low a.0) (is_low a.1) (not-true _ h)) es (AllPass-from_list_all (λ (a : ℕ × ℕ). not (differ (is_low a.0) (is_low a.1))) es refl) in
+    let round : All (λ (a : ℕ × ℕ). is_low a.0 ≡ is_low a.1) (cycle_arcs c) = λ k d within.
+    let a = get_or (cycle_arcs c) k d in
+    All-contains (λ (a : ℕ × ℕ). is_low a.0 ≡ is_low a.1) es a kept (occurs es a.0 a.1 (subst (λ (n : ℕ). 1 ≤ n) (sym (exact a.0 a.1)) (counted (cycle_arcs c) a.0 a.1 (Contains-get_or (cycle_arcs c) k d within)))) in
+    let one = starts_in c (1, 2) (occurs (cycle_arcs c) 1 2 (subst (λ (n : ℕ). 1 ≤ n) (exact 1 2) (omega arith))) in
+    let four = starts_in c (4, 5) (occurs (cycle_arcs c) 4 5 (subst (λ (n : ℕ). 1 ≤ n) (exact 4 5) (omega arith))) in
+    true≢false (kept_round is_low c 1 4 round one four)
+
+cones_are_no_manifold : IsManifold 7 two_cones → ⊥
+cones_are_no_manifold h = cones_have_no_fan (h 0 (omega arith))
+
+-- ---- its faces have the inside ends behind them
+
+abbrev nowhere : EdgeKey
+nowhere = record { x = 0; y = 0; z = 0; dir = 0 }
+
+is_behind : EdgeKey → EdgeKey → EdgeKey → EdgeKey → Bool
+is_behind a b c e =
+    int_lt (determinant_at (lattice_place middle_inside a) (lattice_place middle_inside b) (lattice_place middle_inside c) (point_place (inner_end middle_inside e))) (pos 0)
+
+faces_out : Face → Bool
+faces_out f =
+    let at = λ (n : ℕ). get_or (vertices middle_inside) n nowhere in
+    is_behind (at f.a) (at f.b) (at f.c) (at f.a) && (is_behind (at f.a) (at f.b) (at f.c) (at f.b) && is_behind (at f.a) (at f.b) (at f.c) (at f.c))
+
+middle_faces_out : list_all faces_out (faces middle_inside) ≡ true
+unfolding faces_out is_behind faces all_triangles vertices arranged
+middle_faces_out = refl
+
+not_below : (a : ℤ) → int_lt a (pos 0) ≡ false → a <ℤ pos 0 → ⊥
+not_below a h k = omega (arith, ints, h, k)
+
+turned_faces_in : All (FacesOut middle_inside (vertices middle_inside)) (first_turned (faces middle_inside)) → ⊥
+unfolding first_turned faces all_triangles vertices arranged
+turned_faces_in h = not_below _ refl (h 0 (face 0 0 0) (omega arith) nowhere).at_a

@@ -27,7 +27,7 @@ use Rattle.mesh_laws.proofs.Rings.{all_signs_at, always_fan, cycle_of, fans_roun
 
 -- ---- how often arcs occur
 
-at_most_once : (fs : List (ℕ × ℕ)) (v w : ℕ) → AllPairs Differ fs → occurrences fs v w ≤ 1
+pub at_most_once : (fs : List (ℕ × ℕ)) (v w : ℕ) → AllPairs Differ fs → occurrences fs v w ≤ 1
 at_most_once [] v w h = omega arith
 at_most_once (f ∷ fs) v w h =
     subst (λ (n : ℕ). n ≤ 1) (sym (sum_by-cons (λ x. cond (goes v w x) 1 0) f fs)) (by (goes v w f) refl (at_most_once fs v w (rest_in_order Differ f fs h)))
@@ -40,7 +40,7 @@ at_most_once (f ∷ fs) v w h =
         omega (arith, none)
     by false is rest = omega (arith, rest)
 
-occurs : (fs : List (ℕ × ℕ)) (v w : ℕ) → 1 ≤ occurrences fs v w → Contains fs (v, w)
+pub occurs : (fs : List (ℕ × ℕ)) (v w : ℕ) → 1 ≤ occurrences fs v w → Contains fs (v, w)
 occurs [] v w h = absurd (omega (arith, h))
 occurs (f ∷ fs) v w h =
     by (goes v w f) refl (subst (λ (n : ℕ). 1 ≤ n) (sum_by-cons (λ x. cond (goes v w x) 1 0) f fs) h) (λ k. occurs fs v w k)
@@ -52,7 +52,7 @@ occurs (f ∷ fs) v w h =
 goes_here : (v w : ℕ) → goes v w (v, w) ≡ true
 goes_here v w = and_from _ _ (eq-eqb v v refl) (eq-eqb w w refl)
 
-counted : (fs : List (ℕ × ℕ)) (v w : ℕ) → Contains fs (v, w) → 1 ≤ occurrences fs v w
+pub counted : (fs : List (ℕ × ℕ)) (v w : ℕ) → Contains fs (v, w) → 1 ≤ occurrences fs v w
 counted [] v w h = absurd (not_in_none (v, w) h)
 counted (f ∷ fs) v w h =
     subst (λ (n : ℕ). 1 ≤ n) (sym (sum_by-cons (λ x. cond (goes v w x) 1 0) f fs)) (by (head_or_tail f fs (v, w) h) (λ k. counted fs v w k))
@@ -93,7 +93,7 @@ sources : (first v : ℕ) (ws : List ℕ) → map (λ (a : ℕ × ℕ). a.0) (ar
 sources first v [] = refl
 sources first v (w ∷ ws) = ap (λ xs. v ∷ xs) (sources first w ws)
 
-cycle_sources : (c : List ℕ) → map (λ (a : ℕ × ℕ). a.0) (cycle_arcs c) ≡ c
+pub cycle_sources : (c : List ℕ) → map (λ (a : ℕ × ℕ). a.0) (cycle_arcs c) ≡ c
 cycle_sources [] = refl
 cycle_sources (v ∷ vs) = sources v v vs
 

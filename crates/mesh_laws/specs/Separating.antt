@@ -24,7 +24,7 @@ pub record HasInsideBehind (g : Grid) (a b c : EdgeKey) : Type 0 where
   pub at_b : IsBehind g a b c b
   pub at_c : IsBehind g a b c c
 
--- The vertex of a number, whatever edge stands for one that is no number of a vertex.
+-- a face has the inside ends of the edges of its three vertices behind it, whatever stood for a number without a vertex
 abbrev pub FacesOut : Grid → List EdgeKey → Face → Type 0
 FacesOut g vertices f =
     (d : EdgeKey) → HasInsideBehind g (get_or vertices f.a d) (get_or vertices f.b d) (get_or vertices f.c d)
