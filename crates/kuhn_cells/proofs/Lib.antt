@@ -1,8 +1,3 @@
 pub mod ArrangementLaws
 pub mod CellLaws
-pub mod Checks
-pub mod EdgeLaws
 mod Examples
-pub mod FaceLaws
-pub mod OrderLaws
-pub mod VertexLaws

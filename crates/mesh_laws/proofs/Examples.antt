@@ -11,7 +11,7 @@ use Rattle.kuhn_cells.specs.Grids.{Grid, value_at, vertices}
 use Rattle.kuhn_cells.specs.Triangles.{GridPoint, point}
 use Rattle.kuhn_cells.specs.Vectors.{determinant_at}
 use Rattle.kuhn_cells.specs.declared.edge_key.EdgeKey.{EdgeKey}
-use Rattle.kuhn_cells.proofs.VertexLaws.{in_map, not_in_none}
+use Rattle.kuhn_cells.specs.VertexLaws.{in_map, not_in_none}
 use Rattle.fixed_ops.specs.Raw.{IsRaw, greatest, least}
 use Rattle.mesh_laws.specs.Closed.{IsClosed, IsTriangle, directed_edges, occurrences}
 use Rattle.mesh_laws.specs.Frames.{IsFramed, IsOuter}

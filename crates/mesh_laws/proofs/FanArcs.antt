@@ -13,8 +13,8 @@ use Rattle.kuhn_cells.specs.Faces.{all_triangles, cell_triangles, face_among, fa
 use Rattle.kuhn_cells.specs.Grids.{Grid, is_inside_at, lower, upper, vertices}
 use Rattle.kuhn_cells.specs.Laws.{IsDirection, IsVertex, NumbersArePlaces, OfEdges, TrianglesHaveVertices}
 use Rattle.kuhn_cells.specs.Triangles.{GridPoint, further, point, triangles_in}
-use Rattle.kuhn_cells.proofs.FaceLaws.{all_in_block, all_within}
-use Rattle.kuhn_cells.proofs.VertexLaws.{in_block, in_flat, in_map, in_range}
+use Rattle.kuhn_cells.specs.FaceLaws.{all_in_block, all_within}
+use Rattle.kuhn_cells.specs.VertexLaws.{in_block, in_flat, in_map, in_range}
 use Rattle.mesh_laws.specs.Frames.{IsFramed}
 use Rattle.mesh_laws.specs.Manifold.{arcs, arcs_at}
 use Rattle.mesh_laws.proofs.ClosedLaws.{number, one_vertex}

@@ -13,8 +13,8 @@ use Rattle.kuhn_cells.specs.Faces.{Face, all_triangles, faces}
 use Rattle.kuhn_cells.specs.Grids.{Grid, is_inside_at, lower, upper, vertices}
 use Rattle.kuhn_cells.specs.Laws.{IsBefore, IsDirection, IsVertex, NumbersArePlaces, TrianglesHaveVertices, VerticesAreMixedEdges, VerticesRise}
 use Rattle.kuhn_cells.specs.Triangles.{GridPoint, further}
-use Rattle.kuhn_cells.proofs.OrderLaws.{first_before, rest_in_order}
-use Rattle.kuhn_cells.proofs.VertexLaws.{head_or_tail, in_map, not_in_none}
+use Rattle.kuhn_cells.specs.OrderLaws.{first_before, rest_in_order}
+use Rattle.kuhn_cells.specs.VertexLaws.{head_or_tail, in_map, not_in_none}
 use Rattle.mesh_laws.specs.Closed.{directed_edges, edges_of, goes, occurrences}
 use Rattle.mesh_laws.specs.Frames.{IsFramed}
 use Rattle.mesh_laws.specs.Laws.{HaveOneCycle}
