@@ -12,7 +12,6 @@ use Rattle.kuhn_cells.specs.Triangles.{GridPoint, point}
 use Rattle.kuhn_cells.specs.Vectors.{determinant_at}
 use Rattle.kuhn_cells.specs.declared.edge_key.EdgeKey.{EdgeKey}
 use Rattle.kuhn_cells.specs.VertexLaws.{in_map, not_in_none}
-use Rattle.fixed_ops.specs.Raw.{IsRaw, greatest, least}
 use Rattle.mesh_laws.specs.Closed.{IsClosed, IsTriangle, directed_edges, occurrences}
 use Rattle.mesh_laws.specs.Frames.{IsFramed, IsOuter}
 use Rattle.mesh_laws.specs.Manifold.{HasFan, IsManifold, arcs, arcs_on, cycle_arcs}
@@ -93,13 +92,6 @@ open_is_not_closed = not_from_Decides (is_closed (first_missing (faces middle_in
 at_most : (a b : ℤ) → int_le a b ≡ true → a ≤ℤ b
 at_most a b h = omega (arith, ints, h)
 
-is_raw : ℤ → Bool
-is_raw v = int_le least v && int_le v greatest
-
-raw_of : (v : ℤ) → is_raw v ≡ true → IsRaw v
-unfolding is_raw
-raw_of v h = let p = and_parts _ _ h in (at_most least v p.0, at_most v greatest p.1)
-
 -- all points but the middle one are outside
 is_right : ℕ → ℕ → ℕ → Bool
 is_right x y z = (x == 1 && (y == 1 && z == 1)) || int_le (pos 0) (value_at middle_inside (point x y z))
@@ -131,14 +123,9 @@ outer_is_outside p h outer = by (or_cases _ _ h)
     by (inr outside) = at_most (pos 0) (value_at middle_inside p) outside
 
 middle_is_framed : IsFramed middle_inside
-unfolding is_raw
 middle_is_framed =
     record {
-      x = record { some = omega arith; within = omega arith };
-      y = record { some = omega arith; within = omega arith };
-      z = record { some = omega arith; within = omega arith };
       points = refl;
-      raw = All-weaker (λ v. is_raw v ≡ true) IsRaw raw_of middle_inside.values (AllPass-from_list_all is_raw middle_inside.values refl);
       frame = λ p within outer.
           let x = and_parts _ _ within in
           let y = and_parts _ _ x.1 in

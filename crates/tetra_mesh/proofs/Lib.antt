@@ -8,3 +8,4 @@ pub mod ReachLaws
 pub mod TriangleLaws
 pub mod VertexLaws
 pub mod WayLaws
+pub mod SoundLaws

@@ -6,8 +6,12 @@ ghost use Rattle.kuhn_cells.specs.Grids.{Grid};
 ghost use Rattle.kuhn_cells.specs.Lists.{ListsCells};
 ghost use Rattle.tetra_mesh.specs.Cuts.{mesh_of};
 ghost use Rattle.tetra_mesh.specs.Numbering.{AreCells, IsNumbered, all_faces, vertices_on};
+ghost use Rattle.tetra_mesh.specs.Sound.{IsSound, LieApart};
+ghost use Rattle.tetra_mesh.specs.SoundLaws.{GridMeshesAreSound, GridMeshesLieApart};
+ghost use Rattle.view_settings.specs.Window.{FitsMesh, IsWindow};
 
 use crate::faces::{face_count, push_faces};
+use crate::laws::meshes_are_sound;
 use crate::numbering::Numbering;
 use crate::sides::{mask_of, signs_of};
 use crate::{Face, Mesh};
@@ -16,11 +20,16 @@ use std::alloc::{AllocError, Global};
 use view_settings::View;
 
 /// The mesh of a grid of the view's size whose outermost layer is outside, from the list of its
-/// mixed cells. AllocError: there is no memory for it.
+/// mixed cells. It is closed, a manifold and separating, and its vertices lie apart: on the lattice,
+/// and over a view whose cells have 65536 raw units along each axis also as raw places and as lines.
+/// AllocError: there is no memory for it.
 pub fn build(alloc: Global, cells: &CellList, view: &View) -> Result<Mesh, AllocError>
     requires { (g : Grid) × ListsCells view.now.n cells.now g }
-    ensures { (g : Grid) → ListsCells view.now.n cells.now g → IfOk result (λ mesh. mesh ≡ mesh_of g) }
+    ensures mesh { (g : Grid) → ListsCells view.now.n cells.now g → IfOk result (λ mesh. mesh ≡ mesh_of g) }
+    ensures sound { (g : Grid) → ListsCells view.now.n cells.now g → IfOk result (IsSound g) }
+    ensures apart { FitsMesh view.now → IfOk result (λ mesh. LieApart view.now mesh.vertices) }
 {
+    meshes_are_sound();
     mixed_cells_suffice();
     mesh_of_cells(alloc, &cells.cells, view.n)
 }

@@ -1,0 +1,19 @@
+// What always holds of the meshes that the contracts cite.
+ghost use Rattle.tetra_mesh.specs.SoundLaws.{GridMeshesAreSound, GridMeshesLieApart};
+
+use kuhn_cells::vertices_are_mixed_edges;
+use mesh_laws::{edges_paired, one_cycle, places_distinct, separates};
+
+/// The mesh of each grid whose outermost layer is outside is closed, a manifold and separating, and
+/// no two of its vertices have one place on the lattice of 65536 steps a cell. Over a view whose
+/// cells have 65536 raw units along each axis no two have one raw place or one line.
+pub fn meshes_are_sound()
+    ensures sound { GridMeshesAreSound }
+    ensures apart { GridMeshesLieApart }
+{
+    edges_paired();
+    one_cycle();
+    separates();
+    places_distinct();
+    vertices_are_mixed_edges();
+}
