@@ -1,3 +1,4 @@
 pub mod ArrangementLaws
 pub mod CellLaws
 mod Examples
+pub mod RingLaws

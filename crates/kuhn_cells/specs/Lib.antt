@@ -10,6 +10,7 @@ pub mod Laws
 pub mod Lists
 pub mod OrderLaws
 pub mod Patterns
+pub mod Rings
 pub mod Triangles
 pub mod Vectors
 pub mod VertexLaws

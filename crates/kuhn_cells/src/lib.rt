@@ -8,6 +8,7 @@ mod corner;
 mod edge_key;
 mod laws;
 mod pattern;
+mod ring;
 mod tetrahedron;
 mod triple;
 
@@ -18,6 +19,7 @@ pub use laws::{
     arrangements_are_positive, edges_part_the_corners, keys_are_ordered, mixed_cells_suffice,
     signs_are_determinants, triangles_have_vertices, vertices_are_mixed_edges,
 };
+pub use ring::around;
 pub use tetrahedron::triangles;
 pub use triple::Triple;
 

@@ -56,3 +56,15 @@ fn corners_that_agree_have_none(rt: HostRuntime) {
         assert!(rt; triangles(65534, 65534, 65534, tetra, 255).is_empty());
     }
 }
+
+#[test]
+fn tetrahedra_lie_round_an_edge(rt: HostRuntime) {
+    assert_eq!(rt;
+        around(3).as_slice(),
+        [(0, 0), (4, 4), (4, 5), (0, 2)].as_slice()
+    );
+    assert_eq!(rt;
+        around(7).as_slice(),
+        [(0, 0), (0, 2), (0, 3), (0, 5), (0, 4), (0, 1)].as_slice()
+    );
+}
