@@ -15,7 +15,7 @@ use Rattle.kuhn_cells.specs.VertexLaws.{head_or_tail, in_map, not_in_none}
 use Rattle.mesh_laws.specs.Closed.{IsTriangle, directed_edges, edges_of, goes, occurrences}
 use Rattle.mesh_laws.specs.Laws.{EdgesArePaired}
 use Rattle.mesh_laws.proofs.Lists.{Differ, all_of_flat, flat_after_map, flat_of_maps}
-use Rattle.mesh_laws.proofs.Partners.{all_made_back}
+use Rattle.mesh_laws.proofs.Partners.{all_made_back, pair_same}
 use Rattle.mesh_laws.proofs.Single.{all_differ, all_part}
 use Rattle.mesh_laws.proofs.Turns.{all_turns, turns_are_all, turns_of}
 
@@ -85,12 +85,9 @@ pub one_vertex : NumbersArePlaces → (g : Grid) (e f : EdgeKey) → IsVertex g 
 one_vertex numbers g e f v w same =
     sym (numbers g e e v).1 ∙ ap (λ k. get_or (vertices g) k e) same ∙ (numbers g f e w).1
 
-pub pair_same : (x y : EdgeKey × EdgeKey) → x.0 ≡ y.0 → x.1 ≡ y.1 → x ≡ y
-pair_same x y p q = rw (p, q) refl
-
 tells : NumbersArePlaces → (g : Grid) (x y : EdgeKey × EdgeKey) → AreVertices g x → AreVertices g y → numbered g x ≡ numbered g y → x ≡ y
 tells numbers g x y p q same =
-    pair_same x y (one_vertex numbers g x.0 y.0 p.0 q.0 (ap (λ (e : ℕ × ℕ). e.0) same)) (one_vertex numbers g x.1 y.1 p.1 q.1 (ap (λ (e : ℕ × ℕ). e.1) same))
+    pair_same x.0 x.1 y.0 y.1 (one_vertex numbers g x.0 y.0 p.0 q.0 (ap (λ (e : ℕ × ℕ). e.0) same)) (one_vertex numbers g x.1 y.1 p.1 q.1 (ap (λ (e : ℕ × ℕ). e.1) same))
 
 -- the directed edges of the faces are the turns of the triangles, by the numbers of the vertices
 edges_are_turns : (g : Grid) → directed_edges (faces g) ≡ map (numbered g) (all_turns g)

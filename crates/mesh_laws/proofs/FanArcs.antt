@@ -1,8 +1,8 @@
 -- The arcs that the faces of a vertex leave opposite it are those of the tetrahedra round its edge.
 use Rattle.std.proofs.Common.{◌≡◌, ℕ, zero, suc, ◌+◌, ◌-◌, ◌*◌, ◌<◌, ◌≤◌, Bool, true, false, List, [], ◌∷◌, refl, arith, ap, sym, subst, ◌∙◌, inl, inr}
-use Rattle.std.specs.Prelude.{◌==◌, ◌&&◌, ◌||◌, ◌⊎◌, map, flat_map, get_or, All, Contains, if◌then◌else◌}
+use Rattle.std.specs.Prelude.{◌==◌, ◌&&◌, ◌⊎◌, map, flat_map, get_or, All, Contains, if◌then◌else◌}
 use Rattle.std.specs.List.{range_with_len}
-use Rattle.std.proofs.lemmas.Bool.{agree_below, agree_below_at, and_parts, cases_Bool, eqb-true, leb-true, ltb-true, or_cases, false≢true, true≢false}
+use Rattle.std.proofs.lemmas.Bool.{agree_below, agree_below_at, and_parts, cases_Bool, eqb-true, leb-true, ltb-true, or_cases, false≢true}
 use Rattle.std.proofs.lemmas.List.Elements.{All-cons, All-contains, All-contains_itself, All-map, All-nil, All-weaker, Contains-append_right, Contains-get_or}
 use Rattle.std.proofs.lemmas.List.Sums.{AllPass-from_list_all}
 use Rattle.kuhn_cells.specs.declared.edge_key.EdgeKey.{EdgeKey}
@@ -21,7 +21,7 @@ use Rattle.mesh_laws.proofs.ClosedLaws.{number, one_vertex}
 use Rattle.mesh_laws.proofs.Fans.{IsBack, both_by, cell_back, key_is, key_near, number_is, number_near, own_key, own_number, pattern_is, same_arcs, same_test, spot}
 use Rattle.mesh_laws.proofs.Lists.{all_of_flat, flat_after_map}
 use Rattle.mesh_laws.proofs.Owners.{direction, low}
-use Rattle.mesh_laws.proofs.Partners.{IsInner, inner}
+use Rattle.mesh_laws.proofs.Partners.{IsInner, inner, or_then}
 use Rattle.mesh_laws.proofs.Rings.{always_near, always_round, arcs_in, are_near, edge_number, has_arc, is_near, is_point_of, is_round, offset, pattern_in, points, ring, ring_arcs}
 use Rattle.mesh_laws.proofs.Sides.{HasEnds, IsOut, all_out}
 use Rattle.mesh_laws.proofs.Turns.{Way, key_of, pattern_at, triangles_of_tetrahedron, triple_of, ways_in}
@@ -220,16 +220,12 @@ arc_found (b ∷ es) a h = by (or_cases _ _ h) (λ k. arc_found es a k)
     by (inl same) next = (0, omega arith, arc_is a b same)
     by (inr later) next = Contains-append_right (b ∷ []) es a (next later)
 
-or_rest : (a b : Bool) → (a || b) ≡ true → a ≡ false → b ≡ true
-or_rest true b h p = absurd (true≢false p)
-or_rest false b h p = h
-
 lies_round : (tetra : ℕ) (w : Way) → tetra < 6 → w.inner < 4 → w.outer < 4 → (w.inner == w.outer) ≡ false → Contains (ring (direction tetra w)) (low tetra w, tetra)
 unfolding is_round
 lies_round tetra w few fi fo apart =
     let i = w.inner in
     let h = agree_below_at (is_round tetra i) (λ _. true) 4 w.outer (agree_below_at (λ i. agree_below (is_round tetra i) (λ _. true) 4) (λ _. true) 4 i (agree_below_at (λ t. agree_below (λ i. agree_below (is_round t i) (λ _. true) 4) (λ _. true) 4) (λ _. true) 6 tetra always_round few) fi) fo in
-    arc_found (ring (direction tetra w)) (low tetra w, tetra) (and_parts _ _ (or_rest _ _ h apart)).0
+    arc_found (ring (direction tetra w)) (low tetra w, tetra) (and_parts _ _ (or_then _ _ h apart)).0
 
 gone_back : (c m : ℕ) → (c + m) - m ≡ c
 gone_back c m = omega arith

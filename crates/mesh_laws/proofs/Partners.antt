@@ -138,7 +138,7 @@ or_second true b c h p q = absurd (true≢false p)
 or_second false true c h p q = absurd (true≢false q)
 or_second false false c h p q = h
 
-or_then : (a b : Bool) → (a || b) ≡ true → a ≡ false → b ≡ true
+pub or_then : (a b : Bool) → (a || b) ≡ true → a ≡ false → b ≡ true
 or_then true b h p = absurd (true≢false p)
 or_then false b h p = h
 
@@ -189,7 +189,7 @@ stays_below c ahead back a n h k = omega (arith, h, k)
 one_further : (c n k : ℕ) → c < n → c + k % 2 ≤ n
 one_further c n k h = omega (arith, h)
 
-pair_same : {A : Type 0} (a b c d : A) → a ≡ c → b ≡ d → ◌≡◌ {A = A × A} (a, b) (c, d)
+pub pair_same : {A : Type 0} (a b c d : A) → a ≡ c → b ≡ d → ◌≡◌ {A = A × A} (a, b) (c, d)
 pair_same {A} a b c d p q = rw (p, q) refl
 
 -- a tetrahedron of a cell of a grid
