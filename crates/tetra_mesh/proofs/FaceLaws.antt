@@ -32,7 +32,9 @@ edge_kept cells n m c e are same h =
     let dir = is_direction h.cell e.dir h.direction in
     let fx = is.x in
     let fy = is.y in
-    record { x = omega (arith, x, fx, same); y = omega (arith, y, fy, same); dir = dir.1 }
+    let z : h.cell.z ≡ e.z = ap (λ (p : GridPoint). p.z) h.place in
+    let fz = is.z in
+    record { x = omega (arith, x, fx, same); y = omega (arith, y, fy, same); z = omega (arith, z, fz, same); dir = dir.1 }
 
 pub all_kept : (cells : List CellValues) (n m i : ℕ) (c : CellValues) → AreCells n cells → m ≡ n → i < length cells → c ≡ get_or cells i c → All (OfEdges (IsKept m)) (triangles_of_cell c)
 all_kept cells n m i c are same within here =

@@ -1,16 +1,21 @@
 -- The triangles of a cell by its signs.
-use Rattle.std.proofs.Common.{◌≡◌, ℕ, zero, suc, ◌+◌, ◌<◌, ◌≤◌, Bool, true, List, [], ◌∷◌, ◌++◌, refl, ap, sym, ◌∙◌, subst, inl, inr, arith}
-use Rattle.std.specs.Prelude.{◌⊎◌, nat_lt, map, flat_map, length, All}
+use Rattle.std.proofs.Common.{◌≡◌, ℕ, zero, suc, ◌+◌, ◌<◌, ◌≤◌, Bool, true, false, List, [], ◌∷◌, ◌++◌, refl, ap, sym, ◌∙◌, inl, inr, zero-add, arith}
+use Rattle.std.specs.Prelude.{◌⊎◌, ◌==◌, nat_lt, min, map, flat_map, get_or, length, All, Vec, if◌then◌else◌}
 use Rattle.std.specs.List.{range_with_len}
-use Rattle.std.proofs.lemmas.Bool.{agree_below, agree_below_at, cases_order, ltb-true}
-use Rattle.std.proofs.lemmas.List.{append-nil, append_assoc, get_or-append-add, get_or_append_left, length-append, map-append}
+use Rattle.std.specs.declared.alloc.Global.{Global}
+use Rattle.std.proofs.lemmas.Bool.{agree_below, agree_below_at, cases_lt, ltb-true}
+use Rattle.std.proofs.lemmas.List.{append-nil, get_or_append_left, get_or_push, map-append}
 use Rattle.std.proofs.lemmas.List.Concat.{flat_map-append}
+use Rattle.std.proofs.lemmas.List.Elements.{All-cons, All-head, All-nil, All-same, All-tail}
 use Rattle.kuhn_cells.specs.declared.cell_list.CellValues.{CellValues}
+use Rattle.kuhn_cells.specs.declared.edge_key.EdgeKey.{EdgeKey}
 use Rattle.kuhn_cells.specs.declared.triple.Triple.{Triple}
+use Rattle.kuhn_cells.specs.Arrangement.{arrangement, inside_count, pattern_of}
 use Rattle.kuhn_cells.specs.Cells.{has_inside, place_of, triangles_of_cell}
-use Rattle.kuhn_cells.specs.Corners.{corner}
-use Rattle.kuhn_cells.specs.Triangles.{has_sign, triangles_by, triangles_in, triangles_of}
-use Rattle.tetra_mesh.specs.Numbering.{first_triangles, signs_of}
+use Rattle.kuhn_cells.specs.Corners.{along_x, along_y, along_z, corner}
+use Rattle.kuhn_cells.specs.Triangles.{edge_between, has_sign, point, triangles_among, triangles_by, triangles_in, triangles_of}
+use Rattle.tetra_mesh.specs.Numbering.{signs_of}
+use Rattle.tetra_mesh.specs.Shapes.{moved, moved_triple, shape_front, shape_of}
 use Rattle.tetra_mesh.proofs.Bits.{digit}
 use Rattle.tetra_mesh.proofs.NumberLaws.{range_parts}
 
@@ -31,48 +36,86 @@ by_signs c tetra few =
     four : (a b d e a' b' d' e' : Bool) → a ≡ a' → b ≡ b' → d ≡ d' → e ≡ e' → a ∷ b ∷ d ∷ e ∷ [] ≡ a' ∷ b' ∷ d' ∷ e' ∷ []
     four a b d e a' b' d' e' h i j k = cc
 
--- one more tetrahedron
-pub first_more : (c : CellValues) (tetra : ℕ) → first_triangles c (tetra + 1) ≡ first_triangles c tetra ++ triangles_in (place_of c) tetra (has_inside c)
-first_more c tetra =
-    let f = λ (t : ℕ). triangles_in (place_of c) t (has_inside c) in
-    let e : 0 + tetra ≡ tetra = omega arith in
-    let last = ap (λ t. f t ++ []) e in
-    ap (flat_map f) (range_parts 0 tetra 0) ∙ flat_map-append f (range_with_len 0 tetra) ((0 + tetra) ∷ []) ∙ ap (λ l. flat_map f (range_with_len 0 tetra) ++ l) (last ∙ append-nil (f tetra))
+-- ---- the cell at the origin
 
-all_left : {A : Type 0} (P : A → Type 0) (xs ys : List A) → All P (xs ++ ys) → All P xs
-all_left P xs ys h k d within =
-    let e = get_or_append_left xs ys d k within in
-    subst P e (h k d (omega (arith, within, length-append xs ys)))
+abbrev lifted : (EdgeKey → EdgeKey) → Triple → Triple
+lifted f t = record { a = f t.a; b = f t.b; c = f t.c }
 
-all_right : {A : Type 0} (P : A → Type 0) (xs ys : List A) → All P (xs ++ ys) → All P ys
-all_right P xs ys h k d within =
-    let e = get_or-append-add xs ys k d in
-    subst P e (h (length xs + k) d (omega (arith, within, length-append xs ys)))
-
-all_part : {A : Type 0} (P : A → Type 0) (f : ℕ → List A) (a n k : ℕ) → All P (flat_map f (range_with_len a n)) → a ≤ k → k < a + n → All P (f k)
-all_part P f a zero k h low high = absurd (omega (arith, low, high))
-all_part P f a (suc n) k h low high =
-    by (cases_order a k) (λ less. all_part P f (a + 1) n k (all_right P (f a) (flat_map f (range_with_len (a + 1) n)) h) (omega (arith, less)) (omega (arith, high)))
+-- triangles whose edges are moved
+among_moved : (f : EdgeKey → EdgeKey) (edge far : ℕ → ℕ → EdgeKey) → ((i j : ℕ) → f (edge i j) ≡ far i j) → (count a b c d : ℕ) → map (lifted f) (triangles_among edge count a b c d) ≡ triangles_among far count a b c d
+among_moved f edge far same count a b c d = by (count == 1) (count == 3) (count == 2)
   where
-    by : (a ≡ k) ⊎ ((a < k) ⊎ (k < a)) → (a < k → All P (f k)) → All P (f k)
-    by (inl same) next = rw (sym same) (all_left P (f a) (flat_map f (range_with_len (a + 1) n)) h)
-    by (inr (inl less)) next = next less
-    by (inr (inr more)) next = absurd (omega (arith, low, more))
+    by : (one three two : Bool) → map (lifted f) (if one then record { a = edge a b; b = edge a c; c = edge a d } ∷ [] else (if three then record { a = edge a b; b = edge a d; c = edge a c } ∷ [] else (if two then record { a = edge a c; b = edge a d; c = edge b d } ∷ record { a = edge a c; b = edge b d; c = edge b c } ∷ [] else []))) ≡ (if one then record { a = far a b; b = far a c; c = far a d } ∷ [] else (if three then record { a = far a b; b = far a d; c = far a c } ∷ [] else (if two then record { a = far a c; b = far a d; c = far b d } ∷ record { a = far a c; b = far b d; c = far b c } ∷ [] else [])))
+    by true three two = rw (same a b, same a c, same a d) refl
+    by false true two = rw (same a b, same a c, same a d) refl
+    by false false true = rw (same a c, same a d, same b d, same b c) refl
+    by false false false = refl
 
--- what holds of the triangles of a cell holds of those of a tetrahedron
-pub of_tetrahedron : (P : Triple → Type 0) (c : CellValues) (tetra : ℕ) → All P (triangles_of_cell c) → tetra < 6 → All P (triangles_in (place_of c) tetra (has_inside c))
-unfolding triangles_of_cell
-of_tetrahedron P c tetra h few =
-    all_part P (λ t. triangles_in (place_of c) t (has_inside c)) 0 6 tetra h (omega arith) (omega (arith, few))
+edge_moved : (c : CellValues) (i j : ℕ) → moved c (edge_between (point 0 0 0) i j) ≡ edge_between (place_of c) i j
+edge_moved c i j = rw (zero-add (along_x (min i j)), zero-add (along_y (min i j)), zero-add (along_z (min i j))) refl
 
-pub all_six : (c : CellValues) → first_triangles c 6 ≡ triangles_of_cell c
-unfolding triangles_of_cell
-all_six c = refl
+tetra_moved : (c : CellValues) (tetra signs : ℕ) → map (moved_triple c) (triangles_of 0 0 0 tetra signs) ≡ triangles_of c.x c.y c.z tetra signs
+tetra_moved c tetra signs =
+    let pattern = pattern_of (has_sign signs) tetra in
+    let corners = arrangement tetra pattern in
+    among_moved (moved c) (edge_between (point 0 0 0)) (edge_between (place_of c)) (edge_moved c) (inside_count pattern) (get_or corners 0 0) (get_or corners 1 0) (get_or corners 2 0) (get_or corners 3 0)
 
--- one more tetrahedron, mapped and put behind a list
-pub one_more : {A : Type 0} (f : Triple → A) (base now new : List A) (c : CellValues) (tetra : ℕ) (ts : List Triple) → new ≡ now ++ map f ts → now ≡ base ++ map f (first_triangles c tetra) → ts ≡ triangles_in (place_of c) tetra (has_inside c) → new ≡ base ++ map f (first_triangles c (tetra + 1))
-one_more f base now new c tetra ts grown stood here =
+map_flat : {X A B : Type 0} (f : A → B) (h : X → List A) (xs : List X) → map f (flat_map h xs) ≡ flat_map (λ x. map f (h x)) xs
+map_flat f h [] = refl
+map_flat f h (x ∷ xs) = map-append f (h x) (flat_map h xs) ∙ ap (λ l. map f (h x) ++ l) (map_flat f h xs)
+
+flat_same : {A : Type 0} (f h : ℕ → List A) (a n : ℕ) → ((k : ℕ) → k < a + n → f k ≡ h k) → flat_map f (range_with_len a n) ≡ flat_map h (range_with_len a n)
+flat_same f h a zero same = refl
+flat_same f h a (suc n) same =
+    let first = same a (omega arith) in
+    let others = flat_same f h (a + 1) n (λ k few. same k (omega (arith, few))) in
+    cc
+
+-- the triangles of a cell are those of the cell at the origin with its signs
+pub shape_moved : (c : CellValues) → map (moved_triple c) (shape_of (signs_of c)) ≡ triangles_of_cell c
+unfolding shape_of triangles_of_cell
+shape_moved c =
+    map_flat (moved_triple c) (λ tetra. triangles_of 0 0 0 tetra (signs_of c)) (range_with_len 0 6)
+    ∙ flat_same (λ tetra. map (moved_triple c) (triangles_of 0 0 0 tetra (signs_of c))) (λ tetra. triangles_in (place_of c) tetra (has_inside c)) 0 6 (λ tetra few. tetra_moved c tetra (signs_of c) ∙ by_signs c tetra (omega (arith, few)))
+
+map_map : {X A B : Type 0} (f : A → B) (h : X → A) (xs : List X) → map (λ x. f (h x)) xs ≡ map f (map h xs)
+map_map f h [] = refl
+map_map f h (x ∷ xs) = ap (λ l. f (h x) ∷ l) (map_map f h xs)
+
+all_mapped : {X A : Type 0} (P : A → Type 0) (h : X → A) (xs : List X) → All P (map h xs) → All (λ x. P (h x)) xs
+all_mapped P h [] all = All-nil (λ x. P (h x))
+all_mapped P h (x ∷ xs) all =
+    All-cons (λ x. P (h x)) x xs (All-head P (h x) (map h xs) all) (all_mapped P h xs (All-tail P (h x) (map h xs) all))
+
+pub faces_moved : {A : Type 0} (f : Triple → A) (c : CellValues) (ts : List Triple) → ts ≡ shape_of (signs_of c) → map (λ t. f (moved_triple c t)) ts ≡ map f (triangles_of_cell c)
+faces_moved f c ts is =
+    map_map f (moved_triple c) ts ∙ ap (map f) (ap (map (moved_triple c)) is ∙ shape_moved c)
+
+pub all_moved : (P : Triple → Type 0) (c : CellValues) (ts : List Triple) → ts ≡ shape_of (signs_of c) → All P (triangles_of_cell c) → All (λ t. P (moved_triple c t)) ts
+all_moved P c ts is all =
+    all_mapped P (moved_triple c) ts (All-same P (map (moved_triple c) ts) (triangles_of_cell c) (ap (map (moved_triple c)) is ∙ shape_moved c) all)
+
+-- ---- one more tetrahedron, and one more shape
+
+pub shape_more : (signs tetra : ℕ) (now new ts : List Triple) → now ≡ shape_front signs tetra → new ≡ now ++ ts → ts ≡ triangles_of 0 0 0 tetra signs → new ≡ shape_front signs (tetra + 1)
+shape_more signs tetra now new ts stood grown is =
+    let f = λ (t : ℕ). triangles_of 0 0 0 t signs in
+    let e : 0 + tetra ≡ tetra = omega arith in
     grown
-    ∙ ap (λ l. l ++ map f ts) stood
-    ∙ append_assoc base (map f (first_triangles c tetra)) (map f ts)
-    ∙ ap (λ l. base ++ l) (sym (map-append f (first_triangles c tetra) ts) ∙ ap (map f) (ap (λ l. first_triangles c tetra ++ l) here ∙ sym (first_more c tetra)))
+    ∙ ap (λ l. l ++ ts) stood
+    ∙ ap (λ l. shape_front signs tetra ++ l) is
+    ∙ sym (ap (flat_map f) (range_parts 0 tetra 0) ∙ flat_map-append f (range_with_len 0 tetra) ((0 + tetra) ∷ []) ∙ ap (λ l. flat_map f (range_with_len 0 tetra) ++ l) (append-nil (f (0 + tetra)) ∙ ap f e))
+
+pub shape_whole : (signs tetra : ℕ) → tetra ≡ 6 → shape_front signs tetra ≡ shape_of signs
+unfolding shape_of
+shape_whole signs tetra six = ap (shape_front signs) six
+
+pub shapes_more : (signs : ℕ) (now new : List (Vec Triple Global)) (v : Vec Triple Global) → length now ≡ signs → ((k : ℕ) (d : Vec Triple Global) → k < signs → (get_or now k d).items ≡ shape_of k) → new ≡ now ++ v ∷ [] → v.items ≡ shape_of signs → (k : ℕ) (d : Vec Triple Global) → k < signs + 1 → (get_or new k d).items ≡ shape_of k
+shapes_more signs now new v room each grown is k d less = by (cases_lt k signs)
+  where
+    by : (k < signs) ⊎ (signs ≤ k) → (get_or new k d).items ≡ shape_of k
+    by (inl earlier) =
+        ap (λ (w : Vec Triple Global). w.items) (ap (λ l. get_or l k d) grown ∙ get_or_append_left now (v ∷ []) d k (omega (arith, earlier, room))) ∙ each k d earlier
+    by (inr late) =
+        let same : k ≡ signs = omega (arith, late, less) in
+        ap (λ (w : Vec Triple Global). w.items) (ap (λ l. get_or l k d) grown ∙ get_or_push now v d k (room ∙ sym same)) ∙ is ∙ sym (ap shape_of same)

@@ -2,6 +2,7 @@ pub mod Cuts
 pub mod Meshes
 pub mod Numbering
 pub mod Places
+pub mod Shapes
 pub mod Sound
 pub mod SoundLaws
 pub mod Tables

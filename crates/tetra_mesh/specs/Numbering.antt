@@ -9,7 +9,7 @@ use Rattle.kuhn_cells.specs.Arrangement.{differ}
 use Rattle.kuhn_cells.specs.Cells.{HasCell, directions_of, edges_of, has_inside, place_of, triangles_of_cell}
 use Rattle.kuhn_cells.specs.Faces.{Face, face_among}
 use Rattle.kuhn_cells.specs.Laws.{IsCellBefore, OfEdges}
-use Rattle.kuhn_cells.specs.Triangles.{edge_from, triangles_in}
+use Rattle.kuhn_cells.specs.Triangles.{edge_from}
 use Rattle.tetra_mesh.specs.declared.entry.Entry.{Entry}
 use Rattle.tetra_mesh.specs.declared.numbering.Numbering.{Numbering}
 use Rattle.tetra_mesh.specs.declared.vertex.Vertex.{Vertex}
@@ -38,10 +38,6 @@ rank_of mask dir = count_ones (mask % 2 ^ dir)
 -- those of the directions from the lowest corner of a cell to the other side that are less than one
 abbrev pub directions_below : CellValues → ℕ → List ℕ
 directions_below c dir = filter (λ d. differ (has_inside c 0) (has_inside c d)) (range_with_len 1 (dir - 1))
-
--- the triangles of the first tetrahedra of a cell
-abbrev pub first_triangles : CellValues → ℕ → List Triple
-first_triangles c tetra = flat_map (λ t. triangles_in (place_of c) t (has_inside c)) (range_with_len 0 tetra)
 
 -- the vertices on the edges from the lowest corner of a cell
 abbrev pub vertex_on : CellValues → ℕ → Vertex
@@ -129,4 +125,5 @@ pub record AreSlots (n : ℕ) (slots : List Entry) : Type 0 where
 pub record IsKept (n : ℕ) (e : EdgeKey) : Type 0 where
   pub x : e.x < n
   pub y : e.y < n
+  pub z : e.z < n
   pub dir : e.dir < 8

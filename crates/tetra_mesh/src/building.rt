@@ -6,6 +6,7 @@ ghost use Rattle.kuhn_cells.specs.Grids.{Grid};
 ghost use Rattle.kuhn_cells.specs.Lists.{ListsCells};
 ghost use Rattle.tetra_mesh.specs.Cuts.{mesh_of};
 ghost use Rattle.tetra_mesh.specs.Numbering.{AreCells, IsNumbered, all_faces, vertices_on};
+ghost use Rattle.tetra_mesh.specs.Shapes.{AreShapes};
 ghost use Rattle.tetra_mesh.specs.Sound.{IsSound, LieApart};
 ghost use Rattle.tetra_mesh.specs.SoundLaws.{GridMeshesAreSound, GridMeshesLieApart};
 ghost use Rattle.view_settings.specs.Window.{FitsMesh, IsWindow};
@@ -13,6 +14,7 @@ ghost use Rattle.view_settings.specs.Window.{FitsMesh, IsWindow};
 use crate::faces::{face_count, push_faces};
 use crate::laws::meshes_are_sound;
 use crate::numbering::Numbering;
+use crate::shapes::Shapes;
 use crate::sides::{mask_of, signs_of};
 use crate::{Face, Mesh};
 use kuhn_cells::{CellList, CellValues, mixed_cells_suffice};
@@ -42,7 +44,8 @@ fn mesh_of_cells(alloc: Global, cells: &[CellValues], n: u32) -> Result<Mesh, Al
     let (vertices, faces) = counts(cells);
     let mut numbering = Numbering::new(alloc, n, vertices)?;
     let mut faces = Vec::with_capacity(alloc, faces)?;
-    push_all_faces(cells, &mut numbering, &mut faces)?;
+    let shapes = Shapes::new(alloc)?;
+    push_all_faces(cells, &shapes, &mut numbering, &mut faces)?;
     Ok(Mesh {
         vertices: numbering.vertices,
         faces,
@@ -53,18 +56,20 @@ fn mesh_of_cells(alloc: Global, cells: &[CellValues], n: u32) -> Result<Mesh, Al
 // memory for them.
 fn push_all_faces(
     cells: &[CellValues],
+    shapes: &Shapes,
     numbering: &mut Numbering,
     faces: &mut Vec<Face>,
 ) -> Result<(), AllocError>
     requires cells { AreCells numbering.old.n cells.now }
     requires none { IsNumbered cells.now numbering.old.n numbering.old }
     requires first { numbering.old.ahead ≡ 0 }
+    requires shapes { AreShapes shapes.now }
     ensures vertices { OnOk result (numbering.new.vertices.items ≡ flat_map vertices_on cells.now) }
     ensures faces { OnOk result (faces.new.items ≡ faces.old.items ++ all_faces cells.now cells.now) }
 {
     for cell in cells {
         numbering.reach(cells, cell.z)?;
-        push_faces(numbering.n, &numbering.slots, cell, faces)?;
+        push_faces(numbering.n, &numbering.slots, shapes, cell, faces)?;
     }
     Ok(())
 }

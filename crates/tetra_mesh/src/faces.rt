@@ -2,13 +2,15 @@
 ghost use Rattle.std.specs.Prelude.{◌≡◌, ◌*◌, ◌≤◌, ◌<◌, ◌++◌, All, OnOk, length, map};
 ghost use Rattle.kuhn_cells.specs.Cells.{triangles_of_cell};
 ghost use Rattle.kuhn_cells.specs.Laws.{OfEdges};
-ghost use Rattle.tetra_mesh.specs.Numbering.{AreSlots, IsIn, IsKept, face_in, number_in};
+ghost use Rattle.tetra_mesh.specs.Numbering.{AreSlots, IsKept, face_in, number_in};
+ghost use Rattle.tetra_mesh.specs.Shapes.{AreShapes, moved, moved_triple};
 
 use crate::Face;
 use crate::entry::Entry;
 use crate::numbering::slot;
+use crate::shapes::Shapes;
 use crate::sides::signs_of;
-use kuhn_cells::{CellValues, EdgeKey, Triple, corner_of, triangles};
+use kuhn_cells::{CellValues, EdgeKey, Triple, corner_of};
 use std::alloc::AllocError;
 
 // The faces of a cell. AllocError: there is no memory for them.
@@ -16,52 +18,52 @@ use std::alloc::AllocError;
 pub(crate) fn push_faces(
     n: usize,
     slots: &[Entry],
+    shapes: &Shapes,
     cell: &CellValues,
     faces: &mut Vec<Face>,
 ) -> Result<(), AllocError>
     requires slots { AreSlots n slots.now }
-    requires within { IsIn n cell.now }
+    requires shapes { AreShapes shapes.now }
     requires kept { All (OfEdges (IsKept n)) (triangles_of_cell cell.now) }
     ensures { OnOk result (faces.new.items ≡ faces.old.items ++ map (face_in n slots.now) (triangles_of_cell cell.now)) }
 {
-    let signs = signs_of(cell);
-    for tetra in 0..6 {
-        let triangles = triangles(cell.x, cell.y, cell.z, tetra, signs);
-        push_triangles(n, slots, triangles.as_slice(), faces)?;
-    }
-    Ok(())
+    let signs = usize::from(signs_of(cell));
+    push_triangles(n, slots, cell, &shapes.shapes[signs], faces)
 }
 
-// The faces of triangles. AllocError: there is no memory for them.
+// The faces of triangles of the cell at the origin, in another cell. AllocError: there is no memory
+// for them.
 #[inline]
 fn push_triangles(
     n: usize,
     slots: &[Entry],
+    cell: &CellValues,
     triangles: &[Triple],
     faces: &mut Vec<Face>,
 ) -> Result<(), AllocError>
     requires slots { AreSlots n slots.now }
-    requires kept { All (OfEdges (IsKept n)) triangles.now }
-    ensures { OnOk result (faces.new.items ≡ faces.old.items ++ map (face_in n slots.now) triangles.now) }
+    requires kept { All (λ t. OfEdges (IsKept n) (moved_triple cell.now t)) triangles.now }
+    ensures { OnOk result (faces.new.items ≡ faces.old.items ++ map (λ t. face_in n slots.now (moved_triple cell.now t)) triangles.now) }
 {
     for triangle in triangles {
         faces.push(Face {
-            a: number(n, slots, triangle.a),
-            b: number(n, slots, triangle.b),
-            c: number(n, slots, triangle.c),
+            a: number(n, slots, cell, triangle.a),
+            b: number(n, slots, cell, triangle.b),
+            c: number(n, slots, cell, triangle.c),
         })?;
     }
     Ok(())
 }
 
-// The number of the vertex on an edge.
+// The number of the vertex on an edge of the cell at the origin, in another cell.
 #[inline]
-fn number(n: usize, slots: &[Entry], edge: EdgeKey) -> u32
+fn number(n: usize, slots: &[Entry], cell: &CellValues, edge: EdgeKey) -> u32
     requires slots { AreSlots n slots.now }
-    requires kept { IsKept n edge }
-    ensures { result ≡ number_in n slots.now edge }
+    requires kept { IsKept n (moved cell.now edge) }
+    ensures { result ≡ number_in n slots.now (moved cell.now edge) }
 {
-    slots[slot(n, edge.x, edge.y, edge.z)].number(edge.dir)
+    let slot = slot(n, cell.x + edge.x, cell.y + edge.y, cell.z + edge.z);
+    slots[slot].number(edge.dir)
 }
 
 // How many triangles a cell with these signs has.

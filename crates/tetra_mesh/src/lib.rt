@@ -11,6 +11,7 @@ mod laws;
 mod mesh;
 mod numbering;
 mod place;
+mod shapes;
 mod sides;
 mod vertex;
 

@@ -1,0 +1,36 @@
+// The triangles of a cell by which of its corners are inside.
+ghost use Rattle.std.specs.Prelude.{◌≡◌, IfOk};
+ghost use Rattle.tetra_mesh.specs.Shapes.{AreShapes, shape_of};
+
+use kuhn_cells::{Triple, triangles};
+use std::alloc::{AllocError, Global};
+
+// The triangles of the cell at the origin, for all signs that a cell may have.
+#[derive(Debug, Drop)]
+pub(crate) struct Shapes {
+    pub(crate) shapes: Vec<Vec<Triple>>,
+}
+
+impl Shapes {
+    // AllocError: there is no memory for them.
+    pub(crate) fn new(alloc: Global) -> Result<Shapes, AllocError>
+        ensures { IfOk result AreShapes }
+    {
+        let mut shapes = Vec::with_capacity(alloc, 256)?;
+        for signs in 0..256u16 {
+            shapes.push(shape(alloc, signs as u8)?)?;
+        }
+        Ok(Shapes { shapes })
+    }
+}
+
+// The triangles of the cell at the origin with these signs. AllocError: there is no memory for them.
+fn shape(alloc: Global, signs: u8) -> Result<Vec<Triple>, AllocError>
+    ensures { IfOk result (λ shape. shape.items ≡ shape_of signs) }
+{
+    let mut shape = Vec::new(alloc);
+    for tetra in 0..6 {
+        shape.extend_from_slice(triangles(0, 0, 0, tetra, signs).as_slice())?;
+    }
+    Ok(shape)
+}
