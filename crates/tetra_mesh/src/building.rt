@@ -8,8 +8,7 @@ ghost use Rattle.tetra_mesh.specs.Cuts.{mesh_of};
 ghost use Rattle.tetra_mesh.specs.Numbering.{AreCells, IsNumbered, all_faces, vertices_on};
 ghost use Rattle.tetra_mesh.specs.Shapes.{AreShapes};
 ghost use Rattle.tetra_mesh.specs.Sound.{IsSound, LieApart};
-ghost use Rattle.tetra_mesh.specs.SoundLaws.{GridMeshesAreSound, GridMeshesLieApart};
-ghost use Rattle.view_settings.specs.Window.{FitsMesh, IsWindow};
+ghost use Rattle.view_settings.specs.Window.{FitsMesh};
 
 use crate::faces::{face_count, push_faces};
 use crate::laws::meshes_are_sound;
