@@ -10,6 +10,8 @@ mod heights;
 #[cfg(test)]
 mod limits;
 #[cfg(test)]
+mod meshes;
+#[cfg(test)]
 mod pictures;
 #[cfg(test)]
 mod refusals;

@@ -37,6 +37,12 @@ const CASES: [(&[&str], u32, &str); 49] = [
     (&["render", "x0=1", "x1=-1"], 0, "EmptySpan"),
     (&["render", "y1=-1.0000000003"], 0, "EmptySpan"),
     (&["mesh", "n=256", "x0=0", "x1=0.001"], 0, "CellTooSmall"),
+    // One raw unit less than twice 65536.
+    (
+        &["mesh", "n=2", "x0=0", "x1=0.00003051734529435634613037"],
+        0,
+        "CellTooSmall",
+    ),
     (&["mesh", "n=256", "x0=1", "x1=0"], 0, "EmptySpan"),
     // Words of a height map.
     (&["height", "w"], 2, "NotASetting"),
@@ -55,7 +61,6 @@ const CASES: [(&[&str], u32, &str); 49] = [
     (&["height", "y1=-2"], 0, "EmptySpan"),
     (&["height", "z0=0.5", "z1=0.25"], 0, "EmptySpan"),
     // Good words of verbs that are not built.
-    (&["mesh", "z0=-2", "z1=2", "n=256"], 1, "NotBuilt"),
     (&["replay"], 1, "NotBuilt"),
     (&["forge", "seed=18446744073709551615"], 1, "NotBuilt"),
     (&["replay", "w=1"], 2, "UnknownSetting"),

@@ -9,13 +9,14 @@ use Rattle.modeller_io.specs.Took.{LosesAtMost}
 use Rattle.solid_model.specs.declared.clause.Clause.{Clause}
 use Rattle.view_settings.specs.Window.{Window}
 use Rattle.view_settings.specs.declared.job.Job.{Job}
-use Rattle.view_settings.specs.declared.job.Job.TheVariants.{Count, Height, Render, Text}
+use Rattle.view_settings.specs.declared.job.Job.TheVariants.{Count, Height, Mesh, Render, Text}
 use Rattle.modeller_cmd.specs.Asking.{asked}
 use Rattle.modeller_cmd.specs.Endings.{Ends, IsAnswer, Makes, status_after}
+use Rattle.modeller_cmd.specs.Meshes.{mesh_text}
 use Rattle.modeller_cmd.specs.Output.{AreExact, Part, bytes_of_parts, input_limit, made, outcome, output_as, parts_of, work_of_parts}
 use Rattle.modeller_cmd.specs.Statuses.{status_of}
 use Rattle.modeller_cmd.specs.Stops.{status_at}
-use Rattle.modeller_cmd.specs.Work.{Work, both, frame_work, height_work, no_work}
+use Rattle.modeller_cmd.specs.Work.{Work, both, frame_work, height_work, mesh_work, no_work}
 use Rattle.modeller_cmd.specs.declared.refusal.Refusal.{Refusal}
 use Rattle.modeller_cmd.specs.declared.refusal.Refusal.TheVariants as refusal
 use Rattle.modeller_cmd.specs.declared.status.Status.TheVariants as status
@@ -102,7 +103,7 @@ one_work work =
     let n : work.plain + 0 ≡ work.plain = omega arith in
     λ k. record { points = p k; spans = s k; plain = n k }
 
--- the work of an image, of one that is counted, of a height map, and of a text
+-- the work of an image, of one that is counted, of a height map, of a mesh, and of a text
 pub render_work : (job : Job) (view : Window) (input : List ℕ) (clauses : List Clause) → job ≡ Render view → length input ≤ input_limit → text_read input ≡ Ok clauses
     → work_of_parts (output_as (made job input)).parts ≡ frame_work view clauses
 render_work job view input clauses is few reads =
@@ -118,6 +119,11 @@ pub height_work_of : (job : Job) (view : Window) (input : List ℕ) (clauses : L
 height_work_of job view input clauses is few reads =
     made_work job input clauses few reads ∙ ap (λ j. work_of_parts (parts_of j clauses)) is ∙ one_work (height_work view clauses)
 
+pub mesh_work_of : (job : Job) (view : Window) (input : List ℕ) (clauses : List Clause) → job ≡ Mesh view → length input ≤ input_limit → text_read input ≡ Ok clauses
+    → work_of_parts (output_as (made job input)).parts ≡ mesh_work view clauses
+mesh_work_of job view input clauses is few reads =
+    made_work job input clauses few reads ∙ ap (λ j. work_of_parts (parts_of j clauses)) is ∙ one_work (mesh_work view clauses)
+
 pub text_work : (job : Job) (input : List ℕ) (clauses : List Clause) → job ≡ Text → length input ≤ input_limit → text_read input ≡ Ok clauses
     → work_of_parts (output_as (made job input)).parts ≡ no_work
 text_work job input clauses is few reads =
@@ -132,6 +138,25 @@ height_bounded job view input clauses is few reads exact =
     made_parts job input clauses few reads ∙ ap (λ j. parts_of j clauses) is in
     let none = subst (All (λ part. IsTrue part.exact)) parts exact 0 (record { bytes = []; exact = true; work = no_work }) (omega arith) in
     grind (arith, none)
+
+-- nor is that of a mesh
+pub mesh_bounded : (job : Job) (view : Window) (input : List ℕ) (clauses : List Clause) → job ≡ Mesh view → length input ≤ input_limit → text_read input ≡ Ok clauses
+    → AreExact (output_as (made job input)).parts → ⊥
+unfolding AreExact
+mesh_bounded job view input clauses is few reads exact =
+    let parts : (output_as (made job input)).parts ≡ parts_of (Mesh view) clauses =
+    made_parts job input clauses few reads ∙ ap (λ j. parts_of j clauses) is in
+    let none = subst (All (λ part. IsTrue part.exact)) parts exact 0 (record { bytes = []; exact = true; work = no_work }) (omega arith) in
+    grind (arith, none)
+
+-- the bytes of a mesh are those that its job makes
+pub mesh_bytes : (job : Job) (view : Window) (input : List ℕ) (clauses : List Clause) (bytes : List ℕ) → job ≡ Mesh view → length input ≤ input_limit → text_read input ≡ Ok clauses
+    → bytes ≡ mesh_text view clauses → Makes (made job input) (λ whole. bytes ≡ whole)
+mesh_bytes job view input clauses bytes is few reads same =
+    let short : nat_lt input_limit (length input) ≡ false = le-ltb input_limit (length input) few in
+    let parts : Job → Result (List Part) Refusal = λ j. Ok (parts_of j clauses) in
+    let all : made job input ≡ parts job = rw (short, reads) refl in
+    subst (λ outcome. Makes outcome (λ whole. bytes ≡ whole)) (sym (all ∙ ap parts is)) (same ∙ sym (append-nil (mesh_text view clauses)))
 
 -- what words that are accepted make of an input
 pub asked_made : (words : List (List ℕ)) (job : Job) (input : List ℕ) → Ok job ≡ asked words → outcome words input ≡ made job input

@@ -2,7 +2,7 @@
 use Rattle.std.specs.Prelude.{ℕ, List, Bool, true, false, Result, Ok, Err, if◌then◌else◌}
 use Rattle.view_settings.specs.Words.{job_of}
 use Rattle.view_settings.specs.declared.job.Job.{Job}
-use Rattle.view_settings.specs.declared.job.Job.TheVariants.{Count, Height, Render, Text}
+use Rattle.view_settings.specs.declared.job.Job.TheVariants.{Count, Height, Mesh, Render, Text}
 use Rattle.view_settings.specs.declared.word_fault.WordFault.{WordFault}
 use Rattle.modeller_cmd.specs.declared.refusal.Refusal.{Refusal}
 use Rattle.modeller_cmd.specs.declared.refusal.Refusal.TheVariants.{Words, NotBuilt}
@@ -11,6 +11,7 @@ use Rattle.modeller_cmd.specs.declared.refusal.Refusal.TheVariants.{Words, NotBu
 abbrev pub is_built : Job → Bool
 is_built (Render view) = true
 is_built (Height view) = true
+is_built (Mesh view) = true
 is_built (Count view) = true
 is_built Text = true
 is_built other = false

@@ -2,8 +2,10 @@ pub mod Asking
 pub mod Endings
 pub mod Heights
 pub mod Images
+pub mod Meshes
 pub mod Notes
 pub mod Output
+pub mod Planes
 pub mod Statuses
 pub mod Stops
 pub mod Work

@@ -5,13 +5,14 @@ use Rattle.clause_reader.specs.ModelText.{model_text}
 use Rattle.clause_reader.specs.declared.text_fault.TextFault.{TextFault}
 use Rattle.solid_model.specs.declared.clause.Clause.{Clause}
 use Rattle.view_settings.specs.declared.job.Job.{Job}
-use Rattle.view_settings.specs.declared.job.Job.TheVariants.{Count, Height, Render, Text}
+use Rattle.view_settings.specs.declared.job.Job.TheVariants.{Count, Height, Mesh, Render, Text}
 use Rattle.modeller_cmd.specs.Heights.{heights_of}
 use Rattle.modeller_cmd.specs.Images.{image_of}
+use Rattle.modeller_cmd.specs.Meshes.{mesh_text}
 use Rattle.modeller_cmd.specs.Notes.{refusal_line}
 use Rattle.modeller_cmd.specs.Statuses.{status_of}
 use Rattle.modeller_cmd.specs.Asking.{asked}
-use Rattle.modeller_cmd.specs.Work.{Work, both, count_text, frame_work, height_work, no_work}
+use Rattle.modeller_cmd.specs.Work.{Work, both, count_text, frame_work, height_work, mesh_work, no_work}
 use Rattle.modeller_cmd.specs.declared.refusal.Refusal.{Refusal}
 use Rattle.modeller_cmd.specs.declared.refusal.Refusal.TheVariants.{TooLong, Model}
 use Rattle.modeller_cmd.specs.declared.status.Status.{Status}
@@ -45,6 +46,7 @@ AreExact parts = All (λ part. IsTrue part.exact) parts
 abbrev pub parts_of : Job → List Clause → List Part
 parts_of (Render view) clauses = record { bytes = image_of view clauses; exact = true; work = frame_work view clauses } ∷ []
 parts_of (Height view) clauses = record { bytes = heights_of view clauses; exact = false; work = height_work view clauses } ∷ []
+parts_of (Mesh view) clauses = record { bytes = mesh_text view clauses; exact = false; work = mesh_work view clauses } ∷ []
 parts_of (Count view) clauses = record { bytes = count_text (frame_work view clauses); exact = true; work = frame_work view clauses } ∷ []
 parts_of Text clauses = record { bytes = model_text clauses; exact = true; work = no_work } ∷ []
 parts_of other clauses = []

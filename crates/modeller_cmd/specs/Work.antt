@@ -9,6 +9,7 @@ use Rattle.solid_model.specs.declared.clause.Clause.{Clause}
 use Rattle.view_settings.specs.Window.{Window}
 use Rattle.modeller_cmd.specs.Heights.{plain_depths}
 use Rattle.modeller_cmd.specs.Images.{plain_points}
+use Rattle.modeller_cmd.specs.Meshes.{plain_grid}
 
 -- the evaluations at samples, the steps that are traced over boxes, and the evaluations that evaluating each clause
 -- once at each sample would take
@@ -44,6 +45,15 @@ height_work view clauses = record {
   points = height_points view (root_of clauses);
   spans = height_spans view (root_of clauses);
   plain = plain_depths view (length clauses);
+}
+
+-- the work that a mesh of a solid over a view takes at most: each step of its root list at each point of the grid, and
+-- beside it what all clauses would take
+abbrev pub mesh_work : Window → List Clause → Work
+mesh_work view clauses = record {
+  points = plain_grid view (length (root_of clauses));
+  spans = 0;
+  plain = plain_grid view (length clauses);
 }
 
 -- the three lines that tell the work of an image

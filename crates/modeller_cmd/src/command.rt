@@ -16,6 +16,7 @@ use crate::asking::read_job;
 use crate::count::count;
 use crate::draw::draw;
 use crate::height::height;
+use crate::mesh::mesh;
 use crate::note::note_of;
 use crate::refusal::Refusal;
 use crate::stop::Stop;
@@ -168,6 +169,7 @@ fn work(alloc: Global, job: &Job, input: &[u8], tally: &mut Tally) -> Result<Vec
     match job {
         Job::Render(view) => Ok(draw(alloc, &model, view, tally)?),
         Job::Height(view) => Ok(height(alloc, &model, view, tally)?),
+        Job::Mesh(view) => Ok(mesh(alloc, &model, view, tally)?),
         Job::Count(view) => Ok(count(alloc, &model, view, tally)?),
         Job::Text => Ok(write_model(alloc, &model)?),
         _ => Err(Stop::Refused(Refusal::NotBuilt)),

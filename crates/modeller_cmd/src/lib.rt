@@ -2,10 +2,12 @@
 #![tactic(auto)]
 
 mod asking;
+mod cells;
 mod command;
 mod count;
 mod draw;
 mod height;
+mod mesh;
 mod note;
 mod refusal;
 mod status;

@@ -1,0 +1,185 @@
+-- The grid of a view has the values of its points.
+use Rattle.std.proofs.Common.{◌≡◌, inl, inr, ℕ, zero, suc, ◌+◌, ◌*◌, ◌/◌, ◌%◌, ◌<◌, ◌≤◌, Bool, false, List, [], ◌∷◌, ◌++◌, length, get_or, set, refl, sym, ap, ◌∙◌, arith, zero-add, add-zero, append-nil}
+use Rattle.std.specs.Prelude.{ℤ, pos, negsuc, ◌⊎◌, filter, flat_map, if◌then◌else◌}
+use Rattle.std.specs.Int.{int_max}
+use Rattle.std.specs.List.{range_with_len}
+use Rattle.std.proofs.lemmas.Bool.{and_parts, cases_eq, le-leb, le-ltb, leb-true}
+use Rattle.std.proofs.lemmas.List.{append_assoc, get_or-append-add, get_or-set_other, get_or-set_same, get_or_append_left, length-append}
+use Rattle.std.proofs.lemmas.List.Elements.{filter-append}
+use Rattle.std.proofs.lemmas.Nat.{div-mul-add, mod-mul-add, mul-add-lt}
+use Rattle.fixed_ops.specs.Points.{Point}
+use Rattle.fixed_ops.specs.Raw.{is_inside}
+use Rattle.kuhn_cells.specs.declared.cell_list.CellList.{CellList}
+use Rattle.kuhn_cells.specs.declared.cell_list.CellValues.{CellValues}
+use Rattle.kuhn_cells.specs.Cells.{IsBordered, is_mixed_cell, mixed_cells}
+use Rattle.kuhn_cells.specs.Grids.{Grid, over_block, value_at}
+use Rattle.kuhn_cells.specs.Lists.{ListsCells}
+use Rattle.kuhn_cells.specs.Triangles.{GridPoint, point}
+use Rattle.view_settings.specs.Places.{point_of}
+use Rattle.view_settings.specs.Window.{Window}
+use Rattle.view_settings.specs.declared.lattice.Lattice.TheVariants as lattices
+use Rattle.modeller_cmd.specs.Meshes.{grid_of, grid_value}
+use Rattle.modeller_cmd.specs.Planes.{IsFilled, IsPlaneOf, mixed_in_layers}
+
+-- ---- pieces of one length, joined end to end
+
+pub flat_length : {A : Type 0} (f : ℕ → List A) (a n size : ℕ) → ((k : ℕ) → length (f k) ≡ size) → length (flat_map f (range_with_len a n)) ≡ n * size
+flat_length f a zero size each = omega arith
+flat_length f a (suc n) size each =
+    omega (arith, length-append (f a) (flat_map f (range_with_len (a + 1) n)), each a, flat_length f (a + 1) n size each)
+
+pub flat_item : {A : Type 0} (f : ℕ → List A) (a n size k i : ℕ) (d : A) → ((k : ℕ) → length (f k) ≡ size) → k < n → i < size
+    → get_or (flat_map f (range_with_len a n)) (k * size + i) d ≡ get_or (f (a + k)) i d
+flat_item f a zero size k i d each few within = absurd (omega (arith, few))
+flat_item f a (suc n) size zero i d each few within =
+    let first = each a in
+    let here : 0 * size + i ≡ i = omega arith in
+    let at : a + 0 ≡ a = omega arith in
+    rw (here, at) (get_or_append_left (f a) (flat_map f (range_with_len (a + 1) n)) d i (omega (arith, first, within)))
+flat_item f a (suc n) size (suc k) i d each few within =
+    let first = each a in
+    let there : suc k * size + i ≡ length (f a) + (k * size + i) = omega (arith, first) in
+    let at : (a + 1) + k ≡ a + suc k = omega arith in
+    ap (λ m. get_or (f a ++ flat_map f (range_with_len (a + 1) n)) m d) there
+    ∙ get_or-append-add (f a) (flat_map f (range_with_len (a + 1) n)) (k * size + i) d
+    ∙ flat_item f (a + 1) n size k i d each (omega (arith, few)) within
+    ∙ ap (λ m. get_or (f m) i d) at
+
+-- ---- one piece more
+
+flat_more : {A : Type 0} (f : ℕ → List A) (a n : ℕ) → flat_map f (range_with_len a (suc n)) ≡ flat_map f (range_with_len a n) ++ f (a + n)
+flat_more f a zero = append-nil (f a) ∙ ap f (sym (add-zero a))
+flat_more f a (suc n) =
+    let at : (a + 1) + n ≡ a + suc n = omega arith in
+    ap (λ l. f a ++ l) (flat_more f (a + 1) n)
+    ∙ sym (append_assoc (f a) (flat_map f (range_with_len (a + 1) n)) (f ((a + 1) + n)))
+    ∙ ap (λ m. (f a ++ flat_map f (range_with_len (a + 1) n)) ++ f m) at
+
+-- what is kept of one piece more stands last
+pub kept_more : {A : Type 0} (p : A → Bool) (f : ℕ → List A) (n : ℕ)
+    → filter p (flat_map f (range_with_len 0 (n + 1))) ≡ filter p (flat_map f (range_with_len 0 n)) ++ filter p (f n)
+kept_more p f n =
+    let more : n + 1 ≡ suc n = omega arith in
+    ap (λ m. filter p (flat_map f (range_with_len 0 m))) more
+    ∙ ap (filter p) (flat_more f 0 n)
+    ∙ filter-append p (flat_map f (range_with_len 0 n)) (f (0 + n))
+    ∙ ap (λ m. filter p (flat_map f (range_with_len 0 n)) ++ filter p (f m)) (zero-add n)
+
+-- ---- the values of a grid
+
+one_each : (at : GridPoint → ℤ) (y z n : ℕ) → length (flat_map (λ x. at (point x y z) ∷ []) (range_with_len 0 n)) ≡ n * 1
+one_each at y z n = flat_length (λ x. at (point x y z) ∷ []) 0 n 1 (λ x. refl)
+
+row_each : (at : GridPoint → ℤ) (z n m : ℕ) → length (flat_map (λ y. flat_map (λ x. at (point x y z) ∷ []) (range_with_len 0 n)) (range_with_len 0 m)) ≡ m * (n * 1)
+row_each at z n m = flat_length (λ y. flat_map (λ x. at (point x y z) ∷ []) (range_with_len 0 n)) 0 m (n * 1) (λ y. one_each at y z n)
+
+-- the item of a block at the place of a point
+block_item : (at : GridPoint → ℤ) (n x y z : ℕ) (d : ℤ) → x < n → y < n → z < n
+    → get_or (over_block n n n (λ p. at p ∷ [])) ((z * n + y) * n + x) d ≡ at (point x y z)
+block_item at n x y z d fx fy fz =
+    let place : (z * n + y) * n + x ≡ z * (n * (n * 1)) + (y * (n * 1) + (x * 1 + 0)) = grind arith in
+    let one : n * 1 ≡ n = omega arith in
+    let column : x * 1 + 0 < n * 1 = omega (arith, fx) in
+    let row : y * (n * 1) + (x * 1 + 0) < n * (n * 1) = let h = mul-add-lt y (n * 1) (x * 1 + 0) n fy column in let e : n * 1 * n ≡ n * (n * 1) = grind arith in omega (arith, h, e) in
+    ap (λ m. get_or (over_block n n n (λ p. at p ∷ [])) m d) place
+    ∙ flat_item (λ z. flat_map (λ y. flat_map (λ x. at (point x y z) ∷ []) (range_with_len 0 n)) (range_with_len 0 n)) 0 n (n * (n * 1)) z (y * (n * 1) + (x * 1 + 0)) d (λ z. row_each at z n n) fz row
+    ∙ flat_item (λ y. flat_map (λ x. at (point x y (0 + z)) ∷ []) (range_with_len 0 n)) 0 n (n * 1) y (x * 1 + 0) d (λ y. one_each at y (0 + z) n) fy column
+    ∙ flat_item (λ x. at (point x (0 + y) (0 + z)) ∷ []) 0 n 1 x 0 d (λ x. refl) fx (omega arith)
+    ∙ ap (λ x. at (point x (0 + y) (0 + z))) (zero-add x)
+    ∙ ap (λ y. at (point x y (0 + z))) (zero-add y)
+    ∙ ap (λ z. at (point x y z)) (zero-add z)
+
+-- a grid has the value of each of its points
+pub grid_at : (view : Window) (value : Point → ℤ) (p : GridPoint) → p.x ≤ view.n → p.y ≤ view.n → p.z ≤ view.n
+    → value_at (grid_of view value) p ≡ grid_value view value p
+unfolding grid_of
+grid_at view value p fx fy fz =
+    block_item (grid_value view value) (view.n + 1) p.x p.y p.z (pos 0) (omega (arith, fx)) (omega (arith, fy)) (omega (arith, fz))
+
+-- no border is inside
+border_outside : (v : ℤ) → is_inside (int_max v (pos 0)) ≡ false
+border_outside (pos zero) = refl
+border_outside (pos (suc n)) = rw (le-leb 1 (suc n) (omega arith), le-ltb (suc n) 0 (omega arith)) refl
+border_outside (negsuc n) = refl
+
+pub grid_bordered : (view : Window) (value : Point → ℤ) → IsBordered (grid_of view value)
+unfolding grid_of
+grid_bordered view value = record {
+  whole = let n = view.n + 1 in
+      let size = flat_length (λ z. flat_map (λ y. flat_map (λ x. grid_value view value (point x y z) ∷ []) (range_with_len 0 n)) (range_with_len 0 n)) 0 n (n * (n * 1)) (λ z. row_each (grid_value view value) z n n) in
+      let same : n * (n * (n * 1)) ≡ n * (n * n) = grind arith in
+      size ∙ same;
+  outside = λ p within outer.
+      let x = and_parts _ _ within in
+      let yz = and_parts _ _ x.1 in
+      ap is_inside (grid_at view value p (leb-true p.x view.n x.0) (leb-true p.y view.n yz.0) (leb-true p.z view.n yz.1)
+      ∙ ap (λ t. if t then int_max (own p) (pos 0) else own p) outer)
+      ∙ border_outside (own p);
+}
+  where
+    own : GridPoint → ℤ
+    own p = value (point_of view lattices.Grid p.x p.y p.z)
+
+-- ---- planes
+
+-- a filled plane has the values of the grid at its height
+pub filled_plane : (view : Window) (value : Point → ℤ) (n z : ℕ) (plane : List ℤ) → view.n ≡ n → z ≤ n
+    → IsFilled (grid_value view value) (n + 1) z ((n + 1) * (n + 1)) plane → IsPlaneOf (grid_of view value) (n + 1) z plane
+filled_plane view value n z plane same low filled = record {
+  holds = λ x y d fx fy.
+      let side = n + 1 in
+      filled.holds (y * side + x) d (mul-add-lt y side x side fy fx)
+      ∙ ap (λ i. grid_value view value (point i ((y * side + x) / side) z)) (mod-mul-add y side x fx)
+      ∙ ap (λ j. grid_value view value (point x j z)) (div-mul-add y side x fx)
+      ∙ sym (grid_at view value (point x y z) (omega (arith, fx, same)) (omega (arith, fy, same)) (omega (arith, low, same)));
+}
+
+-- one value more is filled
+pub one_filled : (value : GridPoint → ℤ) (side x y z at : ℕ) (v : ℤ) (plane : List ℤ) → x < side → at ≡ y * side + x → at < length plane → v ≡ value (point x y z)
+    → IsFilled value side z at plane → IsFilled value side z (at + 1) (set plane at v)
+one_filled value side x y z at v plane fx place within is filled = record {
+  holds = λ k d few. by k d few (cases_eq k at);
+}
+  where
+    here : v ≡ value (point (at % side) (at / side) z)
+    here =
+        is
+        ∙ ap (λ i. value (point i y z)) (sym (mod-mul-add y side x fx) ∙ ap (λ m. m % side) (sym place))
+        ∙ ap (λ j. value (point (at % side) j z)) (sym (div-mul-add y side x fx) ∙ ap (λ m. m / side) (sym place))
+
+    by : (k : ℕ) (d : ℤ) → k < at + 1 → (k ≡ at) ⊎ (k ≡ at → ⊥) → get_or (set plane at v) k d ≡ value (point (k % side) (k / side) z)
+    by k d few (inl same) =
+        ap (λ m. get_or (set plane at v) m d) same ∙ get_or-set_same plane at v d within ∙ here ∙ ap (λ m. value (point (m % side) (m / side) z)) (sym same)
+    by k d few (inr other) = get_or-set_other plane at k v d other ∙ filled.holds k d (omega (arith, few, other))
+
+-- ---- the whole list
+
+-- the mixed cells of all layers are those of the grid
+pub layers_listed : (view : Window) (value : Point → ℤ) (n : ℕ) (list : CellList) → n ≡ view.n → list.n ≡ n
+    → list.cells.items ≡ [] ++ mixed_in_layers (grid_of view value) n n → ListsCells view.n list (grid_of view value)
+unfolding grid_of mixed_cells
+layers_listed view value n list narrow count items = record {
+  x = refl;
+  y = refl;
+  z = refl;
+  border = grid_bordered view value;
+  count = count ∙ narrow;
+  cells = items ∙ ap (λ m. mixed_in_layers (grid_of view value) m m) narrow;
+}
+
+-- ---- cells
+
+-- a number of a plane is the value of a corner
+pub corner_value : (g : Grid) (side x y z h dx dy dz at : ℕ) (v : ℤ) (plane : List ℤ) → IsPlaneOf g side h plane → x + dx < side → y + dy < side
+    → at ≡ (y + dy) * side + (x + dx) → h ≡ z + dz → v ≡ get_or plane at v → v ≡ value_at g (point (x + dx) (y + dy) (z + dz))
+corner_value g side x y z h dx dy dz at v plane «is» fx fy place height read =
+    read ∙ ap (λ m. get_or plane m v) place ∙ «is».holds (x + dx) (y + dy) v fx fy ∙ ap (λ k. value_at g (point (x + dx) (y + dy) k)) height
+
+-- pieces that are put behind one another
+pub pieces_more : {A : Type 0} (start old new a b c : List A) → old ≡ start ++ a → new ≡ old ++ b → c ≡ a ++ b → new ≡ start ++ c
+pieces_more start old new a b c before put more =
+    put ∙ ap (λ l. l ++ b) before ∙ append_assoc start a b ∙ ap (λ l. start ++ l) (sym more)
+
+-- a cell is kept where it is mixed
+pub cell_kept : (cell : CellValues) (t : Bool) → t ≡ is_mixed_cell cell → filter is_mixed_cell (cell ∷ []) ≡ (if t then cell ∷ [] else [])
+cell_kept cell t same = ap (λ b. if b then cell ∷ [] else []) (sym same)

@@ -1,0 +1,35 @@
+use Rattle.live_clauses.specs.Steps.{tape_value}
+use Rattle.modeller_cmd.specs.Meshes.{grid_of}
+use Rattle.modeller_cmd.proofs.Frames.{within-none}
+use Rattle.modeller_cmd.proofs.GridWork.{mesh_plain, mesh_within}
+use Rattle.modeller_cmd.proofs.MeshLaws.{mesh_same}
+use Rattle.modeller_cmd.proofs.mesh.solid_mesh.Goals as goal
+
+pub returns-in_err-list-clause-at_most : goal.returns-in_err-list-clause-at_most
+returns-in_err-list-clause-at_most c = within-none c.args.tally.now _
+
+pub returns-in_err-cells-clause-at_most : goal.returns-in_err-cells-clause-at_most
+returns-in_err-cells-clause-at_most c =
+    mesh_within c.args.tally.now c.cells.new.tally c.args.view.now c.args.model.now c.in_ok-list.list c.in_ok-list.ensures.live c.in_err-cells.ensures.at_most
+
+pub returns-in_err-cells-clause-plain : goal.returns-in_err-cells-clause-plain
+returns-in_err-cells-clause-plain c =
+    mesh_plain c.args.tally.now c.cells.new.tally c.args.view.now c.args.model.now
+    (mesh_within c.args.tally.now c.cells.new.tally c.args.view.now c.args.model.now c.in_ok-list.list c.in_ok-list.ensures.live c.in_err-cells.ensures.at_most)
+
+pub build-requires : goal.build-requires
+build-requires c = (grid_of c.args.view.now (λ p. tape_value p c.in_ok-list.list), c.in_ok-cells.ensures.cells)
+
+pub returns-clause-mesh : goal.returns-clause-mesh
+returns-clause-mesh c =
+    mesh_same c.build.result c.args.view.now c.args.model.now c.in_ok-list.list c.in_ok-list.ensures.value
+    (c.build.ensures (grid_of c.args.view.now (λ p. tape_value p c.in_ok-list.list)) c.in_ok-cells.ensures.cells)
+
+pub returns-clause-at_most : goal.returns-clause-at_most
+returns-clause-at_most c =
+    mesh_within c.args.tally.now c.cells.new.tally c.args.view.now c.args.model.now c.in_ok-list.list c.in_ok-list.ensures.live c.in_ok-cells.ensures.at_most
+
+pub returns-clause-plain : goal.returns-clause-plain
+returns-clause-plain c =
+    mesh_plain c.args.tally.now c.cells.new.tally c.args.view.now c.args.model.now
+    (mesh_within c.args.tally.now c.cells.new.tally c.args.view.now c.args.model.now c.in_ok-list.list c.in_ok-list.ensures.live c.in_ok-cells.ensures.at_most)

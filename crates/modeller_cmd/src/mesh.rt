@@ -1,0 +1,52 @@
+// The mesh of a solid over a view.
+ghost use Rattle.std.specs.Prelude.{◌≡◌, length, IfOk};
+ghost use Rattle.solid_model.specs.Values.{solid_value};
+ghost use Rattle.tetra_mesh.specs.Cuts.{mesh_of};
+ghost use Rattle.modeller_cmd.specs.Meshes.{grid_of, mesh_text, plain_grid};
+ghost use Rattle.modeller_cmd.specs.Work.{CountsWithin, PointsRiseAtMost, mesh_work};
+
+use crate::cells::cells;
+use crate::draw::window_holds;
+use fixed_ops::Tally;
+use kuhn_cells::vertices_are_mixed_edges;
+use live_clauses::root_tape;
+use ply_writer::ply_text;
+use solid_model::Model;
+use std::alloc::{AllocError, Global};
+use tetra_mesh::{Mesh, build};
+use view_settings::View;
+
+/// The mesh of a model over a view, as PLY text. No more work is counted than evaluating the root
+/// list once at each point of the grid, whether or not memory suffices.
+pub fn mesh(
+    alloc: Global,
+    model: &Model,
+    view: &View,
+    tally: &mut Tally,
+) -> Result<Vec<u8>, AllocError>
+    ensures ok { IfOk result (λ text. text.items ≡ mesh_text view.now model.now) }
+    ensures at_most { CountsWithin tally.old tally.new (mesh_work view.now model.now) }
+    ensures plain { PointsRiseAtMost tally.old tally.new (plain_grid view.now (length model.now)) }
+{
+    vertices_are_mixed_edges();
+    window_holds(view);
+    let mesh = solid_mesh(alloc, model, view, tally)?;
+    ply_text(alloc, &mesh, view)
+}
+
+// The mesh of a model over a view. The list of its cells is given up before it is handed on.
+fn solid_mesh(
+    alloc: Global,
+    model: &Model,
+    view: &View,
+    tally: &mut Tally,
+) -> Result<Mesh, AllocError>
+    ensures mesh { IfOk result (λ mesh.
+        mesh ≡ mesh_of (grid_of view.now (λ p. solid_value p model.now))) }
+    ensures at_most { CountsWithin tally.old tally.new (mesh_work view.now model.now) }
+    ensures plain { PointsRiseAtMost tally.old tally.new (plain_grid view.now (length model.now)) }
+{
+    let list = root_tape(alloc, model)?;
+    let cells = cells(alloc, &list, view, tally)?;
+    build(alloc, &cells, view)
+}
