@@ -85,7 +85,7 @@ write_fault_of stop.WriteFault e = refl
 write_fault_of stop.NoMemory e = absurd (grind (arith, e))
 
 -- the parts of what is made of a model that was read, and their work
-made_parts : (job : Job) (input : List ℕ) (clauses : List Clause) → length input ≤ input_limit → text_read input ≡ Ok clauses
+pub made_parts : (job : Job) (input : List ℕ) (clauses : List Clause) → length input ≤ input_limit → text_read input ≡ Ok clauses
     → (output_as (made job input)).parts ≡ parts_of job clauses
 made_parts job input clauses few reads =
     let short : nat_lt input_limit (length input) ≡ false = le-ltb input_limit (length input) few in

@@ -6,6 +6,7 @@ pub mod Meshes
 pub mod Notes
 pub mod Output
 pub mod Planes
+pub mod SoundTexts
 pub mod Statuses
 pub mod Stops
 pub mod Work

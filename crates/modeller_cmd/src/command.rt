@@ -9,6 +9,7 @@ ghost use Rattle.modeller_cmd.specs.Endings.{CountsForSome, Ends, IsAnswer, IsRe
 ghost use Rattle.modeller_cmd.specs.Notes.{line_of};
 ghost use Rattle.modeller_cmd.specs.Output.{AreExact, WithOutput, bytes_of_parts, input_limit, made, outcome, output_as, work_of_parts};
 ghost use Rattle.modeller_cmd.specs.Asking.{asked, is_built};
+ghost use Rattle.modeller_cmd.specs.SoundTexts.{MeshesAreSound};
 ghost use Rattle.modeller_cmd.specs.Work.{CountsWithin, CountsWork, PointsRiseAtMost};
 
 use crate::Status;
@@ -16,7 +17,7 @@ use crate::asking::read_job;
 use crate::count::count;
 use crate::draw::draw;
 use crate::height::height;
-use crate::mesh::mesh;
+use crate::mesh::{mesh, mesh_texts_are_sound};
 use crate::note::note_of;
 use crate::refusal::Refusal;
 use crate::stop::Stop;
@@ -46,6 +47,9 @@ pub fn run<S: Source, K: Sink, N: Sink>(
     ensures done { result ≡ Status.Done → WithOutput S.rest source.old (bytes_of words.now) (λ output.
         (output.status ≡ Status.Done) × Gains K.held out.old out.new (bytes_of_parts output.parts)) }
     ensures silent { result ≡ Status.Done → notes.new ≡ notes.old }
+
+    // Where a mesh is asked for, that output is the text of a closed, manifold and separating one.
+    ensures sound { IfSome (S.rest source.old) (MeshesAreSound (bytes_of words.now)) }
 
     // When each status comes.
     ensures answer { WithOutput S.rest source.old (bytes_of words.now) (λ output. IsAnswer output.status result) }
@@ -144,7 +148,9 @@ fn perform<S: Source, K: Sink>(
         PointsRiseAtMost tally.old tally.new (work_of_parts output.parts).plain) }
     ensures gained { Grew K.held out.old out.new }
     ensures untold { CountsForSome (bytes_of words.now) tally.old tally.new }
+    ensures sound { IfSome (S.rest source.old) (MeshesAreSound (bytes_of words.now)) }
 {
+    mesh_texts_are_sound();
     let job = read_job(words)?;
     let input = read_all(alloc, source, INPUT_LIMIT)?;
     let bytes = work(alloc, &job, &input, tally)?;

@@ -3,6 +3,7 @@ ghost use Rattle.std.specs.Prelude.{◌≡◌, length, IfOk};
 ghost use Rattle.solid_model.specs.Values.{solid_value};
 ghost use Rattle.tetra_mesh.specs.Cuts.{mesh_of};
 ghost use Rattle.modeller_cmd.specs.Meshes.{grid_of, mesh_text, plain_grid};
+ghost use Rattle.modeller_cmd.specs.SoundTexts.{MeshTextsAreSound};
 ghost use Rattle.modeller_cmd.specs.Work.{CountsWithin, PointsRiseAtMost, mesh_work};
 
 use crate::cells::cells;
@@ -13,7 +14,7 @@ use live_clauses::root_tape;
 use ply_writer::ply_text;
 use solid_model::Model;
 use std::alloc::{AllocError, Global};
-use tetra_mesh::{Mesh, build};
+use tetra_mesh::{Mesh, build, meshes_are_sound};
 use view_settings::View;
 
 /// The mesh of a model over a view, as PLY text. No more work is counted than evaluating the root
@@ -49,4 +50,12 @@ fn solid_mesh(
     let list = root_tape(alloc, model)?;
     let cells = cells(alloc, &list, view, tally)?;
     build(alloc, &cells, view)
+}
+
+/// The text of the mesh of each solid is that of a sound mesh, over each view whose cells have 65536
+/// raw units along each axis.
+pub fn mesh_texts_are_sound()
+    ensures { MeshTextsAreSound }
+{
+    meshes_are_sound();
 }

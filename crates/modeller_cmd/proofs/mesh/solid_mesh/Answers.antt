@@ -23,7 +23,7 @@ build-requires c = (grid_of c.args.view.now (λ p. tape_value p c.in_ok-list.lis
 pub returns-clause-mesh : goal.returns-clause-mesh
 returns-clause-mesh c =
     mesh_same c.build.result c.args.view.now c.args.model.now c.in_ok-list.list c.in_ok-list.ensures.value
-    (c.build.ensures (grid_of c.args.view.now (λ p. tape_value p c.in_ok-list.list)) c.in_ok-cells.ensures.cells)
+    (c.build.ensures.mesh (grid_of c.args.view.now (λ p. tape_value p c.in_ok-list.list)) c.in_ok-cells.ensures.cells)
 
 pub returns-clause-at_most : goal.returns-clause-at_most
 returns-clause-at_most c =
