@@ -129,9 +129,12 @@ fn fill_row(
     ensures counted { RisesBy tally.old tally.new (points_of ((n + 1) * length list.now)) }
 {
     let start = y as usize * (n as usize + 1);
+    // Counts that no other call sees stay in registers.
+    let mut work = Tally::new();
     for x in 0..n + 1 {
-        plane[start + x as usize] = value_at(places, n, x, y, z, list, values, tally);
+        plane[start + x as usize] = value_at(places, n, x, y, z, list, values, &mut work);
     }
+    tally.join(&work);
 }
 
 // The value of a point of the grid, which is outside on the outermost layer.

@@ -1,5 +1,6 @@
 use Rattle.std.proofs.Common.{◌≡◌, ◌+◌, ◌*◌, ◌<◌, length, set, subst, arith, refl}
 use Rattle.std.proofs.lemmas.Nat.{mul-add-lt}
+use Rattle.fixed_ops.specs.Counts.{no_counts}
 use Rattle.live_clauses.specs.Steps.{tape_value}
 use Rattle.modeller_cmd.specs.Meshes.{grid_value}
 use Rattle.modeller_cmd.specs.Planes.{IsFilled}
@@ -24,5 +25,5 @@ loop-x-preserved c =
     record {
       filled = subst (λ k. IsFilled value side c.args.z k (set c.loop-x.plane at c.value_at.result)) next
           (one_filled value side x y c.args.z at c.value_at.result c.loop-x.plane fx refl (omega (arith, within, size, same)) c.value_at.ensures.value c.loop-x.invariant.filled);
-      counted = counted_more c.args.tally.now c.loop-x.tally c.value_at.new.tally x (length list) c.loop-x.invariant.counted c.value_at.ensures.counted;
+      counted = counted_more no_counts c.loop-x.work c.value_at.new.tally x (length list) c.loop-x.invariant.counted c.value_at.ensures.counted;
     }
