@@ -1,0 +1,108 @@
+-- The corners of a cell, one after another.
+use Rattle.std.proofs.Common.{◌≡◌, ℕ, zero, suc, ◌+◌, ◌-◌, ◌%◌, ◌<◌, ◌≤◌, ℤ, Bool, true, false, refl, sym, ap, subst, ◌∙◌, ◌⊎◌, inl, inr, arith}
+use Rattle.std.specs.Prelude.{Option, Some, None, is_some, nat_lt, not}
+use Rattle.std.proofs.lemmas.Bool.{cases_lt, false≢true}
+use Rattle.std.proofs.lemmas.Bool.Decides.{nat_tests}
+use Rattle.kuhn_cells.specs.Triangles.{GridPoint, further, point}
+use Rattle.view_settings.specs.Boxes.{Indices, IsBox}
+use Rattle.box_chains.specs.Chains.{is_long}
+use Rattle.oct_descent.specs.Fills.{point_box}
+use Rattle.oct_descent.specs.Tables.{AllKnown, PointValues, is_known, known_at}
+use Rattle.oct_descent.specs.Ways.{Covers}
+use Rattle.oct_descent.proofs.Covered.{or-false}
+
+pub none-is : (o : Option ℤ) (t : Bool) → is_some o ≡ not t → t ≡ true → o ≡ None
+none-is None t e h = refl
+none-is (Some v) t e h = absurd (false≢true (sym (e ∙ ap not h)))
+
+-- a point is covered by its own box
+pub itself : (p : GridPoint) → Covers (point_box p) p
+itself p = record { x = (omega arith, omega arith); y = (omega arith, omega arith); z = (omega arith, omega arith) }
+
+-- a box of one cell
+pub record IsOne (b : Indices) : Type 0 where
+  pub x : b.x1 ≡ b.x0 + 1
+  pub y : b.y1 ≡ b.y0 + 1
+  pub z : b.z1 ≡ b.z0 + 1
+
+-- a box of cells none of whose sides is longer than 1 is one cell
+pub short-one : (b : Indices) → IsBox b → is_long 1 b ≡ false → IsOne b
+short-one b is e =
+    let x = or-false (nat_lt 1 (b.x1 - b.x0)) _ e in
+    let yz = or-false (nat_lt 1 (b.y1 - b.y0)) (nat_lt 1 (b.z1 - b.z0)) x.1 in
+    record { x = side b.x0 b.x1 is.x x.0; y = side b.y0 b.y1 is.y yz.0; z = side b.z0 b.z1 is.z yz.1 }
+  where
+    side : (low high : ℕ) → low < high → nat_lt 1 (high - low) ≡ false → high ≡ low + 1
+    side low high some short = grind (arith, nat_tests, some, short)
+
+-- a corner of a cell, by its mask
+pub record IsCorner (b : Indices) (p : GridPoint) : Type 0 where
+  pub mask : ℕ
+  pub few : mask < 8
+  pub at : further (point b.x0 b.y0 b.z0) mask ≡ p
+
+one-or-two : (low i : ℕ) → low ≤ i → i ≤ low + 1 → (i ≡ low + 0) ⊎ (i ≡ low + 1)
+one-or-two low i a b = by (i - low) refl
+  where
+    by : (n : ℕ) → i - low ≡ n → (i ≡ low + 0) ⊎ (i ≡ low + 1)
+    by zero e = inl (omega (arith, e, a))
+    by (suc n) e = inr (omega (arith, e, a, b))
+
+pub corner-mask : (b : Indices) (p : GridPoint) → IsOne b → Covers b p → IsCorner b p
+corner-mask b p one covers =
+    by (one-or-two b.x0 p.x covers.x.0 (omega (arith, covers.x.1, one.x))) (one-or-two b.y0 p.y covers.y.0 (omega (arith, covers.y.1, one.y))) (one-or-two b.z0 p.z covers.z.0 (omega (arith, covers.z.1, one.z)))
+  where
+    same : (x y z : ℕ) → p.x ≡ x → p.y ≡ y → p.z ≡ z → point x y z ≡ p
+    same x y z ex ey ez = sym (ap (λ (i : ℕ). point i p.y p.z) ex ∙ ap (λ (j : ℕ). point x j p.z) ey ∙ ap (λ (k : ℕ). point x y k) ez)
+
+    by : (p.x ≡ b.x0 + 0) ⊎ (p.x ≡ b.x0 + 1) → (p.y ≡ b.y0 + 0) ⊎ (p.y ≡ b.y0 + 1) → (p.z ≡ b.z0 + 0) ⊎ (p.z ≡ b.z0 + 1) → IsCorner b p
+    by (inl x) (inl y) (inl z) = record { mask = 0; few = omega arith; at = same _ _ _ x y z }
+    by (inr x) (inl y) (inl z) = record { mask = 1; few = omega arith; at = same _ _ _ x y z }
+    by (inl x) (inr y) (inl z) = record { mask = 2; few = omega arith; at = same _ _ _ x y z }
+    by (inr x) (inr y) (inl z) = record { mask = 3; few = omega arith; at = same _ _ _ x y z }
+    by (inl x) (inl y) (inr z) = record { mask = 4; few = omega arith; at = same _ _ _ x y z }
+    by (inr x) (inl y) (inr z) = record { mask = 5; few = omega arith; at = same _ _ _ x y z }
+    by (inl x) (inr y) (inr z) = record { mask = 6; few = omega arith; at = same _ _ _ x y z }
+    by (inr x) (inr y) (inr z) = record { mask = 7; few = omega arith; at = same _ _ _ x y z }
+
+bit-least : (n : ℕ) → n % 2 ≤ 1
+bit-least n = omega arith
+
+-- a corner of a cell is covered
+pub mask-covered : (b : Indices) (c : ℕ) → IsOne b → Covers b (further (point b.x0 b.y0 b.z0) c)
+mask-covered b c one = record {
+  x = (omega arith, omega (arith, one.x));
+  y = (omega arith, omega (arith, one.y));
+  z = (omega arith, omega (arith, one.z));
+}
+
+-- where all eight corners are known, all points that the cell covers are
+pub all-known : (b : Indices) (t : PointValues) → IsOne b → ((c : ℕ) → c < 8 → is_known (known_at t (further (point b.x0 b.y0 b.z0) c)) ≡ true) → AllKnown t b
+all-known b t one known p covers =
+    let corner = corner-mask b p one covers in
+    subst (λ q. is_known (known_at t q) ≡ true) corner.at (known corner.mask corner.few)
+
+-- the box of a corner covers only what the cell does
+pub corner-wider : (b : Indices) (c : ℕ) (p q : GridPoint) → IsOne b → p ≡ further (point b.x0 b.y0 b.z0) c → Covers (point_box p) q → Covers b q
+corner-wider b c p q one at covers =
+    let x = ap (λ r. r.x) at in
+    let y = ap (λ r. r.y) at in
+    let z = ap (λ r. r.z) at in
+    record {
+      x = (omega (arith, covers.x, x), omega (arith, covers.x, x, one.x));
+      y = (omega (arith, covers.y, y), omega (arith, covers.y, y, one.y));
+      z = (omega (arith, covers.z, z), omega (arith, covers.z, z, one.z));
+    }
+
+-- one more corner is known
+pub one-more_known : (b : Indices) (before after : PointValues) (c : ℕ) (p : GridPoint) → p ≡ further (point b.x0 b.y0 b.z0) c
+    → ((q : GridPoint) → is_known (known_at before q) ≡ true → is_known (known_at after q) ≡ true)
+    → ((k : ℕ) → k < c → is_known (known_at before (further (point b.x0 b.y0 b.z0) k)) ≡ true) → is_known (known_at after p) ≡ true
+    → (k : ℕ) → k < c + 1 → is_known (known_at after (further (point b.x0 b.y0 b.z0) k)) ≡ true
+one-more_known b before after c p at stays known here k less = by (cases_lt k c)
+  where
+    by : (k < c) ⊎ (c ≤ k) → is_known (known_at after (further (point b.x0 b.y0 b.z0) k)) ≡ true
+    by (inl below) = stays (further (point b.x0 b.y0 b.z0) k) (known k below)
+    by (inr above) =
+        let same : c ≡ k = omega (arith, above, less) in
+        ap (λ q. is_known (known_at after q)) (ap (further (point b.x0 b.y0 b.z0)) (sym same) ∙ sym at) ∙ here

@@ -1,0 +1,11 @@
+pub mod Blocks
+pub mod Bounds
+pub mod Bricks
+pub mod Corners
+pub mod Covered
+mod Examples
+pub mod Listed
+pub mod Looks
+pub mod TableLaws
+pub mod WayLaws
+pub mod Whole

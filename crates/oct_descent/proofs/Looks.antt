@@ -1,0 +1,241 @@
+-- What looking into a box leaves.
+use Rattle.std.proofs.Common.{◌≡◌, ℕ, ◌+◌, ◌<◌, ◌≤◌, ℤ, Bool, true, false, List, [], ◌∷◌, ◌++◌, length, get_or, take, refl, sym, ap, subst, ◌∙◌, Result, Ok, Err, ◌⊎◌, inl, inr, arith}
+use Rattle.std.specs.Prelude.{Option, Some, None, ◌&&◌, not, OnOk}
+use Rattle.std.specs.List.{All, Contains}
+use Rattle.std.proofs.lemmas.Bool.{false≢true}
+use Rattle.std.proofs.lemmas.List.{take_more}
+use Rattle.std.proofs.lemmas.List.Elements.{All-append, All-cons, All-contains, All-contains_itself, All-get_or, All-nil, All-weaker}
+use Rattle.std.proofs.lemmas.List.Sums.{sum_by-append, sum_by-cons, sum_by-take-le}
+use Rattle.box_chains.specs.Chains.{Descent, Visit, decision, handed_on, is_long, sides, visit}
+use Rattle.box_chains.specs.HalfLaws.{IsPart, half_with-among, halves-are_parts, part-is_box, part-is_shorter, part-lies}
+use Rattle.box_chains.specs.Sums.{LiesIn, Sample}
+use Rattle.box_chains.specs.ValueLaws.{IsVisit, Lawful}
+use Rattle.choice_trace.specs.Hulls.{choices_over, tape_hull}
+use Rattle.fixed_ops.specs.Counts.{Counts}
+use Rattle.interval_ops.specs.Decided.{decided_of}
+use Rattle.interval_ops.specs.HullCounts.{CountsHulls}
+use Rattle.interval_ops.specs.declared.choice.Choice.{Choice}
+use Rattle.interval_ops.specs.declared.region.Region.{Region}
+use Rattle.kuhn_cells.specs.Triangles.{GridPoint}
+use Rattle.live_clauses.specs.Live.{live_of}
+use Rattle.live_clauses.specs.declared.step.Step.{Step}
+use Rattle.view_settings.specs.Boxes.{Indices, IsBox, halves_of}
+use Rattle.view_settings.specs.Laws.{HalvesPart}
+use Rattle.view_settings.specs.Spans.{region_of}
+use Rattle.view_settings.specs.Window.{Window}
+use Rattle.view_settings.specs.declared.lattice.Lattice.{Lattice}
+use Rattle.view_settings.specs.declared.lattice.Lattice.TheVariants as lattices
+use Rattle.oct_descent.specs.Bound.{spans_in}
+use Rattle.oct_descent.specs.Desks.{ChargesHalves, halves_spans}
+use Rattle.oct_descent.specs.Fills.{ChargesCorners}
+use Rattle.oct_descent.specs.GridValues.{grid_value}
+use Rattle.oct_descent.specs.Tables.{AllKnown, AreSettled, Charges, ChargesBox, Grows, IsEnough, IsUniform, PointValues}
+use Rattle.oct_descent.specs.Ways.{Covers, cell_box, gridded, is_cut, is_open, is_open_by, is_working, way_end}
+use Rattle.oct_descent.proofs.Corners.{IsOne, short-one}
+use Rattle.oct_descent.proofs.Covered.{corner-covered, handed-grid_value, inside-uniform, outside-uniform}
+use Rattle.oct_descent.proofs.TableLaws.{charges-hulls, charges-more, charges-then, grows-wider, settled-same, settled-stays}
+use Rattle.oct_descent.proofs.WayLaws.{end-ends, end-of_half, spans-end, spans-some, spans-split}
+
+pub on_ok-then : {T E : Type 0} (r : Result T E) (P Q : Type 0) → (P → Q) → OnOk r P → OnOk r Q
+on_ok-then (Ok x) P Q f p = f p
+on_ok-then (Err e) P Q f p = tt
+
+-- what a look told is the box's decision
+pub looked : (view : Window) (lattice : Lattice) (b : Indices) (list : List Step) (region : Region) (told : Option Bool)
+    → lattice ≡ lattices.Grid → region ≡ region_of view lattice b → told ≡ decided_of (tape_hull region list) → decision (gridded view) (visit b list) ≡ told
+looked view lattice b list region told is placed tells =
+    sym (tells ∙ ap (λ r. decided_of (tape_hull r list)) placed ∙ ap (λ l. decided_of (tape_hull (region_of view l b) list)) is)
+
+-- and what it hands on is the box's
+pub handed : (view : Window) (lattice : Lattice) (b : Indices) (list live : List Step) (region : Region) (choices : List Choice)
+    → lattice ≡ lattices.Grid → region ≡ region_of view lattice b → take (length list) choices ≡ choices_over region list → live ≡ live_of list (take (length list) choices)
+    → live ≡ handed_on (gridded view) (visit b list)
+handed view lattice b list live region choices is placed chosen made =
+    made ∙ ap (live_of list) chosen ∙ ap (λ r. live_of list (choices_over r list)) placed ∙ ap (λ l. live_of list (choices_over (region_of view l b) list)) is
+
+-- whether the box stays open, by what a look told
+pub opened : (view : Window) (b : Indices) (list : List Step) (n : ℕ) (told : Option Bool) (open' : Bool) → n ≡ view.n → decision (gridded view) (visit b list) ≡ told
+    → open' ≡ is_open_by n b told → is_open (gridded view) (visit b list) ≡ open'
+opened view b list n told open' same tells is = ap (is_open_by view.n b) tells ∙ ap (λ m. is_open_by m b told) (sym same) ∙ sym is
+
+-- the cells of a box that does not stay open have all corners on one side
+pub closed-settled : (laws : Lawful) (view : Window) (v : Visit) (t : PointValues) → IsVisit (gridded view) v → is_open (gridded view) v ≡ false → AreSettled (grid_value view v.list) v.box t
+closed-settled laws view v t is e s lies = by (decision (gridded view) v) refl
+  where
+    by : (o : Option Bool) → decision (gridded view) v ≡ o → AllKnown t (cell_box s) ⊎ IsUniform (grid_value view v.list) (cell_box s)
+    by None h = absurd (false≢true (sym e ∙ ap (is_open_by view.n v.box) h))
+    by (Some false) h = inr (outside-uniform laws view v s is lies h)
+    by (Some true) h = inr (inside-uniform laws view v s is lies h (sym (ap (is_open_by view.n v.box) h) ∙ e))
+
+-- a box takes at least its own trace
+pub trace-charged : (d : Descent) (v : Visit) (t : PointValues) (told now : Counts) → 0 < d.leaf → IsBox v.box → HalvesPart → CountsHulls (length v.list) told now → ChargesBox d v t t told now
+trace-charged d v t told now some is law h f enough =
+    charges-more f (length v.list) (spans_in d v) t t told now (spans-some d v some is law) (charges-hulls f (length v.list) t told now h)
+
+-- a working cell takes what its corners do
+pub cell-charged : (laws : Lawful) (view : Window) (v : Visit) (before after : PointValues) (told since now : Counts) → IsVisit (gridded view) v → is_open (gridded view) v ≡ true → is_long 1 v.box ≡ false
+    → CountsHulls (length v.list) told since → ChargesCorners v.box (length v.list) before after since now → ChargesBox (gridded view) v before after told now
+cell-charged laws view v before after told since now is open' short hulls corners f enough =
+    charges-then f (length v.list) 0 (spans_in d v) before before after told since now (omega (arith, spans-end d v is.box uncut))
+    (charges-hulls f (length v.list) before told since hulls) (corners f each)
+  where
+    d : Descent
+    d = gridded view
+
+    one : IsOne v.box
+    one = short-one v.box is.box short
+
+    uncut : is_cut d v ≡ false
+    uncut = rw (open', short) refl
+
+    s : Sample
+    s = record { i = v.box.x0; j = v.box.y0; k = v.box.z0 }
+
+    lies : LiesIn v.box s
+    lies = record { x = (omega arith, omega (arith, one.x)); y = (omega arith, omega (arith, one.y)); z = (omega arith, omega (arith, one.z)) }
+
+    end : way_end d v s ≡ v
+    end = end-ends d v s is.box uncut
+
+    works : is_working d v s ≡ true
+    works = ap (λ w. is_open d w && not (is_long 1 w.box)) end ∙ (rw (open', short) refl)
+
+    each : (p : GridPoint) → Covers v.box p → length v.list ≤ f p
+    each p covers =
+        let corner : Covers (cell_box s) p = record {
+          x = (covers.x.0, omega (arith, covers.x.1, one.x));
+          y = (covers.y.0, omega (arith, covers.y.1, one.y));
+          z = (covers.z.0, omega (arith, covers.z.1, one.z));
+        } in
+        subst (λ w. length w.list ≤ f p) end (enough s lies works p corner)
+
+-- the corners of a cell of a box are known where all points that the box covers are
+pub known-settled : (g : GridPoint → ℤ) (b : Indices) (t : PointValues) → AllKnown t b → AreSettled g b t
+known-settled g b t known s lies = inl (λ p covers. known p (corner-covered b s p lies covers))
+
+-- what the halves of a box change by the list that it hands on, it changes by the one that it receives
+pub handed-grows : (laws : Lawful) (view : Window) (v : Visit) (live : List Step) (before after : PointValues) → IsVisit (gridded view) v → live ≡ handed_on (gridded view) v
+    → Grows (grid_value view live) v.box before after → Grows (grid_value view v.list) v.box before after
+handed-grows laws view v live before after is same grows =
+    grows-wider (grid_value view live) (grid_value view v.list) v.box v.box before after (λ p covers. covers)
+    (λ p covers. ap (λ l. grid_value view l p) same ∙ handed-grid_value laws view v p is covers) grows
+
+pub handed-settled : (laws : Lawful) (view : Window) (v : Visit) (live : List Step) (t : PointValues) → IsVisit (gridded view) v → live ≡ handed_on (gridded view) v
+    → AreSettled (grid_value view live) v.box t → AreSettled (grid_value view v.list) v.box t
+handed-settled laws view v live t is same settled =
+    settled-same (grid_value view live) (grid_value view v.list) v.box t
+    (λ s p lies covers. ap (λ l. grid_value view l p) same ∙ handed-grid_value laws view v p is (corner-covered v.box s p lies covers)) settled
+
+-- what is enough for a box is enough for its halves
+halves-enough : (laws : Lawful) (view : Window) (v : Visit) (live : List Step) (f : GridPoint → ℕ) → IsVisit (gridded view) v → is_cut (gridded view) v ≡ true → live ≡ handed_on (gridded view) v
+    → IsEnough f (gridded view) v → All (λ half. IsEnough f (gridded view) (visit half live)) (halves_of 1 v.box)
+halves-enough laws view v live f is cut same enough =
+    All-weaker (Contains (halves_of 1 v.box)) (λ half. IsEnough f d (visit half live))
+    (λ half among s lies works p covers.
+    let part = All-contains (IsPart 1 v.box) (halves_of 1 v.box) half (halves-are_parts 1 v.box (omega arith) is.box) among in
+    let end : way_end d v s ≡ way_end d (visit half live) s = end-of_half d v half s (omega arith) is.box laws.halves cut among lies ∙ ap (λ l. way_end d (visit half l) s) (sym same) in
+    let worked : is_working d v s ≡ true = ap (λ w. is_open d w && not (is_long 1 w.box)) end ∙ works in
+    subst (λ w. length w.list ≤ f p) end (enough s (part-lies 1 v.box half s part lies) worked p covers))
+    (halves_of 1 v.box) (All-contains_itself (halves_of 1 v.box))
+  where
+    d : Descent
+    d = gridded view
+
+-- a box that is split takes its own trace and what its halves take
+pub halves-charged : (laws : Lawful) (view : Window) (v : Visit) (live : List Step) (before after : PointValues) (told since now : Counts) → IsVisit (gridded view) v → is_open (gridded view) v ≡ true
+    → is_long 1 v.box ≡ true → live ≡ handed_on (gridded view) v → CountsHulls (length v.list) told since → ChargesHalves (gridded view) live (halves_of 1 v.box) before after since now
+    → ChargesBox (gridded view) v before after told now
+halves-charged laws view v live before after told since now is open' long same hulls halves f enough =
+    charges-then f (length v.list) (halves_spans d live (halves_of 1 v.box)) (spans_in d v) before before after told since now
+    (omega (arith, spans-split d v (omega arith) is.box laws.halves cut, ap (λ l. halves_spans d l (halves_of 1 v.box)) same))
+    (charges-hulls f (length v.list) before told since hulls) (halves f (halves-enough laws view v live f is cut same enough))
+  where
+    d : Descent
+    d = gridded view
+
+    cut : is_cut d v ≡ true
+    cut = rw (open', long) refl
+
+-- ---- halves, one after another
+
+-- a half that is read is a part of the box
+pub half-part : (b half : Indices) (halves : List Indices) (i : ℕ) → IsBox b → halves ≡ halves_of 1 b → i < length halves → half ≡ get_or halves i half → IsPart 1 b half
+half-part b half halves i is all within read =
+    subst (λ h. IsPart 1 b h) (sym read) (All-get_or (IsPart 1 b) halves i half within (subst (λ hs. All (IsPart 1 b) hs) (sym all) (halves-are_parts 1 b (omega arith) is)))
+
+-- a half of a box can be visited
+pub half-visit : (view : Window) (list : List Step) (b half : Indices) → IsPart 1 b half → IsVisit (gridded view) (visit b list) → IsVisit (gridded view) (visit half list)
+half-visit view list b half part is = record {
+  window = is.window;
+  box = part-is_box 1 b half part;
+  within = record { x = omega (arith, part.x.below, is.within.x); y = omega (arith, part.y.below, is.within.y); z = omega (arith, part.z.below, is.within.z) };
+  tape = is.tape;
+}
+
+pub half-shorter : (b half : Indices) → is_long 1 b ≡ true → IsPart 1 b half → sides half < sides b
+half-shorter b half long part = part-is_shorter 1 b half long part
+
+-- what a half covers the box covers
+pub part-covers : (b half : Indices) (p : GridPoint) → IsPart 1 b half → Covers half p → Covers b p
+part-covers b half p part covers = record {
+  x = (omega (arith, part.x.above, covers.x), omega (arith, part.x.below, covers.x));
+  y = (omega (arith, part.y.above, covers.y), omega (arith, part.y.below, covers.y));
+  z = (omega (arith, part.z.above, covers.z), omega (arith, part.z.below, covers.z));
+}
+
+pub half-grows : (view other : Window) (list : List Step) (b half : Indices) (before after : PointValues) → other ≡ view → IsPart 1 b half → Grows (grid_value other list) half before after
+    → Grows (grid_value view list) b before after
+half-grows view other list b half before after same part grows =
+    grows-wider (grid_value other list) (grid_value view list) half b before after (λ p covers. part-covers b half p part covers) (λ p covers. ap (λ v. grid_value v list p) same) grows
+
+-- one more half is settled
+pub next-settled : (view other : Window) (list : List Step) (b half : Indices) (halves : List Indices) (i : ℕ) (before after : PointValues) → other ≡ view → i < length halves → half ≡ get_or halves i half
+    → Grows (grid_value view list) b before after → AreSettled (grid_value other list) half after → All (λ h. AreSettled (grid_value view list) h before) (take i halves)
+    → All (λ h. AreSettled (grid_value view list) h after) (take (i + 1) halves)
+next-settled view other list b half halves i before after same within read grows here earlier =
+    subst (λ hs. All P hs) (sym (take_more halves i half within ∙ ap (λ h. take i halves ++ h ∷ []) (sym read)))
+    (All-append P (take i halves) (half ∷ [])
+    (All-weaker (λ h. AreSettled g h before) P (λ h settled. settled-stays g g b h before after grows settled) (take i halves) earlier)
+    (All-cons P half [] (subst (λ v. AreSettled (grid_value v list) half after) same here) (All-nil P)))
+  where
+    g : GridPoint → ℤ
+    g = grid_value view list
+
+    P : Indices → Type 0
+    P h = AreSettled g h after
+
+-- and charged
+pub next-charged : (view other : Window) (list : List Step) (half : Indices) (halves : List Indices) (i : ℕ) (before mid after : PointValues) (told since now : Counts) → other ≡ view → i < length halves → half ≡ get_or halves i half
+    → ((f : GridPoint → ℕ) → All (λ h. IsEnough f (gridded view) (visit h list)) halves → Charges f (halves_spans (gridded view) list (take i halves)) before mid told since)
+    → ChargesBox (gridded other) (visit half list) mid after since now
+    → (f : GridPoint → ℕ) → All (λ h. IsEnough f (gridded view) (visit h list)) halves → Charges f (halves_spans (gridded view) list (take (i + 1) halves)) before after told now
+next-charged view other list half halves i before mid after told since now same within read earlier here f enough =
+    charges-then f (halves_spans d list (take i halves)) (spans_in d (visit half list)) (halves_spans d list (take (i + 1) halves)) before mid after told since now
+    (omega (
+      arith,
+      ap (halves_spans d list) (take_more halves i half within ∙ ap (λ h. take i halves ++ h ∷ []) (sym read)),
+      sum_by-append (λ h. spans_in d (visit h list)) (take i halves) (half ∷ []),
+      sum_by-cons (λ h. spans_in d (visit h list)) half [],
+    ))
+    (earlier f enough)
+    (subst (λ v. ChargesBox (gridded v) (visit half list) mid after since now) same here f
+    (subst (λ h. IsEnough f d (visit h list)) (sym read) (All-get_or (λ h. IsEnough f d (visit h list)) halves i half within enough)))
+  where
+    d : Descent
+    d = gridded view
+
+-- the work of some of the halves is among that of all
+some-spans : (d : Descent) (list : List Step) (halves : List Indices) (i : ℕ) → halves_spans d list (take i halves) ≤ halves_spans d list halves
+some-spans d list halves i = sum_by-take-le (λ h. spans_in d (visit h list)) halves i
+
+pub some-charged : (d : Descent) (list : List Step) (halves : List Indices) (i : ℕ) (before after : PointValues) (told now : Counts)
+    → ((f : GridPoint → ℕ) → All (λ h. IsEnough f d (visit h list)) halves → Charges f (halves_spans d list (take i halves)) before after told now)
+    → ChargesHalves d list halves before after told now
+some-charged d list halves i before after told now h f enough =
+    charges-more f (halves_spans d list (take i halves)) (halves_spans d list halves) before after told now (some-spans d list halves i) (h f enough)
+
+-- once all halves are settled, the box is
+pub all-settled : (laws : Lawful) (g : GridPoint → ℤ) (b : Indices) (t : PointValues) → All (λ h. AreSettled g h t) (halves_of 1 b) → AreSettled g b t
+all-settled laws g b t each s lies =
+    let half = half_with-among laws.halves 1 b s lies in
+    All-contains (λ h. AreSettled g h t) (halves_of 1 b) _ each half.0 s half.1

@@ -1,0 +1,221 @@
+-- How known values become more, and what that takes.
+use Rattle.std.proofs.Common.{◌≡◌, ℕ, ◌+◌, ◌-◌, ◌*◌, ◌<◌, ◌≤◌, ℤ, Bool, true, false, cond, refl, sym, ap, ◌∙◌, ◌⊎◌, inl, inr, arith}
+use Rattle.std.specs.Prelude.{Some, None, ◌==◌, ◌&&◌}
+use Rattle.box_chains.specs.SumLaws.{along-parts, along-same, sum_in-plus, sum_in-same, upto-const}
+use Rattle.box_chains.specs.Sums.{LiesIn, Sample, sum_along, sum_in}
+use Rattle.box_chains.specs.TallyLaws.{most-hulls, most-more, most-none, most-points, most-then}
+use Rattle.fixed_ops.specs.Counts.{Counts, RisesBy, points_of}
+use Rattle.fixed_ops.specs.Raw.{is_inside}
+use Rattle.interval_ops.specs.HullCounts.{CountsHulls}
+use Rattle.kuhn_cells.specs.Triangles.{GridPoint, point}
+use Rattle.std.proofs.lemmas.Bool.{and_parts, cond-false, cond-true, eq-eqb, eqb-true, ne_eqb}
+use Rattle.view_settings.specs.Boxes.{Indices}
+use Rattle.oct_descent.specs.Bound.{points_of_grid}
+use Rattle.oct_descent.specs.Fills.{point_box}
+use Rattle.oct_descent.specs.Tables.{AllKnown, AreSettled, Charges, Grows, IsNew, IsSame, IsUniform, PointValues, Sets, is_known, known_at, left, same_point}
+use Rattle.oct_descent.specs.Ways.{Covers, cell_box}
+
+-- ---- growth
+
+pub grows-none : (g : GridPoint → ℤ) (b : Indices) (t : PointValues) → Grows g b t t
+grows-none g b t = record { n = refl; each = λ p. inl refl }
+
+pub grows-then : (g : GridPoint → ℤ) (b : Indices) (before mid after : PointValues) → Grows g b before mid → Grows g b mid after → Grows g b before after
+grows-then g b before mid after first second = record {
+  n = second.n ∙ first.n;
+  each = λ p. by p (first.each p) (second.each p);
+}
+  where
+    by : (p : GridPoint) → (known_at mid p ≡ known_at before p) ⊎ IsNew g b before mid p → (known_at after p ≡ known_at mid p) ⊎ IsNew g b mid after p → (known_at after p ≡ known_at before p) ⊎ IsNew g b before after p
+    by p (inl same) (inl stays) = inl (stays ∙ same)
+    by p (inl same) (inr new) = inr (record { unknown = sym same ∙ new.unknown; covered = new.covered; value = new.value })
+    by p (inr new) (inl stays) = inr (record { unknown = new.unknown; covered = new.covered; value = stays ∙ new.value })
+    by p (inr new) (inr again) = inr (record { unknown = new.unknown; covered = new.covered; value = again.value })
+
+-- growth in a part of a box, by values that are the same there
+pub grows-wider : (g h : GridPoint → ℤ) (part b : Indices) (before after : PointValues) → ((p : GridPoint) → Covers part p → Covers b p) → ((p : GridPoint) → Covers part p → g p ≡ h p)
+    → Grows g part before after → Grows h b before after
+grows-wider g h part b before after wider same grows = record { n = grows.n; each = λ p. by p (grows.each p) }
+  where
+    by : (p : GridPoint) → (known_at after p ≡ known_at before p) ⊎ IsNew g part before after p → (known_at after p ≡ known_at before p) ⊎ IsNew h b before after p
+    by p (inl stays) = inl stays
+    by p (inr new) = inr (record { unknown = new.unknown; covered = wider p new.covered; value = new.value ∙ ap Some (same p new.covered) })
+
+-- what is known stays known
+pub stays-known : (g : GridPoint → ℤ) (b : Indices) (before after : PointValues) (p : GridPoint) → Grows g b before after → is_known (known_at before p) ≡ true → is_known (known_at after p) ≡ true
+stays-known g b before after p grows e = by (grows.each p)
+  where
+    by : (known_at after p ≡ known_at before p) ⊎ IsNew g b before after p → is_known (known_at after p) ≡ true
+    by (inl stays) = ap is_known stays ∙ e
+    by (inr new) = ap is_known new.value
+
+pub settled-stays : (g h : GridPoint → ℤ) (b part : Indices) (before after : PointValues) → Grows h b before after → AreSettled g part before → AreSettled g part after
+settled-stays g h b part before after grows settled s lies = by (settled s lies)
+  where
+    by : AllKnown before (cell_box s) ⊎ IsUniform g (cell_box s) → AllKnown after (cell_box s) ⊎ IsUniform g (cell_box s)
+    by (inl known) = inl (λ p covers. stays-known h b before after p grows (known p covers))
+    by (inr uniform) = inr uniform
+
+-- cells are settled by values that are the same at their corners
+pub settled-same : (g h : GridPoint → ℤ) (b : Indices) (t : PointValues) → ((s : Sample) (p : GridPoint) → LiesIn b s → Covers (cell_box s) p → g p ≡ h p) → AreSettled g b t → AreSettled h b t
+settled-same g h b t same settled s lies = by (settled s lies)
+  where
+    by : AllKnown t (cell_box s) ⊎ IsUniform g (cell_box s) → AllKnown t (cell_box s) ⊎ IsUniform h (cell_box s)
+    by (inl known) = inl known
+    by (inr uniform) = inr (record { inside = uniform.inside; each = λ p covers. ap is_inside (sym (same s p lies covers)) ∙ uniform.each p covers })
+
+-- ---- what is left
+
+-- a sum of which only one number is not 0
+along-one : (low high at c : ℕ) → low ≤ at → at < high → sum_along low high (λ i. cond (at == i) c 0) ≡ c
+along-one low high at c below above =
+    omega (arith, along-parts low at high f below (omega (arith, above)), along-parts at (at + 1) high f (omega arith) (omega (arith, above)), none, some, rest)
+  where
+    f : ℕ → ℕ
+    f i = cond (at == i) c 0
+
+    none : sum_along low at f ≡ 0
+    none = along-same low at f (λ i. 0) (λ i l h. cond-false (at == i) c 0 (ne_eqb at i (λ same. omega (arith, h, same)))) ∙ omega (arith, upto-const low (at - low) 0)
+
+    rest : sum_along (at + 1) high f ≡ 0
+    rest = along-same (at + 1) high f (λ i. 0) (λ i l h. cond-false (at == i) c 0 (ne_eqb at i (λ same. omega (arith, l, same)))) ∙ omega (arith, upto-const (at + 1) (high - (at + 1)) 0)
+
+    one : (at + 1) - at ≡ 1
+    one = omega arith
+
+    some : sum_along at (at + 1) f ≡ c
+    some =
+        along-same at (at + 1) f (λ i. c) (λ i l h. cond-true (at == i) c 0 (eq-eqb at i (omega (arith, l, h))))
+        ∙ upto-const at ((at + 1) - at) c ∙ ap (λ n. n * c) one ∙ omega arith
+
+front : (t u : Bool) (c : ℕ) → cond {A = ℕ} (t && u) c 0 ≡ cond t (cond u c 0) 0
+front true u c = refl
+front false u c = refl
+
+sum_in-one : (b : Indices) (p : GridPoint) (c : ℕ) → LiesIn b (record { i = p.x; j = p.y; k = p.z }) → sum_in b (λ s. cond (same_point p (point s.i s.j s.k)) c 0) ≡ c
+sum_in-one b p c lies =
+    along-same b.z0 b.z1 (λ k. sum_along b.y0 b.y1 (λ j. sum_along b.x0 b.x1 (λ i. cond (p.x == i && (p.y == j && p.z == k)) c 0))) (λ k. cond (p.z == k) c 0)
+    (λ k zl zh.
+    along-same b.y0 b.y1 (λ j. sum_along b.x0 b.x1 (λ i. cond (p.x == i && (p.y == j && p.z == k)) c 0)) (λ j. cond (p.y == j) (cond (p.z == k) c 0) 0)
+    (λ j yl yh.
+    along-same b.x0 b.x1 (λ i. cond (p.x == i && (p.y == j && p.z == k)) c 0) (λ i. cond (p.x == i) (cond (p.y == j && p.z == k) c 0) 0)
+    (λ i xl xh. front (p.x == i) (p.y == j && p.z == k) c)
+    ∙ along-one b.x0 b.x1 p.x (cond (p.y == j && p.z == k) c 0) lies.x.0 lies.x.1
+    ∙ front (p.y == j) (p.z == k) c)
+    ∙ along-one b.y0 b.y1 p.y (cond (p.z == k) c 0) lies.y.0 lies.y.1)
+    ∙ along-one b.z0 b.z1 p.z c lies.z.0 lies.z.1
+
+pub same-is : (p q : GridPoint) → same_point p q ≡ true → p ≡ q
+same-is p q e =
+    let x = and_parts (p.x == q.x) (p.y == q.y && p.z == q.z) e in
+    let yz = and_parts (p.y == q.y) (p.z == q.z) x.1 in
+    ap (λ (i : ℕ). point i p.y p.z) (eqb-true p.x q.x x.0) ∙ ap (λ (j : ℕ). point q.x j p.z) (eqb-true p.y q.y yz.0) ∙ ap (λ (k : ℕ). point q.x q.y k) (eqb-true p.z q.z yz.1)
+
+pub same-self : (p : GridPoint) → same_point p p ≡ true
+same-self p = rw (eq-eqb p.x p.x refl, eq-eqb p.y p.y refl, eq-eqb p.z p.z refl) refl
+
+-- a point that becomes known is no longer left
+left-set : (f : GridPoint → ℕ) (p : GridPoint) (v : ℤ) (before after : PointValues) → p.x ≤ before.n → p.y ≤ before.n → p.z ≤ before.n → known_at before p ≡ None → Sets p v before after
+    → f p + left f after ≤ left f before
+left-set f p v before after x y z unknown sets =
+    let b = points_of_grid before.n in
+    let lies : LiesIn b (record { i = p.x; j = p.y; k = p.z }) = record { x = (omega arith, omega (arith, x)); y = (omega arith, omega (arith, y)); z = (omega arith, omega (arith, z)) } in
+    let same : left f after ≡ sum_in b now = ap (λ n. sum_in (points_of_grid n) now) sets.n in
+    let split = sum_in-same b then' (λ s. cond (same_point p (spot s)) (f p) 0 + now s) (λ s l. by (spot s) (same_point p (spot s)) refl) in
+    omega (arith, same, split, sum_in-plus b (λ s. cond (same_point p (spot s)) (f p) 0) now, sum_in-one b p (f p) lies)
+  where
+    spot : Sample → GridPoint
+    spot s = point s.i s.j s.k
+
+    now : Sample → ℕ
+    now s = cond (is_known (known_at after (spot s))) 0 (f (spot s))
+
+    then' : Sample → ℕ
+    then' s = cond (is_known (known_at before (spot s))) 0 (f (spot s))
+
+    by : (q : GridPoint) (t : Bool) → same_point p q ≡ t → cond {A = ℕ} (is_known (known_at before q)) 0 (f q) ≡ cond (same_point p q) (f p) 0 + cond (is_known (known_at after q)) 0 (f q)
+    by q true e =
+        let is = same-is p q e in
+        let known : is_known (known_at after q) ≡ true = ap is_known (sets.each q) ∙ ap (λ t. is_known (cond t (Some v) (known_at before q))) e in
+        let not_yet : is_known (known_at before q) ≡ false = ap is_known (ap (known_at before) (sym is) ∙ unknown) in
+        let a : cond {A = ℕ} (is_known (known_at before q)) 0 (f q) ≡ f q = cond-false (is_known (known_at before q)) 0 (f q) not_yet in
+        let c : cond {A = ℕ} (is_known (known_at after q)) 0 (f q) ≡ 0 = cond-true (is_known (known_at after q)) 0 (f q) known in
+        let d : cond {A = ℕ} (same_point p q) (f p) 0 ≡ f p = cond-true (same_point p q) (f p) 0 e in
+        omega (arith, a, c, d, ap f is)
+    by q false e =
+        let stays : known_at after q ≡ known_at before q = sets.each q ∙ ap (λ t. cond t (Some v) (known_at before q)) e in
+        let a : cond {A = ℕ} (is_known (known_at after q)) 0 (f q) ≡ cond (is_known (known_at before q)) 0 (f q) = ap (λ o. cond {A = ℕ} (is_known o) 0 (f q)) stays in
+        let d : cond {A = ℕ} (same_point p q) (f p) 0 ≡ 0 = cond-false (same_point p q) (f p) 0 e in
+        omega (arith, a, d)
+
+-- ---- charges
+
+pub charges-none : (f : GridPoint → ℕ) (spans : ℕ) (t : PointValues) (now : Counts) → Charges f spans t t now now
+charges-none f spans t now = record { points = 0; enough = omega arith; counts = most-none now 0 spans }
+
+pub charges-hulls : (f : GridPoint → ℕ) (n : ℕ) (t : PointValues) (told now : Counts) → CountsHulls n told now → Charges f n t t told now
+charges-hulls f n t told now h = record { points = 0; enough = omega arith; counts = most-hulls told now n h }
+
+pub charges-more : (f : GridPoint → ℕ) (s u : ℕ) (before after : PointValues) (told now : Counts) → s ≤ u → Charges f s before after told now → Charges f u before after told now
+charges-more f s u before after told now less h = record { points = h.points; enough = h.enough; counts = most-more told now h.points s h.points u (omega arith) less h.counts }
+
+pub charges-then : (f : GridPoint → ℕ) (s t u : ℕ) (before mid after : PointValues) (told since now : Counts) → s + t ≤ u → Charges f s before mid told since → Charges f t mid after since now
+    → Charges f u before after told now
+charges-then f s t u before mid after told since now less first second = record {
+  points = first.points + second.points;
+  enough = omega (arith, first.enough, second.enough);
+  counts = most-then told since now first.points s second.points t (first.points + second.points) u (omega arith) less first.counts second.counts;
+}
+
+pub charges-set : (f : GridPoint → ℕ) (p : GridPoint) (v : ℤ) (len : ℕ) (before after : PointValues) (told now : Counts) → p.x ≤ before.n → p.y ≤ before.n → p.z ≤ before.n
+    → known_at before p ≡ None → Sets p v before after → len ≤ f p → RisesBy told now (points_of len) → Charges f 0 before after told now
+charges-set f p v len before after told now x y z unknown sets few rises = record {
+  points = len;
+  enough = omega (arith, few, left-set f p v before after x y z unknown sets);
+  counts = most-points told now len rises;
+}
+
+-- a point that gets its value is new
+pub set-grows : (g : GridPoint → ℤ) (p : GridPoint) (v : ℤ) (before after : PointValues) → known_at before p ≡ None → v ≡ g p → Sets p v before after → Grows g (point_box p) before after
+set-grows g p v before after unknown right sets = record { n = sets.n; each = λ q. by q (same_point p q) refl }
+  where
+    by : (q : GridPoint) (t : Bool) → same_point p q ≡ t → (known_at after q ≡ known_at before q) ⊎ IsNew g (point_box p) before after q
+    by q true e =
+        let is = same-is p q e in
+        let x = ap (λ r. r.x) is in
+        let y = ap (λ r. r.y) is in
+        let z = ap (λ r. r.z) is in
+        inr (record {
+          unknown = ap (known_at before) (sym is) ∙ unknown;
+          covered = record { x = (omega (arith, x), omega (arith, x)); y = (omega (arith, y), omega (arith, y)); z = (omega (arith, z), omega (arith, z)) };
+          value = sets.each q ∙ ap (λ t. cond t (Some v) (known_at before q)) e ∙ ap Some right ∙ ap (λ r. Some (g r)) is;
+        })
+    by q false e = inl (sets.each q ∙ ap (λ t. cond t (Some v) (known_at before q)) e)
+
+pub set-known : (p : GridPoint) (v : ℤ) (before after : PointValues) → Sets p v before after → is_known (known_at after p) ≡ true
+set-known p v before after sets = ap is_known (sets.each p ∙ ap (λ t. cond t (Some v) (known_at before p)) (same-self p))
+
+-- ---- tables with the same values
+
+pub same-grows : (g : GridPoint → ℤ) (b : Indices) (before after : PointValues) → IsSame before after → Grows g b before after
+same-grows g b before after same = record { n = same.n; each = λ p. inl (same.each p) }
+
+pub same-sets : (p : GridPoint) (v : ℤ) (before mid after : PointValues) → IsSame before mid → Sets p v mid after → Sets p v before after
+same-sets p v before mid after same sets = record {
+  n = sets.n ∙ same.n;
+  each = λ q. sets.each q ∙ ap (λ o. cond (same_point p q) (Some v) o) (same.each q);
+}
+
+pub same-charges : (f : GridPoint → ℕ) (before after : PointValues) (now : Counts) → IsSame before after → Charges f 0 before after now now
+same-charges f before after now same = record {
+  points = 0;
+  enough = omega (arith, still);
+  counts = most-none now 0 0;
+}
+  where
+    still : left f after ≡ left f before
+    still =
+        ap (λ n. sum_in (points_of_grid n) (λ s. cond (is_known (known_at after (point s.i s.j s.k))) 0 (f (point s.i s.j s.k)))) same.n
+        ∙ sum_in-same (points_of_grid before.n) (λ s. cond (is_known (known_at after (point s.i s.j s.k))) 0 (f (point s.i s.j s.k)))
+        (λ s. cond (is_known (known_at before (point s.i s.j s.k))) 0 (f (point s.i s.j s.k)))
+        (λ s lies. ap (λ o. cond (is_known o) 0 (f (point s.i s.j s.k))) (same.each (point s.i s.j s.k)))

@@ -1,0 +1,56 @@
+-- What looking into the box of all cells leaves.
+use Rattle.std.proofs.Common.{◌≡◌, ℕ, ◌≤◌, true, cond, List, sym, ap, subst, ◌∙◌, ◌⊎◌, inl, inr, arith}
+use Rattle.std.specs.Prelude.{Some, None}
+use Rattle.std.proofs.lemmas.Bool.{false≢true}
+use Rattle.box_chains.specs.Chains.{visit}
+use Rattle.box_chains.specs.SumLaws.{sum_in-same}
+use Rattle.box_chains.specs.Sums.{sum_in}
+use Rattle.box_chains.specs.Tallied.{CountsAtMost}
+use Rattle.box_chains.specs.TallyLaws.{most-more}
+use Rattle.fixed_ops.specs.Counts.{Counts}
+use Rattle.kuhn_cells.specs.Triangles.{GridPoint, point}
+use Rattle.live_clauses.specs.declared.step.Step.{Step}
+use Rattle.view_settings.specs.Boxes.{Indices}
+use Rattle.view_settings.specs.Spans.{root_of}
+use Rattle.view_settings.specs.Window.{Window}
+use Rattle.view_settings.specs.declared.lattice.Lattice.TheVariants as lattices
+use Rattle.oct_descent.specs.Bound.{greatest, lengths_at, mesh_points, mesh_spans, points_of_grid}
+use Rattle.oct_descent.specs.GridValues.{grid_value}
+use Rattle.oct_descent.specs.Tables.{AreSettled, ChargesBox, Grows, IsNew, PointValues, is_known, known_at, left}
+use Rattle.oct_descent.specs.Trees.{IsTold}
+use Rattle.oct_descent.specs.Ways.{gridded}
+use Rattle.oct_descent.proofs.Bounds.{points_suffice}
+
+-- while nothing is known, all points are left
+left-all : (f : GridPoint → ℕ) (t : PointValues) → ((p : GridPoint) → known_at t p ≡ None) → left f t ≡ sum_in (points_of_grid t.n) (λ s. f (point s.i s.j s.k))
+left-all f t none =
+    sum_in-same (points_of_grid t.n) (λ s. cond (is_known (known_at t (point s.i s.j s.k))) 0 (f (point s.i s.j s.k))) (λ s. f (point s.i s.j s.k))
+    (λ s lies. ap (λ o. cond (is_known o) 0 (f (point s.i s.j s.k))) (none (point s.i s.j s.k)))
+
+mesh-left : (view : Window) (list : List Step) (t : PointValues) → t.n ≡ view.n → ((p : GridPoint) → known_at t p ≡ None) → left (λ p. greatest (lengths_at view list p)) t ≡ mesh_points view list
+unfolding mesh_points
+mesh-left view list t same none =
+    left-all (λ p. greatest (lengths_at view list p)) t none ∙ ap (λ n. sum_in (points_of_grid n) (λ s. greatest (lengths_at view list (point s.i s.j s.k)))) same
+
+-- the work of the box of all cells is within that of the grid
+pub whole-counted : (view other : Window) (list : List Step) (b : Indices) (before after : PointValues) (told now : Counts) → other ≡ view → b ≡ root_of view lattices.Grid → before.n ≡ view.n
+    → ((p : GridPoint) → known_at before p ≡ None) → ChargesBox (gridded other) (visit b list) before after told now → CountsAtMost (mesh_points view list) (mesh_spans view list) told now
+whole-counted view other list b before after told now same root n none charges =
+    let f : GridPoint → ℕ = λ p. greatest (lengths_at view list p) in
+    let here = subst (λ v. ChargesBox (gridded v) (visit (root_of view lattices.Grid) list) before after told now) same (subst (λ c. ChargesBox (gridded other) (visit c list) before after told now) root charges) in
+    let h = here f (points_suffice view list) in
+    most-more told now h.points (mesh_spans view list) (mesh_points view list) (mesh_spans view list) (omega (arith, h.enough, mesh-left view list before n none)) (omega arith) h.counts
+
+-- and what it leaves tells the grid
+pub whole-told : (view other : Window) (list : List Step) (b : Indices) (before after : PointValues) → other ≡ view → b ≡ root_of view lattices.Grid → before.n ≡ view.n → view.n ≤ 256
+    → ((p : GridPoint) → known_at before p ≡ None) → Grows (grid_value other list) b before after → AreSettled (grid_value other list) b after → IsTold view list after
+whole-told view other list b before after same root n few none grows settled = record {
+  n = grows.n ∙ n;
+  few = omega (arith, grows.n, n, few);
+  right = λ p known. by p known (grows.each p);
+  settled = subst (λ v. AreSettled (grid_value v list) (root_of view lattices.Grid) after) same (subst (λ c. AreSettled (grid_value other list) c after) root settled);
+}
+  where
+    by : (p : GridPoint) → is_known (known_at after p) ≡ true → (known_at after p ≡ known_at before p) ⊎ IsNew (grid_value other list) b before after p → known_at after p ≡ Some (grid_value view list p)
+    by p known (inl stays) = absurd (false≢true (sym (ap is_known (stays ∙ none p)) ∙ known))
+    by p known (inr new) = new.value ∙ ap (λ v. Some (grid_value v list p)) same

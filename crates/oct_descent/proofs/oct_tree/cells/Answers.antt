@@ -1,0 +1,42 @@
+use Rattle.std.proofs.Common.{◌≤◌, ap, arith, subst, sym, ◌∙◌}
+use Rattle.box_chains.specs.TallyLaws.{most-none}
+use Rattle.oct_descent.specs.Trees.{IsTold}
+use Rattle.oct_descent.proofs.Whole.{whole-counted, whole-told}
+use Rattle.oct_descent.proofs.oct_tree.cells.Goals as goal
+
+pub returns-in_err-desk-clause-at_most : goal.returns-in_err-desk-clause-at_most
+returns-in_err-desk-clause-at_most c = most-none c.args.tally.now _ _
+
+pub returns-in_err-values-clause-at_most : goal.returns-in_err-values-clause-at_most
+returns-in_err-values-clause-at_most c = most-none c.args.tally.now _ _
+
+pub returns-in_err-look_into-clause-at_most : goal.returns-in_err-look_into-clause-at_most
+returns-in_err-look_into-clause-at_most c =
+    let view = ap (λ p. p.view) c.in_ok-desk.ensures.places in
+    let n = c.in_ok-values.ensures.n ∙ ap (λ v. v.n) c.view.view_is in
+    whole-counted c.args.view.now c.in_ok-desk.desk.places.view c.args.list.now c.root.result c.in_ok-values.values c.look_into.new.values c.args.tally.now c.look_into.new.tally view c.root.ensures n c.in_ok-values.ensures.none
+    c.in_err-look_into.ensures.counted
+
+pub returns-in_err-share-clause-at_most : goal.returns-in_err-share-clause-at_most
+returns-in_err-share-clause-at_most c =
+    let view = ap (λ p. p.view) c.in_ok-desk.ensures.places in
+    let n = c.in_ok-values.ensures.n ∙ ap (λ v. v.n) c.view.view_is in
+    whole-counted c.args.view.now c.in_ok-desk.desk.places.view c.args.list.now c.root.result c.in_ok-values.values c.look_into.new.values c.args.tally.now c.look_into.new.tally view c.root.ensures n c.in_ok-values.ensures.none
+    c.in_ok-look_into.ensures.counted
+
+pub returns-clause-at_most : goal.returns-clause-at_most
+returns-clause-at_most c =
+    let view = ap (λ p. p.view) c.in_ok-desk.ensures.places in
+    let n = c.in_ok-values.ensures.n ∙ ap (λ v. v.n) c.view.view_is in
+    whole-counted c.args.view.now c.in_ok-desk.desk.places.view c.args.list.now c.root.result c.in_ok-values.values c.look_into.new.values c.args.tally.now c.look_into.new.tally view c.root.ensures n c.in_ok-values.ensures.none
+    c.in_ok-look_into.ensures.counted
+
+pub invariant_of-result-2 : goal.invariant_of-result-2
+invariant_of-result-2 c =
+    let seen = c.view.view_is in
+    let view = ap (λ p. p.view) c.in_ok-desk.ensures.places in
+    let n = c.in_ok-values.ensures.n ∙ ap (λ v. v.n) seen in
+    let few : c.args.view.now.n ≤ 256 = omega (arith, ap (λ v. v.n) seen, c.view.invariant.n.few) in
+    let told = whole-told c.args.view.now c.in_ok-desk.desk.places.view c.args.list.now c.root.result c.in_ok-values.values c.look_into.new.values view c.root.ensures n few c.in_ok-values.ensures.none
+    c.in_ok-look_into.ensures.grows c.in_ok-look_into.ensures.settled in
+    subst (λ v. IsTold v c.in_ok-share.field-0 c.look_into.new.values) (sym seen) (subst (λ l. IsTold c.args.view.now l c.look_into.new.values) (sym c.in_ok-share.ensures) told)

@@ -1,0 +1,52 @@
+-- The work that the cells of a grid take at most.
+use Rattle.std.specs.Prelude.{ℕ, ◌+◌, Bool, ◌&&◌, nat_le, List, [], ◌∷◌, length, max, if◌then◌else◌}
+use Rattle.box_chains.specs.Chains.{Descent, Visit}
+use Rattle.box_chains.specs.Counts.{first_lengths}
+use Rattle.box_chains.specs.Sums.{Sample, sum_in}
+use Rattle.kuhn_cells.specs.Grids.{over_block}
+use Rattle.kuhn_cells.specs.Triangles.{GridPoint, point}
+use Rattle.live_clauses.specs.declared.step.Step.{Step}
+use Rattle.view_settings.specs.Boxes.{Indices}
+use Rattle.view_settings.specs.Window.{Window}
+use Rattle.oct_descent.specs.Ways.{gridded, is_working, way, way_end, whole}
+
+-- The steps that are traced over a box of cells and the boxes below it: the lengths of the lists that the boxes on the
+-- ways to its cells receive. A box is on the way to each of its cells, and is counted at the first.
+unfoldable pub spans_in : Descent → Visit → ℕ
+spans_in d v = sum_in v.box (λ s. first_lengths s (way d v s))
+
+-- what the boxes of a grid take at most
+abbrev pub mesh_spans : Window → List Step → ℕ
+mesh_spans view list = spans_in (gridded view) (whole view list)
+
+-- the greatest of some numbers, 0 where there is none
+abbrev pub greatest : List ℕ → ℕ
+greatest [] = 0
+greatest (n ∷ ns) = max n (greatest ns)
+
+-- a cell has a point as a corner
+abbrev pub has_corner : GridPoint → GridPoint → Bool
+has_corner cell p =
+    nat_le cell.x p.x && (nat_le p.x (cell.x + 1) && (nat_le cell.y p.y && (nat_le p.y (cell.y + 1) && (nat_le cell.z p.z && nat_le p.z (cell.z + 1)))))
+
+-- a cell, as what a way leads to
+abbrev pub sample_of : GridPoint → Sample
+sample_of p = record { i = p.x; j = p.y; k = p.z }
+
+-- the length of the list that a working cell receives, and 0 for another cell
+abbrev pub working_length : Window → List Step → GridPoint → ℕ
+working_length view list cell =
+    if is_working (gridded view) (whole view list) (sample_of cell) then length (way_end (gridded view) (whole view list) (sample_of cell)).list else 0
+
+-- the lengths of the lists that those working cells receive that have a point as a corner
+abbrev pub lengths_at : Window → List Step → GridPoint → List ℕ
+lengths_at view list p = over_block view.n view.n view.n (λ cell. if has_corner cell p then working_length view list cell ∷ [] else [])
+
+-- the box of all points of a grid of n cells along each axis
+abbrev pub points_of_grid : ℕ → Indices
+points_of_grid n = record { x0 = 0; x1 = n + 1; y0 = 0; y1 = n + 1; z0 = 0; z1 = n + 1 }
+
+-- What the points of a grid take at most: each one the length of the longest list that a working cell receives that
+-- has it as a corner.
+unfoldable pub mesh_points : Window → List Step → ℕ
+mesh_points view list = sum_in (points_of_grid view.n) (λ s. greatest (lengths_at view list (point s.i s.j s.k)))

@@ -1,0 +1,10 @@
+pub mod Bound
+pub mod Corners
+pub mod Desks
+pub mod Fills
+pub mod GridValues
+pub mod Laws
+pub mod Rows
+pub mod Tables
+pub mod Trees
+pub mod Ways

@@ -1,0 +1,112 @@
+-- Values of some points of a grid, and how they become more.
+use Rattle.std.specs.Prelude.{◌≡◌, ℕ, ◌+◌, ◌*◌, ◌/◌, ◌%◌, ◌≤◌, ◌==◌, nat_le, nat_lt, ℤ, pos, Bool, true, false, ◌&&◌, List, [], length, get_or, Option, Some, None, ◌⊎◌, if◌then◌else◌}
+use Rattle.box_chains.specs.Chains.{Descent, Visit}
+use Rattle.box_chains.specs.Sums.{LiesIn, Sample, sum_in}
+use Rattle.box_chains.specs.Tallied.{CountsAtMost}
+use Rattle.fixed_ops.specs.Counts.{Counts}
+use Rattle.fixed_ops.specs.Raw.{is_inside}
+use Rattle.kuhn_cells.specs.Triangles.{GridPoint, point}
+use Rattle.view_settings.specs.Boxes.{Indices}
+use Rattle.oct_descent.specs.Bound.{points_of_grid, spans_in}
+use Rattle.oct_descent.specs.Ways.{Covers, cell_box, is_working, way_end}
+
+-- the values that are known of some points: a mark and a value for each place, where a value counts where its mark is
+-- true; none where there is no place for them
+pub record Marks : Type 0 where
+  pub known : List Bool
+  pub values : List ℤ
+
+abbrev pub no_marks : Marks
+no_marks = record { known = []; values = [] }
+
+abbrev pub is_made : Marks → Bool
+is_made b = nat_lt 0 (length b.known)
+
+-- the value at a place, where it is known
+abbrev pub read : Marks → ℕ → Option ℤ
+read b place = if get_or b.known place false then Some (get_or b.values place (pos 0)) else None
+
+-- The values that are known of the points of a grid of n cells along each axis, in bricks of eight points along each
+-- axis, by z, then by y, then by x.
+pub record PointValues : Type 0 where
+  pub n : ℕ
+  pub bricks : List Marks
+
+abbrev pub is_known : Option ℤ → Bool
+is_known None = false
+is_known (Some v) = true
+
+-- a point is one of a grid
+abbrev pub is_within : ℕ → GridPoint → Bool
+is_within n p = nat_le p.x n && (nat_le p.y n && nat_le p.z n)
+
+-- the brick of a point
+abbrev pub brick_of : ℕ → GridPoint → ℕ
+brick_of n p = (p.z / 8 * (n / 8 + 1) + p.y / 8) * (n / 8 + 1) + p.x / 8
+
+-- where the value of a point stands in its brick
+abbrev pub slot : GridPoint → ℕ
+slot p = (p.z % 8 * 8 + p.y % 8) * 8 + p.x % 8
+
+-- the value of a point, where it is known
+unfoldable pub known_at : PointValues → GridPoint → Option ℤ
+known_at t p = if is_within t.n p then read (get_or t.bricks (brick_of t.n p) no_marks) (slot p) else None
+
+-- there is a place for the value of a point
+unfoldable pub has_room : PointValues → GridPoint → Bool
+has_room t p = is_made (get_or t.bricks (brick_of t.n p) no_marks)
+
+abbrev pub same_point : GridPoint → GridPoint → Bool
+same_point p q = p.x == q.x && (p.y == q.y && p.z == q.z)
+
+-- the same values are known
+pub record IsSame (before after : PointValues) : Type 0 where
+  pub n : after.n ≡ before.n
+  pub each : (q : GridPoint) → known_at after q ≡ known_at before q
+
+-- one point gets a value
+pub record Sets (p : GridPoint) (v : ℤ) (before after : PointValues) : Type 0 where
+  pub n : after.n ≡ before.n
+  pub each : (q : GridPoint) → known_at after q ≡ (if same_point p q then Some v else known_at before q)
+
+-- a point of a box that was not known gets its value
+pub record IsNew (g : GridPoint → ℤ) (b : Indices) (before after : PointValues) (p : GridPoint) : Type 0 where
+  pub unknown : known_at before p ≡ None
+  pub covered : Covers b p
+  pub value : known_at after p ≡ Some (g p)
+
+-- some points of a box that were not known get their values, and all else stays
+pub record Grows (g : GridPoint → ℤ) (b : Indices) (before after : PointValues) : Type 0 where
+  pub n : after.n ≡ before.n
+  pub each : (p : GridPoint) → (known_at after p ≡ known_at before p) ⊎ IsNew g b before after p
+
+-- all corners of a box of cells are known
+abbrev pub AllKnown : PointValues → Indices → Type 0
+AllKnown t b = (p : GridPoint) → Covers b p → is_known (known_at t p) ≡ true
+
+-- all corners of a box of cells are inside, or all of them are outside
+pub record IsUniform (g : GridPoint → ℤ) (b : Indices) : Type 0 where
+  pub inside : Bool
+  pub each : (p : GridPoint) → Covers b p → is_inside (g p) ≡ inside
+
+-- all corners of each cell of a box are known, but for cells with all corners on one side
+abbrev pub AreSettled : (GridPoint → ℤ) → Indices → PointValues → Type 0
+AreSettled g b t = (s : Sample) → LiesIn b s → AllKnown t (cell_box s) ⊎ IsUniform g (cell_box s)
+
+-- the sum of a number over the points that are not known
+abbrev pub left : (GridPoint → ℕ) → PointValues → ℕ
+left f t = sum_in (points_of_grid t.n) (λ s. if is_known (known_at t (point s.i s.j s.k)) then 0 else f (point s.i s.j s.k))
+
+-- no more evaluations are counted than the points take that become known, and at most so many hulls
+pub record Charges (f : GridPoint → ℕ) (spans : ℕ) (before after : PointValues) (told now : Counts) : Type 0 where
+  pub points : ℕ
+  pub enough : points + left f after ≤ left f before
+  pub counts : CountsAtMost points spans told now
+
+-- each corner of a working cell of a box takes no less than the length of the list that the cell receives
+abbrev pub IsEnough : (GridPoint → ℕ) → Descent → Visit → Type 0
+IsEnough f d v = (s : Sample) → LiesIn v.box s → is_working d v s ≡ true → (p : GridPoint) → Covers (cell_box s) p → length (way_end d v s).list ≤ f p
+
+-- whatever points take, if it is enough for a box, no more is counted
+abbrev pub ChargesBox : Descent → Visit → PointValues → PointValues → Counts → Counts → Type 0
+ChargesBox d v before after told now = (f : GridPoint → ℕ) → IsEnough f d v → Charges f (spans_in d v) before after told now

@@ -1,0 +1,96 @@
+// Boxes of cells that are looked into.
+ghost use Rattle.std.specs.Prelude.{◌≡◌, ◌*◌, ◌+◌, ℕ, OnOk, IsTrue, true};
+ghost use Rattle.std.specs.List.{All};
+ghost use Rattle.box_chains.specs.Chains.{is_long as is_long_for, visit};
+ghost use Rattle.kuhn_cells.specs.Triangles.{GridPoint};
+ghost use Rattle.view_settings.specs.Boxes.{halves_of};
+ghost use Rattle.oct_descent.specs.Desks.{ChargesHalves, KeepsDesk, MayLook};
+ghost use Rattle.oct_descent.specs.GridValues.{grid_value};
+ghost use Rattle.oct_descent.specs.Tables.{AreSettled, ChargesBox, Grows};
+ghost use Rattle.oct_descent.specs.Ways.{gridded, is_open_by, meets_border as meets_border_of};
+
+use crate::desk::Desk;
+use crate::filling::fill_cell;
+use crate::grid_values::GridValues;
+use box_chains::{is_long, layers_hold};
+use fixed_ops::Tally;
+use live_clauses::Tape;
+use std::alloc::{AllocError, Global};
+use view_settings::{IndexBox, split};
+
+/// The longest side of a box that is not split.
+const LEAF: u32 = 1;
+
+/// Looks into a box, which receives a list: evaluates the corners of its working cells that are not
+/// known.
+#[cycle(looking)]
+pub fn look_into(
+    alloc: Global,
+    desk: &mut Desk,
+    b: IndexBox,
+    received: &Tape,
+    values: &mut GridValues,
+    tally: &mut Tally,
+) -> Result<(), AllocError>
+    requires { MayLook desk.old b received.now values.old }
+    ensures settled { OnOk result (AreSettled (grid_value desk.old.places.view received.now) b values.new) }
+    ensures grows { Grows (grid_value desk.old.places.view received.now) b values.old values.new }
+    ensures counted { ChargesBox (gridded desk.old.places.view) (visit b received.now) values.old values.new tally.old tally.new }
+    ensures kept { KeepsDesk desk.old desk.new }
+{
+    layers_hold();
+    let told = desk.room.look(received, desk.places.region(b), tally);
+    if !is_open(told, values.n(), b) {
+        return Ok(());
+    }
+    if !is_long(b, LEAF) {
+        return fill_cell(alloc, desk, b, received, values, tally);
+    }
+    let live = desk.room.hand_on(alloc, received)?;
+    look_into_halves(alloc, desk, b, &live, values, tally)
+}
+
+// Looks into the halves of a box that is split.
+#[cycle(looking)]
+fn look_into_halves(
+    alloc: Global,
+    desk: &mut Desk,
+    b: IndexBox,
+    live: &Tape,
+    values: &mut GridValues,
+    tally: &mut Tally,
+) -> Result<(), AllocError>
+    requires may { MayLook desk.old b live.now values.old }
+    requires long { IsTrue (is_long_for 1 b) }
+    ensures settled { OnOk result (AreSettled (grid_value desk.old.places.view live.now) b values.new) }
+    ensures grows { Grows (grid_value desk.old.places.view live.now) b values.old values.new }
+    ensures counted { ChargesHalves (gridded desk.old.places.view) live.now (halves_of 1 b) values.old values.new tally.old tally.new }
+    ensures kept { KeepsDesk desk.old desk.new }
+{
+    layers_hold();
+    let halves = split(b, LEAF);
+    for half in halves.as_slice() {
+        look_into(alloc, desk, *half, live, values, tally)?;
+    }
+    Ok(())
+}
+
+// Whether a box stays open, by what a look told.
+#[inline]
+fn is_open(told: Option<bool>, n: u32, b: IndexBox) -> bool
+    ensures { result ≡ is_open_by n b told }
+{
+    match told {
+        None => true,
+        Some(true) => meets_border(n, b),
+        Some(false) => false,
+    }
+}
+
+// Whether a box covers a point of the outermost layer.
+#[inline]
+fn meets_border(n: u32, b: IndexBox) -> bool
+    ensures { result ≡ meets_border_of n b }
+{
+    b.x0 == 0 || b.x1 == n || b.y0 == 0 || b.y1 == n || b.z0 == 0 || b.z1 == n
+}

@@ -1,0 +1,104 @@
+// Working cells, whose corners are evaluated.
+ghost use Rattle.std.specs.Prelude.{◌≡◌, ◌≤◌, true, false, length, OnOk};
+ghost use Rattle.box_chains.specs.Chains.{is_long as is_long_for};
+ghost use Rattle.fixed_ops.specs.Counts.{RisesBy, points_of};
+ghost use Rattle.kuhn_cells.specs.Triangles.{point};
+ghost use Rattle.view_settings.specs.declared.lattice.Lattice.TheVariants as lattices;
+ghost use Rattle.oct_descent.specs.Desks.{KeepsDesk, MayLook};
+ghost use Rattle.oct_descent.specs.Fills.{ChargesCorners, point_box};
+ghost use Rattle.oct_descent.specs.GridValues.{bordered, grid_value, value_on};
+ghost use Rattle.oct_descent.specs.Tables.{AllKnown, Grows, is_known, known_at};
+
+use crate::desk::Desk;
+use crate::grid_values::GridValues;
+use choice_trace::{Inputs, evaluate};
+use fixed_ops::{Fx, Tally, border};
+use live_clauses::Tape;
+use std::alloc::{AllocError, Global};
+use view_settings::IndexBox;
+
+/// Evaluates a list at those corners of a cell that are not known. AllocError: there is no memory for
+/// their values.
+pub fn fill_cell(
+    alloc: Global,
+    desk: &mut Desk,
+    b: IndexBox,
+    list: &Tape,
+    values: &mut GridValues,
+    tally: &mut Tally,
+) -> Result<(), AllocError>
+    requires may { MayLook desk.old b list.now values.old }
+    requires one { is_long_for 1 b ≡ false }
+    ensures known { OnOk result (AllKnown values.new b) }
+    ensures grows { Grows (grid_value desk.old.places.view list.now) b values.old values.new }
+    ensures counted { ChargesCorners b (length list.now) values.old values.new tally.old tally.new }
+    ensures kept { KeepsDesk desk.old desk.new }
+{
+    let (x, y, z) = (b.x0, b.y0, b.z0);
+    for c in 0..8 {
+        let (i, j, k) = (x + c % 2, y + c / 2 % 2, z + c / 4 % 2);
+        fill_point(alloc, desk, i, j, k, list, values, tally)?;
+    }
+    Ok(())
+}
+
+// Evaluates a list at a point that is not known.
+#[inline]
+fn fill_point(
+    alloc: Global,
+    desk: &mut Desk,
+    x: u32,
+    y: u32,
+    z: u32,
+    list: &Tape,
+    values: &mut GridValues,
+    tally: &mut Tally,
+) -> Result<(), AllocError>
+    requires lattice { desk.old.places.lattice ≡ lattices.Grid }
+    requires n { values.old.n ≡ desk.old.places.view.n }
+    requires room { length list.now ≤ length desk.old.values.items }
+    requires x { x ≤ values.old.n }
+    requires y { y ≤ values.old.n }
+    requires z { z ≤ values.old.n }
+    ensures known { OnOk result (is_known (known_at values.new (point x y z)) ≡ true) }
+    ensures grows { Grows (grid_value desk.old.places.view list.now) (point_box (point x y z)) values.old values.new }
+    ensures counted { ChargesCorners (point_box (point x y z)) (length list.now) values.old values.new tally.old tally.new }
+    ensures kept { KeepsDesk desk.old desk.new }
+{
+    if values.get(x, y, z).is_none() {
+        // The place is made first, so that no value is lost for want of memory.
+        values.make_room(alloc, x, y, z)?;
+        let value = value_at(desk, x, y, z, list, tally);
+        let n = values.n();
+        values.set(x, y, z, closed(value, n, x, y, z));
+    }
+    Ok(())
+}
+
+// The value of a list at a point.
+#[inline]
+fn value_at(desk: &mut Desk, x: u32, y: u32, z: u32, list: &Tape, tally: &mut Tally) -> Fx
+    requires lattice { desk.old.places.lattice ≡ lattices.Grid }
+    requires room { length list.now ≤ length desk.old.values.items }
+    requires x { x ≤ desk.old.places.view.n }
+    requires y { y ≤ desk.old.places.view.n }
+    requires z { z ≤ desk.old.places.view.n }
+    ensures value { result ≡ value_on desk.old.places.view list.now (point x y z) }
+    ensures counted { RisesBy tally.old tally.new (points_of (length list.now)) }
+    ensures kept { KeepsDesk desk.old desk.new }
+{
+    let (x, y, z) = (desk.places.x(x), desk.places.y(y), desk.places.z(z));
+    evaluate(list, Inputs { x, y, z }, &mut desk.values, tally)
+}
+
+// A value as it counts at a point: in the outermost layer no point is inside.
+#[inline]
+fn closed(value: Fx, n: u32, x: u32, y: u32, z: u32) -> Fx
+    ensures { result ≡ bordered n (point x y z) value }
+{
+    if x == 0 || x == n || y == 0 || y == n || z == 0 || z == n {
+        border(value)
+    } else {
+        value
+    }
+}

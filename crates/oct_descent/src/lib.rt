@@ -1,0 +1,17 @@
+//! Cells of a grid, found by boxes: which of them have both an inside and an outside corner, with
+//! the values of their corners, at the cost of the surface alone.
+#![tactic(auto)]
+
+mod brick;
+mod corner_values;
+mod descent;
+mod desk;
+mod filling;
+mod grid_values;
+mod laws;
+mod listing;
+mod oct_tree;
+
+pub use laws::{grid_work_is_bounded, grids_are_bordered};
+pub use listing::cell_list;
+pub use oct_tree::{OctTree, cells};

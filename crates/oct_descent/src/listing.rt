@@ -1,0 +1,100 @@
+// The list of the mixed cells of a grid.
+ghost use Rattle.std.specs.Prelude.{◌≡◌, ◌+◌, ◌%◌, ◌<◌, ◌++◌, min, IfOk, OnOk};
+ghost use Rattle.kuhn_cells.specs.Lists.{ListsCells};
+ghost use Rattle.oct_descent.specs.GridValues.{grid_of};
+ghost use Rattle.oct_descent.specs.Rows.{cells_at, cells_between, cells_in_layer, cells_in_row};
+ghost use Rattle.kuhn_cells.specs.Triangles.{point};
+
+use crate::OctTree;
+use crate::corner_values::{corners, is_mixed};
+use kuhn_cells::{CellList, CellValues};
+use std::alloc::{AllocError, Global};
+
+/// The cells of a grid that have both an inside and an outside corner, with the values of their
+/// corners, by z, then by y, then by x. AllocError: there is no memory for them.
+pub fn cell_list(alloc: Global, tree: &OctTree) -> Result<CellList, AllocError>
+    ensures { IfOk result (λ list. ListsCells tree.now.view.n list (grid_of tree.now.view tree.now.list)) }
+{
+    let mut cells = Vec::new(alloc);
+    for z in 0..tree.view.n {
+        tree.push_layer(z, &mut cells)?;
+    }
+    Ok(CellList {
+        n: tree.view.n,
+        cells,
+    })
+}
+
+impl OctTree {
+    // Adds the mixed cells of layer z.
+    fn push_layer(&self, z: u32, cells: &mut Vec<CellValues>) -> Result<(), AllocError>
+        requires { z < self.now.view.n }
+        ensures { OnOk result (cells.new.items ≡ cells.old.items ++ cells_in_layer self.now.view self.now.list z) }
+    {
+        for y in 0..self.view.n {
+            self.push_row(y, z, cells)?;
+        }
+        Ok(())
+    }
+
+    // Adds the mixed cells of row y of layer z, eight at once.
+    fn push_row(&self, y: u32, z: u32, cells: &mut Vec<CellValues>) -> Result<(), AllocError>
+        requires y { y < self.now.view.n }
+        requires z { z < self.now.view.n }
+        ensures { OnOk result (cells.new.items ≡ cells.old.items ++ cells_in_row self.now.view self.now.list y z) }
+    {
+        for eighth in 0..(self.view.n + 7) / 8 {
+            self.push_eight(eighth * 8, y, z, cells)?;
+        }
+        Ok(())
+    }
+
+    // Adds those of eight cells of a row that are mixed. None is where nothing is known of the brick
+    // that has their lowest corners.
+    #[inline]
+    fn push_eight(
+        &self,
+        first: u32,
+        y: u32,
+        z: u32,
+        cells: &mut Vec<CellValues>,
+    ) -> Result<(), AllocError>
+        requires first { first < self.now.view.n }
+        requires eighth { first % 8 ≡ 0 }
+        requires y { y < self.now.view.n }
+        requires z { z < self.now.view.n }
+        ensures { OnOk result (cells.new.items ≡ cells.old.items ++ cells_between self.now.view self.now.list first (min self.now.view.n (first + 8)) y z) }
+    {
+        if !self.values.has_room(first, y, z) {
+            return Ok(());
+        }
+        for x in first..self.view.n.min(first + 8) {
+            self.push_cell(x, y, z, cells)?;
+        }
+        Ok(())
+    }
+
+    // Adds a cell where it is mixed.
+    #[inline]
+    fn push_cell(
+        &self,
+        x: u32,
+        y: u32,
+        z: u32,
+        cells: &mut Vec<CellValues>,
+    ) -> Result<(), AllocError>
+        requires x { x < self.now.view.n }
+        requires y { y < self.now.view.n }
+        requires z { z < self.now.view.n }
+        ensures { OnOk result (cells.new.items ≡ cells.old.items ++ cells_at self.now.view self.now.list (point x y z)) }
+    {
+        let Some(values) = corners(&self.values, x, y, z) else {
+            return Ok(());
+        };
+        if is_mixed(&values) {
+            let (x, y, z) = (x as u16, y as u16, z as u16);
+            cells.push(CellValues { x, y, z, values })?;
+        }
+        Ok(())
+    }
+}

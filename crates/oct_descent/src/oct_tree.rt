@@ -1,0 +1,72 @@
+// Grids whose boxes are looked into.
+ghost use Rattle.std.specs.Prelude.{◌≡◌, IfOk};
+ghost use Rattle.view_settings.specs.Spans.{root_of};
+ghost use Rattle.view_settings.specs.Window.{FitsMesh};
+ghost use Rattle.box_chains.specs.Tallied.{CountsAtMost};
+ghost use Rattle.oct_descent.specs.Bound.{mesh_points, mesh_spans};
+
+use crate::descent::look_into;
+use crate::desk::Desk;
+use crate::grid_values::GridValues;
+use fixed_ops::Tally;
+use live_clauses::Tape;
+use std::alloc::{AllocError, Global};
+use std::marker::Model;
+use view_settings::{IndexBox, Lattice, View};
+
+/// The cells of the grid of a list of steps over a view, by boxes: the values of the corners of all
+/// cells that have both an inside and an outside one. Contracts see the view and the list.
+#[derive(Debug, Drop)]
+pub struct OctTree {
+    pub(crate) view: View,
+    pub(crate) list: Tape,
+    pub(crate) values: GridValues,
+}
+
+impl Model for OctTree {
+    ghost use Rattle.oct_descent.specs.Trees.{Gridding, IsTold};
+
+    ghost Value = { Gridding };
+
+    ghost view = { λ t. record { view = t.view; list = t.list } };
+
+    ghost invariant = { λ t. IsTold t.view t.list t.values };
+}
+
+/// Looks into the boxes of the grid of a list of steps over a view. Each step that is traced over a
+/// box is counted, at most four corners with it, and each step that is evaluated at a point: no point
+/// is evaluated twice, and none that is no corner of a working cell. AllocError: there is no memory
+/// for the values.
+pub fn cells(
+    alloc: Global,
+    list: &Tape,
+    view: &View,
+    tally: &mut Tally,
+) -> Result<OctTree, AllocError>
+    requires { FitsMesh view.now }
+    ensures tree { IfOk result (λ tree. tree ≡ record { view = view.now; list = list.now }) }
+    ensures at_most { CountsAtMost (mesh_points view.now list.now) (mesh_spans view.now list.now) tally.old tally.new }
+{
+    let mut desk = Desk::new(alloc, view, list.len())?;
+    let mut values = GridValues::new(alloc, view.n)?;
+    look_into(alloc, &mut desk, root(view), list, &mut values, tally)?;
+    Ok(OctTree {
+        view: *view,
+        list: list.share()?,
+        values,
+    })
+}
+
+// The box of all cells of a grid.
+fn root(view: &View) -> IndexBox
+    ensures { result ≡ root_of view.now Lattice.Grid }
+{
+    IndexBox {
+        x0: 0,
+        x1: view.n,
+        y0: 0,
+        y1: view.n,
+        z0: 0,
+        z1: view.n,
+    }
+}
