@@ -1,0 +1,110 @@
+// The mixed cells of grids, from a model's text on, and the work that they took.
+use clause_reader::read_model;
+use fixed_ops::{Fx, Tally};
+use kuhn_cells::CellList;
+use live_clauses::{Tape, root_tape};
+use oct_descent::{cell_list, cells};
+use std::alloc::Global;
+use std::test::Fail;
+use view_settings::View;
+
+const HALF: i64 = 1 << 31;
+
+// The ball of radius 0.5.
+const BALL: &[u8] = b"x var-x\ny var-y\nz var-z\na square x\nb square y\nc square z\nd add a b\ne add d c\nr const 0.25\nf sub e r";
+
+// What lies below 0 along both x and y.
+const WALL: &[u8] = b"x var-x\ny var-y\nm max x y";
+
+// Between two spheres.
+const SHELL: &[u8] = b"x var-x\ny var-y\nz var-z\na square x\nb square y\nc square z\nd add a b\ne add d c\nr const 0.5\nf sub e r\ng abs f\nt const 0.0625\nh sub g t";
+
+// A grid of n cells along each axis, from -1 to 1.
+fn view(n: u32) -> Result<View, Fail> {
+    if n == 0 || n > 256 {
+        return Err(Fail::new("a number of cells that is out of range"));
+    }
+    let one = 1 << 32;
+    Ok(View {
+        x0: -one,
+        x1: one,
+        y0: -one,
+        y1: one,
+        z0: -one,
+        z1: one,
+        z: 0,
+        w: 1,
+        h: 1,
+        d: 1,
+        n,
+    })
+}
+
+// The root list of a model's text.
+fn root(alloc: Global, text: &[u8]) -> Result<Tape, Fail> {
+    if text.len() > 200 {
+        return Err(Fail::new("a text that is too long"));
+    }
+    let model = read_model(alloc, text)?;
+    Ok(root_tape(alloc, &model)?)
+}
+
+// The mixed cells of the grid of a model's text, with the work that they took.
+fn found(alloc: Global, text: &[u8], n: u32) -> Result<(CellList, Tally), Fail> {
+    let list = root(alloc, text)?;
+    let view = view(n)?;
+    if !view.fits_mesh() {
+        return Err(Fail::new("a view without room"));
+    }
+    let mut tally = Tally::new();
+    let tree = cells(alloc, &list, &view, &mut tally)?;
+    Ok((cell_list(alloc, &tree)?, tally))
+}
+
+#[test]
+fn mixed_cells_take_no_more_than_the_bounds(rt: HostRuntime) -> Result<(), Fail> {
+    // The numbers of cells, of evaluations at most and of traced steps at most.
+    let cases: [(&[u8], u32, usize, u64, u64); 10] = [
+        (BALL, 2, 8, 270, 90),
+        (BALL, 4, 8, 270, 730),
+        (BALL, 8, 56, 1240, 1370),
+        (b"a const 1", 4, 0, 0, 1),
+        (b"a const -1", 1, 0, 8, 1),
+        (b"a const -1", 2, 8, 27, 9),
+        (b"a const -1", 4, 56, 124, 73),
+        (b"x var-x", 4, 32, 75, 41),
+        (WALL, 5, 42, 264, 181),
+        (SHELL, 8, 96, 3952, 6773),
+    ];
+    for (text, n, count, points, spans) in cases {
+        let (list, tally) = found(rt.alloc(), text, n)?;
+        assert_eq!(rt; list.n, n);
+        assert_eq!(rt; list.cells.len(), count, "of {n}");
+        assert!(rt; tally.points() <= points, "points of {n}");
+        assert!(rt; tally.spans() <= spans, "spans of {n}");
+    }
+    Ok(())
+}
+
+#[test]
+fn mixed_cells_are_in_order_with_their_values(rt: HostRuntime) -> Result<(), Fail> {
+    let (list, _) = found(rt.alloc(), WALL, 4)?;
+    assert_eq!(rt; list.cells.len(), 16);
+    let places: [(u16, u16, u16); 6] = [
+        (0, 0, 0),
+        (1, 0, 0),
+        (0, 1, 0),
+        (1, 1, 0),
+        (0, 0, 1),
+        (1, 0, 1),
+    ];
+    for (at, place) in places.iter().enumerate() {
+        let cell = list.cells.get(at).ok_or("a cell")?;
+        assert_eq!(rt; (cell.x, cell.y, cell.z), *place);
+    }
+    let zero = Fx::from_raw(0);
+    let inner = Fx::from_raw(-HALF);
+    let cell = list.cells.get(3).ok_or("a cell")?;
+    assert_eq!(rt; cell.values, [zero, zero, zero, zero, inner, zero, zero, zero]);
+    Ok(())
+}
