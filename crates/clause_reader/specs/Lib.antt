@@ -1,5 +1,6 @@
 pub mod Forms
 pub mod LineLaws
+pub mod LineSplits
 pub mod Lines
 pub mod ModelText
 pub mod Reading

@@ -3,7 +3,8 @@ use Rattle.std.proofs.Common.{◌<◌, length, ap, sym, ◌∙◌, arith}
 use Rattle.std.proofs.lemmas.Bool.{eqb-true, eqb-false}
 use Rattle.clause_reader.specs.Lines.{lines_of, line_of}
 use Rattle.clause_reader.specs.Scan.{after_line}
-use Rattle.clause_reader.proofs.LineSteps.{lines_of-some, after_line-shorter, advance, stop, finish, none-left}
+use Rattle.clause_reader.specs.LineSplits.{lines_of-some, after_line-shorter, none-left}
+use Rattle.clause_reader.proofs.LineSteps.{advance, stop, finish}
 use Rattle.clause_reader.proofs.reader.read_model.Goals as goal
 
 pub loop-rest-preserved : goal.loop-rest-preserved

@@ -1,0 +1,33 @@
+-- What is written as a keyword names it, and nothing else does.
+use Rattle.std.proofs.Common.{◌≡◌, ◌≢◌, ℕ, Bool, true, false, List, Option, Some, None, refl, sym}
+use Rattle.std.specs.Prelude.{IfSome, IfNone}
+use Rattle.std.specs.Str.{bytes_eq}
+use Rattle.std.proofs.lemmas.Slice.Eq.{bytes_eq-Decides}
+use Rattle.edit_script.specs.declared.keyword.Keyword.{Keyword}
+use Rattle.edit_script.specs.declared.keyword.Keyword.TheVariants.{Set, Add, Put, Cut, Render, Height, Mesh, Text}
+use Rattle.edit_script.specs.Keywords.{keyword_named, written}
+
+keyword_named-written : (keyword : Keyword) → keyword_named (written keyword) ≡ Some keyword
+keyword_named-written Set = refl
+keyword_named-written Add = refl
+keyword_named-written Put = refl
+keyword_named-written Cut = refl
+keyword_named-written Render = refl
+keyword_named-written Height = refl
+keyword_named-written Mesh = refl
+keyword_named-written Text = refl
+
+-- a word that differs from another is told apart
+told_apart : (word other : List ℕ) → word ≢ other → bytes_eq word other ≡ false
+told_apart word other apart = by (bytes_eq word other) refl
+  where
+    by : (b : Bool) → bytes_eq word other ≡ b → b ≡ false
+    by true e = absurd (apart ((bytes_eq-Decides word other).0 e))
+    by false e = refl
+
+-- what the search for a keyword gives
+pub keyword_found : (word : List ℕ) (found : Option Keyword) → IfSome found (λ keyword. word ≡ written keyword)
+    → IfNone found ((keyword : Keyword) → word ≢ written keyword) → found ≡ keyword_named word
+keyword_found word (Some keyword) is none = rw is (sym (keyword_named-written keyword))
+keyword_found word None is none =
+    rw (told_apart _ _ (none Set), told_apart _ _ (none Add), told_apart _ _ (none Put), told_apart _ _ (none Cut), told_apart _ _ (none Render), told_apart _ _ (none Height), told_apart _ _ (none Mesh), told_apart _ _ (none Text)) refl

@@ -1,0 +1,7 @@
+pub mod CommandLemmas
+pub mod KeywordLemmas
+pub mod LineStarts
+pub mod MarkLemmas
+pub mod ScriptExact
+pub mod ScriptLemmas
+pub mod SettingLemmas

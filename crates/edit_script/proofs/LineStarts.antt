@@ -1,0 +1,93 @@
+-- Where lines begin, and what stands from there on.
+use Rattle.std.proofs.Common.{◌≡◌, ℕ, zero, suc, ◌+◌, ◌-◌, ◌<◌, ◌≤◌, List, [], ◌∷◌, ◌++◌, length, take, drop, ◌⊎◌, inl, inr, refl, ap, sym, ◌∙◌, arith}
+use Rattle.std.specs.Prelude.{min}
+use Rattle.std.specs.List.{position_or_len}
+use Rattle.std.proofs.Math.Nat.{min-eq_left, min-eq_right, min-le_right, zero-min}
+use Rattle.std.proofs.lemmas.Bool.{cases_lt}
+use Rattle.std.proofs.lemmas.List.{take_all, drop_all, drop-drop, length-append, length-drop, length-take}
+use Rattle.clause_reader.specs.LineLaws.{ended}
+use Rattle.clause_reader.specs.Lines.{is_feed, line_of, lines_of}
+use Rattle.clause_reader.specs.LineSplits.{lines_of-some}
+use Rattle.clause_reader.specs.Scan.{after_line}
+use Rattle.edit_script.specs.Marks.{line_start}
+
+-- what stands from the line at a place on
+abbrev pub from_line : List ℕ → ℕ → List ℕ
+from_line text n = drop (line_start text n) text
+
+-- where a line begins is in the text, or at its end
+pub line_start-within : (text : List ℕ) (n : ℕ) → line_start text n ≤ length text
+line_start-within text n = min-le_right (length (ended (take n (lines_of text)))) (length text)
+
+-- the place of the least
+min_sum : (a b c : ℕ) → min (a + b) (a + c) ≡ a + min b c
+min_sum a b c = by (cases_lt b c)
+  where
+    by : (b < c) ⊎ (c ≤ b) → min (a + b) (a + c) ≡ a + min b c
+    by (inl less) = let i : b ≤ c = omega arith in let h : a + b ≤ a + c = omega arith in min-eq_left h ∙ ap (λ n. a + n) (sym (min-eq_left i))
+    by (inr more) = let h : a + c ≤ a + b = omega arith in min-eq_right h ∙ ap (λ n. a + n) (sym (min-eq_right more))
+
+-- the lines up to a place, and the first of them
+ended-suc : (text : List ℕ) (n : ℕ) → 0 < length text
+    → length (ended (take (suc n) (lines_of text))) ≡ length (line_of text) + 1 + length (ended (take n (lines_of (after_line text))))
+ended-suc text n some =
+    ap (λ (lines : List (List ℕ)). length (ended (take (suc n) lines))) (lines_of-some text some)
+    ∙ length-append (line_of text ++ 10 ∷ []) (ended (take n (lines_of (after_line text))))
+    ∙ ap (λ k. k + length (ended (take n (lines_of (after_line text))))) (length-append (line_of text) (10 ∷ []))
+
+-- what stands from a later line on stands so after the first line
+from_line-later : (text : List ℕ) (n : ℕ) → 0 < length text → from_line text (suc n) ≡ from_line (after_line text) n
+from_line-later text n some = by (cases_lt (position_or_len is_feed text) (length text))
+  where
+    by : (position_or_len is_feed text < length text) ⊎ (length text ≤ position_or_len is_feed text) → from_line text (suc n) ≡ from_line (after_line text) n
+    by (inl less) =
+        let p : ℕ = position_or_len is_feed text in
+        let more : ℕ = length (ended (take n (lines_of (after_line text)))) in
+        let le : position_or_len is_feed text ≤ length text = omega arith in
+        let line : length (line_of text) ≡ position_or_len is_feed text = length-take (position_or_len is_feed text) text ∙ min-eq_left le in
+        let left : length text ≡ (position_or_len is_feed text + 1) + length (after_line text) = omega (arith, length-drop (position_or_len is_feed text + 1) text) in
+        let front : length (ended (take (suc n) (lines_of text))) ≡ (position_or_len is_feed text + 1) + length (ended (take n (lines_of (after_line text)))) =
+        ended-suc text n some ∙ ap (λ k. k + 1 + length (ended (take n (lines_of (after_line text))))) line in
+        let start : line_start text (suc n) ≡ (position_or_len is_feed text + 1) + line_start (after_line text) n =
+        ap (λ k. min k (length text)) front ∙ ap (λ k. min ((position_or_len is_feed text + 1) + length (ended (take n (lines_of (after_line text))))) k) left
+        ∙ min_sum (position_or_len is_feed text + 1) (length (ended (take n (lines_of (after_line text))))) (length (after_line text)) in
+        ap (λ k. drop k text) start ∙ sym (drop-drop (line_start (after_line text) n) (position_or_len is_feed text + 1) text)
+    by (inr more) =
+        let line : length (line_of text) ≡ length text = ap length (take_all (position_or_len is_feed text) text more) in
+        let nothing : after_line text ≡ [] = drop_all (position_or_len is_feed text + 1) text (omega arith) in
+        let none : length (after_line text) ≡ 0 = ap length nothing in
+        let long : length text ≤ length (ended (take (suc n) (lines_of text))) = omega (arith, ended-suc text n some, line) in
+        let start : line_start text (suc n) ≡ length text = min-eq_right long in
+        let short : length text ≤ line_start text (suc n) = omega (arith, start) in
+        drop_all (line_start text (suc n)) text short ∙ sym (drop_all (line_start (after_line text) n) (after_line text) (omega arith))
+
+-- nothing stands in an empty text
+drop-none : (n : ℕ) → drop {A = ℕ} n [] ≡ []
+drop-none zero = refl
+drop-none (suc n) = refl
+
+from_line-suc : (text : List ℕ) (n : ℕ) → from_line text (suc n) ≡ from_line (after_line text) n
+from_line-suc [] n = sym (drop-none (line_start [] n))
+from_line-suc (byte ∷ others) n = from_line-later (byte ∷ others) n (omega arith)
+
+pub from_line-zero : (text : List ℕ) → from_line text 0 ≡ text
+from_line-zero text = ap (λ n. drop n text) (zero-min (length text))
+
+-- from the next line on stands what stands after a line
+pub from_line-next : (text : List ℕ) (n : ℕ) → from_line text (n + 1) ≡ after_line (from_line text n)
+from_line-next text zero = from_line-suc text 0 ∙ from_line-zero (after_line text) ∙ ap after_line (sym (from_line-zero text))
+from_line-next text (suc n) =
+    let one : suc n + 1 ≡ suc (n + 1) = omega arith in
+    rw one (from_line-suc text (n + 1) ∙ from_line-next (after_line text) n ∙ ap after_line (sym (from_line-suc text n)))
+
+-- the lines of what stands from a line on are the lines from there on
+pub lines_of-from_line : (text : List ℕ) (n : ℕ) → lines_of (from_line text n) ≡ drop n (lines_of text)
+lines_of-from_line text zero = ap lines_of (from_line-zero text)
+lines_of-from_line [] (suc n) = refl
+lines_of-from_line (byte ∷ others) (suc n) =
+    ap lines_of (from_line-suc (byte ∷ others) n) ∙ lines_of-from_line (after_line (byte ∷ others)) n
+    ∙ sym (ap (drop (suc n)) (lines_of-some (byte ∷ others) (omega arith)))
+
+-- how far what stands from a line on is from the end
+pub from_line-start : (text rest : List ℕ) (n : ℕ) → rest ≡ from_line text n → length text - length rest ≡ line_start text n
+from_line-start text rest n is = omega (arith, ap length is, length-drop (line_start text n) text, line_start-within text n)

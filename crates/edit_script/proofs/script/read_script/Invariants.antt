@@ -1,0 +1,10 @@
+-- The lines so far say the commands, and the others are those of the rest.
+use Rattle.std.proofs.Common.{length}
+use Rattle.edit_script.proofs.ScriptLemmas.{Reads}
+use Rattle.edit_script.proofs.script.read_script.Given as goal
+
+abbrev pub invariant-loop-rest : goal.invariant-loop-rest
+invariant-loop-rest l = Reads l.input l.commands.items l.line l.rest
+
+abbrev pub decreases-loop-rest : goal.decreases-loop-rest
+decreases-loop-rest l = length l.rest

@@ -1,0 +1,5 @@
+pub mod Commands
+pub mod Keywords
+pub mod Marks
+pub mod ScriptLaws
+pub mod Scripts

@@ -1,0 +1,46 @@
+-- What an input says as a script: its commands, or the line on which it is refused and the reason.
+use Rattle.std.specs.Prelude.{◌≡◌, ◌≢◌, ℕ, ◌+◌, ◌<◌, List, [], ◌∷◌, ◌++◌, map, filter, drop, Option, Some, None, Result, Ok, Err, IfErr}
+use Rattle.clause_reader.specs.Reading.{is_clause, on_result}
+use Rattle.clause_reader.specs.Says.{numbered_lines}
+use Rattle.edit_script.specs.declared.command.Command.{Command}
+use Rattle.edit_script.specs.declared.script_fault.ScriptFault.{ScriptFault}
+use Rattle.edit_script.specs.declared.script_reason.ScriptReason.{ScriptReason}
+use Rattle.edit_script.specs.declared.script_reason.ScriptReason.TheVariants.{NoMark, NoMemory}
+use Rattle.edit_script.specs.Commands.{command_read}
+use Rattle.edit_script.specs.Marks.{mark_place}
+
+-- the lines after the mark line at a place that are neither blank nor comments, each as its number among all lines of
+-- the input and its tokens
+abbrev pub command_lines : List ℕ → ℕ → List (ℕ × List (List ℕ))
+command_lines input mark = filter (λ line. is_clause line.1) (drop (mark + 1) (numbered_lines input))
+
+-- the command of a line, or the line with the reason to refuse it
+abbrev pub command_at : ℕ × List (List ℕ) → Result Command ScriptFault
+command_at line = on_result (command_read line.0 line.1) (λ command. Ok command) (λ reason. Err (record { line = line.0; reason = reason }))
+
+-- all the values, or the first fault
+abbrev pub all_or_first : {A E : Type 0} → List (Result A E) → Result (List A) E
+all_or_first [] = Ok []
+all_or_first (result ∷ results) =
+    on_result result (λ value. on_result (all_or_first results) (λ values. Ok (value ∷ values)) (λ fault. Err fault)) (λ fault. Err fault)
+
+-- the commands after the mark line, or line 0 where there is none
+abbrev pub commands_after : List ℕ → Option ℕ → Result (List Command) ScriptFault
+commands_after input None = Err (record { line = 0; reason = NoMark })
+commands_after input (Some mark) = all_or_first (map command_at (command_lines input mark))
+
+-- the commands of an input, or the line on which it is refused and the reason
+abbrev pub script_read : List ℕ → Result (List Command) ScriptFault
+script_read input = commands_after input (mark_place input)
+
+-- commands with that of one more line, where it says one
+abbrev pub pushed : List Command → Result (Option Command) ScriptReason → Result (List Command) ScriptReason
+pushed commands (Ok (Some command)) = Ok (commands ++ command ∷ [])
+pushed commands (Ok None) = Ok commands
+pushed commands (Err reason) = Err reason
+
+-- a fault of an input: the very line and reason for which it is refused, or want of memory on a line up to which no
+-- line is refused
+pub record RefusesScript (input : List ℕ) (fault : ScriptFault) : Type 0 where
+  pub refused : fault.reason ≢ NoMemory → script_read input ≡ Err fault
+  pub no_memory : fault.reason ≡ NoMemory → IfErr (script_read input) (λ first. fault.line < first.line)

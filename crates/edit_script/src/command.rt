@@ -1,0 +1,22 @@
+// One command of a script.
+
+use solid_model::Edit;
+use view_settings::View;
+
+/// One command of a script.
+#[derive(Debug, Drop)]
+pub enum Command {
+    /// An edit, and the number of its line among all lines of the input.
+    Edit(u32, Edit),
+    /// An edit that names a clause by a token that begins with `#`, so that no clause has that name,
+    /// as the number of its line.
+    Stray(u32),
+    /// An image of this view.
+    Render(View),
+    /// A height map of this view.
+    Height(View),
+    /// A mesh of this view.
+    Mesh(View),
+    /// The model as a text.
+    Text,
+}

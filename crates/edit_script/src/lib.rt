@@ -1,0 +1,24 @@
+//! Scripts: the text of a model, a mark, and then commands, one a line.
+#![tactic(auto)]
+
+mod command;
+mod draw;
+mod edit_line;
+mod keyword;
+mod laws;
+mod line;
+mod mark;
+mod script;
+mod script_fault;
+mod script_reason;
+mod token;
+
+pub use command::Command;
+pub use laws::scripts_are_exact;
+pub use mark::split_input;
+pub use script::read_script;
+pub use script_fault::ScriptFault;
+pub use script_reason::ScriptReason;
+
+#[cfg(test)]
+mod tests;

@@ -1,0 +1,121 @@
+use crate::{Command, ScriptFault, ScriptReason, read_script, split_input};
+use fixed_ops::{Fx, Op};
+use solid_model::Edit;
+use std::test::Fail;
+
+#[test]
+fn finds_the_first_mark_line(rt: HostRuntime) {
+    let cases: [(&[u8], Option<(usize, usize)>); 9] = [
+        (b"", None),
+        (b"x var-x\n% %\n%%%\n#%%\n%% x\n", None),
+        (b"%%", Some((0, 2))),
+        (b"%%\n", Some((0, 3))),
+        (b"x var-x\n%%\ntext\n", Some((8, 11))),
+        (b"x var-x\n \t%%\r", Some((8, 13))),
+        (b"x var-x\r\n\n  %% \ncut x\n%%\n", Some((10, 16))),
+        (b"%% #\n%%\n%%\n", Some((5, 8))),
+        (b"\n\n%%\nrender w=0", Some((2, 5))),
+    ];
+    for (input, ends) in cases {
+        assert!(rt; split_input(input) == ends, "{input:?}");
+    }
+}
+
+#[test]
+fn refuses_the_first_bad_line(rt: HostRuntime) {
+    let cases: [(&[u8], u32, ScriptReason); 32] = [
+        (b"", 0, ScriptReason::NoMark),
+        (b"x var-x\nrender\n", 0, ScriptReason::NoMark),
+        (b"x var-x\n%% render\n", 0, ScriptReason::NoMark),
+        (b"x var-x\n%%\nrender w=0", 3, ScriptReason::BadSetting),
+        (b"x var-x\n%%\npaint", 3, ScriptReason::UnknownCommand),
+        (b"x var-x\n%%\ncut", 3, ScriptReason::TooShort),
+        (b"x var-x\n%%\nadd #y var-x", 3, ScriptReason::BadName),
+        (b"x var-x\n%%\ntext x", 3, ScriptReason::WrongArity),
+        (b"%%\n%%", 2, ScriptReason::UnknownCommand),
+        (b"%%\ncost", 2, ScriptReason::UnknownCommand),
+        (b"%%\nRender", 2, ScriptReason::UnknownCommand),
+        (
+            b"%%\ntext\n\n# cut\n \t\r\nset\nadd",
+            6,
+            ScriptReason::TooShort,
+        ),
+        (b"%%\nset x", 2, ScriptReason::TooShort),
+        (b"%%\nset #x", 2, ScriptReason::TooShort),
+        (b"%%\nadd #x", 2, ScriptReason::TooShort),
+        (b"%%\nput x #y", 2, ScriptReason::TooShort),
+        (b"%%\nput x", 2, ScriptReason::TooShort),
+        (b"%%\nput x #y paint", 2, ScriptReason::BadName),
+        (b"%%\nadd y paint", 2, ScriptReason::UnknownOperation),
+        (b"%%\nset #x #y", 2, ScriptReason::UnknownOperation),
+        (b"%%\nput #x y neg", 2, ScriptReason::WrongArity),
+        (b"%%\nset x min #a", 2, ScriptReason::WrongArity),
+        (b"%%\nset x const 1 2", 2, ScriptReason::WrongArity),
+        (b"%%\ncut x y", 2, ScriptReason::WrongArity),
+        (b"%%\ncut #x #y", 2, ScriptReason::WrongArity),
+        (b"%%\nset x const #1", 2, ScriptReason::BadNumeral),
+        (b"%%\nadd x const 1e", 2, ScriptReason::BadNumeral),
+        (b"%%\nrender d=1", 2, ScriptReason::BadSetting),
+        (b"%%\nheight w=1025", 2, ScriptReason::BadSetting),
+        (b"%%\nrender w=1 w=1", 2, ScriptReason::BadSetting),
+        (b"%%\nmesh x0=0 x1=0", 2, ScriptReason::BadSetting),
+        (b"%%\nrender x0=1 x1=0", 2, ScriptReason::BadSetting),
+    ];
+    for (input, line, reason) in cases {
+        match read_script(rt.alloc(), input) {
+            Ok(_) => assert!(rt; false, "{input:?} is read"),
+            Err(fault) => assert_eq!(rt; fault, ScriptFault { line, reason }),
+        }
+    }
+}
+
+#[test]
+fn reads_each_command(rt: HostRuntime) -> Result<(), Fail> {
+    let input = b"x var-x\n%%\r\nset x neg #y\nset #x var-x\nput #x y var-x\ncut #x\n\n# c\n\
+        add y min x x\nput y c const 0.5\nset y var-z\ncut y\n\
+        render w=3 z=0.5\nheight w=1024 d=300\nmesh n=5\ntext";
+    let commands = read_script(rt.alloc(), input)?;
+    assert_eq!(rt; commands.len(), 12);
+    for (at, line) in [3, 4, 5, 6].into_iter().enumerate() {
+        let stray = matches!(&commands[at], Command::Stray(number) if *number == line);
+        assert!(rt; stray, "at {at}");
+    }
+    assert!(rt;
+        matches!(&commands[4], Command::Edit(9, Edit::Add(name, form))
+        if name.bytes() == b"y".as_slice() && form.op == Op::Min && form.args.len() == 2)
+    );
+    assert!(rt;
+        matches!(&commands[5], Command::Edit(10, Edit::Put(next, name, form))
+        if next.bytes() == b"y".as_slice() && name.bytes() == b"c".as_slice()
+            && form.op == Op::Const && form.value == Fx::from_raw(1 << 31))
+    );
+    assert!(rt;
+        matches!(&commands[6], Command::Edit(11, Edit::Set(name, form))
+        if name.bytes() == b"y".as_slice() && form.op == Op::Z && form.args.is_empty())
+    );
+    assert!(rt;
+        matches!(&commands[7], Command::Edit(12, Edit::Cut(name))
+        if name.bytes() == b"y".as_slice())
+    );
+    assert!(rt; matches!(&commands[8], Command::Render(view) if view.w == 3 && view.z == 1 << 31));
+    assert!(rt; matches!(&commands[9], Command::Height(view) if view.w == 1024 && view.d == 300));
+    assert!(rt; matches!(&commands[10], Command::Mesh(view) if view.n == 5 && view.h == 512));
+    assert!(rt; matches!(&commands[11], Command::Text));
+    Ok(())
+}
+
+#[test]
+fn keeps_the_lines_of_edits(rt: HostRuntime) -> Result<(), Fail> {
+    let input = b"x var-x\nc const 0.5\nf sub x c\n%%\nrender w=3 h=1\ncut c\nadd x var-y\n\
+        set c sub x f\nrender w=3 h=1\n";
+    let commands = read_script(rt.alloc(), input)?;
+    assert_eq!(rt; commands.len(), 5);
+    assert!(rt; matches!(&commands[0], Command::Render(view) if view.w == 3 && view.h == 1));
+    assert!(rt; matches!(&commands[1], Command::Edit(6, Edit::Cut(_))));
+    assert!(rt; matches!(&commands[2], Command::Edit(7, Edit::Add(..))));
+    assert!(rt; matches!(&commands[3], Command::Edit(8, Edit::Set(..))));
+    assert!(rt; matches!(&commands[4], Command::Render(_)));
+    assert_eq!(rt; read_script(rt.alloc(), b"x var-x\n%%")?.len(), 0);
+    assert_eq!(rt; read_script(rt.alloc(), b"x var-x\n%%\n # x\n\t")?.len(), 0);
+    Ok(())
+}
