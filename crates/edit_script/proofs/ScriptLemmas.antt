@@ -1,5 +1,5 @@
 -- How the lines after the mark are read one after the other.
-use Rattle.std.proofs.Common.{◌≡◌, ◌≢◌, ℕ, zero, suc, ◌+◌, ◌<◌, ◌≤◌, Bool, true, false, List, [], ◌∷◌, ◌++◌, length, map, drop, Option, Some, None, Result, Ok, Err, IsOk, IfErr, refl, ap, sym, subst, ◌∙◌, arith, append_assoc, append-nil}
+use Rattle.std.proofs.Common.{All, ◌≡◌, ◌≢◌, ℕ, zero, suc, ◌+◌, ◌<◌, ◌≤◌, Bool, true, false, List, [], ◌∷◌, ◌++◌, length, map, drop, Option, Some, None, Result, Ok, Err, IsOk, IfErr, refl, ap, sym, subst, ◌∙◌, arith, append_assoc, append-nil}
 use Rattle.std.specs.List.{range_with_len, zip, filter}
 use Rattle.std.proofs.lemmas.List.{length-drop}
 use Rattle.clause_reader.specs.Lines.{lines_of, line_of, tokens_of}
@@ -10,7 +10,7 @@ use Rattle.edit_script.specs.declared.command.Command.{Command}
 use Rattle.edit_script.specs.declared.script_fault.ScriptFault.{ScriptFault}
 use Rattle.edit_script.specs.declared.script_reason.ScriptReason.{ScriptReason}
 use Rattle.edit_script.specs.declared.script_reason.ScriptReason.TheVariants.{NoMark, NoMemory}
-use Rattle.edit_script.specs.Commands.{command_read, line_read}
+use Rattle.edit_script.specs.Commands.{command_read, line_read, IsCommand}
 use Rattle.edit_script.specs.Marks.{line_start, mark_place}
 use Rattle.edit_script.specs.Scripts.{all_or_first, command_at, commands_after, pushed, script_read, RefusesScript}
 use Rattle.edit_script.proofs.LineStarts.{lines_of-from_line}
@@ -151,3 +151,7 @@ reads-refused input commands line rest reason reads some refused no_memory = rec
 pub reads-all : (input : List ℕ) (commands : List Command) (line : ℕ) (rest : List ℕ) → Reads input commands line rest → length rest ≡ 0 → script_read input ≡ Ok commands
 reads-all input commands line rest reads none =
     reads.so_far ∙ ap (λ (lines : List (List ℕ)). joined commands (commands_from (line + 1) lines)) (none-left rest none) ∙ ap Ok (append-nil commands)
+
+-- no command breaks a law
+pub keeps-none : All IsCommand []
+keeps-none = λ k d h. absurd (omega arith)

@@ -1,5 +1,6 @@
 -- What the tokens of a line say as a command, or the first reason to refuse the line.
 use Rattle.std.specs.Prelude.{◌≡◌, ◌≢◌, ℕ, List, [], ◌∷◌, Option, Some, None, Result, Ok, Err, IsOk, if◌then◌else◌, ⊤}
+use Rattle.solid_model.specs.Edits.{IsEdit}
 use Rattle.solid_model.specs.Parts.{Parts}
 use Rattle.solid_model.specs.declared.edit.Edit.{Edit}
 use Rattle.solid_model.specs.declared.edit.Edit.TheVariants as edits
@@ -13,6 +14,7 @@ use Rattle.view_settings.specs.declared.job.Job.TheVariants as jobs
 use Rattle.view_settings.specs.declared.verb.Verb.{Verb}
 use Rattle.view_settings.specs.declared.verb.Verb.TheVariants as verbs
 use Rattle.view_settings.specs.declared.word_fault.WordFault.{WordFault}
+use Rattle.view_settings.specs.Window.{IsWindow, FitsHeight, FitsMesh}
 use Rattle.view_settings.specs.Words.{job_after}
 use Rattle.edit_script.specs.declared.command.Command.{Command}
 use Rattle.edit_script.specs.declared.command.Command.TheVariants as commands
@@ -135,6 +137,15 @@ command_read line (word ∷ tokens) = keyword_read line (keyword_named word) tok
 abbrev pub line_read : ℕ → List (List ℕ) → Result (Option Command) ScriptReason
 line_read line tokens =
     if is_clause tokens then on_result (command_read line tokens) (λ command. Ok (Some command)) (λ reason. Err reason) else Ok None
+
+-- what a command always keeps: its edit is one, and what it draws may be drawn of its view
+abbrev pub IsCommand : Command → Type 0
+IsCommand (commands.Edit line edit) = IsEdit edit
+IsCommand (commands.Stray line) = ⊤
+IsCommand (commands.Render view) = IsWindow view
+IsCommand (commands.Height view) = IsWindow view × FitsHeight view
+IsCommand (commands.Mesh view) = IsWindow view × FitsMesh view
+IsCommand commands.Text = ⊤
 
 -- what a reader gives where this is meant: that, or want of memory where nothing is refused
 abbrev pub Gives : {A : Type 0} → Result A ScriptReason → Result A ScriptReason → Type 0

@@ -1,9 +1,11 @@
 // Edits.
-ghost use Rattle.std.specs.Prelude.{◌≡◌, ◌<◌, ◌∷◌, Ok, Err, length};
+ghost use Rattle.std.specs.Prelude.{◌≡◌, ◌<◌, ◌∷◌, Ok, Err, length, IfOk, IfSome};
 ghost use Rattle.clause_reader.specs.Forms.{form_read};
 ghost use Rattle.clause_reader.specs.Scan.{line_tokens};
 ghost use Rattle.clause_reader.specs.Tokens.{AreTokenBytes};
-ghost use Rattle.edit_script.specs.Commands.{add_read, cut_read, edit_or_stray, form_found, name_checked, name_found, put_read, set_read, Gives};
+ghost use Rattle.edit_script.specs.Commands.{add_read, cut_read, edit_or_stray, form_found, name_checked, name_found, put_read, set_read, Gives, IsCommand};
+ghost use Rattle.solid_model.specs.Names.{IsName};
+ghost use Rattle.solid_model.specs.Parts.{IsForm};
 
 use crate::token::{begins_comment, first_token};
 use crate::{Command, ScriptReason};
@@ -13,7 +15,8 @@ use std::alloc::Global;
 
 /// The command of `set`, whose name and form follow in the line.
 pub(crate) fn read_set(alloc: Global, line: u32, text: &[u8]) -> Result<Command, ScriptReason>
-    ensures { Gives (set_read line (line_tokens text.now)) result }
+    ensures gives { Gives (set_read line (line_tokens text.now)) result }
+    ensures keeps { IfOk result IsCommand }
 {
     let Some((name, rest)) = first_token(text) else {
         return Err(ScriptReason::TooShort);
@@ -27,7 +30,8 @@ pub(crate) fn read_set(alloc: Global, line: u32, text: &[u8]) -> Result<Command,
 
 /// The command of `add`, whose name and form follow in the line.
 pub(crate) fn read_add(alloc: Global, line: u32, text: &[u8]) -> Result<Command, ScriptReason>
-    ensures { Gives (add_read line (line_tokens text.now)) result }
+    ensures gives { Gives (add_read line (line_tokens text.now)) result }
+    ensures keeps { IfOk result IsCommand }
 {
     let Some((name, rest)) = first_token(text) else {
         return Err(ScriptReason::TooShort);
@@ -42,7 +46,8 @@ pub(crate) fn read_add(alloc: Global, line: u32, text: &[u8]) -> Result<Command,
 
 /// The command of `put`, whose two names and form follow in the line.
 pub(crate) fn read_put(alloc: Global, line: u32, text: &[u8]) -> Result<Command, ScriptReason>
-    ensures { Gives (put_read line (line_tokens text.now)) result }
+    ensures gives { Gives (put_read line (line_tokens text.now)) result }
+    ensures keeps { IfOk result IsCommand }
 {
     let Some((next, rest)) = first_token(text) else {
         return Err(ScriptReason::TooShort);
@@ -63,7 +68,8 @@ pub(crate) fn read_put(alloc: Global, line: u32, text: &[u8]) -> Result<Command,
 
 /// The command of `cut`, whose name follows in the line.
 pub(crate) fn read_cut(alloc: Global, line: u32, text: &[u8]) -> Result<Command, ScriptReason>
-    ensures { Gives (cut_read line (line_tokens text.now)) result }
+    ensures gives { Gives (cut_read line (line_tokens text.now)) result }
+    ensures keeps { IfOk result IsCommand }
 {
     let Some((name, rest)) = first_token(text) else {
         return Err(ScriptReason::TooShort);
@@ -92,7 +98,8 @@ fn check_name(name: &[u8], rest: &[u8]) -> Result<(), ScriptReason>
 
 // The form that the line with which a text begins says. `None`: an argument begins with `#`.
 fn find_form(alloc: Global, text: &[u8]) -> Result<Option<Form>, ScriptReason>
-    ensures { Gives (form_found (form_read (line_tokens text.now))) result }
+    ensures gives { Gives (form_found (form_read (line_tokens text.now))) result }
+    ensures keeps { IfOk result (λ found. IfSome found IsForm) }
 {
     match read_form(alloc, text) {
         Ok(form) => Ok(Some(form)),
@@ -109,7 +116,8 @@ fn find_form(alloc: Global, text: &[u8]) -> Result<Option<Form>, ScriptReason>
 fn find_name(alloc: Global, token: &[u8]) -> Result<Option<Name>, ScriptReason>
     requires bytes { AreTokenBytes token.now }
     requires some { 0 < length token.now }
-    ensures { Gives (Ok (name_found token.now)) result }
+    ensures gives { Gives (Ok (name_found token.now)) result }
+    ensures keeps { IfOk result (λ found. IfSome found IsName) }
 {
     if begins_comment(token) {
         return Ok(None);

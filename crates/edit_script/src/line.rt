@@ -1,7 +1,7 @@
 // The command of a line.
-ghost use Rattle.std.specs.Prelude.{◌≡◌};
+ghost use Rattle.std.specs.Prelude.{IfOk, IfSome};
 ghost use Rattle.clause_reader.specs.Scan.{line_tokens};
-ghost use Rattle.edit_script.specs.Commands.{after_keyword, keyword_read, line_read, Gives};
+ghost use Rattle.edit_script.specs.Commands.{after_keyword, keyword_read, line_read, Gives, IsCommand};
 ghost use Rattle.edit_script.specs.Keywords.{keyword_named};
 
 use crate::draw::{read_draw, read_text};
@@ -19,7 +19,8 @@ pub(crate) fn read_line(
     line: u32,
     text: &[u8],
 ) -> Result<Option<Command>, ScriptReason>
-    ensures { Gives (line_read line (line_tokens text.now)) result }
+    ensures gives { Gives (line_read line (line_tokens text.now)) result }
+    ensures keeps { IfOk result (λ found. IfSome found IsCommand) }
 {
     let Some((word, rest)) = first_token(text) else {
         return Ok(None);
@@ -35,7 +36,8 @@ pub(crate) fn read_line(
 
 // The command of this word, whose other tokens follow in the line.
 fn read_command(alloc: Global, line: u32, word: &[u8], text: &[u8]) -> Result<Command, ScriptReason>
-    ensures { Gives (keyword_read line (keyword_named word.now) (line_tokens text.now)) result }
+    ensures gives { Gives (keyword_read line (keyword_named word.now) (line_tokens text.now)) result }
+    ensures keeps { IfOk result IsCommand }
 {
     match read_keyword(word) {
         None => Err(ScriptReason::UnknownCommand),
@@ -50,7 +52,8 @@ fn read_after(
     keyword: Keyword,
     text: &[u8],
 ) -> Result<Command, ScriptReason>
-    ensures { Gives (after_keyword line keyword (line_tokens text.now)) result }
+    ensures gives { Gives (after_keyword line keyword (line_tokens text.now)) result }
+    ensures keeps { IfOk result IsCommand }
 {
     match keyword {
         Keyword::Set => read_set(alloc, line, text),

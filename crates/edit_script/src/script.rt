@@ -1,7 +1,7 @@
 // A script from an input.
-ghost use Rattle.std.specs.Prelude.{◌≡◌, ◌^◌, ◌<◌, Ok, length, MatchResult, OnOk};
+ghost use Rattle.std.specs.Prelude.{◌≡◌, ◌^◌, ◌<◌, Ok, length, All, IfOk, MatchResult, OnOk};
 ghost use Rattle.clause_reader.specs.Scan.{line_tokens};
-ghost use Rattle.edit_script.specs.Commands.{line_read};
+ghost use Rattle.edit_script.specs.Commands.{line_read, IsCommand};
 ghost use Rattle.edit_script.specs.Scripts.{pushed, script_read, RefusesScript};
 ghost use Rattle.solid_model.specs.Refusals.{RefusesAs, WantsMemoryFor};
 
@@ -18,8 +18,9 @@ use std::alloc::Global;
 /// line 0 where there is no mark, or `NoMemory` on a line up to which none is refused.
 pub fn read_script(alloc: Global, input: &[u8]) -> Result<Vec<Command>, ScriptFault>
     requires { length input.now < 2 ^ 32 }
-    ensures { MatchResult result (λ commands. script_read input.now ≡ Ok commands.items)
+    ensures script { MatchResult result (λ commands. script_read input.now ≡ Ok commands.items)
         (RefusesScript input.now) }
+    ensures keeps { IfOk result (λ commands. All IsCommand commands.items) }
 {
     let Some(mark) = find_mark(input) else {
         return Err(fault(0, ScriptReason::NoMark));
@@ -46,6 +47,7 @@ fn push_line(
 ) -> Result<(), ScriptReason>
     ensures ok { OnOk result (pushed commands.old.items (line_read line (line_tokens text.now))
         ≡ Ok commands.new.items) }
+    ensures keeps { All IsCommand commands.old.items → OnOk result (All IsCommand commands.new.items) }
     ensures refused { RefusesAs (line_read line (line_tokens text.now)) ScriptReason.NoMemory result }
     ensures no_memory { WantsMemoryFor (line_read line (line_tokens text.now)) ScriptReason.NoMemory result }
 {

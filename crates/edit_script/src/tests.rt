@@ -1,6 +1,10 @@
+ghost use Rattle.std.specs.Prelude.{◌^◌, ◌<◌, length};
+
 use crate::{Command, ScriptFault, ScriptReason, read_script, split_input};
 use fixed_ops::{Fx, Op};
 use solid_model::Edit;
+use std::alloc::Global;
+use std::process::Abort;
 use std::test::Fail;
 
 #[test]
@@ -21,9 +25,19 @@ fn finds_the_first_mark_line(rt: HostRuntime) {
     }
 }
 
+// Reads an input that is refused, and compares the line and the reason.
+fn expect_refusal(rt: &impl Abort, alloc: Global, input: &[u8], fault: ScriptFault)
+    requires { length input.now < 2 ^ 32 }
+{
+    match read_script(alloc, input) {
+        Ok(_) => assert!(rt; false, "{input:?} is read"),
+        Err(found) => assert_eq!(rt; found, fault),
+    }
+}
+
 #[test]
 fn refuses_the_first_bad_line(rt: HostRuntime) {
-    let cases: [(&[u8], u32, ScriptReason); 32] = [
+    let cases: [(&[u8], u32, ScriptReason); 12] = [
         (b"", 0, ScriptReason::NoMark),
         (b"x var-x\nrender\n", 0, ScriptReason::NoMark),
         (b"x var-x\n%% render\n", 0, ScriptReason::NoMark),
@@ -40,32 +54,47 @@ fn refuses_the_first_bad_line(rt: HostRuntime) {
             6,
             ScriptReason::TooShort,
         ),
-        (b"%%\nset x", 2, ScriptReason::TooShort),
-        (b"%%\nset #x", 2, ScriptReason::TooShort),
-        (b"%%\nadd #x", 2, ScriptReason::TooShort),
-        (b"%%\nput x #y", 2, ScriptReason::TooShort),
-        (b"%%\nput x", 2, ScriptReason::TooShort),
-        (b"%%\nput x #y paint", 2, ScriptReason::BadName),
-        (b"%%\nadd y paint", 2, ScriptReason::UnknownOperation),
-        (b"%%\nset #x #y", 2, ScriptReason::UnknownOperation),
-        (b"%%\nput #x y neg", 2, ScriptReason::WrongArity),
-        (b"%%\nset x min #a", 2, ScriptReason::WrongArity),
-        (b"%%\nset x const 1 2", 2, ScriptReason::WrongArity),
-        (b"%%\ncut x y", 2, ScriptReason::WrongArity),
-        (b"%%\ncut #x #y", 2, ScriptReason::WrongArity),
-        (b"%%\nset x const #1", 2, ScriptReason::BadNumeral),
-        (b"%%\nadd x const 1e", 2, ScriptReason::BadNumeral),
-        (b"%%\nrender d=1", 2, ScriptReason::BadSetting),
-        (b"%%\nheight w=1025", 2, ScriptReason::BadSetting),
-        (b"%%\nrender w=1 w=1", 2, ScriptReason::BadSetting),
-        (b"%%\nmesh x0=0 x1=0", 2, ScriptReason::BadSetting),
-        (b"%%\nrender x0=1 x1=0", 2, ScriptReason::BadSetting),
     ];
     for (input, line, reason) in cases {
-        match read_script(rt.alloc(), input) {
-            Ok(_) => assert!(rt; false, "{input:?} is read"),
-            Err(fault) => assert_eq!(rt; fault, ScriptFault { line, reason }),
-        }
+        expect_refusal(&rt, rt.alloc(), input, ScriptFault { line, reason });
+    }
+}
+
+#[test]
+fn tells_the_lowest_reason(rt: HostRuntime) {
+    let cases: [(&[u8], ScriptReason); 12] = [
+        (b"%%\nset #x", ScriptReason::TooShort),
+        (b"%%\nadd #x", ScriptReason::TooShort),
+        (b"%%\nput x #y", ScriptReason::TooShort),
+        (b"%%\nput x", ScriptReason::TooShort),
+        (b"%%\nput x #y paint", ScriptReason::BadName),
+        (b"%%\nset #x #y", ScriptReason::UnknownOperation),
+        (b"%%\nput #x y neg", ScriptReason::WrongArity),
+        (b"%%\nset x min #a", ScriptReason::WrongArity),
+        (b"%%\nset x const 1 a", ScriptReason::WrongArity),
+        (b"%%\ncut #x #y", ScriptReason::WrongArity),
+        (b"%%\nset x const #1", ScriptReason::BadNumeral),
+        (b"%%\nadd x const 1e", ScriptReason::BadNumeral),
+    ];
+    for (input, reason) in cases {
+        expect_refusal(&rt, rt.alloc(), input, ScriptFault { line: 2, reason });
+    }
+}
+
+#[test]
+fn refuses_settings(rt: HostRuntime) {
+    let cases: [&[u8]; 7] = [
+        b"%%\nrender w",
+        b"%%\nrender d=1",
+        b"%%\nheight w=1025",
+        b"%%\nrender w=1 w=1",
+        b"%%\nrender x0=a",
+        b"%%\nmesh x0=0 x1=0",
+        b"%%\nrender x0=1 x1=0",
+    ];
+    for input in cases {
+        let reason = ScriptReason::BadSetting;
+        expect_refusal(&rt, rt.alloc(), input, ScriptFault { line: 2, reason });
     }
 }
 

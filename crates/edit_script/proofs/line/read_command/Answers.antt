@@ -5,5 +5,5 @@ use Rattle.edit_script.proofs.CommandLemmas.{unknown}
 use Rattle.edit_script.proofs.KeywordLemmas.{keyword_found}
 use Rattle.edit_script.proofs.line.read_command.Goals as goal
 
-pub returns-in-None : goal.returns-in-None
-returns-in-None c = unknown c.args.line c.args.word.now (line_tokens c.args.text.now) (keyword_found c.args.word.now None tt c.in-None.ensures.missing)
+pub returns-in-None-clause-gives : goal.returns-in-None-clause-gives
+returns-in-None-clause-gives c = unknown c.args.line c.args.word.now (line_tokens c.args.text.now) (keyword_found c.args.word.now None tt c.in-None.ensures.missing)

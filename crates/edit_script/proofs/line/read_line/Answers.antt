@@ -4,7 +4,7 @@ use Rattle.clause_reader.specs.Scan.{line_tokens}
 use Rattle.edit_script.proofs.CommandLemmas.{refused-line}
 use Rattle.edit_script.proofs.line.read_line.Goals as goal
 
-pub returns-in-Err : goal.returns-in-Err
-returns-in-Err c =
+pub returns-in-Err-clause-gives : goal.returns-in-Err-clause-gives
+returns-in-Err-clause-gives c =
     refused-line c.args.line c.in-Some.word.now (line_tokens c.in-Some.rest.now) (line_tokens c.args.text.now) c.in-Err.reason c.in-Some.ensures.tokens
-    (sym c.begins_comment.ensures ∙ c.if-begins_comment.false) c.in-Err.ensures
+    (sym c.begins_comment.ensures ∙ c.if-begins_comment.false) c.in-Err.ensures.gives
