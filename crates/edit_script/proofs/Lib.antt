@@ -2,6 +2,7 @@ pub mod CommandLemmas
 pub mod KeywordLemmas
 pub mod LineStarts
 pub mod MarkLemmas
+pub mod ReasonLemmas
 pub mod ScriptExact
 pub mod ScriptLemmas
 pub mod SettingLemmas

@@ -1,11 +1,14 @@
 -- Reading answers what the lines say one by one.
-use Rattle.std.proofs.Common.{◌≡◌, ℕ, List, [], ◌∷◌, ◌++◌, map, ◌⊎◌, inl, inr, Option, Some, None, Result, Ok, Err, refl, ap, sym, ◌∙◌}
+use Rattle.std.proofs.Common.{◌≡◌, ℕ, ◌+◌, take, drop, List, [], ◌∷◌, ◌++◌, map, ◌⊎◌, inl, inr, Option, Some, None, Result, Ok, Err, refl, ap, sym, ◌∙◌}
+use Rattle.std.specs.Option.{option_map, option_map_or}
+use Rattle.clause_reader.specs.Lines.{lines_of}
 use Rattle.clause_reader.specs.Reading.{on_result}
 use Rattle.edit_script.specs.declared.command.Command.{Command}
 use Rattle.edit_script.specs.declared.script_fault.ScriptFault.{ScriptFault}
 use Rattle.edit_script.specs.declared.script_reason.ScriptReason.TheVariants.{NoMark}
-use Rattle.edit_script.specs.Marks.{mark_place}
-use Rattle.edit_script.specs.ScriptLaws.{ScriptsAreExact, RefusalsAreExact, SaysCommands, HasNoMark, HasBadLine}
+use Rattle.edit_script.specs.Marks.{line_start, mark_place}
+use Rattle.edit_script.specs.ScriptLaws.{ScriptsAreExact, RefusalsAreExact, InputsAreSplit, SaysCommands, HasNoMark, HasBadLine, Splits}
+use Rattle.edit_script.proofs.LineStarts.{lines_of-before, lines_of-from_line}
 use Rattle.edit_script.specs.Scripts.{all_or_first, command_at, command_lines, commands_after, script_read}
 
 abbrev Said : Type 0
@@ -69,3 +72,18 @@ refusals-exact input fault = (λ e. to (mark_place input) refl e, from)
     from : HasNoMark input fault ⊎ HasBadLine input fault → script_read input ≡ Err fault
     from (inl none) = ap (commands_after input) none.none ∙ ap (λ (f : ScriptFault). Err f) (sym none.told)
     from (inr bad) = ap (commands_after input) bad.marked ∙ ap all_or_first bad.first ∙ fault-first bad.before fault bad.after
+
+pub inputs-split : InputsAreSplit
+inputs-split input start end e = by (mark_place input) refl e
+  where
+    by : (m : Option ℕ) → mark_place input ≡ m → option_map {U = ℕ × ℕ} (λ place. (line_start input place, line_start input (place + 1))) m ≡ Some (start, end) → Splits input start end
+    by None is ends = (cc)
+    by (Some mark) is ends =
+        let from : line_start input mark ≡ start = ap (λ (o : Option (ℕ × ℕ)). option_map_or (λ pair. pair.0) o 0) ends in
+        let to : line_start input (mark + 1) ≡ end = ap (λ (o : Option (ℕ × ℕ)). option_map_or (λ pair. pair.1) o 0) ends in
+        record {
+          mark = mark;
+          marked = is;
+          before = ap (λ n. lines_of (take n input)) (sym from) ∙ lines_of-before input mark;
+          after = ap (λ n. lines_of (drop n input)) (sym to) ∙ lines_of-from_line input (mark + 1);
+        }

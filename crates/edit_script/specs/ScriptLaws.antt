@@ -1,9 +1,10 @@
 -- What always holds of scripts: an input says what its lines say one by one, and nothing else.
-use Rattle.std.specs.Prelude.{◌≡◌, ◌↔◌, ℕ, List, ◌∷◌, ◌++◌, ◌⊎◌, map, Some, None, Result, Ok, Err}
+use Rattle.std.specs.Prelude.{◌≡◌, ◌↔◌, ℕ, ◌+◌, List, ◌∷◌, ◌++◌, ◌⊎◌, map, take, drop, Some, None, Result, Ok, Err}
+use Rattle.clause_reader.specs.Lines.{lines_of}
 use Rattle.edit_script.specs.declared.command.Command.{Command}
 use Rattle.edit_script.specs.declared.script_fault.ScriptFault.{ScriptFault}
 use Rattle.edit_script.specs.declared.script_reason.ScriptReason.TheVariants.{NoMark}
-use Rattle.edit_script.specs.Marks.{mark_place}
+use Rattle.edit_script.specs.Marks.{mark_ends, mark_place}
 use Rattle.edit_script.specs.Scripts.{command_lines, command_at, script_read}
 
 -- there is a mark line, and each command line after it says one of the commands, in their order
@@ -33,3 +34,14 @@ ScriptsAreExact = (input : List ℕ) (commands : List Command) → (script_read 
 abbrev pub RefusalsAreExact : Type 0
 RefusalsAreExact =
     (input : List ℕ) (fault : ScriptFault) → (script_read input ≡ Err fault) ↔ (HasNoMark input fault ⊎ HasBadLine input fault)
+
+-- what stands around a mark line: the lines before it, and the lines after it
+pub record Splits (input : List ℕ) (start end : ℕ) : Type 0 where
+  pub mark : ℕ
+  pub marked : mark_place input ≡ Some mark
+  pub before : lines_of (take start input) ≡ take mark (lines_of input)
+  pub after : lines_of (drop end input) ≡ drop (mark + 1) (lines_of input)
+
+-- the input splits so at its first mark line
+abbrev pub InputsAreSplit : Type 0
+InputsAreSplit = (input : List ℕ) (start end : ℕ) → mark_ends input ≡ Some (start, end) → Splits input start end

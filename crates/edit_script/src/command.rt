@@ -8,8 +8,8 @@ use view_settings::View;
 pub enum Command {
     /// An edit, and the number of its line among all lines of the input.
     Edit(u32, Edit),
-    /// An edit that names a clause by a token that begins with `#`, so that no clause has that name,
-    /// as the number of its line.
+    /// The line of an edit with a token that begins with `#` where it should name a clause, so that
+    /// it names none.
     Stray(u32),
     /// An image of this view.
     Render(View),

@@ -14,7 +14,7 @@ mod script_reason;
 mod token;
 
 pub use command::Command;
-pub use laws::scripts_are_exact;
+pub use laws::{inputs_are_split, reasons_are_lowest, scripts_are_exact};
 pub use mark::split_input;
 pub use script::read_script;
 pub use script_fault::ScriptFault;

@@ -36,7 +36,8 @@ pub(crate) fn read_line(
 
 // The command of this word, whose other tokens follow in the line.
 fn read_command(alloc: Global, line: u32, word: &[u8], text: &[u8]) -> Result<Command, ScriptReason>
-    ensures gives { Gives (keyword_read line (keyword_named word.now) (line_tokens text.now)) result }
+    ensures gives { Gives (keyword_read line (keyword_named word.now) (line_tokens text.now))
+        result }
     ensures keeps { IfOk result IsCommand }
 {
     match read_keyword(word) {

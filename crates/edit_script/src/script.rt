@@ -47,9 +47,12 @@ fn push_line(
 ) -> Result<(), ScriptReason>
     ensures ok { OnOk result (pushed commands.old.items (line_read line (line_tokens text.now))
         ≡ Ok commands.new.items) }
-    ensures keeps { All IsCommand commands.old.items → OnOk result (All IsCommand commands.new.items) }
-    ensures refused { RefusesAs (line_read line (line_tokens text.now)) ScriptReason.NoMemory result }
-    ensures no_memory { WantsMemoryFor (line_read line (line_tokens text.now)) ScriptReason.NoMemory result }
+    ensures keeps { All IsCommand commands.old.items
+        → OnOk result (All IsCommand commands.new.items) }
+    ensures refused { RefusesAs (line_read line (line_tokens text.now)) ScriptReason.NoMemory
+        result }
+    ensures no_memory { WantsMemoryFor (line_read line (line_tokens text.now))
+        ScriptReason.NoMemory result }
 {
     match read_line(alloc, line, text) {
         Ok(None) => Ok(()),
