@@ -52,7 +52,8 @@ edit_with edit None form = None
 -- an edit of a name and of the form that tokens say
 abbrev pub edit_read : ℕ → (List ℕ → Parts → Edit) → List ℕ → List (List ℕ) → Result Command ScriptReason
 edit_read line edit name form =
-    on_result (form_found (form_read form)) (λ found. Ok (edit_or_stray line (edit_with edit (name_found name) found))) (λ reason. Err reason)
+    on_result (form_found (form_read form))
+    (λ found. Ok (edit_or_stray line (edit_with edit (name_found name) found))) (λ reason. Err reason)
 
 -- the first fault of the name of a new clause: no operation follows it, or it begins with `#`
 abbrev pub name_checked : List ℕ → List (List ℕ) → Result ⊤ ScriptReason
@@ -77,12 +78,14 @@ add_read line (name ∷ form) = under_name name form (edit_read line edits.Add n
 abbrev pub put_read : ℕ → List (List ℕ) → Result Command ScriptReason
 put_read line [] = Err TooShort
 put_read line (before ∷ []) = Err TooShort
-put_read line (before ∷ name ∷ form) = under_name name form (edit_read line (λ next said. edits.Put next name said) before form)
+put_read line (before ∷ name ∷ form) =
+    under_name name form (edit_read line (λ next said. edits.Put next name said) before form)
 
 -- `cut NAME`
 abbrev pub cut_read : ℕ → List (List ℕ) → Result Command ScriptReason
 cut_read line [] = Err TooShort
-cut_read line (name ∷ []) = Ok (if begins_comment name then commands.Stray line else commands.Edit line (edits.Cut name))
+cut_read line (name ∷ []) =
+    Ok (if begins_comment name then commands.Stray line else commands.Edit line (edits.Cut name))
 cut_read line (name ∷ next ∷ others) = Err WrongArity
 
 -- `text`
@@ -136,7 +139,8 @@ command_read line (word ∷ tokens) = keyword_read line (keyword_named word) tok
 -- the command of a line, or none where it is blank or a comment
 abbrev pub line_read : ℕ → List (List ℕ) → Result (Option Command) ScriptReason
 line_read line tokens =
-    if is_clause tokens then on_result (command_read line tokens) (λ command. Ok (Some command)) (λ reason. Err reason) else Ok None
+    if is_clause tokens then on_result (command_read line tokens) (λ command. Ok (Some command)) (λ reason. Err reason)
+    else Ok None
 
 -- what a command always keeps: its edit is one, and what it draws may be drawn of its view
 abbrev pub IsCommand : Command → Type 0

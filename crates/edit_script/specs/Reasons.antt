@@ -73,8 +73,10 @@ abbrev pub holds_after : ScriptReason → Keyword → List (List ℕ) → Bool
 holds_after TooShort keyword tokens = nat_lt (length tokens) (least_after keyword)
 holds_after BadName keyword tokens = option_map_or begins_comment (new_name keyword tokens) false
 holds_after UnknownOperation keyword tokens = is_unknown (form_of keyword tokens)
-holds_after WrongArity keyword tokens = has_more keyword tokens || of_form (λ op args. not (length args == takes op)) (form_of keyword tokens)
-holds_after BadNumeral keyword tokens = of_form (λ op args. list_any is_no_numeral (numerals op args)) (form_of keyword tokens)
+holds_after WrongArity keyword tokens =
+    has_more keyword tokens || of_form (λ op args. not (length args == takes op)) (form_of keyword tokens)
+holds_after BadNumeral keyword tokens =
+    of_form (λ op args. list_any is_no_numeral (numerals op args)) (form_of keyword tokens)
 holds_after BadSetting keyword tokens = is_bad_draw keyword tokens
 holds_after reason keyword tokens = false
 
@@ -99,4 +101,6 @@ reason_in (Err reason) = Some reason
 
 -- a line is refused for the lowest reason that holds in it, and says a command where none does
 abbrev pub ReasonsAreLowest : Type 0
-ReasonsAreLowest = (line : ℕ) (tokens : List (List ℕ)) → reason_in (command_read line tokens) ≡ find (λ reason. holds tokens reason) reasons
+ReasonsAreLowest =
+    (line : ℕ) (tokens : List (List ℕ))
+    → reason_in (command_read line tokens) ≡ find (λ reason. holds tokens reason) reasons

@@ -28,12 +28,15 @@ pub record HasBadLine (input : List ℕ) (fault : ScriptFault) : Type 0 where
 
 -- reading answers commands exactly where the lines say them
 abbrev pub ScriptsAreExact : Type 0
-ScriptsAreExact = (input : List ℕ) (commands : List Command) → (script_read input ≡ Ok commands) ↔ SaysCommands input commands
+ScriptsAreExact =
+    (input : List ℕ) (commands : List Command) → (script_read input ≡ Ok commands) ↔ SaysCommands input commands
 
--- reading answers a line and a reason exactly where the input has no mark line, or this line is the first that is refused
+-- reading answers a line and a reason exactly where the input has no mark line, or this line is the first that is
+-- refused
 abbrev pub RefusalsAreExact : Type 0
 RefusalsAreExact =
-    (input : List ℕ) (fault : ScriptFault) → (script_read input ≡ Err fault) ↔ (HasNoMark input fault ⊎ HasBadLine input fault)
+    (input : List ℕ) (fault : ScriptFault)
+    → (script_read input ≡ Err fault) ↔ (HasNoMark input fault ⊎ HasBadLine input fault)
 
 -- what stands around a mark line: the lines before it, and the lines after it
 pub record Splits (input : List ℕ) (start end : ℕ) : Type 0 where

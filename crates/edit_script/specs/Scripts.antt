@@ -16,13 +16,16 @@ command_lines input mark = filter (λ line. is_clause line.1) (drop (mark + 1) (
 
 -- the command of a line, or the line with the reason to refuse it
 abbrev pub command_at : ℕ × List (List ℕ) → Result Command ScriptFault
-command_at line = on_result (command_read line.0 line.1) (λ command. Ok command) (λ reason. Err (record { line = line.0; reason = reason }))
+command_at line =
+    on_result (command_read line.0 line.1) (λ command. Ok command)
+    (λ reason. Err (record { line = line.0; reason = reason }))
 
 -- all the values, or the first fault
 abbrev pub all_or_first : {A E : Type 0} → List (Result A E) → Result (List A) E
 all_or_first [] = Ok []
 all_or_first (result ∷ results) =
-    on_result result (λ value. on_result (all_or_first results) (λ values. Ok (value ∷ values)) (λ fault. Err fault)) (λ fault. Err fault)
+    on_result result
+    (λ value. on_result (all_or_first results) (λ values. Ok (value ∷ values)) (λ fault. Err fault)) (λ fault. Err fault)
 
 -- the commands after the mark line, or line 0 where there is none
 abbrev pub commands_after : List ℕ → Option ℕ → Result (List Command) ScriptFault
