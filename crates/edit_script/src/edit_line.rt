@@ -1,9 +1,9 @@
 // Edits.
-ghost use Rattle.std.specs.Prelude.{◌≡◌, ◌<◌, ◌∷◌, Ok, Err, length, IfOk, IfSome};
+ghost use Rattle.std.specs.Prelude.{◌≡◌, ◌<◌, Ok, length, IfOk, IfSome};
 ghost use Rattle.clause_reader.specs.Forms.{form_read};
 ghost use Rattle.clause_reader.specs.Scan.{line_tokens};
 ghost use Rattle.clause_reader.specs.Tokens.{AreTokenBytes};
-ghost use Rattle.edit_script.specs.Commands.{add_read, cut_read, edit_or_stray, form_found, name_checked, name_found, put_read, set_read, Gives, IsCommand};
+ghost use Rattle.edit_script.specs.Commands.{add_read, cut_read, form_found, name_checked, name_found, put_read, set_read, Gives, IsCommand};
 ghost use Rattle.solid_model.specs.Names.{IsName};
 ghost use Rattle.solid_model.specs.Parts.{IsForm};
 
