@@ -148,3 +148,43 @@ fn keeps_the_lines_of_edits(rt: HostRuntime) -> Result<(), Fail> {
     assert_eq!(rt; read_script(rt.alloc(), b"x var-x\n%%\n # x\n\t")?.len(), 0);
     Ok(())
 }
+
+#[test]
+fn reads_edits_between_draws(rt: HostRuntime) -> Result<(), Fail> {
+    let input = b"x var-x\nq const 0.5\nc sub x q\n%%\nrender w=16 h=1\nset q const -0.75\n\
+        render w=16 h=1\n";
+    let commands = read_script(rt.alloc(), input)?;
+    assert_eq!(rt; commands.len(), 3);
+    assert!(rt;
+        matches!(&commands[0], Command::Render(view) if view.w == 16 && view.x0 == -1 << 32)
+    );
+    assert!(rt;
+        matches!(&commands[1], Command::Edit(6, Edit::Set(name, form))
+        if name.bytes() == b"q".as_slice() && form.op == Op::Const
+            && form.value == Fx::from_raw(-3221225472))
+    );
+    assert!(rt; matches!(&commands[2], Command::Render(view) if view.w == 16 && view.h == 1));
+    Ok(())
+}
+
+#[test]
+fn reads_edits_of_each_kind(rt: HostRuntime) -> Result<(), Fail> {
+    let input = b"x var-x\n%%\nput x c const 0.5\nadd f sub x c\ntext\ncut f\ncut x\ncut c\n";
+    let commands = read_script(rt.alloc(), input)?;
+    assert_eq!(rt; commands.len(), 6);
+    assert!(rt;
+        matches!(&commands[0], Command::Edit(3, Edit::Put(next, name, _))
+        if next.bytes() == b"x".as_slice() && name.bytes() == b"c".as_slice())
+    );
+    assert!(rt;
+        matches!(&commands[1], Command::Edit(4, Edit::Add(name, form))
+        if name.bytes() == b"f".as_slice() && form.op == Op::Sub && form.args.len() == 2)
+    );
+    assert!(rt; matches!(&commands[2], Command::Text));
+    assert!(rt; matches!(&commands[3], Command::Edit(6, Edit::Cut(_))));
+    assert!(rt;
+        matches!(&commands[5], Command::Edit(8, Edit::Cut(name))
+        if name.bytes() == b"c".as_slice())
+    );
+    Ok(())
+}
