@@ -11,13 +11,15 @@ use view_settings::View;
 const HALF: i64 = 1 << 31;
 
 // The ball of radius 0.5.
-const BALL: &[u8] = b"x var-x\ny var-y\nz var-z\na square x\nb square y\nc square z\nd add a b\ne add d c\nr const 0.25\nf sub e r";
+const BALL: &[u8] =
+    b"x var-x\ny var-y\nz var-z\na square x\nb square y\nc square z\nd add a b\ne add d c\nr const 0.25\nf sub e r";
 
 // What lies below 0 along both x and y.
 const WALL: &[u8] = b"x var-x\ny var-y\nm max x y";
 
 // Between two spheres.
-const SHELL: &[u8] = b"x var-x\ny var-y\nz var-z\na square x\nb square y\nc square z\nd add a b\ne add d c\nr const 0.5\nf sub e r\ng abs f\nt const 0.0625\nh sub g t";
+const SHELL: &[u8] =
+    b"x var-x\ny var-y\nz var-z\na square x\nb square y\nc square z\nd add a b\ne add d c\nr const 0.5\nf sub e r\ng abs f\nt const 0.0625\nh sub g t";
 
 // A grid of n cells along each axis, from -1 to 1.
 fn view(n: u32) -> Result<View, Fail> {
@@ -105,6 +107,9 @@ fn mixed_cells_are_in_order_with_their_values(rt: HostRuntime) -> Result<(), Fai
     let zero = Fx::from_raw(0);
     let inner = Fx::from_raw(-HALF);
     let cell = list.cells.get(3).ok_or("a cell")?;
-    assert_eq!(rt; cell.values, [zero, zero, zero, zero, inner, zero, zero, zero]);
+    assert_eq!(rt;
+        cell.values,
+        [zero, zero, zero, zero, inner, zero, zero, zero]
+    );
     Ok(())
 }

@@ -19,7 +19,6 @@ use Rattle.view_settings.specs.Places.{point_of}
 use Rattle.view_settings.specs.Window.{Window}
 use Rattle.view_settings.specs.declared.lattice.Lattice.TheVariants as lattices
 use Rattle.modeller_cmd.specs.Meshes.{grid_of, grid_value}
-use Rattle.modeller_cmd.specs.Planes.{IsFilled, IsPlaneOf, mixed_in_layers}
 
 -- ---- pieces of one length, joined end to end
 
@@ -119,67 +118,3 @@ grid_bordered view value = record {
   where
     own : GridPoint → ℤ
     own p = value (point_of view lattices.Grid p.x p.y p.z)
-
--- ---- planes
-
--- a filled plane has the values of the grid at its height
-pub filled_plane : (view : Window) (value : Point → ℤ) (n z : ℕ) (plane : List ℤ) → view.n ≡ n → z ≤ n
-    → IsFilled (grid_value view value) (n + 1) z ((n + 1) * (n + 1)) plane → IsPlaneOf (grid_of view value) (n + 1) z plane
-filled_plane view value n z plane same low filled = record {
-  holds = λ x y d fx fy.
-      let side = n + 1 in
-      filled.holds (y * side + x) d (mul-add-lt y side x side fy fx)
-      ∙ ap (λ i. grid_value view value (point i ((y * side + x) / side) z)) (mod-mul-add y side x fx)
-      ∙ ap (λ j. grid_value view value (point x j z)) (div-mul-add y side x fx)
-      ∙ sym (grid_at view value (point x y z) (omega (arith, fx, same)) (omega (arith, fy, same)) (omega (arith, low, same)));
-}
-
--- one value more is filled
-pub one_filled : (value : GridPoint → ℤ) (side x y z at : ℕ) (v : ℤ) (plane : List ℤ) → x < side → at ≡ y * side + x → at < length plane → v ≡ value (point x y z)
-    → IsFilled value side z at plane → IsFilled value side z (at + 1) (set plane at v)
-one_filled value side x y z at v plane fx place within is filled = record {
-  holds = λ k d few. by k d few (cases_eq k at);
-}
-  where
-    here : v ≡ value (point (at % side) (at / side) z)
-    here =
-        is
-        ∙ ap (λ i. value (point i y z)) (sym (mod-mul-add y side x fx) ∙ ap (λ m. m % side) (sym place))
-        ∙ ap (λ j. value (point (at % side) j z)) (sym (div-mul-add y side x fx) ∙ ap (λ m. m / side) (sym place))
-
-    by : (k : ℕ) (d : ℤ) → k < at + 1 → (k ≡ at) ⊎ (k ≡ at → ⊥) → get_or (set plane at v) k d ≡ value (point (k % side) (k / side) z)
-    by k d few (inl same) =
-        ap (λ m. get_or (set plane at v) m d) same ∙ get_or-set_same plane at v d within ∙ here ∙ ap (λ m. value (point (m % side) (m / side) z)) (sym same)
-    by k d few (inr other) = get_or-set_other plane at k v d other ∙ filled.holds k d (omega (arith, few, other))
-
--- ---- the whole list
-
--- the mixed cells of all layers are those of the grid
-pub layers_listed : (view : Window) (value : Point → ℤ) (n : ℕ) (list : CellList) → n ≡ view.n → list.n ≡ n
-    → list.cells.items ≡ [] ++ mixed_in_layers (grid_of view value) n n → ListsCells view.n list (grid_of view value)
-unfolding grid_of mixed_cells
-layers_listed view value n list narrow count items = record {
-  x = refl;
-  y = refl;
-  z = refl;
-  border = grid_bordered view value;
-  count = count ∙ narrow;
-  cells = items ∙ ap (λ m. mixed_in_layers (grid_of view value) m m) narrow;
-}
-
--- ---- cells
-
--- a number of a plane is the value of a corner
-pub corner_value : (g : Grid) (side x y z h dx dy dz at : ℕ) (v : ℤ) (plane : List ℤ) → IsPlaneOf g side h plane → x + dx < side → y + dy < side
-    → at ≡ (y + dy) * side + (x + dx) → h ≡ z + dz → v ≡ get_or plane at v → v ≡ value_at g (point (x + dx) (y + dy) (z + dz))
-corner_value g side x y z h dx dy dz at v plane «is» fx fy place height read =
-    read ∙ ap (λ m. get_or plane m v) place ∙ «is».holds (x + dx) (y + dy) v fx fy ∙ ap (λ k. value_at g (point (x + dx) (y + dy) k)) height
-
--- pieces that are put behind one another
-pub pieces_more : {A : Type 0} (start old new a b c : List A) → old ≡ start ++ a → new ≡ old ++ b → c ≡ a ++ b → new ≡ start ++ c
-pieces_more start old new a b c before put more =
-    put ∙ ap (λ l. l ++ b) before ∙ append_assoc start a b ∙ ap (λ l. start ++ l) (sym more)
-
--- a cell is kept where it is mixed
-pub cell_kept : (cell : CellValues) (t : Bool) → t ≡ is_mixed_cell cell → filter is_mixed_cell (cell ∷ []) ≡ (if t then cell ∷ [] else [])
-cell_kept cell t same = ap (λ b. if b then cell ∷ [] else []) (sym same)

@@ -5,7 +5,6 @@ pub mod Images
 pub mod Meshes
 pub mod Notes
 pub mod Output
-pub mod Planes
 pub mod SoundTexts
 pub mod Statuses
 pub mod Stops

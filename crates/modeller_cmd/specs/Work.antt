@@ -4,6 +4,7 @@ use Rattle.fixed_ops.specs.Counts.{Counts, risen}
 use Rattle.height_map.specs.Bound.{height_points, height_spans}
 use Rattle.live_clauses.specs.Live.{root_of}
 use Rattle.box_chains.specs.Tallied.{CountsAtMost, CountsExactly}
+use Rattle.oct_descent.specs.Bound.{mesh_points, mesh_spans}
 use Rattle.quad_descent.specs.Raster.{fresh_points, fresh_spans}
 use Rattle.solid_model.specs.declared.clause.Clause.{Clause}
 use Rattle.view_settings.specs.Window.{Window}
@@ -47,12 +48,12 @@ height_work view clauses = record {
   plain = plain_depths view (length clauses);
 }
 
--- the work that a mesh of a solid over a view takes at most: each step of its root list at each point of the grid, and
--- beside it what all clauses would take
+-- the work that a mesh of a solid over a view takes at most: that of its root list, and beside it what all clauses would
+-- take
 abbrev pub mesh_work : Window → List Clause → Work
 mesh_work view clauses = record {
-  points = plain_grid view (length (root_of clauses));
-  spans = 0;
+  points = mesh_points view (root_of clauses);
+  spans = mesh_spans view (root_of clauses);
   plain = plain_grid view (length clauses);
 }
 

@@ -2,7 +2,6 @@
 #![tactic(auto)]
 
 mod asking;
-mod cells;
 mod command;
 mod count;
 mod draw;
