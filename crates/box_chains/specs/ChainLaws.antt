@@ -25,23 +25,34 @@ pub box-has_sides : (b : Indices) → IsBox b → 0 < sides b
 box-has_sides b is = omega (arith, is.x)
 
 -- more turns than there are sides change nothing
-chain-enough : (n m : ℕ) (d : Descent) (v : Visit) (s : Sample) → 0 < d.leaf → IsBox v.box → LiesIn v.box s → HalvesPart → sides v.box ≤ n → sides v.box ≤ m → chain_within n d v s ≡ chain_within m d v s
+chain-enough : (n m : ℕ) (d : Descent) (v : Visit) (s : Sample) → 0 < d.leaf → IsBox v.box
+    → LiesIn v.box s → HalvesPart → sides v.box ≤ n → sides v.box ≤ m
+    → chain_within n d v s ≡ chain_within m d v s
 unfolding chain_within
-chain-enough zero m d v s some is lies law few more = absurd (omega (arith, box-has_sides v.box is, few))
-chain-enough (suc n) zero d v s some is lies law few more = absurd (omega (arith, box-has_sides v.box is, more))
+chain-enough zero m d v s some is lies law few more =
+    absurd (omega (arith, box-has_sides v.box is, few))
+chain-enough (suc n) zero d v s some is lies law few more =
+    absurd (omega (arith, box-has_sides v.box is, more))
 chain-enough (suc n) (suc m) d v s some is lies law few more =
-    by (is_split d v) refl (λ part inside less. chain-enough n m d (next_visit d v s) s some (part-is_box d.leaf v.box (half_with d.leaf v.box s) part) inside law (omega (arith, less, few)) (omega (arith, less, more)))
+    by (is_split d v) refl (λ part inside less. chain-enough n m d (next_visit d v s) s some
+    (part-is_box d.leaf v.box (half_with d.leaf v.box s) part) inside law
+    (omega (arith, less, few)) (omega (arith, less, more)))
   where
     by : (t : Bool) → is_split d v ≡ t
-        → (IsPart d.leaf v.box (half_with d.leaf v.box s) → LiesIn (half_with d.leaf v.box s) s → sides (half_with d.leaf v.box s) < sides v.box → chain_within n d (next_visit d v s) s ≡ chain_within m d (next_visit d v s) s)
-        → v ∷ cond t (chain_within n d (next_visit d v s) s) [] ≡ v ∷ cond t (chain_within m d (next_visit d v s) s) []
+        → (IsPart d.leaf v.box (half_with d.leaf v.box s) → LiesIn (half_with d.leaf v.box s) s
+        → sides (half_with d.leaf v.box s) < sides v.box
+        → chain_within n d (next_visit d v s) s ≡ chain_within m d (next_visit d v s) s)
+        → v ∷ cond t (chain_within n d (next_visit d v s) s) [] ≡ v ∷ cond t
+        (chain_within m d (next_visit d v s) s) []
     by false e others = refl
     by true e others =
         let half = half_with-part law d.leaf v.box s some is lies in
-        ap (λ c. v ∷ c) (others half.0 half.1 (part-is_shorter d.leaf v.box (half_with d.leaf v.box s) (split-is_long d v e) half.0))
+        ap (λ c. v ∷ c) (others half.0 half.1 (part-is_shorter d.leaf v.box
+        (half_with d.leaf v.box s) (split-is_long d v e) half.0))
 
 -- a box that is not split ends the chain
-pub chain-ends : (d : Descent) (v : Visit) (s : Sample) → IsBox v.box → is_split d v ≡ false → chain d v s ≡ v ∷ []
+pub chain-ends : (d : Descent) (v : Visit) (s : Sample) → IsBox v.box → is_split d v ≡ false
+    → chain d v s ≡ v ∷ []
 unfolding chain_within
 chain-ends d v s is e = by (sides v.box) (box-has_sides v.box is)
   where
@@ -50,7 +61,9 @@ chain-ends d v s is e = by (sides v.box) (box-has_sides v.box is)
     by (suc n) h = rw e refl
 
 -- a box that is split has the chain of the half with the sample after it
-pub chain-goes_on : (d : Descent) (v : Visit) (s : Sample) → 0 < d.leaf → IsBox v.box → LiesIn v.box s → HalvesPart → is_split d v ≡ true → chain d v s ≡ v ∷ chain d (next_visit d v s) s
+pub chain-goes_on : (d : Descent) (v : Visit) (s : Sample) → 0 < d.leaf → IsBox v.box
+    → LiesIn v.box s → HalvesPart → is_split d v ≡ true
+    → chain d v s ≡ v ∷ chain d (next_visit d v s) s
 unfolding chain_within
 chain-goes_on d v s some is lies law e = by (sides v.box) refl (box-has_sides v.box is)
   where
@@ -62,10 +75,13 @@ chain-goes_on d v s some is lies law e = by (sides v.box) refl (box-has_sides v.
 
     by : (n : ℕ) → n ≡ sides v.box → 0 < n → chain_within n d v s ≡ v ∷ chain d (next_visit d v s) s
     by zero same h = absurd (omega (arith, h))
-    by (suc n) same h = rw e (ap (λ c. v ∷ c) (chain-enough n (sides (half_with d.leaf v.box s)) d (next_visit d v s) s some (part-is_box d.leaf v.box (half_with d.leaf v.box s) half.0) half.1 law (omega (arith, same, less)) (omega arith)))
+    by (suc n) same h = rw e (ap (λ c. v ∷ c) (chain-enough n (sides (half_with d.leaf v.box s)) d
+        (next_visit d v s) s some (part-is_box d.leaf v.box
+        (half_with d.leaf v.box s) half.0) half.1 law (omega (arith, same, less)) (omega arith)))
 
 -- a chain begins with its box
-pub chain-begins : (d : Descent) (v : Visit) (s : Sample) → IsBox v.box → (rest : List Visit) × (chain d v s ≡ v ∷ rest)
+pub chain-begins : (d : Descent) (v : Visit) (s : Sample) → IsBox v.box
+    → (rest : List Visit) × (chain d v s ≡ v ∷ rest)
 unfolding chain_within
 chain-begins d v s is = by (sides v.box) (box-has_sides v.box is)
   where
@@ -74,19 +90,24 @@ chain-begins d v s is = by (sides v.box) (box-has_sides v.box is)
     by (suc n) h = (cond (is_split d v) (chain_within n d (next_visit d v s) s) [], refl)
 
 -- the last item of what has one does not hang on the default
-last-given : (first : Visit) (rest : List Visit) (a b : Visit) → unwrap_or (last_or (Some first) rest) a ≡ unwrap_or (last_or (Some first) rest) b
+last-given : (first : Visit) (rest : List Visit) (a b : Visit)
+    → unwrap_or (last_or (Some first) rest) a ≡ unwrap_or (last_or (Some first) rest) b
 last-given first [] a b = refl
 last-given first (x ∷ rest) a b = last-given x rest a b
 
 -- the end of a chain is that of the half's
-pub end-goes_on : (d : Descent) (v : Visit) (s : Sample) → 0 < d.leaf → IsBox v.box → LiesIn v.box s → HalvesPart → is_split d v ≡ true → chain_end d v s ≡ chain_end d (next_visit d v s) s
+pub end-goes_on : (d : Descent) (v : Visit) (s : Sample) → 0 < d.leaf → IsBox v.box → LiesIn v.box s
+    → HalvesPart → is_split d v ≡ true → chain_end d v s ≡ chain_end d (next_visit d v s) s
 end-goes_on d v s some is lies law e =
     let half = half_with-part law d.leaf v.box s some is lies in
-    let begins = chain-begins d (next_visit d v s) s (part-is_box d.leaf v.box (half_with d.leaf v.box s) half.0) in
-    rw (chain-goes_on d v s some is lies law e) (rw (begins.1) (last-given (next_visit d v s) begins.0 v (next_visit d v s)))
+    let begins = chain-begins d (next_visit d v s) s (part-is_box d.leaf v.box
+    (half_with d.leaf v.box s) half.0) in
+    rw (chain-goes_on d v s some is lies law e) (rw (begins.1)
+    (last-given (next_visit d v s) begins.0 v (next_visit d v s)))
 
 -- a box that is not split is its own end
-pub end-ends : (d : Descent) (v : Visit) (s : Sample) → IsBox v.box → is_split d v ≡ false → chain_end d v s ≡ v
+pub end-ends : (d : Descent) (v : Visit) (s : Sample) → IsBox v.box → is_split d v ≡ false
+    → chain_end d v s ≡ v
 end-ends d v s is e = rw (chain-ends d v s is e) refl
 
 -- a half of a box that is split, with the list that it receives
@@ -95,7 +116,8 @@ half_visit d v half = record { box = half; list = handed_on d v }
 
 -- sums over the samples of a box, from those over its halves, where the sums of the halves are equal to it at their samples
 sum-over_halves : (d : Descent) (v : Visit) (f : Sample → ℕ) (g : Indices → Sample → ℕ) → HalvesPart
-    → ((half : Indices) (s : Sample) → Contains (halves_of d.leaf v.box) half → LiesIn half s → f s ≡ g half s)
+    → ((half : Indices) (s : Sample) → Contains (halves_of d.leaf v.box) half → LiesIn half s
+    → f s ≡ g half s)
     → sum_in v.box f ≡ sum_by (λ half. sum_in half (g half)) (halves_of d.leaf v.box)
 sum-over_halves d v f g law same =
     sym (sum_in-halves d.leaf v.box f)
@@ -105,16 +127,22 @@ sum-over_halves d v f g law same =
     (halves_of d.leaf v.box) (All-contains_itself (halves_of d.leaf v.box)))
 
 -- a sample of a half lies in the box
-half-lies : (d : Descent) (v : Visit) (half : Indices) (s : Sample) → 0 < d.leaf → IsBox v.box → Contains (halves_of d.leaf v.box) half → LiesIn half s → LiesIn v.box s
+half-lies : (d : Descent) (v : Visit) (half : Indices) (s : Sample) → 0 < d.leaf → IsBox v.box
+    → Contains (halves_of d.leaf v.box) half → LiesIn half s → LiesIn v.box s
 half-lies d v half s some is among lies =
-    part-lies d.leaf v.box half s (All-contains (IsPart d.leaf v.box) (halves_of d.leaf v.box) half (halves-are_parts d.leaf v.box some is) among) lies
+    part-lies d.leaf v.box half s (All-contains (IsPart d.leaf v.box) (halves_of d.leaf v.box) half
+    (halves-are_parts d.leaf v.box some is) among) lies
 
 -- the next box of a sample of a half is that half
-next-is_half : (d : Descent) (v : Visit) (half : Indices) (s : Sample) → HalvesPart → Contains (halves_of d.leaf v.box) half → LiesIn half s → next_visit d v s ≡ half_visit d v half
-next-is_half d v half s law among lies = ap (λ b. half_visit d v b) (half_with-is law d.leaf v.box half s among lies)
+next-is_half : (d : Descent) (v : Visit) (half : Indices) (s : Sample) → HalvesPart
+    → Contains (halves_of d.leaf v.box) half → LiesIn half s
+    → next_visit d v s ≡ half_visit d v half
+next-is_half d v half s law among lies =
+    ap (λ b. half_visit d v b) (half_with-is law d.leaf v.box half s among lies)
 
 -- The points of a box that is split are those of its halves.
-pub points-split : (d : Descent) (v : Visit) → 0 < d.leaf → IsBox v.box → HalvesPart → is_split d v ≡ true
+pub points-split : (d : Descent) (v : Visit) → 0 < d.leaf → IsBox v.box → HalvesPart
+    → is_split d v ≡ true
     → points_in d v ≡ sum_by (λ half. points_in d (half_visit d v half)) (halves_of d.leaf v.box)
 unfolding points_in
 points-split d v some is law e =
@@ -124,10 +152,12 @@ points-split d v some is law e =
     ∙ ap (λ next. chain_end d next s) (next-is_half d v half s law among lies)))
 
 -- Those of a box that is not are its cost at each sample.
-pub points-end : (d : Descent) (v : Visit) → IsBox v.box → is_split d v ≡ false → points_in d v ≡ size v.box * end_cost d v
+pub points-end : (d : Descent) (v : Visit) → IsBox v.box → is_split d v ≡ false
+    → points_in d v ≡ size v.box * end_cost d v
 unfolding points_in
 points-end d v is e =
-    sum_in-same v.box (cost d v) (λ s. end_cost d v) (λ s lies. ap (end_cost d) (end-ends d v s is e)) ∙ sum_in-const v.box (end_cost d v)
+    sum_in-same v.box (cost d v) (λ s. end_cost d v) (λ s lies. ap (end_cost d)
+    (end-ends d v s is e)) ∙ sum_in-const v.box (end_cost d v)
 
 -- what a box adds where a sample is its first
 abbrev own_length : Visit → Sample → ℕ
@@ -137,20 +167,27 @@ own-once : (v : Visit) → IsBox v.box → sum_in v.box (own_length v) ≡ lengt
 own-once v is = sum_in-first v.box (length v.list) is
 
 -- The steps traced over a box that is split are its own list's and those of its halves.
-pub spans-split : (d : Descent) (v : Visit) → 0 < d.leaf → IsBox v.box → HalvesPart → is_split d v ≡ true
-    → spans_in d v ≡ length v.list + sum_by (λ half. spans_in d (half_visit d v half)) (halves_of d.leaf v.box)
+pub spans-split : (d : Descent) (v : Visit) → 0 < d.leaf → IsBox v.box → HalvesPart
+    → is_split d v ≡ true
+    → spans_in d v ≡ length v.list + sum_by (λ half. spans_in d (half_visit d v half))
+    (halves_of d.leaf v.box)
 unfolding spans_in
 spans-split d v some is law e =
     let rest : Sample → ℕ = λ s. first_lengths s (chain d (next_visit d v s) s) in
-    let apart = sum_in-same v.box (λ s. first_lengths s (chain d v s)) (λ s. own_length v s + rest s)
+    let apart = sum_in-same v.box (λ s. first_lengths s (chain d v s))
+    (λ s. own_length v s + rest s)
     (λ s lies. ap (first_lengths s) (chain-goes_on d v s some is lies law e)
-    ∙ sum_by-cons (λ w. cond (is_first w.box s) (length w.list) 0) v (chain d (next_visit d v s) s)) in
-    let below = sum-over_halves d v rest (λ half s. first_lengths s (chain d (half_visit d v half) s)) law
-    (λ half s among lies. ap (λ next. first_lengths s (chain d next s)) (next-is_half d v half s law among lies)) in
+    ∙ sum_by-cons (λ w. cond (is_first w.box s) (length w.list) 0) v
+    (chain d (next_visit d v s) s)) in
+    let below = sum-over_halves d v rest (λ half s. first_lengths s
+    (chain d (half_visit d v half) s)) law
+    (λ half s among lies. ap (λ next. first_lengths s (chain d next s))
+    (next-is_half d v half s law among lies)) in
     omega (arith, apart, sum_in-plus v.box (own_length v) rest, own-once v is, below)
 
 -- Those of a box that is not are its own list's.
-pub spans-end : (d : Descent) (v : Visit) → IsBox v.box → is_split d v ≡ false → spans_in d v ≡ length v.list
+pub spans-end : (d : Descent) (v : Visit) → IsBox v.box → is_split d v ≡ false
+    → spans_in d v ≡ length v.list
 unfolding spans_in
 spans-end d v is e =
     let apart = sum_in-same v.box (λ s. first_lengths s (chain d v s)) (own_length v)

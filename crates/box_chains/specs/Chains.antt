@@ -35,7 +35,8 @@ handed_on d v = live_of v.list (choices_over (region_of d.view d.lattice v.box) 
 
 -- some side is longer than a leaf's
 abbrev pub is_long : ℕ → Indices → Bool
-is_long leaf b = nat_lt leaf (b.x1 - b.x0) || (nat_lt leaf (b.y1 - b.y0) || nat_lt leaf (b.z1 - b.z0))
+is_long leaf b =
+    nat_lt leaf (b.x1 - b.x0) || (nat_lt leaf (b.y1 - b.y0) || nat_lt leaf (b.z1 - b.z0))
 
 -- a box is split where it is undecided and no leaf
 abbrev pub is_split : Descent → Visit → Bool
@@ -59,7 +60,8 @@ sides b = (b.x1 - b.x0) + (b.y1 - b.y0) + (b.z1 - b.z0)
 
 unfoldable pub chain_within : ℕ → Descent → Visit → Sample → List Visit
 chain_within zero d v s = []
-chain_within (suc n) d v s = v ∷ (if is_split d v then chain_within n d (next_visit d v s) s else [])
+chain_within (suc n) d v s =
+    v ∷ (if is_split d v then chain_within n d (next_visit d v s) s else [])
 
 -- The boxes on the way to a sample, from a box that holds it: that box, and where it is split the boxes from the half
 -- that holds the sample on. So the last of them is decided or a leaf.

@@ -21,14 +21,16 @@ chains_go_on_is laws d v s some is lies = by (is_split d v) refl
 pub points_add_up_is : Lawful → PointsAddUp
 points_add_up_is laws d v some is = by (is_split d v) refl
   where
-    by : (t : Bool) → is_split d v ≡ t → points_in d v ≡ cond t (sum_by (λ half. points_in d (half_visit d v half)) (halves_of d.leaf v.box)) (size v.box * end_cost d v)
+    by : (t : Bool) → is_split d v ≡ t
+        → points_in d v ≡ cond t (sum_by (λ half. points_in d (half_visit d v half)) (halves_of d.leaf v.box)) (size v.box * end_cost d v)
     by false e = points-end d v is e
     by true e = points-split d v some is laws.halves e
 
 pub spans_add_up_is : Lawful → SpansAddUp
 spans_add_up_is laws d v some is = by (is_split d v) refl
   where
-    by : (t : Bool) → is_split d v ≡ t → spans_in d v ≡ length v.list + cond t (sum_by (λ half. spans_in d (half_visit d v half)) (halves_of d.leaf v.box)) 0
+    by : (t : Bool) → is_split d v ≡ t
+        → spans_in d v ≡ length v.list + cond t (sum_by (λ half. spans_in d (half_visit d v half)) (halves_of d.leaf v.box)) 0
     by false e = omega (arith, spans-end d v is e)
     by true e = spans-split d v some is laws.halves e
 
@@ -42,6 +44,7 @@ pub samples_are_told_is : Lawful → SamplesAreTold
 samples_are_told_is laws d v s some is lies =
     let end = end-is laws d v s some is lies in
     record {
-      decided = λ inside e. ap is_inside (sym end.value) ∙ decision-right laws d (chain_end d v s) s inside end.visit end.lies e;
+      decided = λ inside e. ap is_inside (sym end.value)
+          ∙ decision-right laws d (chain_end d v s) s inside end.visit end.lies e;
       handed = λ e. handed-value laws d (chain_end d v s) s end.visit end.lies ∙ end.value;
     }

@@ -3,7 +3,6 @@ pub mod ChainLaws
 pub mod Chains
 pub mod Counts
 pub mod HalfLaws
-pub mod Joins
 pub mod LawProofs
 pub mod Laws
 pub mod Placing

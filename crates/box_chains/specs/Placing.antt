@@ -13,4 +13,5 @@ pub record Sampling : Type 0 where
 
 -- the raw places of the samples along an axis, from the first on
 abbrev pub places_along : Window → Lattice → Axis → List ℤ
-places_along v lattice axis = map (place_of v lattice axis) (range_with_len 0 (steps_of v lattice axis + 1))
+places_along v lattice axis =
+    map (place_of v lattice axis) (range_with_len 0 (steps_of v lattice axis + 1))

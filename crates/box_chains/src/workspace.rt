@@ -60,10 +60,7 @@ impl Workspace {
         ensures room { length self.new ≡ length self.old }
         ensures counted { CountsHulls (length tape.now) tally.old tally.new }
     {
-        // Counts that no other call sees stay in registers.
-        let mut work = Tally::new();
-        let hull = trace(tape, region, &mut self.hulls, &mut self.choices, &mut work);
-        tally.join(&work);
+        let hull = trace(tape, region, &mut self.hulls, &mut self.choices, tally);
         decided(hull)
     }
 

@@ -2,8 +2,8 @@
 use Rattle.std.proofs.Common.{◌≡◌, ℕ, ◌+◌, ◌<◌, ℤ, pos, ◌⊎◌, inl, inr, List, length, set, get_or, Some, slice_get, sym, subst, arith}
 use Rattle.std.proofs.lemmas.Bool.{cases_eq}
 use Rattle.std.proofs.lemmas.List.{get_or-set_same, get_or-set_other}
-use Rattle.fixed_ops.specs.Counts.{Counts, no_counts, plus, times}
-use Rattle.fixed_ops.specs.CountLaws.{IsAtMost-plus, RisesBy-none, RisesBy-then, plus-times}
+use Rattle.fixed_ops.specs.Counts.{Counts, RisesBy, no_counts, plus, times}
+use Rattle.fixed_ops.specs.CountLaws.{IsAtMost-plus, RisesBy-apart, RisesBy-none, RisesBy-then, plus-times}
 use Rattle.fixed_ops.specs.Points.{Point}
 use Rattle.live_clauses.specs.Steps.{AreSteps, value_after, value_at, values}
 use Rattle.live_clauses.specs.ValueLaws.{value_at-step}
@@ -58,3 +58,12 @@ within_more before mid after least most n first second =
       within = IsAtMost-plus first.by second.by (times n most) most first.within second.within;
       rises = RisesBy-then before mid after first.by second.by first.rises second.rises;
     }))
+
+-- a tally that takes in work within bounds rises within them
+pub RisesWithin-apart : (before after work least most : Counts) → RisesWithin no_counts work least most → RisesBy before after work → RisesWithin before after least most
+RisesWithin-apart before after work least most counted joins = record {
+  by = counted.by;
+  enough = counted.enough;
+  within = counted.within;
+  rises = RisesBy-apart before after work counted.by counted.rises joins;
+}

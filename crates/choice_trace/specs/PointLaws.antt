@@ -11,14 +11,17 @@ use Rattle.choice_trace.specs.Laws.{AreRanges}
 
 -- the hull of a list over a region holds its value at each point there
 abbrev pub ValuesAreHeld : Type 0
-ValuesAreHeld = (region : Region) (p : Point) (steps : List Step) → AreRanges region → IsIn region p → IsTape steps
+ValuesAreHeld = (region : Region) (p : Point) (steps : List Step) → AreRanges region → IsIn region p
+    → IsTape steps
     → Holds (tape_hull region steps) (tape_value p steps)
 
 -- only a minimum and a maximum choose an operand
 abbrev pub ChoicesAreOfSteps : Type 0
-ChoicesAreOfSteps = (region : Region) (steps : List Step) → AreChoices steps (choices_over region steps)
+ChoicesAreOfSteps =
+    (region : Region) (steps : List Step) → AreChoices steps (choices_over region steps)
 
 -- the choices are right at each point of the region
 abbrev pub ChoicesAreRight : Type 0
-ChoicesAreRight = (region : Region) (p : Point) (steps : List Step) → AreRanges region → IsIn region p → IsTape steps
+ChoicesAreRight = (region : Region) (p : Point) (steps : List Step) → AreRanges region
+    → IsIn region p → IsTape steps
     → AreRight p steps (choices_over region steps)

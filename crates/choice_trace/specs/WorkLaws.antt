@@ -18,7 +18,8 @@ HullsAreExact = (before after : Counts) (n : ℕ)
     → CountsHulls n before after
 
 -- counts are equal where each of them is
-same_counts : (a b : Counts) → a.points ≡ b.points → a.spans ≡ b.spans → a.corners ≡ b.corners → a ≡ b
+same_counts : (a b : Counts) → a.points ≡ b.points → a.spans ≡ b.spans → a.corners ≡ b.corners
+    → a ≡ b
 same_counts a b p s c =
     ap (λ (n : ℕ). record { points = n; spans = a.spans; corners = a.corners }) p
     ∙ ap (λ (n : ℕ). record { points = b.points; spans = n; corners = a.corners }) s
@@ -30,7 +31,8 @@ points_are_exact before after n rise =
     let most = rise.within in
     subst (λ (by : Counts). RisesBy before after by)
     (same_counts rise.by (points_of n)
-    (omega (arith, least.points, most.points)) (omega (arith, most.spans)) (omega (arith, most.corners)))
+    (omega (arith, least.points, most.points)) (omega (arith, most.spans))
+    (omega (arith, most.corners)))
     rise.rises
 
 pub hulls_are_exact : HullsAreExact

@@ -23,11 +23,14 @@ pub fn evaluate<D: Domain>(tape: &Tape, inputs: Inputs<D>, regs: &mut [D], tally
 {
     let steps = tape.steps();
     let len = steps.len();
+    // Counts that no other call sees stay in registers.
+    let mut work = Tally::new();
     for at in 0..len {
         let step = steps.step(at);
         let (a, b) = operands(&step, &inputs, regs);
-        regs[at as usize] = D::apply(step.op, a, b, tally);
+        regs[at as usize] = D::apply(step.op, a, b, &mut work);
     }
+    tally.join(&work);
     regs[len as usize - 1]
 }
 

@@ -37,12 +37,15 @@ pub fn trace(
     let _ends = (region.x.lo(), region.y.lo(), region.z.lo());
     let steps = tape.steps();
     let len = steps.len();
+    // Counts that no other call sees stay in registers.
+    let mut work = Tally::new();
     for at in 0..len {
         let step = steps.step(at);
         let (a, b) = operands(&step, &region, regs);
         choices[at as usize] = choose(step.op, a, b);
-        regs[at as usize] = span_apply(step.op, a, b, tally);
+        regs[at as usize] = span_apply(step.op, a, b, &mut work);
     }
+    tally.join(&work);
     regs[len as usize - 1]
 }
 

@@ -67,4 +67,5 @@ form_read (word ∷ args) = on_operation (operation_of word)
 -- the form that they say
 abbrev pub GivesForm : List (List ℕ) → Result Parts FormFault → Type 0
 GivesForm tokens (Ok form) = form_read tokens ≡ Ok form
-GivesForm tokens (Err fault) = (fault ≢ NoMemory → form_read tokens ≡ Err fault) × (fault ≡ NoMemory → IsOk (form_read tokens))
+GivesForm tokens (Err fault) =
+    (fault ≢ NoMemory → form_read tokens ≡ Err fault) × (fault ≡ NoMemory → IsOk (form_read tokens))

@@ -12,7 +12,8 @@ ended lines = flat_map (λ line. line ++ 10 ∷ []) lines
 abbrev pub with_feed : List ℕ → List ℕ
 with_feed [] = []
 with_feed (first ∷ others) =
-    if slice_index (first ∷ others) (length others) == 10 then first ∷ others else (first ∷ others) ++ 10 ∷ []
+    if slice_index (first ∷ others) (length others) == 10 then first ∷ others else
+    (first ∷ others) ++ 10 ∷ []
 
 -- no byte is a line feed
 abbrev pub HasNoFeed : List ℕ → Type 0
@@ -25,7 +26,8 @@ pub record AreLines (text : List ℕ) (lines : List (List ℕ)) : Type 0 where
 
 -- each text is one list of lines, and `lines_of` gives it
 abbrev pub LinesAreExact : Type 0
-LinesAreExact = (text : List ℕ) (lines : List (List ℕ)) → (lines ≡ lines_of text) ↔ AreLines text lines
+LinesAreExact =
+    (text : List ℕ) (lines : List (List ℕ)) → (lines ≡ lines_of text) ↔ AreLines text lines
 
 -- each byte is a blank
 abbrev pub AreBlanks : List ℕ → Type 0
@@ -56,4 +58,5 @@ Spaced line (token ∷ others) = (rest : List ℕ) × HasFirstToken line token r
 
 -- each line is one list of tokens, and `tokens_of` gives it
 abbrev pub TokensAreExact : Type 0
-TokensAreExact = (line : List ℕ) (tokens : List (List ℕ)) → (tokens ≡ tokens_of line) ↔ Spaced line tokens
+TokensAreExact =
+    (line : List ℕ) (tokens : List (List ℕ)) → (tokens ≡ tokens_of line) ↔ Spaced line tokens

@@ -15,7 +15,8 @@ is_feed byte = byte == 10
 -- The lines of a text, which a line feed ends. What stands after the last one is a line too, where it is not empty.
 abbrev pub lines_of : List ℕ → List (List ℕ)
 lines_of [] = []
-lines_of (byte ∷ rest) = if is_feed byte then [] ∷ lines_of rest else onto_first byte (lines_of rest)
+lines_of (byte ∷ rest) =
+    if is_feed byte then [] ∷ lines_of rest else onto_first byte (lines_of rest)
 
 -- the tokens of a line, the longest runs of bytes that are no blanks
 abbrev pub tokens_of : List ℕ → List (List ℕ)

@@ -15,7 +15,8 @@ arguments_with op number names = names
 
 -- the arguments of a clause
 abbrev pub arguments : List Clause → Clause → List (List ℕ)
-arguments clauses clause = arguments_with clause.op (number_text clause.value) (operand_names clauses clause)
+arguments clauses clause =
+    arguments_with clause.op (number_text clause.value) (operand_names clauses clause)
 
 -- each token after a space
 abbrev pub spaced : List (List ℕ) → List ℕ
@@ -23,7 +24,8 @@ spaced tokens = flat_map (λ token. 32 ∷ token) tokens
 
 -- the line of a clause: its name, then its operation and its arguments, each after a space, and a line feed
 abbrev pub clause_line : List Clause → Clause → List ℕ
-clause_line clauses clause = clause.name ++ spaced (name_of clause.op ∷ arguments clauses clause) ++ 10 ∷ []
+clause_line clauses clause =
+    clause.name ++ spaced (name_of clause.op ∷ arguments clauses clause) ++ 10 ∷ []
 
 -- the lines of the clauses, one after the other
 abbrev pub model_text : List Clause → List ℕ

@@ -22,7 +22,8 @@ has_unknown clauses names = list_any (λ name. is_none (place_of clauses name)) 
 
 -- the place of the earlier clause that the k-th operand names, or 0 where there is no such operand
 abbrev pub place_or_zero : List Clause → List (List ℕ) → ℕ → ℕ
-place_or_zero clauses names k = option_map_or (λ name. option_map_or (λ place. place) (place_of clauses name) 0) (slice_get names k) 0
+place_or_zero clauses names k =
+    option_map_or (λ name. option_map_or (λ place. place) (place_of clauses name) 0) (slice_get names k) 0
 
 -- the clause of this name, operation and arguments: each operand replaced by the place of the clause that it names
 abbrev pub clause_of : List Clause → List ℕ → Op → List (List ℕ) → Clause
@@ -59,7 +60,8 @@ is_clause (first ∷ others) = not (begins_comment first)
 
 -- the clauses after a line, or the first reason to refuse it
 abbrev pub line_read : List Clause → List ℕ → Result (List Clause) TextReason
-line_read clauses line = if is_clause (tokens_of line) then clauses_with clauses (tokens_of line) else Ok clauses
+line_read clauses line =
+    if is_clause (tokens_of line) then clauses_with clauses (tokens_of line) else Ok clauses
 
 -- the clauses after lines that are numbered from this number on, or the first of them that is refused
 abbrev pub lines_read : List Clause → ℕ → List (List ℕ) → Result (List Clause) TextFault
@@ -86,4 +88,5 @@ IsGoodUpTo text line = IsOk (lines_read [] 1 (take line (lines_of text)))
 abbrev pub GivesModel : List ℕ → Result (List Clause) TextFault → Type 0
 GivesModel text (Ok model) = text_read text ≡ Ok model
 GivesModel text (Err fault) =
-    (fault.reason ≢ NoMemory → text_read text ≡ Err fault) × (fault.reason ≡ NoMemory → IsGoodUpTo text fault.line)
+    (fault.reason ≢ NoMemory → text_read text ≡ Err fault)
+    × (fault.reason ≡ NoMemory → IsGoodUpTo text fault.line)

@@ -9,7 +9,8 @@ use Rattle.clause_reader.specs.Reading.{is_clause, clauses_with}
 
 -- the lines of a text by their tokens, each with its number, from 1 on
 abbrev pub numbered_lines : List ℕ → List (ℕ × List (List ℕ))
-numbered_lines text = zip (range_with_len 1 (length (lines_of text))) (map tokens_of (lines_of text))
+numbered_lines text =
+    zip (range_with_len 1 (length (lines_of text))) (map tokens_of (lines_of text))
 
 -- the lines of a text that say a clause, each as its number among all lines and its tokens
 abbrev pub clause_lines : List ℕ → List (ℕ × List (List ℕ))

@@ -8,8 +8,10 @@ use Rattle.clause_reader.specs.Says.{Reads}
 
 -- the text of a model is read as the model
 abbrev pub WrittenModelsAreRead : Type 0
-WrittenModelsAreRead = (clauses : List Clause) → IsModel clauses → text_read (model_text clauses) ≡ Ok clauses
+WrittenModelsAreRead =
+    (clauses : List Clause) → IsModel clauses → text_read (model_text clauses) ≡ Ok clauses
 
 -- it says the model
 abbrev pub WrittenModelsAreSaid : Type 0
-WrittenModelsAreSaid = (clauses : List Clause) → IsModel clauses → Reads (model_text clauses) clauses
+WrittenModelsAreSaid =
+    (clauses : List Clause) → IsModel clauses → Reads (model_text clauses) clauses

@@ -63,10 +63,17 @@ checked (Err defect) = Err (as_fault defect)
 checked (Ok parts) = if list_any begins_comment parts.args then Err form.BadName else Ok parts
 
 -- clauses with one more of this name, from what its tokens say
-abbrev pub extended : List Clause → List ℕ → Result Parts FormDefect → Result (List Clause) TextReason
+abbrev pub extended : List Clause → List ℕ → Result Parts FormDefect
+    → Result (List Clause) TextReason
 extended clauses name (Err defect) = Err (as_reason defect)
 extended clauses name (Ok parts) =
     if has_unknown clauses parts.args then Err text.UnknownName
     else if is_some (place_of clauses name) then Err text.DoubleName
     else if nat_le 65535 (length clauses) then Err text.TooMany
-    else Ok (clauses ++ record { name = name; op = parts.op; a = place_or_zero clauses parts.args 0; b = place_or_zero clauses parts.args 1; value = parts.value } ∷ [])
+    else Ok (clauses ++ record {
+      name = name;
+      op = parts.op;
+      a = place_or_zero clauses parts.args 0;
+      b = place_or_zero clauses parts.args 1;
+      value = parts.value;
+    } ∷ [])

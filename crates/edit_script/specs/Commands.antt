@@ -50,7 +50,8 @@ edit_with edit (Some name) None = None
 edit_with edit None form = None
 
 -- an edit of a name and of the form that tokens say
-abbrev pub edit_read : ℕ → (List ℕ → Parts → Edit) → List ℕ → List (List ℕ) → Result Command ScriptReason
+abbrev pub edit_read : ℕ → (List ℕ → Parts → Edit) → List ℕ → List (List ℕ)
+    → Result Command ScriptReason
 edit_read line edit name form =
     on_result (form_found (form_read form))
     (λ found. Ok (edit_or_stray line (edit_with edit (name_found name) found))) (λ reason. Err reason)
@@ -61,8 +62,10 @@ name_checked name [] = Err TooShort
 name_checked name (word ∷ args) = if begins_comment name then Err BadName else Ok tt
 
 -- what is said under the name of a new clause
-abbrev pub under_name : List ℕ → List (List ℕ) → Result Command ScriptReason → Result Command ScriptReason
-under_name name form said = on_result (name_checked name form) (λ checked. said) (λ reason. Err reason)
+abbrev pub under_name : List ℕ → List (List ℕ) → Result Command ScriptReason
+    → Result Command ScriptReason
+under_name name form said =
+    on_result (name_checked name form) (λ checked. said) (λ reason. Err reason)
 
 -- `set NAME OP ARGS`
 abbrev pub set_read : ℕ → List (List ℕ) → Result Command ScriptReason
@@ -110,7 +113,8 @@ job_or_bad (Err fault) = Err BadSetting
 
 -- a draw with its settings, which are those of this verb, and have its defaults
 abbrev pub draw_read : Verb → List (List ℕ) → Result Command ScriptReason
-draw_read verb settings = on_result (job_or_bad (job_after settings verb)) draw_of (λ reason. Err reason)
+draw_read verb settings =
+    on_result (job_or_bad (job_after settings verb)) draw_of (λ reason. Err reason)
 
 -- what follows a keyword
 abbrev pub after_keyword : ℕ → Keyword → List (List ℕ) → Result Command ScriptReason
@@ -154,4 +158,5 @@ IsCommand commands.Text = ⊤
 -- what a reader gives where this is meant: that, or want of memory where nothing is refused
 abbrev pub Gives : {A : Type 0} → Result A ScriptReason → Result A ScriptReason → Type 0
 Gives meaning (Ok value) = meaning ≡ Ok value
-Gives meaning (Err reason) = (reason ≢ NoMemory → meaning ≡ Err reason) × (reason ≡ NoMemory → IsOk meaning)
+Gives meaning (Err reason) =
+    (reason ≢ NoMemory → meaning ≡ Err reason) × (reason ≡ NoMemory → IsOk meaning)

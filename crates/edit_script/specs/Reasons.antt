@@ -74,7 +74,8 @@ holds_after TooShort keyword tokens = nat_lt (length tokens) (least_after keywor
 holds_after BadName keyword tokens = option_map_or begins_comment (new_name keyword tokens) false
 holds_after UnknownOperation keyword tokens = is_unknown (form_of keyword tokens)
 holds_after WrongArity keyword tokens =
-    has_more keyword tokens || of_form (λ op args. not (length args == takes op)) (form_of keyword tokens)
+    has_more keyword tokens
+    || of_form (λ op args. not (length args == takes op)) (form_of keyword tokens)
 holds_after BadNumeral keyword tokens =
     of_form (λ op args. list_any is_no_numeral (numerals op args)) (form_of keyword tokens)
 holds_after BadSetting keyword tokens = is_bad_draw keyword tokens

@@ -29,7 +29,8 @@ pub record HasBadLine (input : List ℕ) (fault : ScriptFault) : Type 0 where
 -- reading answers commands exactly where the lines say them
 abbrev pub ScriptsAreExact : Type 0
 ScriptsAreExact =
-    (input : List ℕ) (commands : List Command) → (script_read input ≡ Ok commands) ↔ SaysCommands input commands
+    (input : List ℕ) (commands : List Command)
+    → (script_read input ≡ Ok commands) ↔ SaysCommands input commands
 
 -- reading answers a line and a reason exactly where the input has no mark line, or this line is the first that is
 -- refused
@@ -47,4 +48,5 @@ pub record Splits (input : List ℕ) (start end : ℕ) : Type 0 where
 
 -- the input splits so at its first mark line
 abbrev pub InputsAreSplit : Type 0
-InputsAreSplit = (input : List ℕ) (start end : ℕ) → mark_ends input ≡ Some (start, end) → Splits input start end
+InputsAreSplit =
+    (input : List ℕ) (start end : ℕ) → mark_ends input ≡ Some (start, end) → Splits input start end

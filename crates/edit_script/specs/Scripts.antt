@@ -12,7 +12,8 @@ use Rattle.edit_script.specs.Marks.{mark_place}
 -- the lines after the mark line at a place that are neither blank nor comments, each as its number among all lines of
 -- the input and its tokens
 abbrev pub command_lines : List ℕ → ℕ → List (ℕ × List (List ℕ))
-command_lines input mark = filter (λ line. is_clause line.1) (drop (mark + 1) (numbered_lines input))
+command_lines input mark =
+    filter (λ line. is_clause line.1) (drop (mark + 1) (numbered_lines input))
 
 -- the command of a line, or the line with the reason to refuse it
 abbrev pub command_at : ℕ × List (List ℕ) → Result Command ScriptFault
@@ -37,7 +38,8 @@ abbrev pub script_read : List ℕ → Result (List Command) ScriptFault
 script_read input = commands_after input (mark_place input)
 
 -- commands with that of one more line, where it says one
-abbrev pub pushed : List Command → Result (Option Command) ScriptReason → Result (List Command) ScriptReason
+abbrev pub pushed : List Command → Result (Option Command) ScriptReason
+    → Result (List Command) ScriptReason
 pushed commands (Ok (Some command)) = Ok (commands ++ command ∷ [])
 pushed commands (Ok None) = Ok commands
 pushed commands (Err reason) = Err reason
@@ -46,4 +48,5 @@ pushed commands (Err reason) = Err reason
 -- line is refused
 pub record RefusesScript (input : List ℕ) (fault : ScriptFault) : Type 0 where
   pub refused : fault.reason ≢ NoMemory → script_read input ≡ Err fault
-  pub no_memory : fault.reason ≡ NoMemory → IfErr (script_read input) (λ first. fault.line < first.line)
+  pub no_memory : fault.reason ≡ NoMemory
+      → IfErr (script_read input) (λ first. fault.line < first.line)

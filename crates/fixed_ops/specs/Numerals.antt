@@ -50,7 +50,8 @@ is_exponent (c ∷ cs) = (c == 101 || c == 69) && is_short (without_leading_sign
 
 -- digits with a point or none among, before or after them, at least one digit, and an exponent or none
 unfoldable pub is_unsigned_numeral : List ℕ → Bool
-is_unsigned_numeral body = nat_lt 0 (length (whole_part body ++ fraction_part body)) && is_exponent (exponent_part body)
+is_unsigned_numeral body =
+    nat_lt 0 (length (whole_part body ++ fraction_part body)) && is_exponent (exponent_part body)
 
 -- n * 10^k, rounded down
 abbrev pub times_power : ℕ → ℤ → ℕ
@@ -59,7 +60,8 @@ times_power n (negsuc k) = n / 10 ^ suc k
 
 -- the number of these digits with this exponent, in units of 10^-28, rounded down
 unfoldable pub cut_magnitude : List ℕ → List ℕ → ℤ → ℕ
-cut_magnitude whole fraction exponent = times_power (digits_value 10 (whole ++ fraction)) (exponent -ℤ pos (length fraction) +ℤ pos 28)
+cut_magnitude whole fraction exponent =
+    times_power (digits_value 10 (whole ++ fraction)) (exponent -ℤ pos (length fraction) +ℤ pos 28)
 
 -- the raw number nearest to a number of units of 10^-28, the greater of two that are as near
 unfoldable pub nearest_raw : ℕ → ℕ
@@ -79,7 +81,8 @@ is_numeral token = is_unsigned_numeral (without_leading_sign token)
 
 -- the raw number of a numeral
 abbrev pub numeral_value : List ℕ → ℤ
-numeral_value token = with_sign (starts_with_minus token) (unsigned_raw (without_leading_sign token))
+numeral_value token =
+    with_sign (starts_with_minus token) (unsigned_raw (without_leading_sign token))
 
 -- the raw number that a token means, and None where it is no numeral
 abbrev pub numeral : List ℕ → Option ℤ

@@ -14,7 +14,8 @@ use Rattle.fixed_ops.specs.Root.{IsRoot, IsRawRoot, root_up_to, floor_root}
 use Rattle.fixed_ops.specs.RoundingLaws.{IsRaw-clamp}
 
 -- the choice of a root, as it is written in the definition
-chosen : (n k r : ℕ) (b : Bool) → b ≡ nat_le (suc k * suc k) n → n < (suc k + 1) * (suc k + 1) → (n < (k + 1) * (k + 1) → IsRoot n r) → IsRoot n (cond b (suc k) r)
+chosen : (n k r : ℕ) (b : Bool) → b ≡ nat_le (suc k * suc k) n → n < (suc k + 1) * (suc k + 1)
+    → (n < (k + 1) * (k + 1) → IsRoot n r) → IsRoot n (cond b (suc k) r)
 chosen n k r true e h p = (grind (arith, nat_tests), h)
 chosen n k r false e h p = p (grind (arith, nat_tests))
 
@@ -22,7 +23,8 @@ chosen n k r false e h p = p (grind (arith, nat_tests))
 root_up_to_is_root : (n k : ℕ) → n < (k + 1) * (k + 1) → IsRoot n (root_up_to n k)
 unfolding root_up_to
 root_up_to_is_root n zero h = (omega arith, omega arith)
-root_up_to_is_root n (suc k) h = chosen n k (root_up_to n k) (nat_le (suc k * suc k) n) refl h (root_up_to_is_root n k)
+root_up_to_is_root n (suc k) h =
+    chosen n k (root_up_to n k) (nat_le (suc k * suc k) n) refl h (root_up_to_is_root n k)
 
 -- the root is one
 pub floor_root_is_root : (n : ℕ) → IsRoot n (floor_root n)
@@ -32,7 +34,14 @@ floor_root_is_root n = root_up_to_is_root n n (omega arith)
 -- a root is no greater than another
 root_le : (n r s : ℕ) → IsRoot n r → IsRoot n s → r ≤ s
 root_le n r s h k =
-    ⊎_elim (λ (lt : s < r). absurd (omega (arith, mul-le-mul {n₁ = s + 1} {m₁ = s + 1} {n₂ = r} {m₂ = r} (omega arith) (omega arith), h.0, k.1)))
+    ⊎_elim (λ (lt : s < r). absurd
+    (omega (
+      arith,
+      mul-le-mul {n₁ = s + 1} {m₁ = s + 1} {n₂ = r} {m₂ = r} (omega arith)
+          (omega arith),
+      h.0,
+      k.1,
+    )))
     (λ (le : r ≤ s). le)
     (cases_lt s r)
 
@@ -70,7 +79,8 @@ IsRaw-root_of (pos n) h =
     let root = floor_root_is_root (n * 2 ^ 32) in
     let below : floor_root (n * 2 ^ 32) < 2 ^ 47 =
     ⊎_elim (λ (lt : floor_root (n * 2 ^ 32) < 2 ^ 47). lt)
-    (λ (le : 2 ^ 47 ≤ floor_root (n * 2 ^ 32)). absurd (omega (arith, ints, h.1, root.0, mul-le-mul le le)))
+    (λ (le : 2 ^ 47 ≤ floor_root (n * 2 ^ 32)). absurd (omega
+    (arith, ints, h.1, root.0, mul-le-mul le le)))
     (cases_lt (floor_root (n * 2 ^ 32)) (2 ^ 47)) in
     (omega (arith, ints), omega (arith, ints, below))
 IsRaw-root_of (negsuc n) h = (omega (arith, ints), omega (arith, ints))

@@ -48,7 +48,12 @@ product_le a b d h =
 -- a number whose multiple is below the next one of another is no greater
 multiple_le : (q r : ℤ) (d : ℕ) → (q *ℤ pos d) <ℤ ((r +ℤ pos 1) *ℤ pos d) → q ≤ℤ r
 multiple_le q r d h =
-    by_lt_z r q (λ lt. absurd (omega (arith, ints, product_le (r +ℤ pos 1) q d (omega (arith, ints))))) (λ le. le)
+    by_lt_z r q (λ lt. absurd (omega (
+      arith,
+      ints,
+      product_le (r +ℤ pos 1) q d
+          (omega (arith, ints)),
+    ))) (λ le. le)
 
 -- a floor is no greater than another
 floor_le : (t q r : ℤ) (d : ℕ) → IsFloor t d q → IsFloor t d r → q ≤ℤ r
@@ -62,7 +67,8 @@ floor_is t d q h f =
     omega (arith, ints)
 
 -- one whole number is rounded down
-pub rounded_down_once : (t b q r : ℤ) → b ≢ pos 0 → IsRoundedDown t b q → IsRoundedDown t b r → q ≡ r
+pub rounded_down_once : (t b q r : ℤ) → b ≢ pos 0 → IsRoundedDown t b q → IsRoundedDown t b r
+    → q ≡ r
 rounded_down_once t (pos zero) q r h f g = absurd (h refl)
 rounded_down_once t (pos (suc d)) q r h f g =
     let above : pos 0 <ℤ pos (suc d) = omega (arith, ints) in
@@ -100,6 +106,12 @@ rounded_is_clamped a (negsuc d) h =
     }
 
 pub over_zero_is : (a : ℤ) → IsOverZero a (quotient_of a (pos 0))
-over_zero_is (pos zero) = record { positive = λ h. absurd (omega (arith, ints, h)); zero = λ h. refl; negative = λ h. absurd (omega (arith, ints, h)) }
-over_zero_is (pos (suc n)) = record { positive = λ h. refl; zero = λ h. cc; negative = λ h. absurd (omega (arith, ints, h)) }
-over_zero_is (negsuc n) = record { positive = λ h. absurd (omega (arith, ints, h)); zero = λ h. cc; negative = λ h. refl }
+over_zero_is (pos zero) = record {
+  positive = λ h. absurd (omega (arith, ints, h));
+  zero = λ h. refl;
+  negative = λ h. absurd (omega (arith, ints, h));
+}
+over_zero_is (pos (suc n)) =
+    record { positive = λ h. refl; zero = λ h. cc; negative = λ h. absurd (omega (arith, ints, h)) }
+over_zero_is (negsuc n) =
+    record { positive = λ h. absurd (omega (arith, ints, h)); zero = λ h. cc; negative = λ h. refl }

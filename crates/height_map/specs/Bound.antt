@@ -47,7 +47,8 @@ halves_spans d list halves = sum_by (λ half. spans_in d (visit half list)) halv
 
 -- the work that an undecided box takes that hands on a list, but for its own trace
 abbrev pub open_points : (Sample → Bool) → Descent → Indices → List Step → ℕ
-open_points test d b list = if is_long d.leaf b then halves_points test d list (halves_of d.leaf b) else sum_in b (λ s. if test s then length list else 0)
+open_points test d b list =
+    if is_long d.leaf b then halves_points test d list (halves_of d.leaf b) else sum_in b (λ s. if test s then length list else 0)
 
 abbrev pub open_spans : Descent → Indices → List Step → ℕ
 open_spans d b list = if is_long d.leaf b then halves_spans d list (halves_of d.leaf b) else 0

@@ -17,7 +17,8 @@ pub record IsAmong (w len : ℕ) (b : Indices) : Type 0 where
 
 -- whether the column at a place is one of a box
 abbrev pub covers : ℕ → Indices → ℕ → Bool
-covers w b p = nat_le b.x0 (p % w) && (nat_lt (p % w) b.x1 && (nat_le b.y0 (p / w) && nat_lt (p / w) b.y1))
+covers w b p =
+    nat_le b.x0 (p % w) && (nat_lt (p % w) b.x1 && (nat_le b.y0 (p / w) && nat_lt (p / w) b.y1))
 
 -- the numbers at some places become what they are to be, by place and number, and the others stay
 pub record Changes (covers : ℕ → Bool) (becomes : ℕ → ℕ → ℕ) (before after : List ℕ) : Type 0 where
@@ -35,7 +36,8 @@ leaf_top view list b p old = lifted (top_among view list b.z0 b.z1 (p % view.w) 
 
 -- the column of a sample has no top, and the sample does not lie behind the one that the samples of the box give
 abbrev pub is_open : Window → List Step → Indices → List ℕ → Sample → Bool
-is_open view list b tops s = get_or tops (s.j * view.w + s.i) 0 == 0 && nat_le (top_among view list b.z0 b.z1 s.i s.j) (s.k + 1)
+is_open view list b tops s = get_or tops (s.j * view.w + s.i) 0 == 0
+    && nat_le (top_among view list b.z0 b.z1 s.i s.j) (s.k + 1)
 
 -- the evaluations that a sample of a leaf takes
 abbrev pub leaf_cost : Window → List Step → Indices → List ℕ → Sample → ℕ

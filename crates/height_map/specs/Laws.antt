@@ -7,7 +7,8 @@ use Rattle.height_map.specs.Bound.{height_points, height_spans}
 
 -- no more evaluations than plain evaluation of the list at each sample
 abbrev pub HeightPointsAreBounded : Type 0
-HeightPointsAreBounded = (view : Window) (list : List Step) → IsWindow view → IsTape list → height_points view list ≤ view.w * view.h * view.d * length list
+HeightPointsAreBounded = (view : Window) (list : List Step) → IsWindow view → IsTape list
+    → height_points view list ≤ view.w * view.h * view.d * length list
 
 -- and no more steps traced than the list has, for each sample and each side of the boxes that hold it
 abbrev pub HeightSpansAreBounded : Type 0

@@ -20,7 +20,8 @@ inside view list i j k = is_inside (tape_value (point_of view Height i j k) list
 
 -- 1 plus the greatest index from low on, below high, of a sample of a column that is inside, or 0 where there is none
 abbrev pub top_among : Window → List Step → ℕ → ℕ → ℕ → ℕ → ℕ
-top_among view list low high i j = greatest (map (λ k. if inside view list i j k then k + 1 else 0) (range_with_len low (high - low)))
+top_among view list low high i j =
+    greatest (map (λ k. if inside view list i j k then k + 1 else 0) (range_with_len low (high - low)))
 
 -- the top of a column
 abbrev pub top_of : Window → List Step → ℕ → ℕ → ℕ

@@ -18,7 +18,8 @@ IsRaw-held : (s : Interval) (v : ℤ) → IsSpan s → Holds s v → IsRaw v
 IsRaw-held s v h k = (omega (arith, ints, h.lo.0, k.0), omega (arith, ints, h.hi.1, k.1))
 
 -- the results of a division lie in its hull
-quotient_included : (a b h : Interval) (u v : ℤ) → IsSpan a → IsSpan b → IsQuotientHull a b h → Holds a u → Holds b v → Holds h (op_result Div u v)
+quotient_included : (a b h : Interval) (u v : ℤ) → IsSpan a → IsSpan b → IsQuotientHull a b h
+    → Holds a u → Holds b v → Holds h (op_result Div u v)
 quotient_included a b h u v i j hull k l =
     by_lt_z b.hi (pos 0)
     (λ lt. (hull.free (λ z. omega (arith, ints, lt, z.1))).all u v k l)
@@ -43,10 +44,23 @@ included Min a b u v i j h hull k l = hull.all u v k l
 included Max a b u v i j h hull k l = hull.all u v k l
 
 -- the ends of a span that is handed on
-handed_on : (op : Op) (a b h : Interval) → ((u v : ℤ) → op_result op u v ≡ u) → IsSpan a → IsSpan b → h ≡ a → IsResult op a b h.lo × IsResult op a b h.hi
+handed_on : (op : Op) (a b h : Interval) → ((u v : ℤ) → op_result op u v ≡ u) → IsSpan a → IsSpan b
+    → h ≡ a → IsResult op a b h.lo × IsResult op a b h.hi
 handed_on op a b h same i j e = (
-  record { left = a.lo; right = b.lo; in_a = holds_lo a i; in_b = holds_lo b j; is = ap (λ (s : Interval). s.lo) e ∙ sym (same a.lo b.lo) },
-  record { left = a.hi; right = b.lo; in_a = holds_hi a i; in_b = holds_lo b j; is = ap (λ (s : Interval). s.hi) e ∙ sym (same a.hi b.lo) },
+  record {
+    left = a.lo;
+    right = b.lo;
+    in_a = holds_lo a i;
+    in_b = holds_lo b j;
+    is = ap (λ (s : Interval). s.lo) e ∙ sym (same a.lo b.lo);
+  },
+  record {
+    left = a.hi;
+    right = b.lo;
+    in_a = holds_hi a i;
+    in_b = holds_lo b j;
+    is = ap (λ (s : Interval). s.hi) e ∙ sym (same a.hi b.lo);
+  },
 )
 
 pub ends_attained : (op : Op) (a b : Interval) → IsSpan a → IsSpan b → Attains op a b
@@ -54,7 +68,8 @@ ends_attained X a b i j h e free = handed_on X a b h (λ u v. refl) i j e
 ends_attained Y a b i j h e free = handed_on Y a b h (λ u v. refl) i j e
 ends_attained Z a b i j h e free = handed_on Z a b h (λ u v. refl) i j e
 ends_attained Const a b i j h e free = handed_on Const a b h (λ u v. refl) i j e
-ends_attained Div a b i j h hull free = let extremes = hull.free (λ z. free (refl, z)) in (extremes.least, extremes.greatest)
+ends_attained Div a b i j h hull free =
+    let extremes = hull.free (λ z. free (refl, z)) in (extremes.least, extremes.greatest)
 ends_attained Neg a b i j h hull free = (hull.least, hull.greatest)
 ends_attained Square a b i j h hull free = (hull.least, hull.greatest)
 ends_attained Sqrt a b i j h hull free = (hull.least, hull.greatest)
@@ -70,23 +85,27 @@ Holds-wider : (part whole : Interval) (v : ℤ) → IsWithin part whole → Hold
 Holds-wider part whole v w h = (omega (arith, ints, w.0, h.0), omega (arith, ints, w.1, h.1))
 
 -- a result on values of narrower spans lies in the hull
-result_included : (op : Op) (a b c d h : Interval) (r : ℤ) → IsSpan a → IsSpan b → IsHull op a b h → IsWithin c a → IsWithin d b → IsResult op c d r → Holds h r
+result_included : (op : Op) (a b c d h : Interval) (r : ℤ) → IsSpan a → IsSpan b → IsHull op a b h
+    → IsWithin c a → IsWithin d b → IsResult op c d r → Holds h r
 result_included op a b c d h r i j hull p q result =
     subst (λ (x : ℤ). Holds h x) (sym result.is)
     (included op a b result.left result.right i j h hull (Holds-wider c a result.left p result.in_a) (Holds-wider d b result.right q result.in_b))
 
 -- so the hull holds both of them
-ends_included : (op : Op) (a b c d h k : Interval) → IsSpan a → IsSpan b → IsHull op a b h → IsWithin c a → IsWithin d b → IsResult op c d k.lo × IsResult op c d k.hi → IsWithin k h
+ends_included : (op : Op) (a b c d h k : Interval) → IsSpan a → IsSpan b → IsHull op a b h
+    → IsWithin c a → IsWithin d b → IsResult op c d k.lo × IsResult op c d k.hi → IsWithin k h
 ends_included op a b c d h k i j hull p q ends =
     ((result_included op a b c d h k.lo i j hull p q ends.0).0, (result_included op a b c d h k.hi i j hull p q ends.1).1)
 
 -- a division by spans that both hold 0
-zero_shrinks : (a b c d h k : Interval) → IsQuotientHull a b h → IsQuotientHull c d k → IsWithin d b → Holds d (pos 0) → IsWithin k h
+zero_shrinks : (a b c d h k : Interval) → IsQuotientHull a b h → IsQuotientHull c d k → IsWithin d b
+    → Holds d (pos 0) → IsWithin k h
 zero_shrinks a b c d h k hull inner q z =
     subst (λ (s : Interval). IsWithin k s) (sym (hull.by_zero (Holds-wider d b (pos 0) q z)))
     (subst (λ (s : Interval). IsWithin s all_numbers) (sym (inner.by_zero z)) (omega (arith, ints), omega (arith, ints)))
 
-quotient_shrinks : (a b c d h k : Interval) → IsSpan a → IsSpan b → IsSpan c → IsSpan d → IsQuotientHull a b h → IsQuotientHull c d k → IsWithin c a → IsWithin d b → IsWithin k h
+quotient_shrinks : (a b c d h k : Interval) → IsSpan a → IsSpan b → IsSpan c → IsSpan d
+    → IsQuotientHull a b h → IsQuotientHull c d k → IsWithin c a → IsWithin d b → IsWithin k h
 quotient_shrinks a b c d h k i j m n hull inner p q =
     by_lt_z d.hi (pos 0)
     (λ lt. ends_included Div a b c d h k i j hull p q (ends_attained Div c d m n k inner (λ z. omega (arith, ints, lt, z.1.1))))
@@ -94,21 +113,35 @@ quotient_shrinks a b c d h k i j m n hull inner p q =
     (λ lt. ends_included Div a b c d h k i j hull p q (ends_attained Div c d m n k inner (λ z. omega (arith, ints, lt, z.1.0))))
     (λ low. zero_shrinks a b c d h k hull inner q (low, high)))
 
-pub shrinks : (op : Op) (a b c d : Interval) → IsSpan a → IsSpan b → IsSpan c → IsSpan d → Shrinks op a b c d
+pub shrinks : (op : Op) (a b c d : Interval) → IsSpan a → IsSpan b → IsSpan c → IsSpan d
+    → Shrinks op a b c d
 shrinks Div a b c d i j m n h k hull inner p q = quotient_shrinks a b c d h k i j m n hull inner p q
-shrinks X a b c d i j m n h k hull inner p q = ends_included X a b c d h k i j hull p q (ends_attained X c d m n k inner (λ z. cc))
-shrinks Y a b c d i j m n h k hull inner p q = ends_included Y a b c d h k i j hull p q (ends_attained Y c d m n k inner (λ z. cc))
-shrinks Z a b c d i j m n h k hull inner p q = ends_included Z a b c d h k i j hull p q (ends_attained Z c d m n k inner (λ z. cc))
-shrinks Const a b c d i j m n h k hull inner p q = ends_included Const a b c d h k i j hull p q (ends_attained Const c d m n k inner (λ z. cc))
-shrinks Neg a b c d i j m n h k hull inner p q = ends_included Neg a b c d h k i j hull p q (inner.least, inner.greatest)
-shrinks Square a b c d i j m n h k hull inner p q = ends_included Square a b c d h k i j hull p q (inner.least, inner.greatest)
-shrinks Sqrt a b c d i j m n h k hull inner p q = ends_included Sqrt a b c d h k i j hull p q (inner.least, inner.greatest)
-shrinks Abs a b c d i j m n h k hull inner p q = ends_included Abs a b c d h k i j hull p q (inner.least, inner.greatest)
-shrinks Add a b c d i j m n h k hull inner p q = ends_included Add a b c d h k i j hull p q (inner.least, inner.greatest)
-shrinks Sub a b c d i j m n h k hull inner p q = ends_included Sub a b c d h k i j hull p q (inner.least, inner.greatest)
-shrinks Mul a b c d i j m n h k hull inner p q = ends_included Mul a b c d h k i j hull p q (inner.least, inner.greatest)
-shrinks Min a b c d i j m n h k hull inner p q = ends_included Min a b c d h k i j hull p q (inner.least, inner.greatest)
-shrinks Max a b c d i j m n h k hull inner p q = ends_included Max a b c d h k i j hull p q (inner.least, inner.greatest)
+shrinks X a b c d i j m n h k hull inner p q =
+    ends_included X a b c d h k i j hull p q (ends_attained X c d m n k inner (λ z. cc))
+shrinks Y a b c d i j m n h k hull inner p q =
+    ends_included Y a b c d h k i j hull p q (ends_attained Y c d m n k inner (λ z. cc))
+shrinks Z a b c d i j m n h k hull inner p q =
+    ends_included Z a b c d h k i j hull p q (ends_attained Z c d m n k inner (λ z. cc))
+shrinks Const a b c d i j m n h k hull inner p q =
+    ends_included Const a b c d h k i j hull p q (ends_attained Const c d m n k inner (λ z. cc))
+shrinks Neg a b c d i j m n h k hull inner p q =
+    ends_included Neg a b c d h k i j hull p q (inner.least, inner.greatest)
+shrinks Square a b c d i j m n h k hull inner p q =
+    ends_included Square a b c d h k i j hull p q (inner.least, inner.greatest)
+shrinks Sqrt a b c d i j m n h k hull inner p q =
+    ends_included Sqrt a b c d h k i j hull p q (inner.least, inner.greatest)
+shrinks Abs a b c d i j m n h k hull inner p q =
+    ends_included Abs a b c d h k i j hull p q (inner.least, inner.greatest)
+shrinks Add a b c d i j m n h k hull inner p q =
+    ends_included Add a b c d h k i j hull p q (inner.least, inner.greatest)
+shrinks Sub a b c d i j m n h k hull inner p q =
+    ends_included Sub a b c d h k i j hull p q (inner.least, inner.greatest)
+shrinks Mul a b c d i j m n h k hull inner p q =
+    ends_included Mul a b c d h k i j hull p q (inner.least, inner.greatest)
+shrinks Min a b c d i j m n h k hull inner p q =
+    ends_included Min a b c d h k i j hull p q (inner.least, inner.greatest)
+shrinks Max a b c d i j m n h k hull inner p q =
+    ends_included Max a b c d h k i j hull p q (inner.least, inner.greatest)
 
 -- what a choice between two tests answers
 left_by : (s t : Bool) → cond s Left (cond t Right Both) ≡ Left → s ≡ true

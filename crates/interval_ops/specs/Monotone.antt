@@ -47,13 +47,15 @@ floor_root_le m n h =
     (cases_lt (floor_root n) (floor_root m))
 
 pub root_of_le : (a b : ℤ) → a ≤ℤ b → root_of a ≤ℤ root_of b
-root_of_le (pos m) (pos n) h = omega (arith, ints, floor_root_le (m * 2 ^ 32) (n * 2 ^ 32) (omega (arith, ints)))
+root_of_le (pos m) (pos n) h =
+    omega (arith, ints, floor_root_le (m * 2 ^ 32) (n * 2 ^ 32) (omega (arith, ints)))
 root_of_le (pos m) (negsuc n) h = absurd (omega (arith, ints, h))
 root_of_le (negsuc m) (pos n) h = omega (arith, ints)
 root_of_le (negsuc m) (negsuc n) h = omega (arith, ints)
 
 -- what rises with each operand does so
-pub rises : (op : Op) (u v x y : ℤ) → IsRising op → u ≤ℤ x → v ≤ℤ y → op_result op u v ≤ℤ op_result op x y
+pub rises : (op : Op) (u v x y : ℤ) → IsRising op → u ≤ℤ x → v ≤ℤ y
+    → op_result op u v ≤ℤ op_result op x y
 rises Sqrt u v x y is h k = root_of_le u x h
 rises Add u v x y is h k = omega (arith, ints, clamps)
 rises Min u v x y is h k = omega (arith, ints, clamps)
@@ -100,13 +102,15 @@ square_falls (negsuc m) (negsuc n) h k =
     omega (arith, ints, mul-le-mul le le)
 
 -- what is even rises from 0 up
-pub even_rises : (op : Op) (u v x y : ℤ) → IsEven op → pos 0 ≤ℤ u → u ≤ℤ x → op_result op u v ≤ℤ op_result op x y
+pub even_rises : (op : Op) (u v x y : ℤ) → IsEven op → pos 0 ≤ℤ u → u ≤ℤ x
+    → op_result op u v ≤ℤ op_result op x y
 even_rises Square u v x y is h k = rounded_le (u *ℤ u) (x *ℤ x) (square_rises u x h k)
 even_rises Abs u v x y is h k = omega (arith, ints, clamps)
 even_rises op u v x y is h k = absurd is
 
 -- and falls up to 0
-pub even_falls : (op : Op) (u v x y : ℤ) → IsEven op → x ≤ℤ pos 0 → u ≤ℤ x → op_result op x y ≤ℤ op_result op u v
+pub even_falls : (op : Op) (u v x y : ℤ) → IsEven op → x ≤ℤ pos 0 → u ≤ℤ x
+    → op_result op x y ≤ℤ op_result op u v
 even_falls Square u v x y is h k = rounded_le (x *ℤ x) (u *ℤ u) (square_falls u x h k)
 even_falls Abs u v x y is h k = omega (arith, ints, clamps)
 even_falls op u v x y is h k = absurd is

@@ -37,7 +37,8 @@ turned ks = ks
 -- The positions of a, b, c and d: the last two are exchanged where the reordering is even and the sign of the
 -- tetrahedron negative, or the reordering odd and the sign positive.
 unfoldable pub arranged : Bool → List Bool → List ℕ
-arranged negative pattern = if differ negative (is_odd (grouped pattern)) then turned (grouped pattern) else grouped pattern
+arranged negative pattern =
+    if differ negative (is_odd (grouped pattern)) then turned (grouped pattern) else grouped pattern
 
 -- the corners a, b, c and d of a tetrahedron
 abbrev pub arrangement : ℕ → List Bool → List ℕ

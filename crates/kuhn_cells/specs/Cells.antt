@@ -19,7 +19,12 @@ has_inside c k = is_inside (get_or c.values k (pos 0))
 
 -- the cell at a place, with the values of its corners
 abbrev pub cell_at : Grid → GridPoint → CellValues
-cell_at g p = record { x = p.x; y = p.y; z = p.z; values = map (λ c. value_at g (further p c)) (range_with_len 0 8) }
+cell_at g p = record {
+  x = p.x;
+  y = p.y;
+  z = p.z;
+  values = map (λ c. value_at g (further p c)) (range_with_len 0 8);
+}
 
 -- some corner of a cell is inside, and some corner is outside
 abbrev pub is_mixed_cell : CellValues → Bool
@@ -31,12 +36,14 @@ mixed_cells g = filter is_mixed_cell (over_block g.x g.y g.z (λ p. cell_at g p 
 
 -- a point lies in the outermost layer of a grid
 abbrev pub is_outermost : Grid → GridPoint → Bool
-is_outermost g p = (p.x == 0 || p.x == g.x) || ((p.y == 0 || p.y == g.y) || (p.z == 0 || p.z == g.z))
+is_outermost g p =
+    (p.x == 0 || p.x == g.x) || ((p.y == 0 || p.y == g.y) || (p.z == 0 || p.z == g.z))
 
 -- a grid has a value for each of its points, and every point of its outermost layer is outside
 pub record IsBordered (g : Grid) : Type 0 where
   pub whole : length g.values ≡ (g.x + 1) * ((g.y + 1) * (g.z + 1))
-  pub outside : (p : GridPoint) → is_point g p ≡ true → is_outermost g p ≡ true → is_inside_at g p ≡ false
+  pub outside : (p : GridPoint) → is_point g p ≡ true → is_outermost g p ≡ true
+      → is_inside_at g p ≡ false
 
 -- the directions from the lowest corner of a cell to those that are on the other side
 unfoldable pub directions_of : CellValues → List ℕ
@@ -48,7 +55,8 @@ edges_of c = map (edge_from (place_of c)) (directions_of c)
 
 -- the triangles of a cell
 unfoldable pub triangles_of_cell : CellValues → List Triple
-triangles_of_cell c = flat_map (λ tetra. triangles_in (place_of c) tetra (has_inside c)) (range_with_len 0 6)
+triangles_of_cell c =
+    flat_map (λ tetra. triangles_in (place_of c) tetra (has_inside c)) (range_with_len 0 6)
 
 -- a mixed cell of a grid
 pub record IsCellOf (g : Grid) (c : CellValues) : Type 0 where

@@ -15,6 +15,7 @@ both_at p h false = (and_parts (p true) (p false) h).1
 abbrev pub every : (Bool → Bool → Bool → Bool → Bool) → Bool
 every p = both (λ a. both (λ b. both (λ c. both (λ d. p a b c d))))
 
-pub every_at : (p : Bool → Bool → Bool → Bool → Bool) → every p ≡ true → (a b c d : Bool) → p a b c d ≡ true
+pub every_at : (p : Bool → Bool → Bool → Bool → Bool) → every p ≡ true → (a b c d : Bool)
+    → p a b c d ≡ true
 every_at p h a b c d =
     both_at (λ d. p a b c d) (both_at (λ c. both (λ d. p a b c d)) (both_at (λ b. both (λ c. both (λ d. p a b c d))) (both_at (λ a. both (λ b. both (λ c. both (λ d. p a b c d)))) h a) b) c) d

@@ -15,7 +15,8 @@ along_z mask = mask / 4 % 2
 
 -- where a corner lies in its cell
 abbrev pub corner_place : ℕ → Vector
-corner_place mask = record { x = pos (along_x mask); y = pos (along_y mask); z = pos (along_z mask) }
+corner_place mask =
+    record { x = pos (along_x mask); y = pos (along_y mask); z = pos (along_z mask) }
 
 -- the six orders of the axes x, y and z, one for each tetrahedron
 abbrev pub orders : List (List ℕ)
@@ -45,4 +46,5 @@ is_negative tetra = is_odd (order_of tetra)
 
 -- the determinant of the ways from one corner to three others
 abbrev pub corner_determinant : ℕ → ℕ → ℕ → ℕ → ℤ
-corner_determinant a b c d = determinant_at (corner_place a) (corner_place b) (corner_place c) (corner_place d)
+corner_determinant a b c d =
+    determinant_at (corner_place a) (corner_place b) (corner_place c) (corner_place d)

@@ -15,16 +15,22 @@ use Rattle.kuhn_cells.specs.VertexLaws.{in_vertices}
 
 -- ---- the triangles of a grid
 
-pub all_within : {A : Type 0} (P : A → Type 0) (f : ℕ → List A) (a n : ℕ) → ((k : ℕ) → k < a + n → All P (f k)) → All P (flat_map f (range_with_len a n))
+pub all_within : {A : Type 0} (P : A → Type 0) (f : ℕ → List A) (a n : ℕ)
+    → ((k : ℕ) → k < a + n → All P (f k)) → All P (flat_map f (range_with_len a n))
 all_within P f a zero each = All-nil P
 all_within P f a (suc n) each =
-    All-append P (f a) (flat_map f (range_with_len (a + 1) n)) (each a (omega arith)) (all_within P f (a + 1) n (λ k few. each k (omega (arith, few))))
+    All-append P (f a) (flat_map f (range_with_len (a + 1) n)) (each a (omega arith))
+    (all_within P f (a + 1) n (λ k few. each k (omega (arith, few))))
 
-pub all_in_block : {A : Type 0} (P : A → Type 0) (nx ny nz : ℕ) (at : GridPoint → List A) → ((p : GridPoint) → p.x < nx → p.y < ny → p.z < nz → All P (at p)) → All P (over_block nx ny nz at)
+pub all_in_block : {A : Type 0} (P : A → Type 0) (nx ny nz : ℕ) (at : GridPoint → List A)
+    → ((p : GridPoint) → p.x < nx → p.y < ny → p.z < nz → All P (at p))
+    → All P (over_block nx ny nz at)
 all_in_block P nx ny nz at each =
-    all_within P _ 0 nz (λ z fz. all_within P _ 0 ny (λ y fy. all_within P _ 0 nx (λ x fx. each (point x y z) (omega (arith, fx)) (omega (arith, fy)) (omega (arith, fz)))))
+    all_within P _ 0 nz (λ z fz. all_within P _ 0 ny (λ y fy. all_within P _ 0 nx
+    (λ x fx. each (point x y z) (omega (arith, fx)) (omega (arith, fy)) (omega (arith, fz)))))
 
-pub vertex_of : (g : Grid) (cell : GridPoint) (e : EdgeKey) → cell.x < g.x → cell.y < g.y → cell.z < g.z → IsParting (is_inside_at g) cell e → IsVertex g e
+pub vertex_of : (g : Grid) (cell : GridPoint) (e : EdgeKey) → cell.x < g.x → cell.y < g.y
+    → cell.z < g.z → IsParting (is_inside_at g) cell e → IsVertex g e
 vertex_of g cell e fx fy fz h =
     let x = h.near_x in
     let y = h.near_y in
@@ -32,7 +38,9 @@ vertex_of g cell e fx fy fz h =
     let p = upper e in
     record {
       direction = h.direction;
-      within = and_from _ _ (le-leb p.x g.x (omega (arith, x, fx))) (and_from _ _ (le-leb p.y g.y (omega (arith, y, fy))) (le-leb p.z g.z (omega (arith, z, fz))));
+      within = and_from _ _ (le-leb p.x g.x (omega (arith, x, fx)))
+          (and_from _ _ (le-leb p.y g.y (omega (arith, y, fy)))
+          (le-leb p.z g.z (omega (arith, z, fz))));
       mixed = h.mixed;
     }
 
@@ -41,7 +49,13 @@ unfolding all_triangles
 triangles_have_vertices g =
     let inside = is_inside_at g in
     all_in_block (OfEdges (IsVertex g)) g.x g.y g.z (cell_triangles inside) (λ cell fx fy fz.
-    All-weaker (OfEdges (IsParting inside cell)) (OfEdges (IsVertex g)) (λ t h. record { a = vertex_of g cell t.a fx fy fz h.a; b = vertex_of g cell t.b fx fy fz h.b; c = vertex_of g cell t.c fx fy fz h.c }) (cell_triangles inside cell) (all_tetrahedra inside cell))
+    All-weaker (OfEdges (IsParting inside cell)) (OfEdges (IsVertex g))
+    (λ t h. record {
+      a = vertex_of g cell t.a fx fy fz h.a;
+      b = vertex_of g cell t.b fx fy fz h.b;
+      c = vertex_of g cell t.c fx fy fz h.c;
+    })
+    (cell_triangles inside cell) (all_tetrahedra inside cell))
 
 -- ---- numbers
 
@@ -50,15 +64,22 @@ same_is_equal e f h =
     let x = and_parts _ _ h in
     let y = and_parts _ _ x.1 in
     let z = and_parts _ _ y.1 in
-    rw (eqb-true e.x f.x x.0, eqb-true e.y f.y y.0, eqb-true e.z f.z z.0, eqb-true e.dir f.dir z.1) refl
+    rw (
+      eqb-true e.x f.x x.0,
+      eqb-true e.y f.y y.0,
+      eqb-true e.z f.z z.0,
+      eqb-true e.dir f.dir z.1,
+    ) refl
 
 pub same_as_itself : (e : EdgeKey) → same_edge e e ≡ true
-same_as_itself e = and_from _ _ (eq-eqb e.x e.x refl) (and_from _ _ (eq-eqb e.y e.y refl) (and_from _ _ (eq-eqb e.z e.z refl) (eq-eqb e.dir e.dir refl)))
+same_as_itself e = and_from _ _ (eq-eqb e.x e.x refl) (and_from _ _ (eq-eqb e.y e.y refl)
+    (and_from _ _ (eq-eqb e.z e.z refl) (eq-eqb e.dir e.dir refl)))
 
 stands : (all : List EdgeKey) (e : EdgeKey) → Contains all e → number_among all e < length all
 stands all e h = by (cases_lt (number_among all e) (length all))
   where
-    by : (number_among all e < length all) ⊎ (length all ≤ number_among all e) → number_among all e < length all
+    by : (number_among all e < length all) ⊎ (length all ≤ number_among all e)
+        → number_among all e < length all
     by (inl less) = less
     by (inr late) =
         let missed = fails_before_first (same_edge e) all h.0 e (omega (arith, h.1, late)) in
@@ -68,5 +89,8 @@ stands all e h = by (cases_lt (number_among all e) (length all))
 pub numbers_are_places : NumbersArePlaces
 numbers_are_places g e d v =
     let all = vertices g in
-    let few = stands all e (in_vertices g e v) in
-    (few, sym (same_is_equal e (get_or all (number_among all e) d) (passes_at_first (same_edge e) all d few)))
+    let few = stands all e (in_vertices g e v) in (
+      few,
+      sym (same_is_equal e (get_or all (number_among all e) d)
+          (passes_at_first (same_edge e) all d few)),
+    )

@@ -20,11 +20,13 @@ abbrev pub number_among : List EdgeKey → EdgeKey → ℕ
 number_among all e = position_or_len (same_edge e) all
 
 abbrev pub face_among : List EdgeKey → Triple → Face
-face_among all t = record { a = number_among all t.a; b = number_among all t.b; c = number_among all t.c }
+face_among all t =
+    record { a = number_among all t.a; b = number_among all t.b; c = number_among all t.c }
 
 -- the triangles of a cell, by the numbers of its tetrahedra
 abbrev pub cell_triangles : (GridPoint → Bool) → GridPoint → List Triple
-cell_triangles inside cell = flat_map (λ tetra. triangles_in cell tetra (λ c. inside (further cell c))) (range_with_len 0 6)
+cell_triangles inside cell =
+    flat_map (λ tetra. triangles_in cell tetra (λ c. inside (further cell c))) (range_with_len 0 6)
 
 -- the triangles of all cells, by z, then by y, then by x
 unfoldable pub all_triangles : Grid → List Triple

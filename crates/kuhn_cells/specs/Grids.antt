@@ -26,7 +26,8 @@ is_inside_at g p = is_inside (value_at g p)
 
 -- something at each place of a block of so many places along each axis, by z, then by y, then by x
 abbrev pub over_block : {A : Type 0} → ℕ → ℕ → ℕ → (GridPoint → List A) → List A
-over_block nx ny nz at = flat_map (λ z. flat_map (λ y. flat_map (λ x. at (point x y z)) (range_with_len 0 nx)) (range_with_len 0 ny)) (range_with_len 0 nz)
+over_block nx ny nz at =
+    flat_map (λ z. flat_map (λ y. flat_map (λ x. at (point x y z)) (range_with_len 0 nx)) (range_with_len 0 ny)) (range_with_len 0 nz)
 
 -- the ends of an edge
 abbrev pub lower : EdgeKey → GridPoint

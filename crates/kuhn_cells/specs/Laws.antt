@@ -16,13 +16,16 @@ use Rattle.kuhn_cells.specs.Triangles.{GridPoint}
 -- v0 to v1, v2 and v3
 abbrev pub SignsAreDeterminants : Type 0
 SignsAreDeterminants =
-    (tetra : ℕ) → tetra < 6 → corner_determinant (corner tetra 0) (corner tetra 1) (corner tetra 2) (corner tetra 3) ≡ (if is_negative tetra then negsuc 0 else pos 1)
+    (tetra : ℕ) → tetra < 6 → corner_determinant (corner tetra 0) (corner tetra 1) (corner tetra 2)
+    (corner tetra 3) ≡ (if is_negative tetra then negsuc 0 else pos 1)
 
 -- however the corners of a tetrahedron lie, the determinant of the ways from a to b, c and d is positive: it is 1
 abbrev pub ArrangementsArePositive : Type 0
 ArrangementsArePositive =
-    (tetra : ℕ) (v0 v1 v2 v3 : Bool) → tetra < 6 → let corners = arrangement tetra (v0 ∷ v1 ∷ v2 ∷ v3 ∷ []) in
-    corner_determinant (get_or corners 0 0) (get_or corners 1 0) (get_or corners 2 0) (get_or corners 3 0) ≡ pos 1
+    (tetra : ℕ) (v0 v1 v2 v3 : Bool) → tetra < 6 → let corners =
+    arrangement tetra (v0 ∷ v1 ∷ v2 ∷ v3 ∷ []) in
+    corner_determinant (get_or corners 0 0) (get_or corners 1 0) (get_or corners 2 0)
+    (get_or corners 3 0) ≡ pos 1
 
 -- a fact of the three edges of a triangle
 pub record OfEdges (P : EdgeKey → Type 0) (t : Triple) : Type 0 where
@@ -38,12 +41,14 @@ pub record IsDirection (dir : ℕ) : Type 0 where
 -- the edges of each triangle have a direction
 abbrev pub EdgesHaveDirections : Type 0
 EdgesHaveDirections =
-    (inside : GridPoint → Bool) (cell : GridPoint) → All (OfEdges (λ e. IsDirection e.dir)) (cell_triangles inside cell)
+    (inside : GridPoint → Bool) (cell : GridPoint) → All (OfEdges (λ e. IsDirection e.dir))
+    (cell_triangles inside cell)
 
 -- each edge of each triangle has exactly one inside end
 abbrev pub EdgesAreMixed : Type 0
 EdgesAreMixed =
-    (inside : GridPoint → Bool) (cell : GridPoint) → All (OfEdges (λ e. IsTrue (is_mixed inside e))) (cell_triangles inside cell)
+    (inside : GridPoint → Bool) (cell : GridPoint) → All (OfEdges (λ e. IsTrue (is_mixed inside e)))
+    (cell_triangles inside cell)
 
 -- an edge of a grid with exactly one inside end
 pub record IsVertex (g : Grid) (e : EdgeKey) : Type 0 where
@@ -57,7 +62,8 @@ VerticesAreMixedEdges = (g : Grid) (e : EdgeKey) → Contains (vertices g) e ↔
 
 -- keys are ordered by z, then by y, then by x of the lower point, and then by direction
 abbrev pub IsBefore : EdgeKey → EdgeKey → Type 0
-IsBefore e f = (e.z < f.z) ⊎ ((e.z ≡ f.z) × ((e.y < f.y) ⊎ ((e.y ≡ f.y) × ((e.x < f.x) ⊎ ((e.x ≡ f.x) × (e.dir < f.dir))))))
+IsBefore e f = (e.z < f.z) ⊎ ((e.z ≡ f.z) × ((e.y < f.y) ⊎
+    ((e.y ≡ f.y) × ((e.x < f.x) ⊎ ((e.x ≡ f.x) × (e.dir < f.dir))))))
 
 -- a comparison of keys tells that order
 abbrev pub ComparesKeys : (EdgeKey → EdgeKey → Ordering) → Type 0
@@ -74,7 +80,9 @@ TrianglesHaveVertices = (g : Grid) → All (OfEdges (IsVertex g)) (all_triangles
 -- the number of a vertex is the place at which it stands
 abbrev pub NumbersArePlaces : Type 0
 NumbersArePlaces =
-    (g : Grid) (e d : EdgeKey) → IsVertex g e → let number = number_among (vertices g) e in (number < length (vertices g)) × (get_or (vertices g) number d ≡ e)
+    (g : Grid) (e d : EdgeKey) → IsVertex g e → let number =
+    number_among (vertices g) e in (number < length (vertices g))
+    × (get_or (vertices g) number d ≡ e)
 
 -- ---- the mixed cells suffice
 
@@ -104,4 +112,5 @@ CellsHaveTriangles = (g : Grid) → all_triangles g ≡ flat_map triangles_of_ce
 
 -- each edge of each triangle of a mixed cell is one from the lowest corner of a mixed cell
 abbrev pub EdgesHaveCells : Type 0
-EdgesHaveCells = (g : Grid) → IsBordered g → All (λ c. All (OfEdges (HasCell (mixed_cells g) c)) (triangles_of_cell c)) (mixed_cells g)
+EdgesHaveCells = (g : Grid) → IsBordered g → All (λ c. All (OfEdges (HasCell (mixed_cells g) c))
+    (triangles_of_cell c)) (mixed_cells g)

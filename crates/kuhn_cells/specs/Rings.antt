@@ -13,7 +13,8 @@ pub record HasEdge (dir : ℕ) (m : ℕ × ℕ) : Type 0 where
 
 -- the two corners of the tetrahedron that do not lie on the edge
 abbrev pub corners_off : ℕ → ℕ × ℕ → List ℕ
-corners_off dir m = filter (λ c. not (c == m.0) && not (c == m.0 + dir)) (map (corner m.1) positions)
+corners_off dir m =
+    filter (λ c. not (c == m.0) && not (c == m.0 + dir)) (map (corner m.1) positions)
 
 -- where a corner lies from the start of the edge
 abbrev pub from_start : ℕ × ℕ → ℕ → Vector

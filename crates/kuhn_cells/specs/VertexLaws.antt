@@ -13,13 +13,16 @@ use Rattle.kuhn_cells.specs.Triangles.{GridPoint, edge_from, point}
 
 -- ---- all elements of a block
 
-pub all_flat : {X A : Type 0} (P : A → Type 0) (f : X → List A) → ((x : X) → All P (f x)) → (xs : List X) → All P (flat_map f xs)
+pub all_flat : {X A : Type 0} (P : A → Type 0) (f : X → List A) → ((x : X) → All P (f x))
+    → (xs : List X) → All P (flat_map f xs)
 all_flat P f each [] = All-nil P
 all_flat P f each (x ∷ xs) = All-append P (f x) (flat_map f xs) (each x) (all_flat P f each xs)
 
-pub all_block : {A : Type 0} (P : A → Type 0) (nx ny nz : ℕ) (at : GridPoint → List A) → ((p : GridPoint) → All P (at p)) → All P (over_block nx ny nz at)
+pub all_block : {A : Type 0} (P : A → Type 0) (nx ny nz : ℕ) (at : GridPoint → List A)
+    → ((p : GridPoint) → All P (at p)) → All P (over_block nx ny nz at)
 all_block P nx ny nz at each =
-    all_flat P _ (λ z. all_flat P _ (λ y. all_flat P _ (λ x. each (point x y z)) (range_with_len 0 nx)) (range_with_len 0 ny)) (range_with_len 0 nz)
+    all_flat P _ (λ z. all_flat P _ (λ y. all_flat P _ (λ x. each (point x y z))
+    (range_with_len 0 nx)) (range_with_len 0 ny)) (range_with_len 0 nz)
 
 -- ---- an element of a block
 
@@ -32,7 +35,8 @@ in_head xs x = (0, omega arith, refl)
 pub not_in_none : {A : Type 0} (x : A) → Contains [] x → ⊥
 not_in_none x h = omega (arith, h.1)
 
-pub head_or_tail : {A : Type 0} (y : A) (ys : List A) (x : A) → Contains (y ∷ ys) x → (y ≡ x) ⊎ Contains ys x
+pub head_or_tail : {A : Type 0} (y : A) (ys : List A) (x : A) → Contains (y ∷ ys) x
+    → (y ≡ x) ⊎ Contains ys x
 head_or_tail {A} y ys x h = at h.0 h.1 h.2
   where
     at : (k : ℕ) → k < length (y ∷ ys) → get_or (y ∷ ys) k x ≡ x → (y ≡ x) ⊎ Contains ys x
@@ -41,42 +45,53 @@ head_or_tail {A} y ys x h = at h.0 h.1 h.2
 
 pub in_range : (a n k : ℕ) → a ≤ k → k < a + n → Contains (range_with_len a n) k
 in_range a zero k low high = absurd (omega (arith, low, high))
-in_range a (suc n) k low high = by (cases_order a k) (λ less. in_range (a + 1) n k (omega (arith, less)) (omega (arith, high)))
+in_range a (suc n) k low high =
+    by (cases_order a k) (λ less. in_range (a + 1) n k (omega (arith, less)) (omega (arith, high)))
   where
-    by : (a ≡ k) ⊎ ((a < k) ⊎ (k < a)) → (a < k → Contains (range_with_len (a + 1) n) k) → Contains (a ∷ range_with_len (a + 1) n) k
+    by : (a ≡ k) ⊎ ((a < k) ⊎ (k < a)) → (a < k → Contains (range_with_len (a + 1) n) k)
+        → Contains (a ∷ range_with_len (a + 1) n) k
     by (inl same) next = rw same (in_head (range_with_len (k + 1) n) k)
     by (inr (inl less)) next = in_tail a (range_with_len (a + 1) n) k (next less)
     by (inr (inr more)) next = absurd (omega (arith, low, more))
 
-pub in_flat : {X A : Type 0} (f : X → List A) (ys : List X) (y : X) (x : A) → Contains ys y → Contains (f y) x → Contains (flat_map f ys) x
+pub in_flat : {X A : Type 0} (f : X → List A) (ys : List X) (y : X) (x : A) → Contains ys y
+    → Contains (f y) x → Contains (flat_map f ys) x
 in_flat f [] y x h k = absurd (not_in_none y h)
 in_flat f (z ∷ zs) y x h k = by (head_or_tail z zs y h) (λ later. in_flat f zs y x later k)
   where
-    by : (z ≡ y) ⊎ Contains zs y → (Contains zs y → Contains (flat_map f zs) x) → Contains (f z ++ flat_map f zs) x
+    by : (z ≡ y) ⊎ Contains zs y → (Contains zs y → Contains (flat_map f zs) x)
+        → Contains (f z ++ flat_map f zs) x
     by (inl same) next = Contains-append_left (f z) (flat_map f zs) x (rw same k)
     by (inr later) next = Contains-append_right (f z) (flat_map f zs) x (next later)
 
-pub in_map : {X A : Type 0} (f : X → A) (ys : List X) (y : X) → Contains ys y → Contains (map f ys) (f y)
+pub in_map : {X A : Type 0} (f : X → A) (ys : List X) (y : X) → Contains ys y
+    → Contains (map f ys) (f y)
 in_map f [] y h = absurd (not_in_none y h)
 in_map f (z ∷ zs) y h = by (head_or_tail z zs y h) (λ later. in_map f zs y later)
   where
-    by : (z ≡ y) ⊎ Contains zs y → (Contains zs y → Contains (map f zs) (f y)) → Contains (f z ∷ map f zs) (f y)
+    by : (z ≡ y) ⊎ Contains zs y → (Contains zs y → Contains (map f zs) (f y))
+        → Contains (f z ∷ map f zs) (f y)
     by (inl same) next = rw same (in_head (map f zs) (f y))
     by (inr later) next = in_tail (f z) (map f zs) (f y) (next later)
 
-pub in_filter : {A : Type 0} (p : A → Bool) (ys : List A) (x : A) → Contains ys x → p x ≡ true → Contains (filter p ys) x
+pub in_filter : {A : Type 0} (p : A → Bool) (ys : List A) (x : A) → Contains ys x → p x ≡ true
+    → Contains (filter p ys) x
 in_filter p [] x h passes = absurd (not_in_none x h)
-in_filter p (y ∷ ys) x h passes = by (head_or_tail y ys x h) (λ later. in_filter p ys x later passes)
+in_filter p (y ∷ ys) x h passes =
+    by (head_or_tail y ys x h) (λ later. in_filter p ys x later passes)
   where
-    kept : (b : Bool) → Contains (filter p ys) x → Contains (cond b (y ∷ filter p ys) (filter p ys)) x
+    kept : (b : Bool) → Contains (filter p ys) x → Contains
+        (cond b (y ∷ filter p ys) (filter p ys)) x
     kept true k = in_tail y (filter p ys) x k
     kept false k = k
 
-    by : (y ≡ x) ⊎ Contains ys x → (Contains ys x → Contains (filter p ys) x) → Contains (cond (p y) (y ∷ filter p ys) (filter p ys)) x
+    by : (y ≡ x) ⊎ Contains ys x → (Contains ys x → Contains (filter p ys) x)
+        → Contains (cond (p y) (y ∷ filter p ys) (filter p ys)) x
     by (inl same) next = rw (same, passes) (in_head (filter p ys) x)
     by (inr later) next = kept (p y) (next later)
 
-pub in_block : {A : Type 0} (nx ny nz : ℕ) (at : GridPoint → List A) (p : GridPoint) (e : A) → p.x < nx → p.y < ny → p.z < nz → Contains (at p) e → Contains (over_block nx ny nz at) e
+pub in_block : {A : Type 0} (nx ny nz : ℕ) (at : GridPoint → List A) (p : GridPoint) (e : A)
+    → p.x < nx → p.y < ny → p.z < nz → Contains (at p) e → Contains (over_block nx ny nz at) e
 in_block nx ny nz at p e x y z h =
     in_flat _ (range_with_len 0 nz) p.z e (in_range 0 nz p.z (omega arith) (omega (arith, z)))
     (in_flat _ (range_with_len 0 ny) p.y e (in_range 0 ny p.y (omega arith) (omega (arith, y)))
@@ -84,9 +99,14 @@ in_block nx ny nz at p e x y z h =
 
 -- ---- the edges and the vertices of a grid
 
-are_directions : (p : GridPoint) → All (λ e. IsDirection e.dir) (map (edge_from p) (range_with_len 1 7))
+are_directions : (p : GridPoint) → All (λ e. IsDirection e.dir)
+    (map (edge_from p) (range_with_len 1 7))
 are_directions p =
-    All-map (λ e. IsDirection e.dir) (edge_from p) (range_with_len 1 7) (λ k d h. rw (get_or-range_with_len 1 7 k d h) (record { some = omega arith; within = omega (arith, h) }))
+    All-map (λ e. IsDirection e.dir) (edge_from p) (range_with_len 1 7)
+    (λ k d h. rw (get_or-range_with_len 1 7 k d h) (record {
+      some = omega arith;
+      within = omega (arith, h);
+    }))
 
 abbrev pub all_edges : Grid → List EdgeKey
 all_edges g = over_block (g.x + 1) (g.y + 1) (g.z + 1) (λ p. map (edge_from p) (range_with_len 1 7))
@@ -96,10 +116,15 @@ unfolding vertices
 is_vertex g e h =
     let within = λ (e : EdgeKey). is_point g (upper e) in
     let mixed = is_mixed (is_inside_at g) in
-    let directions = all_block (λ e. IsDirection e.dir) (g.x + 1) (g.y + 1) (g.z + 1) (λ p. map (edge_from p) (range_with_len 1 7)) are_directions in
+    let directions = all_block (λ e. IsDirection e.dir) (g.x + 1) (g.y + 1) (g.z + 1)
+    (λ p. map (edge_from p) (range_with_len 1 7)) are_directions in
     record {
-      direction = All-contains (λ e. IsDirection e.dir) (vertices g) e (All-filter mixed (λ e. IsDirection e.dir) (edges g) (All-filter within (λ e. IsDirection e.dir) (all_edges g) directions)) h;
-      within = All-contains (λ e. within e ≡ true) (vertices g) e (All-filter mixed (λ e. within e ≡ true) (edges g) (filter_passes within (all_edges g))) h;
+      direction = All-contains (λ e. IsDirection e.dir) (vertices g) e
+          (All-filter mixed (λ e. IsDirection e.dir) (edges g)
+          (All-filter within (λ e. IsDirection e.dir) (all_edges g) directions)) h;
+      within = All-contains (λ e. within e ≡ true) (vertices g) e
+          (All-filter mixed (λ e. within e ≡ true) (edges g)
+          (filter_passes within (all_edges g))) h;
       mixed = All-contains (λ e. mixed e ≡ true) (vertices g) e (filter_passes mixed (edges g)) h;
     }
 
@@ -112,8 +137,13 @@ in_vertices g e v =
     let fx = leb-true (e.x + along_x e.dir) g.x x.0 in
     let fy = leb-true (e.y + along_y e.dir) g.y yz.0 in
     let fz = leb-true (e.z + along_z e.dir) g.z yz.1 in
-    let here = in_map (edge_from (lower e)) (range_with_len 1 7) e.dir (in_range 1 7 e.dir v.direction.some (let few = v.direction.within in omega (arith, few))) in
-    in_filter (is_mixed (is_inside_at g)) (edges g) e (in_filter within (all_edges g) e (in_block (g.x + 1) (g.y + 1) (g.z + 1) (λ p. map (edge_from p) (range_with_len 1 7)) (lower e) e (omega (arith, fx)) (omega (arith, fy)) (omega (arith, fz)) here) v.within) v.mixed
+    let here = in_map (edge_from (lower e)) (range_with_len 1 7) e.dir
+    (in_range 1 7 e.dir v.direction.some (let few = v.direction.within in omega
+    (arith, few))) in
+    in_filter (is_mixed (is_inside_at g)) (edges g) e (in_filter within (all_edges g) e
+    (in_block (g.x + 1) (g.y + 1) (g.z + 1) (λ p. map (edge_from p) (range_with_len 1 7))
+    (lower e) e (omega (arith, fx)) (omega (arith, fy))
+    (omega (arith, fz)) here) v.within) v.mixed
 
 pub vertices_are_mixed_edges : VerticesAreMixedEdges
 vertices_are_mixed_edges g e = (is_vertex g e, in_vertices g e)

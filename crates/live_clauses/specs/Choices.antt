@@ -18,7 +18,8 @@ choice_at choices place = slice_index_or choices place Both
 -- choices of some steps: only a minimum and a maximum choose an operand
 abbrev pub AreChoices : List Step → List Choice → Type 0
 AreChoices steps choices = (place : ℕ) (step : Step)
-    → slice_get steps place ≡ Some step → step.op ≢ Min → step.op ≢ Max → choice_at choices place ≡ Both
+    → slice_get steps place ≡ Some step → step.op ≢ Min → step.op ≢ Max
+    → choice_at choices place ≡ Both
 
 -- Choices are right at a point where each step that chooses its left operand has that operand's value there, and
 -- each that chooses its right operand has that one's.

@@ -29,12 +29,15 @@ representative steps choices place = represented place steps choices place
 -- representatives of its operands.
 pub data IsLive (steps : List Step) (choices : List Choice) : ℕ → Type 0 where
   Last : IsLive steps choices (representative steps choices (length steps - 1))
-  First : (place : ℕ) → IsLive steps choices place → 0 < arity_of (step_at steps place).op → IsLive steps choices (representative steps choices (step_at steps place).a)
-  Second : (place : ℕ) → IsLive steps choices place → 1 < arity_of (step_at steps place).op → IsLive steps choices (representative steps choices (step_at steps place).b)
+  First : (place : ℕ) → IsLive steps choices place → 0 < arity_of (step_at steps place).op
+      → IsLive steps choices (representative steps choices (step_at steps place).a)
+  Second : (place : ℕ) → IsLive steps choices place → 1 < arity_of (step_at steps place).op
+      → IsLive steps choices (representative steps choices (step_at steps place).b)
 
 -- whether a step has the step at a place as an operand
 abbrev pub reads : Step → ℕ → Bool
-reads step place = (nat_lt 0 (arity_of step.op) && place == step.a) || (nat_lt 1 (arity_of step.op) && place == step.b)
+reads step place = (nat_lt 0 (arity_of step.op) && place == step.a)
+    || (nat_lt 1 (arity_of step.op) && place == step.b)
 
 -- whether a step, as it chooses, needs the step at a place: its chosen operand, or else each that it has
 abbrev pub hands_on : Step → Choice → ℕ → Bool
@@ -46,7 +49,8 @@ abbrev pub needed_after : ℕ → List Step → List Choice → ℕ → Bool
 needed_after zero steps choices place = place == length steps - 1
 needed_after (suc turns) steps choices place =
     let from = length steps - 1 - turns in
-    needed_after turns steps choices place || (needed_after turns steps choices from && hands_on (step_at steps from) (choice_at choices from) place)
+    needed_after turns steps choices place || (needed_after turns steps choices from
+    && hands_on (step_at steps from) (choice_at choices from) place)
 
 abbrev pub is_needed : List Step → List Choice → ℕ → Bool
 is_needed steps choices place = needed_after (length steps) steps choices place
@@ -62,7 +66,8 @@ is_kept steps choices place = is_needed steps choices place && is_both (choice_a
 -- how many steps before a place are live
 abbrev pub kept_below : List Step → List Choice → ℕ → ℕ
 kept_below steps choices zero = 0
-kept_below steps choices (suc place) = kept_below steps choices place + (if is_kept steps choices place then 1 else 0)
+kept_below steps choices (suc place) =
+    kept_below steps choices place + (if is_kept steps choices place then 1 else 0)
 
 -- the new number of what stands for the step at a place
 abbrev pub new_place : List Step → List Choice → ℕ → ℕ

@@ -11,19 +11,24 @@ is_marked marks place = nat_lt 0 (slice_index marks place)
 
 -- a walk marked these places, and left the others as they were
 abbrev pub Marks : List ℕ → List ℕ → (ℕ → Bool) → Type 0
-Marks old new these = (place : ℕ) → place < length old → is_marked new place ≡ (is_marked old place || these place)
+Marks old new these =
+    (place : ℕ) → place < length old → is_marked new place ≡ (is_marked old place || these place)
 
 -- the marked steps are those that are needed after so many turns from the last step down
 abbrev pub AreMarksAfter : ℕ → List Step → List Choice → List ℕ → Type 0
-AreMarksAfter turns steps choices marks = (place : ℕ) → place < length steps → is_marked marks place ≡ needed_after turns steps choices place
+AreMarksAfter turns steps choices marks = (place : ℕ) → place < length steps
+    → is_marked marks place ≡ needed_after turns steps choices place
 
 -- the marked steps from a place on are the needed ones
 abbrev pub AreMarks : ℕ → List Step → List Choice → List ℕ → Type 0
-AreMarks from steps choices marks = (place : ℕ) → from ≤ place → place < length steps → is_marked marks place ≡ is_needed steps choices place
+AreMarks from steps choices marks = (place : ℕ) → from ≤ place → place < length steps
+    → is_marked marks place ≡ is_needed steps choices place
 
 -- the needed steps before a place have their new numbers
 abbrev pub AreNumbers : ℕ → List Step → List Choice → List ℕ → Type 0
-AreNumbers upto steps choices numbers = (place : ℕ) → place < upto → is_needed steps choices place ≡ true → slice_index numbers place ≡ new_place steps choices place
+AreNumbers upto steps choices numbers = (place : ℕ) → place < upto
+    → is_needed steps choices place ≡ true
+    → slice_index numbers place ≡ new_place steps choices place
 
 -- What a walk up a list has done before a place: the needed steps there have their numbers, the others still their
 -- marks, and the live ones are copied.

@@ -25,10 +25,13 @@ Separates = (g : Grid) → IsFramed g → IsSeparating g (vertices g) (faces g)
 -- 65536, they also have different raw places and different lines.
 pub record LieApart (g : Grid) (e f : EdgeKey) : Type 0 where
   pub lattice : lattice_place g e ≢ lattice_place g f
-  pub raw : (places : RawPlaces) → AreAllApart g places → raw_place places g e ≢ raw_place places g f
-  pub lines : (places : RawPlaces) → AreAllApart g places → place_line (raw_place places g e) ≢ place_line (raw_place places g f)
+  pub raw : (places : RawPlaces) → AreAllApart g places
+      → raw_place places g e ≢ raw_place places g f
+  pub lines : (places : RawPlaces) → AreAllApart g places
+      → place_line (raw_place places g e) ≢ place_line (raw_place places g f)
 
 -- different vertices of each grid lie apart
 abbrev pub PlacesAreDistinct : Type 0
 PlacesAreDistinct =
-    (g : Grid) → IsFramed g → (e f : EdgeKey) → Contains (vertices g) e → Contains (vertices g) f → e ≢ f → LieApart g e f
+    (g : Grid) → IsFramed g → (e f : EdgeKey) → Contains (vertices g) e → Contains (vertices g) f
+    → e ≢ f → LieApart g e f

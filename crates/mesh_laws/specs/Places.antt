@@ -73,7 +73,8 @@ place_line v = number_text v.x ++ 32 ∷ (number_text v.y ++ 32 ∷ (number_text
 pub record AreApart (count : ℕ) (places : List ℤ) : Type 0 where
   pub points : length places ≡ count + 1
   pub raw : All IsRaw places
-  pub rise : (k : ℕ) → k < count → (get_or places k (pos 0) +ℤ pos 65536) ≤ℤ get_or places (k + 1) (pos 0)
+  pub rise : (k : ℕ) → k < count
+      → (get_or places k (pos 0) +ℤ pos 65536) ≤ℤ get_or places (k + 1) (pos 0)
 
 pub record AreAllApart (g : Grid) (places : RawPlaces) : Type 0 where
   pub x : AreApart g.x places.along_x

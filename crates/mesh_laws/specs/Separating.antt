@@ -43,6 +43,8 @@ passed vertices path = count_by (λ e. list_any (same_edge e) vertices) path
 -- one of its ends is inside and the other is not. The inside ends at a face lie behind it. So a path along edges of the
 -- grid passes an odd number of vertices exactly where one of its ends is inside and the other is not.
 pub record IsSeparating (g : Grid) (vertices : List EdgeKey) (faces : List Face) : Type 0 where
-  pub crossed : (e : EdgeKey) → Contains (edges g) e → Contains vertices e ↔ IsParted g (lower e) (upper e)
+  pub crossed : (e : EdgeKey) → Contains (edges g) e
+      → Contains vertices e ↔ IsParted g (lower e) (upper e)
   pub facing : All (FacesOut g vertices) faces
-  pub paths : (p q : GridPoint) (path : List EdgeKey) → IsPath g p path q → (passed vertices path % 2 ≡ 1) ↔ IsParted g p q
+  pub paths : (p q : GridPoint) (path : List EdgeKey) → IsPath g p path q
+      → (passed vertices path % 2 ≡ 1) ↔ IsParted g p q

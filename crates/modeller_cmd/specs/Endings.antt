@@ -68,7 +68,8 @@ pub record CountsForSome (words : List (List ℕ)) (before after : Counts) : Typ
   pub plain : PointsRiseAtMost before after (work_of_parts (output_of words input).parts).plain
 
 -- The notes took a line from its front on, and all of it where they counted no fault.
-pub record TakesLine {N : Type 0} (faults : N → ℕ) (held : N → Option (List ℕ)) (before after : N) (line : List ℕ) : Type 0 where
+pub record TakesLine {N : Type 0} (faults : N → ℕ) (held : N
+    → Option (List ℕ)) (before after : N) (line : List ℕ) : Type 0 where
   pub front : GainsPrefix held before after line
   pub whole : NoFault faults before after → Gains held before after line
 
@@ -114,7 +115,8 @@ IsWorkStop other = ⊥
 
 -- what a stop that is a refusal says is so of the words and the input
 abbrev pub IsTold : List (List ℕ) → Option (List ℕ) → Stop → Type 0
-IsTold words input (stop.Refused (refusal.Model fault)) = IfSome input (λ text. text_read text ≡ Err fault)
+IsTold words input (stop.Refused (refusal.Model fault)) =
+    IfSome input (λ text. text_read text ≡ Err fault)
 IsTold words input (stop.Refused refusal.TooLong) = ⊤
 IsTold words input (stop.Refused other) = asked words ≡ Err other
 IsTold words input other = ⊤

@@ -10,7 +10,8 @@ use Rattle.view_settings.specs.Window.{Window}
 
 -- the byte of the pixel in column i, counted from the left, and row j, counted from the top
 abbrev pub pixel_at : Window → List Clause → ℕ → ℕ → ℕ
-pixel_at view clauses i j = if is_inside (solid_value (raster_point view i j) clauses) then 255 else 0
+pixel_at view clauses i j =
+    if is_inside (solid_value (raster_point view i j) clauses) then 255 else 0
 
 -- the bytes of row j
 abbrev pub row_at : Window → List Clause → ℕ → List ℕ

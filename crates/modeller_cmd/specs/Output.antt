@@ -44,10 +44,17 @@ AreExact parts = All (λ part. IsTrue part.exact) parts
 
 -- the parts that a job makes of a model
 abbrev pub parts_of : Job → List Clause → List Part
-parts_of (Render view) clauses = record { bytes = image_of view clauses; exact = true; work = frame_work view clauses } ∷ []
-parts_of (Height view) clauses = record { bytes = heights_of view clauses; exact = false; work = height_work view clauses } ∷ []
-parts_of (Mesh view) clauses = record { bytes = mesh_text view clauses; exact = false; work = mesh_work view clauses } ∷ []
-parts_of (Count view) clauses = record { bytes = count_text (frame_work view clauses); exact = true; work = frame_work view clauses } ∷ []
+parts_of (Render view) clauses =
+    record { bytes = image_of view clauses; exact = true; work = frame_work view clauses } ∷ []
+parts_of (Height view) clauses =
+    record { bytes = heights_of view clauses; exact = false; work = height_work view clauses } ∷ []
+parts_of (Mesh view) clauses =
+    record { bytes = mesh_text view clauses; exact = false; work = mesh_work view clauses } ∷ []
+parts_of (Count view) clauses = record {
+  bytes = count_text (frame_work view clauses);
+  exact = true;
+  work = frame_work view clauses;
+} ∷ []
 parts_of Text clauses = record { bytes = model_text clauses; exact = true; work = no_work } ∷ []
 parts_of other clauses = []
 
@@ -78,12 +85,14 @@ pub record Output : Type 0 where
 -- an outcome as an output
 abbrev pub output_as : Result (List Part) Refusal → Output
 output_as (Ok parts) = record { status = status.Done; parts = parts; note = [] }
-output_as (Err refusal) = record { status = status_of refusal; parts = []; note = refusal_line refusal }
+output_as (Err refusal) =
+    record { status = status_of refusal; parts = []; note = refusal_line refusal }
 
 -- what a run gives for these words and this input, where nothing fails
 abbrev pub output_of : List (List ℕ) → List ℕ → Output
 output_of words input = output_as (outcome words input)
 
 -- where a source tells its bytes, this holds of the output that the words ask for of them
-abbrev pub WithOutput : {S : Type 0} → (S → Option (List ℕ)) → S → List (List ℕ) → (Output → Type 0) → Type 0
+abbrev pub WithOutput : {S : Type 0} → (S → Option (List ℕ)) → S → List (List ℕ) → (Output → Type 0)
+    → Type 0
 WithOutput rest source words P = IfSome (rest source) (λ input. P (output_of words input))

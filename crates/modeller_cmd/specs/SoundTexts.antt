@@ -25,10 +25,13 @@ pub record IsSoundText (view : Window) (clauses : List Clause) (text : List ℕ)
 -- so it is of each solid over each view whose cells have 65536 raw units along each axis
 abbrev pub MeshTextsAreSound : Type 0
 MeshTextsAreSound =
-    (view : Window) (clauses : List Clause) → IsWindow view → FitsMesh view → IsSoundText view clauses (mesh_text view clauses)
+    (view : Window) (clauses : List Clause) → IsWindow view → FitsMesh view
+    → IsSoundText view clauses (mesh_text view clauses)
 
 -- so it is of what a run writes where its words ask for a mesh and its input is that of a solid
 abbrev pub MeshesAreSound : List (List ℕ) → List ℕ → Type 0
 MeshesAreSound words input =
-    (view : Window) (clauses : List Clause) → asked words ≡ Ok (Mesh view) → text_read input ≡ Ok clauses
-    → (output_of words input).status ≡ Done → IsSoundText view clauses (bytes_of_parts (output_of words input).parts)
+    (view : Window) (clauses : List Clause) → asked words ≡ Ok (Mesh view)
+    → text_read input ≡ Ok clauses
+    → (output_of words input).status ≡ Done
+    → IsSoundText view clauses (bytes_of_parts (output_of words input).parts)

@@ -27,7 +27,9 @@ greatest (n ∷ ns) = max n (greatest ns)
 -- a cell has a point as a corner
 abbrev pub has_corner : GridPoint → GridPoint → Bool
 has_corner cell p =
-    nat_le cell.x p.x && (nat_le p.x (cell.x + 1) && (nat_le cell.y p.y && (nat_le p.y (cell.y + 1) && (nat_le cell.z p.z && nat_le p.z (cell.z + 1)))))
+    nat_le cell.x p.x && (nat_le p.x (cell.x + 1)
+    && (nat_le cell.y p.y
+    && (nat_le p.y (cell.y + 1) && (nat_le cell.z p.z && nat_le p.z (cell.z + 1)))))
 
 -- a cell, as what a way leads to
 abbrev pub sample_of : GridPoint → Sample
@@ -40,7 +42,8 @@ working_length view list cell =
 
 -- the lengths of the lists that those working cells receive that have a point as a corner
 abbrev pub lengths_at : Window → List Step → GridPoint → List ℕ
-lengths_at view list p = over_block view.n view.n view.n (λ cell. if has_corner cell p then working_length view list cell ∷ [] else [])
+lengths_at view list p =
+    over_block view.n view.n view.n (λ cell. if has_corner cell p then working_length view list cell ∷ [] else [])
 
 -- the box of all points of a grid of n cells along each axis
 abbrev pub points_of_grid : ℕ → Indices
@@ -49,4 +52,5 @@ points_of_grid n = record { x0 = 0; x1 = n + 1; y0 = 0; y1 = n + 1; z0 = 0; z1 =
 -- What the points of a grid take at most: each one the length of the longest list that a working cell receives that
 -- has it as a corner.
 unfoldable pub mesh_points : Window → List Step → ℕ
-mesh_points view list = sum_in (points_of_grid view.n) (λ s. greatest (lengths_at view list (point s.i s.j s.k)))
+mesh_points view list =
+    sum_in (points_of_grid view.n) (λ s. greatest (lengths_at view list (point s.i s.j s.k)))

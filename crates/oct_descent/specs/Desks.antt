@@ -39,6 +39,8 @@ abbrev pub halves_spans : Descent → List Step → List Indices → ℕ
 halves_spans d list halves = sum_by (λ half. spans_in d (visit half list)) halves
 
 -- whatever points take, if it is enough for each half of a box, no more is counted
-abbrev pub ChargesHalves : Descent → List Step → List Indices → PointValues → PointValues → Counts → Counts → Type 0
+abbrev pub ChargesHalves : Descent → List Step → List Indices → PointValues → PointValues → Counts
+    → Counts → Type 0
 ChargesHalves d list halves before after told now =
-    (f : GridPoint → ℕ) → All (λ half. IsEnough f d (visit half list)) halves → Charges f (halves_spans d list halves) before after told now
+    (f : GridPoint → ℕ) → All (λ half. IsEnough f d (visit half list)) halves
+    → Charges f (halves_spans d list halves) before after told now

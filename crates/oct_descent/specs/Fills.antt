@@ -12,4 +12,5 @@ point_box p = record { x0 = p.x; x1 = p.x; y0 = p.y; y1 = p.y; z0 = p.z; z1 = p.
 
 -- where each point that a box covers takes at least so many evaluations, no more are counted
 abbrev pub ChargesCorners : Indices → ℕ → PointValues → PointValues → Counts → Counts → Type 0
-ChargesCorners b len before after told now = (f : GridPoint → ℕ) → ((p : GridPoint) → Covers b p → len ≤ f p) → Charges f 0 before after told now
+ChargesCorners b len before after told now = (f : GridPoint → ℕ)
+    → ((p : GridPoint) → Covers b p → len ≤ f p) → Charges f 0 before after told now

@@ -14,11 +14,13 @@ cells_at view list p = filter is_mixed_cell (cell_at (grid_of view list) p ∷ [
 
 -- those mixed cells of row y of layer z that lie from low on, below high
 abbrev pub cells_between : Window → List Step → ℕ → ℕ → ℕ → ℕ → List CellValues
-cells_between view list low high y z = flat_map (λ x. cells_at view list (point x y z)) (range_with_len low (high - low))
+cells_between view list low high y z =
+    flat_map (λ x. cells_at view list (point x y z)) (range_with_len low (high - low))
 
 -- the mixed cells of row y of layer z
 abbrev pub cells_in_row : Window → List Step → ℕ → ℕ → List CellValues
-cells_in_row view list y z = flat_map (λ x. cells_at view list (point x y z)) (range_with_len 0 view.n)
+cells_in_row view list y z =
+    flat_map (λ x. cells_at view list (point x y z)) (range_with_len 0 view.n)
 
 -- the mixed cells of layer z
 abbrev pub cells_in_layer : Window → List Step → ℕ → List CellValues

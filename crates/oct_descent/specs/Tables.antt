@@ -67,10 +67,12 @@ pub record IsSame (before after : PointValues) : Type 0 where
 -- one point gets a value
 pub record Sets (p : GridPoint) (v : ℤ) (before after : PointValues) : Type 0 where
   pub n : after.n ≡ before.n
-  pub each : (q : GridPoint) → known_at after q ≡ (if same_point p q then Some v else known_at before q)
+  pub each : (q : GridPoint)
+      → known_at after q ≡ (if same_point p q then Some v else known_at before q)
 
 -- a point of a box that was not known gets its value
-pub record IsNew (g : GridPoint → ℤ) (b : Indices) (before after : PointValues) (p : GridPoint) : Type 0 where
+pub record IsNew (g : GridPoint
+    → ℤ) (b : Indices) (before after : PointValues) (p : GridPoint) : Type 0 where
   pub unknown : known_at before p ≡ None
   pub covered : Covers b p
   pub value : known_at after p ≡ Some (g p)
@@ -98,15 +100,18 @@ abbrev pub left : (GridPoint → ℕ) → PointValues → ℕ
 left f t = sum_in (points_of_grid t.n) (λ s. if is_known (known_at t (point s.i s.j s.k)) then 0 else f (point s.i s.j s.k))
 
 -- no more evaluations are counted than the points take that become known, and at most so many hulls
-pub record Charges (f : GridPoint → ℕ) (spans : ℕ) (before after : PointValues) (told now : Counts) : Type 0 where
+pub record Charges (f : GridPoint
+    → ℕ) (spans : ℕ) (before after : PointValues) (told now : Counts) : Type 0 where
   pub points : ℕ
   pub enough : points + left f after ≤ left f before
   pub counts : CountsAtMost points spans told now
 
 -- each corner of a working cell of a box takes no less than the length of the list that the cell receives
 abbrev pub IsEnough : (GridPoint → ℕ) → Descent → Visit → Type 0
-IsEnough f d v = (s : Sample) → LiesIn v.box s → is_working d v s ≡ true → (p : GridPoint) → Covers (cell_box s) p → length (way_end d v s).list ≤ f p
+IsEnough f d v = (s : Sample) → LiesIn v.box s → is_working d v s ≡ true → (p : GridPoint)
+    → Covers (cell_box s) p → length (way_end d v s).list ≤ f p
 
 -- whatever points take, if it is enough for a box, no more is counted
 abbrev pub ChargesBox : Descent → Visit → PointValues → PointValues → Counts → Counts → Type 0
-ChargesBox d v before after told now = (f : GridPoint → ℕ) → IsEnough f d v → Charges f (spans_in d v) before after told now
+ChargesBox d v before after told now =
+    (f : GridPoint → ℕ) → IsEnough f d v → Charges f (spans_in d v) before after told now

@@ -17,5 +17,6 @@ pub record Gridding : Type 0 where
 pub record IsTold (view : Window) (list : List Step) (t : PointValues) : Type 0 where
   pub n : t.n ≡ view.n
   pub few : t.n ≤ 256
-  pub right : (p : GridPoint) → is_known (known_at t p) ≡ true → known_at t p ≡ Some (grid_value view list p)
+  pub right : (p : GridPoint) → is_known (known_at t p) ≡ true
+      → known_at t p ≡ Some (grid_value view list p)
   pub settled : AreSettled (grid_value view list) (root_of view lattices.Grid) t

@@ -30,7 +30,8 @@ cell_box s = record { x0 = s.i; x1 = s.i + 1; y0 = s.j; y1 = s.j + 1; z0 = s.k; 
 
 -- a box of cells of a grid of n cells along each axis covers a point of the outermost layer
 abbrev pub meets_border : ℕ → Indices → Bool
-meets_border n b = (b.x0 == 0 || b.x1 == n) || ((b.y0 == 0 || b.y1 == n) || (b.z0 == 0 || b.z1 == n))
+meets_border n b =
+    (b.x0 == 0 || b.x1 == n) || ((b.y0 == 0 || b.y1 == n) || (b.z0 == 0 || b.z1 == n))
 
 -- A box stays open where it is undecided, and also where it is decided inside and covers a point of the outermost
 -- layer, which is outside all the same.

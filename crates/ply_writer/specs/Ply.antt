@@ -25,4 +25,5 @@ face_line f = codes "3 " ++ decimal f.a ++ codes " " ++ decimal f.b ++ codes " "
 
 -- the whole text: the header, a line for each vertex, and a line for each face
 abbrev pub ply_of : Window → List Vertex → List Face → List ℕ
-ply_of w vertices faces = ply_header (length vertices) (length faces) ++ flat_map (vertex_line w) vertices ++ flat_map face_line faces
+ply_of w vertices faces =
+    ply_header (length vertices) (length faces) ++ flat_map (vertex_line w) vertices ++ flat_map face_line faces

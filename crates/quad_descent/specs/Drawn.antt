@@ -22,7 +22,8 @@ pub record StandsAt (all part : List Node) (at : ℕ) : Type 0 where
 -- a list has the values of another at the samples of a box
 abbrev pub HasValues : Window → Indices → List Step → List Step → Type 0
 HasValues view b list whole_list =
-    (s : Sample) → LiesIn b s → tape_value (sample_point (raster view) s) list ≡ tape_value (sample_point (raster view) s) whole_list
+    (s : Sample) → LiesIn b s
+    → tape_value (sample_point (raster view) s) list ≡ tape_value (sample_point (raster view) s) whole_list
 
 -- the nodes of a box stand from a place on, for a list that has the values of the whole one there
 pub record IsDrawnAt (view : Window) (list : List Step) (at : ℕ) (b : Indices) : Type 0 where

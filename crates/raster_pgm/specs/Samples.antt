@@ -4,7 +4,8 @@ use Rattle.std.specs.List.{flat_map}
 
 -- what stands before the samples: the form, the width, the height and the greatest sample
 abbrev pub samples_header_of : ℕ → ℕ → ℕ → List ℕ
-samples_header_of w h d = codes "P5\n" ++ decimal w ++ codes " " ++ decimal h ++ codes "\n" ++ decimal d ++ codes "\n"
+samples_header_of w h d =
+    codes "P5\n" ++ decimal w ++ codes " " ++ decimal h ++ codes "\n" ++ decimal d ++ codes "\n"
 
 -- a sample in one byte, and in two, the most significant first
 abbrev pub one_byte : ℕ → List ℕ

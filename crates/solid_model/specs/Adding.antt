@@ -19,7 +19,8 @@ abbrev pub clause_after : List Clause → List ℕ → Parts → Option Clause
 clause_after clauses name form = both (operand clauses form.args 0) (operand clauses form.args 1)
   where
     both : Option ℕ → Option ℕ → Option Clause
-    both (Some a) (Some b) = Some (record { name = name; op = form.op; a = a; b = b; value = form.value })
+    both (Some a) (Some b) =
+        Some (record { name = name; op = form.op; a = a; b = b; value = form.value })
     both a b = None
 
 -- the fault of an edit that a fault of its clause is

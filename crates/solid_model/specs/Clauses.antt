@@ -33,11 +33,13 @@ pub record IsClauseAt (place : ℕ) (clause : Clause) : Type 0 where
 
 -- each clause may stand at its place, so its operands stand before it
 abbrev pub AreInOrder : List Clause → Type 0
-AreInOrder clauses = (place : ℕ) (clause : Clause) → slice_get clauses place ≡ Some clause → IsClauseAt place clause
+AreInOrder clauses =
+    (place : ℕ) (clause : Clause) → slice_get clauses place ≡ Some clause → IsClauseAt place clause
 
 -- no two clauses have one name
 abbrev pub HaveDistinctNames : List Clause → Type 0
-HaveDistinctNames clauses = (i j : ℕ) (a b : Clause) → slice_get clauses i ≡ Some a → slice_get clauses j ≡ Some b → a.name ≡ b.name → i ≡ j
+HaveDistinctNames clauses = (i j : ℕ) (a b : Clause) → slice_get clauses i ≡ Some a
+    → slice_get clauses j ≡ Some b → a.name ≡ b.name → i ≡ j
 
 -- at most 65,535 clauses of distinct names, whose operands stand before them
 pub record AreClauses (clauses : List Clause) : Type 0 where

@@ -13,20 +13,24 @@ use Rattle.solid_model.specs.Values.{clause_value, values, solid_value}
 -- the values of its operands, read in the same list.
 pub record AreValues (p : Point) (clauses : List Clause) (all : List ℤ) : Type 0 where
   pub as_many : length all ≡ length clauses
-  pub each : (place : ℕ) (clause : Clause) → slice_get clauses place ≡ Some clause → slice_get all place ≡ Some (clause_value p all clause)
+  pub each : (place : ℕ) (clause : Clause) → slice_get clauses place ≡ Some clause
+      → slice_get all place ≡ Some (clause_value p all clause)
 
 -- the plain values satisfy the equations
 abbrev pub PlainValuesHold : Type 0
-PlainValuesHold = (p : Point) (clauses : List Clause) → AreInOrder clauses → AreValues p clauses (values p clauses)
+PlainValuesHold = (p : Point) (clauses : List Clause) → AreInOrder clauses
+    → AreValues p clauses (values p clauses)
 
 -- and no other list does
 abbrev pub OnlyPlainValuesHold : Type 0
-OnlyPlainValuesHold = (p : Point) (clauses : List Clause) (all : List ℤ) → AreInOrder clauses → AreValues p clauses all → all ≡ values p clauses
+OnlyPlainValuesHold = (p : Point) (clauses : List Clause) (all : List ℤ) → AreInOrder clauses
+    → AreValues p clauses all → all ≡ values p clauses
 
 -- at a point of raw numbers each of them is a raw number, and so is the solid's
 abbrev pub PlainValuesAreRaw : Type 0
 PlainValuesAreRaw = (p : Point) (clauses : List Clause) → IsRawPoint p → AreInOrder clauses
-    → ((place : ℕ) → IsRaw (slice_index_or (values p clauses) place (pos 0))) × IsRaw (solid_value p clauses)
+    → ((place : ℕ) → IsRaw (slice_index_or (values p clauses) place (pos 0)))
+    × IsRaw (solid_value p clauses)
 
 -- clauses by names, resolved to places, are the clauses
 abbrev pub NamesGivePlaces : Type 0

@@ -23,7 +23,14 @@ operand_names clauses c = take (arity_of c.op) (name_at clauses c.a ∷ name_at 
 
 -- a clause among others, by names
 abbrev pub by_name : List Clause → Clause → Named
-by_name clauses c = record { name = c.name; form = record { op = c.op; args = operand_names clauses c; value = c.value } }
+by_name clauses c = record {
+  name = c.name;
+  form = record {
+    op = c.op;
+    args = operand_names clauses c;
+    value = c.value;
+  };
+}
 
 -- clauses by names
 abbrev pub named_of : List Clause → List Named
@@ -31,11 +38,18 @@ named_of clauses = map (λ c. by_name clauses c) clauses
 
 -- the place of the k-th operand of a form among named clauses, or 0 where the form has none
 abbrev pub operand_place : List Named → Parts → ℕ → ℕ
-operand_place named form k = option_map_or (λ arg. position_or_len (λ c. bytes_eq arg c.name) named) (slice_get form.args k) 0
+operand_place named form k =
+    option_map_or (λ arg. position_or_len (λ c. bytes_eq arg c.name) named) (slice_get form.args k) 0
 
 -- a named clause among others, by places
 abbrev pub by_place : List Named → Named → Clause
-by_place named c = record { name = c.name; op = c.form.op; a = operand_place named c.form 0; b = operand_place named c.form 1; value = c.form.value }
+by_place named c = record {
+  name = c.name;
+  op = c.form.op;
+  a = operand_place named c.form 0;
+  b = operand_place named c.form 1;
+  value = c.form.value;
+}
 
 -- named clauses by places
 abbrev pub placed : List Named → List Clause

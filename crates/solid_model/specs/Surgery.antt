@@ -12,11 +12,13 @@ use Rattle.solid_model.specs.Parts.{Parts}
 
 -- whether each operand of a clause stands before a place
 abbrev pub reads_before : ℕ → Clause → Bool
-reads_before place c = (nat_lt (arity_of c.op) 1 || nat_lt c.a place) && (nat_lt (arity_of c.op) 2 || nat_lt c.b place)
+reads_before place c =
+    (nat_lt (arity_of c.op) 1 || nat_lt c.a place) && (nat_lt (arity_of c.op) 2 || nat_lt c.b place)
 
 -- whether the clause at a place is an operand of a clause
 abbrev pub reads : ℕ → Clause → Bool
-reads place c = (nat_le 1 (arity_of c.op) && c.a == place) || (nat_le 2 (arity_of c.op) && c.b == place)
+reads place c =
+    (nat_le 1 (arity_of c.op) && c.a == place) || (nat_le 2 (arity_of c.op) && c.b == place)
 
 -- a clause whose operands have moved
 abbrev pub moved : (ℕ → ℕ) → Clause → Clause
@@ -65,4 +67,5 @@ without_clause clauses at =
 
 -- the clauses without that of this name, or the first fault
 abbrev pub taken_out : List Clause → List ℕ → Result (List Clause) EditFault
-taken_out clauses name = option_map_or (without_clause clauses) (place_of clauses name) (Err UnknownName)
+taken_out clauses name =
+    option_map_or (without_clause clauses) (place_of clauses name) (Err UnknownName)

@@ -37,11 +37,15 @@ rank_of mask dir = count_ones (mask % 2 ^ dir)
 
 -- those of the directions from the lowest corner of a cell to the other side that are less than one
 abbrev pub directions_below : CellValues → ℕ → List ℕ
-directions_below c dir = filter (λ d. differ (has_inside c 0) (has_inside c d)) (range_with_len 1 (dir - 1))
+directions_below c dir =
+    filter (λ d. differ (has_inside c 0) (has_inside c d)) (range_with_len 1 (dir - 1))
 
 -- the vertices on the edges from the lowest corner of a cell
 abbrev pub vertex_on : CellValues → ℕ → Vertex
-vertex_on c d = record { key = edge_from (place_of c) d; t = way_up (get_or c.values 0 (pos 0)) (get_or c.values d (pos 0)) }
+vertex_on c d = record {
+  key = edge_from (place_of c) d;
+  t = way_up (get_or c.values 0 (pos 0)) (get_or c.values d (pos 0));
+}
 
 abbrev pub vertices_on : CellValues → List Vertex
 vertices_on c = map (vertex_on c) (directions_of c)
@@ -82,7 +86,9 @@ pub record IsNumbered (cells : List CellValues) (n : ℕ) (s : Numbering) : Type
   pub vertices : s.vertices.items ≡ flat_map vertices_on (take s.ahead cells)
   pub room : length s.slots.items ≡ 2 * n * n
   pub small : All IsSmall s.slots.items
-  pub kept : (j : ℕ) (d : CellValues) (e : Entry) → j < s.ahead → ((k : ℕ) → k < s.ahead → (get_or cells k d).z ≤ (get_or cells j d).z + 1) → let c = get_or cells j d in get_or s.slots.items (slot_of n c.x c.y c.z) e ≡ entry_after (take j cells) c
+  pub kept : (j : ℕ) (d : CellValues) (e : Entry) → j < s.ahead
+      → ((k : ℕ) → k < s.ahead → (get_or cells k d).z ≤ (get_or cells j d).z + 1)
+      → let c = get_or cells j d in get_or s.slots.items (slot_of n c.x c.y c.z) e ≡ entry_after (take j cells) c
 
 -- no numbered cell lies more than one layer above z
 abbrev pub LiesBelow : List CellValues → ℕ → ℕ → Type 0
@@ -90,12 +96,14 @@ LiesBelow cells ahead z = (k : ℕ) (d : CellValues) → k < ahead → (get_or c
 
 -- every cell that lies at most one layer above z is numbered
 abbrev pub ReachesAbove : List CellValues → ℕ → ℕ → Type 0
-ReachesAbove cells ahead z = (k : ℕ) (d : CellValues) → k < length cells → (get_or cells k d).z ≤ z + 1 → k < ahead
+ReachesAbove cells ahead z =
+    (k : ℕ) (d : CellValues) → k < length cells → (get_or cells k d).z ≤ z + 1 → k < ahead
 
 -- The first cells of a list are numbered, and no numbered cell lies more than one layer above any of the others.
 pub record HasReached (cells : List CellValues) (ahead done : ℕ) : Type 0 where
   pub first : done ≤ ahead
-  pub near : (j k : ℕ) (d : CellValues) → j < ahead → done ≤ k → k < length cells → (get_or cells j d).z ≤ (get_or cells k d).z + 1
+  pub near : (j k : ℕ) (d : CellValues) → j < ahead → done ≤ k → k < length cells
+      → (get_or cells j d).z ≤ (get_or cells k d).z + 1
 
 -- one more cell is numbered
 pub record Numbers (c : CellValues) (old new : Numbering) : Type 0 where
@@ -106,10 +114,12 @@ pub record Numbers (c : CellValues) (old new : Numbering) : Type 0 where
 
 -- the number of a vertex by what is kept of its cell
 abbrev pub number_in : ℕ → List Entry → EdgeKey → ℕ
-number_in n slots e = let entry = get_or slots (slot_of n e.x e.y e.z) no_entry in entry.base + rank_of entry.mask e.dir
+number_in n slots e = let entry =
+    get_or slots (slot_of n e.x e.y e.z) no_entry in entry.base + rank_of entry.mask e.dir
 
 abbrev pub face_in : ℕ → List Entry → Triple → Face
-face_in n slots t = record { a = number_in n slots t.a; b = number_in n slots t.b; c = number_in n slots t.c }
+face_in n slots t =
+    record { a = number_in n slots t.a; b = number_in n slots t.b; c = number_in n slots t.c }
 
 -- the faces of cells, by the places of their vertices among those of all cells
 abbrev pub all_faces : List CellValues → List CellValues → List Face

@@ -26,4 +26,5 @@ moved_triple c t = record { a = moved c t.a; b = moved c t.b; c = moved c t.c }
 -- the triangles for all signs
 pub record AreShapes (s : Kept) : Type 0 where
   pub room : length s.shapes.items ≡ 256
-  pub each : (signs : ℕ) (d : Vec Triple Global) → signs < 256 → (get_or s.shapes.items signs d).items ≡ shape_of signs
+  pub each : (signs : ℕ) (d : Vec Triple Global) → signs < 256
+      → (get_or s.shapes.items signs d).items ≡ shape_of signs

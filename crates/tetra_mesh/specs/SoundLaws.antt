@@ -19,4 +19,5 @@ pub record IsGridOf (w : Window) (g : Grid) : Type 0 where
 -- its vertices lie apart over each view of its size whose cells have 65536 raw units along each axis
 abbrev pub GridMeshesLieApart : Type 0
 GridMeshesLieApart =
-    (w : Window) (g : Grid) → IsWindow w → FitsMesh w → IsGridOf w g → IsBordered g → LieApart w (mesh_of g).vertices
+    (w : Window) (g : Grid) → IsWindow w → FitsMesh w → IsGridOf w g → IsBordered g
+    → LieApart w (mesh_of g).vertices

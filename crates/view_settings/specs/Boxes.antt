@@ -42,4 +42,5 @@ halves_of leaf b = flat_map (halves_x leaf) (flat_map (halves_y leaf) (halves_z 
 
 -- a sample lies in a box
 abbrev pub has_sample : ℕ → ℕ → ℕ → Indices → Bool
-has_sample i j k b = nat_le b.x0 i && (nat_lt i b.x1 && (nat_le b.y0 j && (nat_lt j b.y1 && (nat_le b.z0 k && nat_lt k b.z1))))
+has_sample i j k b = nat_le b.x0 i
+    && (nat_lt i b.x1 && (nat_le b.y0 j && (nat_lt j b.y1 && (nat_le b.z0 k && nat_lt k b.z1))))

@@ -32,10 +32,16 @@ Refuse verb words k reason = RefusesAfter verb [] words k reason
 abbrev pub GivenSettingsAreExact : Type 0
 GivenSettingsAreExact =
     (verb : Verb) (words : List (List ℕ)) (settings : List Setting)
-    → (after_words (begun verb) words ≡ Ok (record { verb = verb; settings = settings })) ↔ Give verb words settings
+    → (after_words (begun verb) words ≡ Ok (record {
+      verb = verb;
+      settings = settings;
+    })) ↔ Give verb words settings
 
 -- the refused word is the first that gives none; the verb and the words before it are counted too
 abbrev pub RefusedWordIsExact : Type 0
 RefusedWordIsExact =
     (verb : Verb) (words : List (List ℕ)) (k : ℕ) (reason : WordReason)
-    → (after_words (begun verb) words ≡ Err (record { at = k + 2; reason = reason })) ↔ Refuse verb words k reason
+    → (after_words (begun verb) words ≡ Err (record {
+      at = k + 2;
+      reason = reason;
+    })) ↔ Refuse verb words k reason

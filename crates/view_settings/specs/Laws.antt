@@ -11,16 +11,19 @@ use Rattle.view_settings.specs.Window.{Window, IsWindow}
 -- each sample of a box lies in exactly one of its halves, and no other sample lies in any
 abbrev pub HalvesPart : Type 0
 HalvesPart =
-    (leaf : ℕ) (b : Indices) (i j k : ℕ) → count_by (has_sample i j k) (halves_of leaf b) ≡ (if has_sample i j k b then 1 else 0)
+    (leaf : ℕ) (b : Indices) (i j k : ℕ) → count_by (has_sample i j k) (halves_of leaf b) ≡
+    (if has_sample i j k b then 1 else 0)
 
 -- the range along an axis has the least and the greatest place of the samples as its ends
 abbrev pub RangesHold : Type 0
 RangesHold =
-    (v : Window) (lattice : Lattice) (axis : Axis) (low high : ℕ) → IsWindow v → low ≤ last_of lattice high
+    (v : Window) (lattice : Lattice) (axis : Axis) (low high : ℕ) → IsWindow v
+    → low ≤ last_of lattice high
     → IsRange v lattice axis low (last_of lattice high) (range_along v lattice axis low high)
 
 -- the range along an axis is a span: its ends are raw numbers in order
 abbrev pub RangesAreSpans : Type 0
 RangesAreSpans =
-    (v : Window) (lattice : Lattice) (axis : Axis) (low high : ℕ) → IsWindow v → low ≤ steps_of v lattice axis
+    (v : Window) (lattice : Lattice) (axis : Axis) (low high : ℕ) → IsWindow v
+    → low ≤ steps_of v lattice axis
     → last_of lattice high ≤ steps_of v lattice axis → IsSpan (range_along v lattice axis low high)

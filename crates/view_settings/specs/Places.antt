@@ -44,7 +44,8 @@ place_of v Grid Z k = place_up v.z0 v.z1 v.n k
 
 -- the point of a sample of a lattice
 abbrev pub point_of : Window → Lattice → ℕ → ℕ → ℕ → Point
-point_of v lattice i j k = record { x = place_of v lattice X i; y = place_of v lattice Y j; z = place_of v lattice Z k }
+point_of v lattice i j k =
+    record { x = place_of v lattice X i; y = place_of v lattice Y j; z = place_of v lattice Z k }
 
 -- the point of the pixel in column i, from the left on, and row j, from the top on
 abbrev pub raster_point : Window → ℕ → ℕ → Point

@@ -37,16 +37,19 @@ is_given name taken = list_any (λ setting. is_same name setting.name) taken
 
 -- the number of 1 to 20 digits
 abbrev pub count_read : List ℕ → Option ℕ
-count_read text = if nat_lt 0 (length text) && (nat_le (length text) 20 && list_all is_ascii_digit text) then Some (digits_value 10 text) else None
+count_read text = if nat_lt 0 (length text) && (nat_le (length text) 20
+    && list_all is_ascii_digit text) then Some (digits_value 10 text) else None
 
 -- a count within these ends
 abbrev pub count_within : ℕ → ℕ → ℕ → Result Value WordReason
-count_within least greatest count = if nat_le least count && nat_le count greatest then Ok (Count count) else Err OutOfRange
+count_within least greatest count =
+    if nat_le least count && nat_le count greatest then Ok (Count count) else Err OutOfRange
 
 -- the value of this kind that a text means
 abbrev pub value_read : Kind → List ℕ → Result Value WordReason
 value_read kinds.Numeral text = or_refused (option_map Raw (numeral text)) BadValue
-value_read (kinds.Count least greatest) text = or_refused (count_read text) BadValue >>= count_within least greatest
+value_read (kinds.Count least greatest) text =
+    or_refused (count_read text) BadValue >>= count_within least greatest
 
 -- this name, where it was not taken before
 abbrev pub once : Name → List Setting → Result Name WordReason

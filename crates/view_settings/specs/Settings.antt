@@ -36,7 +36,8 @@ after_word given word =
 
 -- the value that was given under a name
 abbrev pub value_given : Name → List Setting → Option Value
-value_given name settings = option_map (λ setting. setting.value) (find (λ setting. is_same name setting.name) settings)
+value_given name settings =
+    option_map (λ setting. setting.value) (find (λ setting. is_same name setting.name) settings)
 
 -- the raw number that was given, or this one
 abbrev pub raw_or : Option Value → ℤ → ℤ
@@ -100,7 +101,8 @@ job_with ToForge settings = Ok (jobs.Forge (forge_of settings))
 -- The job that the settings make. First is asked whether the ends of each axis are in order, then whether the
 -- cells of a mesh are large enough.
 abbrev pub settled : Verb → List Setting → Result Job WordReason
-settled verb settings = if is_empty (window_of settings) then Err EmptySpan else job_with verb settings
+settled verb settings =
+    if is_empty (window_of settings) then Err EmptySpan else job_with verb settings
 
 abbrev pub finished : Given → Result Job WordReason
 finished given = settled given.verb given.settings

@@ -12,11 +12,13 @@ from_true : (b : Bool) → b ≡ true → T b
 from_true true e = tt
 from_true false e = absurd cc
 
-room_yes : (low high : ℤ) (cells : ℕ) → has_room low high cells ≡ true → pos (cells * 65536) ≤ℤ (high -ℤ low)
+room_yes : (low high : ℤ) (cells : ℕ) → has_room low high cells ≡ true
+    → pos (cells * 65536) ≤ℤ (high -ℤ low)
 unfolding has_room
 room_yes low high cells e = le_z_yes (from_true _ e)
 
-yes_room : (low high : ℤ) (cells : ℕ) → pos (cells * 65536) ≤ℤ (high -ℤ low) → has_room low high cells ≡ true
+yes_room : (low high : ℤ) (cells : ℕ) → pos (cells * 65536) ≤ℤ (high -ℤ low)
+    → has_room low high cells ≡ true
 unfolding has_room
 yes_room low high cells h = to_true _ h.le
 
@@ -31,9 +33,15 @@ true_all a b c ha hb hc = rw (ha, hb, hc) refl
 
 fits_mesh_is : (v : Window) → IsTrue (fits_mesh v) ↔ FitsMesh v
 fits_mesh_is v = (
-  λ h. let each = all_true (has_room v.x0 v.x1 v.n) (has_room v.y0 v.y1 v.n) (has_room v.z0 v.z1 v.n) h in
-      record { x = room_yes v.x0 v.x1 v.n each.0; y = room_yes v.y0 v.y1 v.n each.1; z = room_yes v.z0 v.z1 v.n each.2 },
-  λ f. true_all _ _ _ (yes_room v.x0 v.x1 v.n f.x) (yes_room v.y0 v.y1 v.n f.y) (yes_room v.z0 v.z1 v.n f.z),
+  λ h. let each =
+      all_true (has_room v.x0 v.x1 v.n) (has_room v.y0 v.y1 v.n) (has_room v.z0 v.z1 v.n) h in
+      record {
+        x = room_yes v.x0 v.x1 v.n each.0;
+        y = room_yes v.y0 v.y1 v.n each.1;
+        z = room_yes v.z0 v.z1 v.n each.2;
+      },
+  λ f. true_all _ _ _ (yes_room v.x0 v.x1 v.n f.x) (yes_room v.y0 v.y1 v.n f.y)
+      (yes_room v.z0 v.z1 v.n f.z),
 )
 
 pub tested : (v : Window) (b : Bool) → b ≡ fits_mesh v → IsTrue b ↔ FitsMesh v

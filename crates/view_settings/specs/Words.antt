@@ -26,7 +26,8 @@ next_word given = length given.settings + 2
 -- the settings after these words, or the first that is refused
 abbrev pub after_words : Given → List (List ℕ) → Result Given WordFault
 after_words given [] = Ok given
-after_words given (word ∷ words) = refused_at (next_word given) (after_word given word) >>= λ next. after_words next words
+after_words given (word ∷ words) =
+    refused_at (next_word given) (after_word given word) >>= λ next. after_words next words
 
 -- the job of a verb with the settings of these words
 abbrev pub job_after : List (List ℕ) → Verb → Result Job WordFault

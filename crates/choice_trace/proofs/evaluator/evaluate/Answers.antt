@@ -1,14 +1,16 @@
-use Rattle.std.proofs.Common.{◌∙◌, ap, arith, drop, length, refl}
+use Rattle.std.proofs.Common.{◌∙◌, ap, arith, drop, length, refl, subst, sym}
 use Rattle.std.proofs.lemmas.List.{drop-set-lt}
+use Rattle.fixed_ops.specs.Counts.{no_counts, times}
 use Rattle.live_clauses.specs.Steps.{values}
-use Rattle.choice_trace.proofs.Elements.{none_read, read_more, step_stands, within_more, within_none}
+use Rattle.choice_trace.specs.Work.{RisesWithin}
+use Rattle.choice_trace.proofs.Elements.{RisesWithin-apart, none_read, read_more, step_stands, within_more, within_none}
 use Rattle.choice_trace.proofs.evaluator.evaluate.Goals as goal
 
 pub loop-at-init : goal.loop-at-init
 loop-at-init g c = let d = g.D.Domain in record {
   read = λ p stand. none_read d.stands_for c.args.inputs.x c.args.regs.now (values p c.steps-steps.result);
   rest = refl {a = drop (length c.steps-steps.result) c.args.regs.now};
-  counted = within_none c.args.tally.now d.least d.most;
+  counted = subst (λ counts. RisesWithin no_counts counts (times 0 d.least) (times 0 d.most)) (sym c.new-work.ensures) (within_none no_counts d.least d.most);
 }
 
 pub loop-at-preserved : goal.loop-at-preserved
@@ -25,5 +27,5 @@ loop-at-preserved g c =
           (step_stands d.stands_for p steps at step a b c.apply.result c.len-len.ensures.tape.each c.step-step.ensures.step
           (c.operands-a.ensures p (values p steps) at c.step-step.ensures.stands stand (c.loop-at.invariant.read p stand)) c.apply.ensures.stands);
       rest = drop-set-lt (length steps) c.loop-at.regs at c.apply.result (omega arith) ∙ c.loop-at.invariant.rest;
-      counted = within_more c.args.tally.now c.loop-at.tally c.apply.new.tally d.least d.most at c.loop-at.invariant.counted c.apply.ensures.counted;
+      counted = within_more no_counts c.loop-at.work c.apply.new.tally d.least d.most at c.loop-at.invariant.counted c.apply.ensures.counted;
     }

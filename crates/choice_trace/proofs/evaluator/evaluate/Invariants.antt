@@ -1,5 +1,5 @@
 use Rattle.std.proofs.Common.{◌≡◌, drop, length}
-use Rattle.fixed_ops.specs.Counts.{times}
+use Rattle.fixed_ops.specs.Counts.{no_counts, times}
 use Rattle.fixed_ops.specs.Points.{Point}
 use Rattle.live_clauses.specs.Steps.{values}
 use Rattle.choice_trace.specs.Meaning.{AreRead, StandForPoint}
@@ -10,5 +10,5 @@ abbrev pub invariant-loop-at : goal.invariant-loop-at
 invariant-loop-at g l = let d = g.D.Domain in record {
   read : (p : Point) → StandForPoint d.stands_for l.inputs p → AreRead d.stands_for l.inputs.x l.regs (values p l.steps) l.at;
   rest : drop (length l.steps) l.regs ≡ drop (length l.steps) l.fn.regs;
-  counted : RisesWithin l.fn.tally l.tally (times l.at d.least) (times l.at d.most);
+  counted : RisesWithin no_counts l.work (times l.at d.least) (times l.at d.most);
 }

@@ -1,4 +1,5 @@
 use Rattle.std.proofs.Common.{◌≡◌, drop, length, take}
+use Rattle.fixed_ops.specs.Counts.{no_counts}
 use Rattle.interval_ops.specs.HullCounts.{CountsHulls}
 use Rattle.choice_trace.specs.Hulls.{choices_over, hulls}
 use Rattle.choice_trace.proofs.tracer.trace.Given as goal
@@ -9,5 +10,5 @@ invariant-loop-at l = record {
   chosen : take l.at l.choices ≡ take l.at (choices_over l.region l.steps);
   hulls_rest : drop (length l.steps) l.regs ≡ drop (length l.steps) l.fn.regs;
   choices_rest : drop (length l.steps) l.choices ≡ drop (length l.steps) l.fn.choices;
-  counted : CountsHulls l.at l.fn.tally l.tally;
+  counted : CountsHulls l.at no_counts l.work;
 }
