@@ -1,6 +1,7 @@
 pub mod Joined
 pub mod Keeping
 pub mod Kept
+pub mod Links
 pub mod Needs
 pub mod Numbering
 pub mod Representatives

@@ -64,7 +64,7 @@ module _ (steps : List Step) (choices : List Choice) (some : 0 < length steps) (
   hands at place = hands_on (step_at steps at) (choice_at choices at) place
 
   -- a step needs earlier ones alone
-  hands_on-before : (at place : ℕ) → at < length steps → hands at place ≡ true → place < at
+  pub hands_on-before : (at place : ℕ) → at < length steps → hands at place ≡ true → place < at
   hands_on-before at place within handed =
       let stands = step_at-stands steps at stand within in
       elim (hands_on_cases (step_at steps at) (choice_at choices at) place handed) [

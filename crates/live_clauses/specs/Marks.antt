@@ -1,5 +1,5 @@
 -- Scratch memory of a walk over a list: first it marks the needed steps, then it holds their new numbers.
-use Rattle.std.specs.Prelude.{◌≡◌, ℕ, ◌<◌, ◌≤◌, nat_lt, Bool, true, ◌||◌, ◌⊎◌, List, length, slice_index}
+use Rattle.std.specs.Prelude.{◌≡◌, ℕ, ◌+◌, ◌<◌, ◌≤◌, nat_lt, Bool, true, false, ◌||◌, ◌⊎◌, List, length, slice_index}
 use Rattle.fixed_ops.specs.Arity.{arity_of}
 use Rattle.interval_ops.specs.declared.choice.Choice.{Choice}
 use Rattle.live_clauses.specs.declared.step.Step.{Step}
@@ -13,6 +13,23 @@ is_marked marks place = nat_lt 0 (slice_index marks place)
 abbrev pub Marks : List ℕ → List ℕ → (ℕ → Bool) → Type 0
 Marks old new these =
     (place : ℕ) → place < length old → is_marked new place ≡ (is_marked old place || these place)
+
+-- a walk left all places but these as they were
+abbrev pub Leaves : List ℕ → List ℕ → (ℕ → Bool) → Type 0
+Leaves old new these =
+    (place : ℕ) → these place ≡ false → slice_index new place ≡ slice_index old place
+
+-- the first marked place from a place on, or the length where there is none
+pub record IsNextMarked (marks : List ℕ) (from next : ℕ) : Type 0 where
+  pub after : from ≤ next
+  pub within : next ≤ length marks
+  pub none : (place : ℕ) → from ≤ place → place < next → is_marked marks place ≡ false
+  pub marked : next < length marks → is_marked marks next ≡ true
+
+-- each marked place from a place on holds the next one, or the length where it is the last
+abbrev pub AreLinked : ℕ → List ℕ → Type 0
+AreLinked from marks = (place : ℕ) → from ≤ place → is_marked marks place ≡ true
+    → IsNextMarked marks (place + 1) (slice_index marks place)
 
 -- the marked steps are those that are needed after so many turns from the last step down
 abbrev pub AreMarksAfter : ℕ → List Step → List Choice → List ℕ → Type 0

@@ -1,8 +1,8 @@
-// Up a list once: its live steps, numbered anew.
+// Up a list from mark to mark: its live steps, numbered anew.
 ghost use Rattle.std.specs.Prelude.{◌≡◌, ◌<◌, ◌≤◌, ◌++◌, [], ◌∷◌, map, length, slice_index, if◌then◌else◌, IfOk};
 ghost use Rattle.live_clauses.specs.Choices.{AreChoices};
 ghost use Rattle.live_clauses.specs.Live.{chosen, is_both, live_of, renumbered};
-ghost use Rattle.live_clauses.specs.Marks.{AreMarks, ReadsBelow};
+ghost use Rattle.live_clauses.specs.Marks.{AreLinked, AreMarks, IsNextMarked, ReadsBelow};
 ghost use Rattle.live_clauses.specs.Packed.{unpacked};
 ghost use Rattle.live_clauses.specs.Steps.{IsTape};
 
@@ -10,27 +10,32 @@ use crate::packed_step::PackedStep;
 use interval_ops::Choice;
 use std::alloc::{AllocError, Global};
 
-// The live steps, of which there are so many. The marks of the needed steps become their numbers.
+// The live steps, of which there are so many. Goes from the first marked place to the next. The marks
+// of the needed steps become their numbers.
 pub(crate) fn copy_live(
     alloc: Global,
     steps: &[PackedStep],
     choices: &[Choice],
     marks: &mut [u16],
+    first: usize,
     live: usize,
 ) -> Result<Vec<PackedStep>, AllocError>
     requires tape { IsTape (map unpacked steps.now) }
     requires enough { length steps.now ≤ length choices.now }
     requires choices { AreChoices (map unpacked steps.now) choices.now }
     requires room { length marks.old ≡ length steps.now }
+    requires first { IsNextMarked marks.old 0 first }
     requires marks { AreMarks 0 (map unpacked steps.now) choices.now marks.old }
+    requires links { AreLinked 0 marks.old }
     ensures { IfOk result (λ new. map unpacked new.items
         ≡ live_of (map unpacked steps.now) choices.now) }
 {
     let mut new = Vec::with_capacity(alloc, live)?;
-    for at in 0..steps.len() {
-        if marks[at] != 0 {
-            marks[at] = copy_step(steps[at], choices[at], marks, &mut new)?;
-        }
+    let mut at = first;
+    while at < steps.len() {
+        let next = marks[at] as usize;
+        marks[at] = copy_step(steps[at], choices[at], marks, &mut new)?;
+        at = next;
     }
     Ok(new)
 }

@@ -2,7 +2,7 @@
 ghost use Rattle.std.specs.Prelude.{◌≡◌, ◌<◌, ◌≤◌, ◌==◌, map, length, if◌then◌else◌};
 ghost use Rattle.live_clauses.specs.Choices.{AreChoices};
 ghost use Rattle.live_clauses.specs.Live.{hands_on, is_both, kept_below, reads};
-ghost use Rattle.live_clauses.specs.Marks.{AreMarks, Marks, ReadsBelow};
+ghost use Rattle.live_clauses.specs.Marks.{AreLinked, AreMarks, IsNextMarked, Leaves, Marks, ReadsBelow};
 ghost use Rattle.live_clauses.specs.Packed.{unpacked};
 ghost use Rattle.live_clauses.specs.Steps.{IsTape};
 
@@ -10,19 +10,24 @@ use crate::packed_step::PackedStep;
 use fixed_ops::Op;
 use interval_ops::Choice;
 
-// What a marked place holds.
+// What a place holds that is marked, and not yet visited.
 const MARK: u16 = 1;
 
-// Marks the steps that are needed, and counts the live ones.
-pub(crate) fn mark(steps: &[PackedStep], choices: &[Choice], marks: &mut [u16]) -> usize
+// Marks the steps that are needed. Each marked place holds the next one, or the length where it is
+// the last. Gives how many of the steps are live, and the first marked place.
+pub(crate) fn mark(steps: &[PackedStep], choices: &[Choice], marks: &mut [u16]) -> (usize, usize)
     requires tape { IsTape (map unpacked steps.now) }
     requires enough { length steps.now ≤ length choices.now }
     requires choices { AreChoices (map unpacked steps.now) choices.now }
     requires room { length marks.old ≡ length steps.now }
-    ensures live { result ≡ kept_below (map unpacked steps.now) choices.now (length steps.now) }
+    ensures live { result.0
+        ≡ kept_below (map unpacked steps.now) choices.now (length steps.now) }
+    ensures first { IsNextMarked marks.new 0 result.1 }
     ensures marks { AreMarks 0 (map unpacked steps.now) choices.now marks.new }
+    ensures links { AreLinked 0 marks.new }
 {
     let mut at = steps.len();
+    let mut next = at;
     marks.fill(0);
     marks[at - 1] = MARK;
     let mut live = 0;
@@ -30,9 +35,11 @@ pub(crate) fn mark(steps: &[PackedStep], choices: &[Choice], marks: &mut [u16]) 
         at -= 1;
         if marks[at] != 0 {
             live += visit(steps[at], choices[at], marks);
+            marks[at] = next as u16;
+            next = at;
         }
     }
-    live
+    (live, next)
 }
 
 // Marks what a needed step needs, and counts it where it stands for itself.
@@ -41,6 +48,7 @@ fn visit(step: PackedStep, choice: Choice, marks: &mut [u16]) -> usize
     requires { ReadsBelow (length marks.old) (unpacked step) choice }
     ensures live { result ≡ (if is_both choice then 1 else 0) }
     ensures marks { Marks marks.old marks.new (hands_on (unpacked step) choice) }
+    ensures others { Leaves marks.old marks.new (hands_on (unpacked step) choice) }
 {
     match choice {
         Choice::Left => {
@@ -62,7 +70,8 @@ fn visit(step: PackedStep, choice: Choice, marks: &mut [u16]) -> usize
 #[inline]
 fn hand_on(step: PackedStep, marks: &mut [u16])
     requires { ReadsBelow (length marks.old) (unpacked step) Choice.Both }
-    ensures { Marks marks.old marks.new (reads (unpacked step)) }
+    ensures marks { Marks marks.old marks.new (reads (unpacked step)) }
+    ensures others { Leaves marks.old marks.new (reads (unpacked step)) }
 {
     match step.op {
         Op::X | Op::Y | Op::Z | Op::Const => {}

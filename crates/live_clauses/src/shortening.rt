@@ -77,9 +77,9 @@ pub fn prune_with(
 {
     let steps = tape.packed();
     let marks = &mut scratch[..steps.len()];
-    let live = mark(steps, choices, marks);
+    let (live, first) = mark(steps, choices, marks);
     if live == steps.len() {
         return tape.share();
     }
-    Tape::from_packed(copy_live(alloc, steps, choices, marks, live)?)
+    Tape::from_packed(copy_live(alloc, steps, choices, marks, first, live)?)
 }
