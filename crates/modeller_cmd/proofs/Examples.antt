@@ -17,10 +17,10 @@ use Rattle.view_settings.specs.declared.job.Job.{Job}
 use Rattle.view_settings.specs.declared.job.Job.TheVariants.{Count, Height, Render}
 use Rattle.view_settings.specs.declared.word_fault.WordReason.TheVariants as word
 use Rattle.modeller_cmd.specs.Endings.{IsAnswer, NoFault}
-use Rattle.modeller_cmd.specs.Heights.{heights_of}
+use Rattle.edit_session.specs.Heights.{heights_of}
 use Rattle.modeller_cmd.specs.Notes.{line_of}
 use Rattle.modeller_cmd.specs.Output.{Output, input_limit, made, output_as, output_of, parts_after}
-use Rattle.modeller_cmd.specs.Work.{no_work}
+use Rattle.edit_session.specs.Work.{no_work}
 use Rattle.modeller_cmd.specs.declared.refusal.Refusal.TheVariants as refusal
 use Rattle.modeller_cmd.specs.declared.status.Status.{Status}
 use Rattle.modeller_cmd.specs.declared.status.Status.TheVariants as status

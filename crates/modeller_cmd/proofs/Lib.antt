@@ -1,8 +1,3 @@
-mod Depths
 mod Examples
-mod Frames
-mod GridLaws
-mod GridWork
-mod MeshLaws
 mod Outcomes
 mod Soundness

@@ -1,9 +1,15 @@
 -- What an outcome says of the status, the bytes and the work of a run.
-use Rattle.std.proofs.Common.{◌≡◌, ◌≢◌, ℕ, ◌+◌, ◌≤◌, false, List, [], length, nat_lt, Option, Some, None, Result, Ok, Err, IsOk, IfSome, append-nil, refl, sym, ap, subst, ◌∙◌, arith}
+use Rattle.std.proofs.Common.{◌≡◌, ◌≢◌, ℕ, ◌+◌, ◌≤◌, false, List, [], ◌∷◌, length, nat_lt, Option, Some, None, Result, Ok, Err, IsOk, IfSome, append-nil, refl, sym, ap, subst, ◌∙◌, arith}
 use Rattle.std.specs.Prelude.{All, IsTrue, OnSome, true}
 use Rattle.std.specs.Io.KnownBytes.{Consumes}
 use Rattle.std.proofs.lemmas.Bool.{le-ltb}
 use Rattle.clause_reader.specs.Reading.{text_read}
+use Rattle.edit_session.specs.Heights.{heights_of}
+use Rattle.edit_session.specs.Images.{image_of}
+use Rattle.edit_session.specs.Meshes.{mesh_text}
+use Rattle.edit_session.specs.Work.{Work, both, frame_work, height_work, mesh_work, no_work}
+use Rattle.edit_session.specs.WorkLaws.{plain-none, within-none}
+use Rattle.fixed_ops.specs.Counts.{Counts}
 use Rattle.modeller_io.specs.Count.{RoseBy}
 use Rattle.modeller_io.specs.Took.{LosesAtMost}
 use Rattle.solid_model.specs.declared.clause.Clause.{Clause}
@@ -11,12 +17,10 @@ use Rattle.view_settings.specs.Window.{Window}
 use Rattle.view_settings.specs.declared.job.Job.{Job}
 use Rattle.view_settings.specs.declared.job.Job.TheVariants.{Count, Height, Mesh, Render, Text}
 use Rattle.modeller_cmd.specs.Asking.{asked}
-use Rattle.modeller_cmd.specs.Endings.{Ends, IsAnswer, Makes, status_after}
-use Rattle.modeller_cmd.specs.Meshes.{mesh_text}
-use Rattle.modeller_cmd.specs.Output.{AreExact, Part, bytes_of_parts, input_limit, made, outcome, output_as, parts_of, work_of_parts}
+use Rattle.modeller_cmd.specs.Endings.{CountsForSome, Ends, IsAnswer, Makes, status_after}
+use Rattle.modeller_cmd.specs.Output.{AreExact, Part, bytes_of_parts, input_limit, made, outcome, output_as, output_of, parts_of, work_of_parts}
 use Rattle.modeller_cmd.specs.Statuses.{status_of}
 use Rattle.modeller_cmd.specs.Stops.{status_at}
-use Rattle.modeller_cmd.specs.Work.{Work, both, frame_work, height_work, mesh_work, no_work}
 use Rattle.modeller_cmd.specs.declared.refusal.Refusal.{Refusal}
 use Rattle.modeller_cmd.specs.declared.refusal.Refusal.TheVariants as refusal
 use Rattle.modeller_cmd.specs.declared.status.Status.TheVariants as status
@@ -104,25 +108,25 @@ one_work work =
     λ k. record { points = p k; spans = s k; plain = n k }
 
 -- the work of an image, of one that is counted, of a height map, of a mesh, and of a text
-pub render_work : (job : Job) (view : Window) (input : List ℕ) (clauses : List Clause) → job ≡ Render view → length input ≤ input_limit → text_read input ≡ Ok clauses
-    → work_of_parts (output_as (made job input)).parts ≡ frame_work view clauses
-render_work job view input clauses is few reads =
-    made_work job input clauses few reads ∙ ap (λ j. work_of_parts (parts_of j clauses)) is ∙ one_work (frame_work view clauses)
+pub render_work : (job : Job) (view : Window) (input : List ℕ) (clauses drawn : List Clause) → job ≡ Render view → length input ≤ input_limit
+    → text_read input ≡ Ok clauses → drawn ≡ clauses → work_of_parts (output_as (made job input)).parts ≡ frame_work view drawn
+render_work job view input clauses drawn is few reads same =
+    made_work job input clauses few reads ∙ ap (λ j. work_of_parts (parts_of j clauses)) is ∙ one_work (frame_work view clauses) ∙ ap (frame_work view) (sym same)
 
 pub count_work : (job : Job) (view : Window) (input : List ℕ) (clauses : List Clause) → job ≡ Count view → length input ≤ input_limit → text_read input ≡ Ok clauses
     → work_of_parts (output_as (made job input)).parts ≡ frame_work view clauses
 count_work job view input clauses is few reads =
     made_work job input clauses few reads ∙ ap (λ j. work_of_parts (parts_of j clauses)) is ∙ one_work (frame_work view clauses)
 
-pub height_work_of : (job : Job) (view : Window) (input : List ℕ) (clauses : List Clause) → job ≡ Height view → length input ≤ input_limit → text_read input ≡ Ok clauses
-    → work_of_parts (output_as (made job input)).parts ≡ height_work view clauses
-height_work_of job view input clauses is few reads =
-    made_work job input clauses few reads ∙ ap (λ j. work_of_parts (parts_of j clauses)) is ∙ one_work (height_work view clauses)
+pub height_work_of : (job : Job) (view : Window) (input : List ℕ) (clauses drawn : List Clause) → job ≡ Height view → length input ≤ input_limit
+    → text_read input ≡ Ok clauses → drawn ≡ clauses → work_of_parts (output_as (made job input)).parts ≡ height_work view drawn
+height_work_of job view input clauses drawn is few reads same =
+    made_work job input clauses few reads ∙ ap (λ j. work_of_parts (parts_of j clauses)) is ∙ one_work (height_work view clauses) ∙ ap (height_work view) (sym same)
 
-pub mesh_work_of : (job : Job) (view : Window) (input : List ℕ) (clauses : List Clause) → job ≡ Mesh view → length input ≤ input_limit → text_read input ≡ Ok clauses
-    → work_of_parts (output_as (made job input)).parts ≡ mesh_work view clauses
-mesh_work_of job view input clauses is few reads =
-    made_work job input clauses few reads ∙ ap (λ j. work_of_parts (parts_of j clauses)) is ∙ one_work (mesh_work view clauses)
+pub mesh_work_of : (job : Job) (view : Window) (input : List ℕ) (clauses drawn : List Clause) → job ≡ Mesh view → length input ≤ input_limit
+    → text_read input ≡ Ok clauses → drawn ≡ clauses → work_of_parts (output_as (made job input)).parts ≡ mesh_work view drawn
+mesh_work_of job view input clauses drawn is few reads same =
+    made_work job input clauses few reads ∙ ap (λ j. work_of_parts (parts_of j clauses)) is ∙ one_work (mesh_work view clauses) ∙ ap (mesh_work view) (sym same)
 
 pub text_work : (job : Job) (input : List ℕ) (clauses : List Clause) → job ≡ Text → length input ≤ input_limit → text_read input ≡ Ok clauses
     → work_of_parts (output_as (made job input)).parts ≡ no_work
@@ -149,14 +153,46 @@ mesh_bounded job view input clauses is few reads exact =
     let none = subst (All (λ part. IsTrue part.exact)) parts exact 0 (record { bytes = []; exact = true; work = no_work }) (omega arith) in
     grind (arith, none)
 
--- the bytes of a mesh are those that its job makes
-pub mesh_bytes : (job : Job) (view : Window) (input : List ℕ) (clauses : List Clause) (bytes : List ℕ) → job ≡ Mesh view → length input ≤ input_limit → text_read input ≡ Ok clauses
-    → bytes ≡ mesh_text view clauses → Makes (made job input) (λ whole. bytes ≡ whole)
-mesh_bytes job view input clauses bytes is few reads same =
+-- one part alone is what a job makes
+one_made : (job other : Job) (input : List ℕ) (clauses : List Clause) (part : Part) (bytes : List ℕ) → job ≡ other → length input ≤ input_limit
+    → text_read input ≡ Ok clauses → parts_of other clauses ≡ part ∷ [] → bytes ≡ part.bytes → Makes (made job input) (λ whole. bytes ≡ whole)
+one_made job other input clauses part bytes is few reads one same =
     let short : nat_lt input_limit (length input) ≡ false = le-ltb input_limit (length input) few in
     let parts : Job → Result (List Part) Refusal = λ j. Ok (parts_of j clauses) in
     let all : made job input ≡ parts job = rw (short, reads) refl in
-    subst (λ outcome. Makes outcome (λ whole. bytes ≡ whole)) (sym (all ∙ ap parts is)) (same ∙ sym (append-nil (mesh_text view clauses)))
+    let made_one : made job input ≡ Ok (part ∷ []) = all ∙ ap parts is ∙ ap Ok one in
+    subst (λ outcome. Makes outcome (λ whole. bytes ≡ whole)) (sym made_one) (same ∙ sym (append-nil part.bytes))
+
+-- the bytes of an image, a height map and a mesh are those that their jobs make
+pub image_bytes : (job : Job) (view : Window) (input : List ℕ) (clauses drawn : List Clause) (bytes : List ℕ) → job ≡ Render view
+    → length input ≤ input_limit → text_read input ≡ Ok clauses → drawn ≡ clauses → bytes ≡ image_of view drawn
+    → Makes (made job input) (λ whole. bytes ≡ whole)
+image_bytes job view input clauses drawn bytes is few reads same drawing =
+    one_made job (Render view) input clauses (record { bytes = image_of view clauses; exact = true; work = frame_work view clauses }) bytes is few reads refl
+    (drawing ∙ ap (image_of view) same)
+
+pub height_bytes : (job : Job) (view : Window) (input : List ℕ) (clauses drawn : List Clause) (bytes : List ℕ) → job ≡ Height view
+    → length input ≤ input_limit → text_read input ≡ Ok clauses → drawn ≡ clauses → bytes ≡ heights_of view drawn
+    → Makes (made job input) (λ whole. bytes ≡ whole)
+height_bytes job view input clauses drawn bytes is few reads same drawing =
+    one_made job (Height view) input clauses (record { bytes = heights_of view clauses; exact = false; work = height_work view clauses }) bytes is few reads refl
+    (drawing ∙ ap (heights_of view) same)
+
+pub mesh_bytes : (job : Job) (view : Window) (input : List ℕ) (clauses drawn : List Clause) (bytes : List ℕ) → job ≡ Mesh view
+    → length input ≤ input_limit → text_read input ≡ Ok clauses → drawn ≡ clauses → bytes ≡ mesh_text view drawn
+    → Makes (made job input) (λ whole. bytes ≡ whole)
+mesh_bytes job view input clauses drawn bytes is few reads same drawing =
+    one_made job (Mesh view) input clauses (record { bytes = mesh_text view clauses; exact = false; work = mesh_work view clauses }) bytes is few reads refl
+    (drawing ∙ ap (mesh_text view) same)
+
+-- a run that does nothing counts no more than some output's work
+pub some-none : (words : List (List ℕ)) (counts : Counts) → CountsForSome words counts counts
+some-none words counts = record {
+  input = [];
+  few = omega arith;
+  work = within-none counts (work_of_parts (output_of words []).parts);
+  plain = plain-none counts (work_of_parts (output_of words []).parts).plain;
+}
 
 -- what words that are accepted make of an input
 pub asked_made : (words : List (List ℕ)) (job : Job) (input : List ℕ) → Ok job ≡ asked words → outcome words input ≡ made job input

@@ -9,7 +9,7 @@ use Rattle.modeller_cmd.specs.Notes.{line_of, refusal_line}
 use Rattle.modeller_cmd.specs.Output.{Part, bytes_of_parts, input_limit, output_of, work_of_parts}
 use Rattle.modeller_cmd.specs.Stops.{status_at}
 use Rattle.modeller_cmd.specs.Asking.{asked}
-use Rattle.modeller_cmd.specs.Work.{CountsWithin, PointsRiseAtMost}
+use Rattle.edit_session.specs.Work.{CountsWithin, PointsRiseAtMost}
 use Rattle.modeller_cmd.specs.declared.refusal.Refusal.{Refusal}
 use Rattle.modeller_cmd.specs.declared.refusal.Refusal.TheVariants as refusal
 use Rattle.modeller_cmd.specs.declared.status.Status.{Status}

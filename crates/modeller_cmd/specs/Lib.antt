@@ -1,11 +1,8 @@
 pub mod Asking
+pub mod CountTexts
 pub mod Endings
-pub mod Heights
-pub mod Images
-pub mod Meshes
 pub mod Notes
 pub mod Output
 pub mod SoundTexts
 pub mod Statuses
 pub mod Stops
-pub mod Work

@@ -6,13 +6,14 @@ use Rattle.clause_reader.specs.declared.text_fault.TextFault.{TextFault}
 use Rattle.solid_model.specs.declared.clause.Clause.{Clause}
 use Rattle.view_settings.specs.declared.job.Job.{Job}
 use Rattle.view_settings.specs.declared.job.Job.TheVariants.{Count, Height, Mesh, Render, Text}
-use Rattle.modeller_cmd.specs.Heights.{heights_of}
-use Rattle.modeller_cmd.specs.Images.{image_of}
-use Rattle.modeller_cmd.specs.Meshes.{mesh_text}
+use Rattle.edit_session.specs.Heights.{heights_of}
+use Rattle.edit_session.specs.Images.{image_of}
+use Rattle.edit_session.specs.Meshes.{mesh_text}
+use Rattle.modeller_cmd.specs.CountTexts.{count_text}
 use Rattle.modeller_cmd.specs.Notes.{refusal_line}
 use Rattle.modeller_cmd.specs.Statuses.{status_of}
 use Rattle.modeller_cmd.specs.Asking.{asked}
-use Rattle.modeller_cmd.specs.Work.{Work, both, count_text, frame_work, height_work, mesh_work, no_work}
+use Rattle.edit_session.specs.Work.{Work, both, frame_work, height_work, mesh_work, no_work}
 use Rattle.modeller_cmd.specs.declared.refusal.Refusal.{Refusal}
 use Rattle.modeller_cmd.specs.declared.refusal.Refusal.TheVariants.{TooLong, Model}
 use Rattle.modeller_cmd.specs.declared.status.Status.{Status}

@@ -10,18 +10,16 @@ ghost use Rattle.modeller_cmd.specs.Notes.{line_of};
 ghost use Rattle.modeller_cmd.specs.Output.{AreExact, WithOutput, bytes_of_parts, input_limit, made, outcome, output_as, work_of_parts};
 ghost use Rattle.modeller_cmd.specs.Asking.{asked, is_built};
 ghost use Rattle.modeller_cmd.specs.SoundTexts.{MeshesAreSound};
-ghost use Rattle.modeller_cmd.specs.Work.{CountsWithin, CountsWork, PointsRiseAtMost};
+ghost use Rattle.edit_session.specs.Work.{CountsWithin, CountsWork, PointsRiseAtMost};
 
 use crate::Status;
 use crate::asking::read_job;
 use crate::count::count;
-use crate::draw::draw;
-use crate::height::height;
-use crate::mesh::{mesh, mesh_texts_are_sound};
 use crate::note::note_of;
 use crate::refusal::Refusal;
 use crate::stop::Stop;
 use clause_reader::{read_model, write_model};
+use edit_session::{Session, mesh_texts_are_sound};
 use fixed_ops::Tally;
 use modeller_io::{Sink, Source, read_all, write_all};
 use std::alloc::Global;
@@ -173,9 +171,9 @@ fn work(alloc: Global, job: &Job, input: &[u8], tally: &mut Tally) -> Result<Vec
 {
     let model = read_model(alloc, input)?;
     match job {
-        Job::Render(view) => Ok(draw(alloc, &model, view, tally)?),
-        Job::Height(view) => Ok(height(alloc, &model, view, tally)?),
-        Job::Mesh(view) => Ok(mesh(alloc, &model, view, tally)?),
+        Job::Render(view) => Ok(Session::start(alloc, model).render(view, tally)?),
+        Job::Height(view) => Ok(Session::start(alloc, model).height(view, tally)?),
+        Job::Mesh(view) => Ok(Session::start(alloc, model).mesh(view, tally)?),
         Job::Count(view) => Ok(count(alloc, &model, view, tally)?),
         Job::Text => Ok(write_model(alloc, &model)?),
         _ => Err(Stop::Refused(Refusal::NotBuilt)),

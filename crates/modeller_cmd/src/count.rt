@@ -1,9 +1,10 @@
 // The work of an image, as text.
 ghost use Rattle.std.specs.Prelude.{◌≡◌, length, IfOk, OnOk, OnErr};
-ghost use Rattle.modeller_cmd.specs.Images.{plain_points as plain_points_of};
-ghost use Rattle.modeller_cmd.specs.Work.{CountsWithin, CountsWork, PointsRiseAtMost, count_text, frame_work};
+ghost use Rattle.edit_session.specs.Images.{plain_points as plain_points_of};
+ghost use Rattle.edit_session.specs.Work.{CountsWithin, CountsWork, PointsRiseAtMost, frame_work};
+ghost use Rattle.modeller_cmd.specs.CountTexts.{count_text};
 
-use crate::draw::draw_tree;
+use edit_session::draw_tree;
 use fixed_ops::Tally;
 use solid_model::Model;
 use std::alloc::{AllocError, Global};
@@ -11,7 +12,7 @@ use view_settings::View;
 
 /// The work that a fresh image of a model over a view takes, as text: the image is drawn, and no
 /// pixel of it is written. What the tally counted before is not told.
-#[tactic(auto, unfolding(crate::specs::Work::CountsWork, crate::specs::Work::CountsWithin))]
+#[tactic(auto, unfolding(edit_session::specs::Work::CountsWork, edit_session::specs::Work::CountsWithin))]
 pub fn count(
     alloc: Global,
     model: &Model,

@@ -4,9 +4,6 @@
 mod asking;
 mod command;
 mod count;
-mod draw;
-mod height;
-mod mesh;
 mod note;
 mod refusal;
 mod status;

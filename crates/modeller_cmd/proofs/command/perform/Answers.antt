@@ -1,7 +1,7 @@
 use Rattle.std.proofs.Common.{arith}
 use Rattle.view_settings.specs.Words.{bytes_of}
-use Rattle.modeller_cmd.proofs.Frames.{some-none, within-none}
-use Rattle.modeller_cmd.proofs.Outcomes.{read_whole, some_all}
+use Rattle.edit_session.specs.WorkLaws.{within-none}
+use Rattle.modeller_cmd.proofs.Outcomes.{read_whole, some-none, some_all}
 use Rattle.modeller_cmd.proofs.Soundness.{run_is_sound}
 use Rattle.modeller_cmd.proofs.command.perform.Goals as goal
 

@@ -1,0 +1,75 @@
+-- The definitions of frames, computed on models and views that were worked out by hand.
+use Rattle.std.proofs.Common.{◌≡◌, ℕ, pos, negsuc, List, [], ◌∷◌, ◌++◌, Result, Ok, Err, refl}
+use Rattle.std.specs.Prelude.{codes}
+use Rattle.std.specs.Fmt.{digits}
+use Rattle.box_chains.specs.Chains.{chain_within}
+use Rattle.box_chains.specs.Counts.{points_in, spans_in}
+use Rattle.clause_reader.specs.Reading.{text_read}
+use Rattle.clause_reader.specs.declared.text_fault.TextFault.{TextFault}
+use Rattle.fixed_ops.specs.Numerals.{cut_magnitude, is_unsigned_numeral, nearest_raw, unsigned_raw}
+use Rattle.kuhn_cells.specs.Faces.{all_triangles, faces}
+use Rattle.kuhn_cells.specs.Grids.{vertices}
+use Rattle.solid_model.specs.declared.clause.Clause.{Clause}
+use Rattle.view_settings.specs.Window.{Window}
+use Rattle.edit_session.specs.Heights.{heights_of}
+use Rattle.edit_session.specs.Images.{image_of}
+use Rattle.edit_session.specs.Meshes.{grid_of, mesh_text}
+use Rattle.edit_session.specs.Work.{frame_work}
+
+-- the clauses of a text that is read
+abbrev solid : List ℕ → List Clause
+solid text = by (text_read text)
+  where
+    by : Result (List Clause) TextFault → List Clause
+    by (Ok clauses) = clauses
+    by (Err fault) = []
+
+-- the window from -1 to 1 with so many columns, rows and layers, one cell along each axis, and its raster at 0
+abbrev window : ℕ → ℕ → ℕ → Window
+window columns rows layers = record {
+  x0 = negsuc 4294967295;
+  x1 = pos 4294967296;
+  y0 = negsuc 4294967295;
+  y1 = pos 4294967296;
+  z0 = negsuc 4294967295;
+  z1 = pos 4294967296;
+  z = pos 0;
+  w = columns;
+  h = rows;
+  d = layers;
+  n = 1;
+}
+
+-- x * x + y * y is below 0.5 in the middle alone
+disc_image : image_of (window 3 3 1) (solid (codes "a var-x\nb var-y\nc mul a a\nd mul b b\ne add c d\nr const 0.5\nf sub e r\n"))
+    ≡ codes "P5\n3 3\n255\n" ++ 0 ∷ 0 ∷ 0 ∷ 0 ∷ 255 ∷ 0 ∷ 0 ∷ 0 ∷ 0 ∷ []
+unfolding digits cut_magnitude is_unsigned_numeral nearest_raw unsigned_raw
+disc_image = refl
+
+-- The left one of two boxes holds five samples, of which the middle one is 0, and so stays undecided.
+undecided_half : frame_work (window 9 1 1) (solid (codes "x var-x\n"))
+    ≡ record { points = 5; spans = 3; plain = 9 }
+unfolding points_in spans_in chain_within
+undecided_half = refl
+
+-- what is decided at once takes no evaluation
+decided_at_once : frame_work (window 8 8 1) (solid (codes "a const -1\n"))
+    ≡ record { points = 0; spans = 1; plain = 64 }
+unfolding points_in spans_in chain_within cut_magnitude is_unsigned_numeral nearest_raw unsigned_raw
+decided_at_once = refl
+
+-- of three samples of a column the one below 0 is the far one, whose top is 1
+far_top : heights_of (window 1 1 3) (solid (codes "z var-z\n")) ≡ codes "P5\n1 1\n3\n" ++ 1 ∷ []
+unfolding digits heights_of
+far_top = refl
+
+-- of 300 samples the lower 150 are below 0, and each top has two bytes
+two_bytes : heights_of (window 1 1 300) (solid (codes "z var-z\n")) ≡ codes "P5\n1 1\n300\n" ++ 0 ∷ 150 ∷ []
+unfolding digits heights_of
+two_bytes = refl
+
+-- one cell has no point but those of the outermost layer, which are outside
+one_cell : mesh_text (window 1 1 1) (solid (codes "a const -1\n"))
+    ≡ codes "ply\nformat ascii 1.0\nelement vertex 0\nproperty double x\nproperty double y\nproperty double z\nelement face 0\nproperty list uchar int vertex_indices\nend_header\n"
+unfolding digits grid_of mesh_text vertices faces all_triangles cut_magnitude is_unsigned_numeral nearest_raw unsigned_raw
+one_cell = refl

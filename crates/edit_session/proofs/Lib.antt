@@ -1,0 +1,7 @@
+mod Depths
+mod Examples
+mod Frames
+mod GridLaws
+mod GridWork
+mod MeshLaws
+mod SoundTexts

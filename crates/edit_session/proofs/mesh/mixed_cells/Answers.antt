@@ -1,0 +1,5 @@
+use Rattle.edit_session.proofs.GridWork.{cells-same}
+use Rattle.edit_session.proofs.mesh.mixed_cells.Goals as goal
+
+pub returns-clause-cells : goal.returns-clause-cells
+returns-clause-cells c = cells-same c.cell_list.result c.args.view.now c.args.list.now c.in_ok-tree.tree c.in_ok-tree.ensures.tree c.cell_list.ensures

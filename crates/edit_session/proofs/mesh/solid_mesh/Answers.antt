@@ -1,0 +1,38 @@
+use Rattle.std.proofs.Common.{subst}
+use Rattle.live_clauses.specs.Steps.{IsTape, tape_value}
+use Rattle.edit_session.specs.Meshes.{grid_of}
+use Rattle.edit_session.specs.WorkLaws.{within-none}
+use Rattle.edit_session.proofs.GridWork.{mesh_plain, mesh_within}
+use Rattle.edit_session.proofs.MeshLaws.{mesh_same}
+use Rattle.edit_session.proofs.mesh.solid_mesh.Goals as goal
+
+pub returns-in_err-list-clause-at_most : goal.returns-in_err-list-clause-at_most
+returns-in_err-list-clause-at_most c = within-none c.args.tally.now _
+
+pub returns-in_err-cells-clause-at_most : goal.returns-in_err-cells-clause-at_most
+returns-in_err-cells-clause-at_most c =
+    mesh_within c.args.tally.now c.mixed_cells.new.tally c.args.view.now c.args.model.now c.in_ok-list.list c.in_ok-list.ensures.live c.in_err-cells.ensures.at_most
+
+pub returns-in_err-cells-clause-plain : goal.returns-in_err-cells-clause-plain
+returns-in_err-cells-clause-plain c =
+    mesh_plain c.args.tally.now c.mixed_cells.new.tally c.args.view.now c.args.model.now c.in_ok-list.list c.in_ok-list.ensures.live c.window_holds.ensures
+    (subst IsTape c.list.view_is c.list.invariant) c.grid_work_is_bounded.ensures.points
+    (mesh_within c.args.tally.now c.mixed_cells.new.tally c.args.view.now c.args.model.now c.in_ok-list.list c.in_ok-list.ensures.live c.in_err-cells.ensures.at_most)
+
+pub build-requires : goal.build-requires
+build-requires c = (grid_of c.args.view.now (λ p. tape_value p c.in_ok-list.list), c.in_ok-cells.ensures.cells)
+
+pub returns-clause-mesh : goal.returns-clause-mesh
+returns-clause-mesh c =
+    mesh_same c.build.result c.args.view.now c.args.model.now c.in_ok-list.list c.in_ok-list.ensures.value
+    (c.build.ensures.mesh (grid_of c.args.view.now (λ p. tape_value p c.in_ok-list.list)) c.in_ok-cells.ensures.cells)
+
+pub returns-clause-at_most : goal.returns-clause-at_most
+returns-clause-at_most c =
+    mesh_within c.args.tally.now c.mixed_cells.new.tally c.args.view.now c.args.model.now c.in_ok-list.list c.in_ok-list.ensures.live c.in_ok-cells.ensures.at_most
+
+pub returns-clause-plain : goal.returns-clause-plain
+returns-clause-plain c =
+    mesh_plain c.args.tally.now c.mixed_cells.new.tally c.args.view.now c.args.model.now c.in_ok-list.list c.in_ok-list.ensures.live c.window_holds.ensures
+    (subst IsTape c.list.view_is c.list.invariant) c.grid_work_is_bounded.ensures.points
+    (mesh_within c.args.tally.now c.mixed_cells.new.tally c.args.view.now c.args.model.now c.in_ok-list.list c.in_ok-list.ensures.live c.in_ok-cells.ensures.at_most)

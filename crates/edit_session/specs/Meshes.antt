@@ -1,0 +1,38 @@
+-- The mesh of a solid over a view, as PLY text.
+use Rattle.std.specs.Prelude.{ℕ, ◌+◌, ◌*◌, ℤ, List, [], ◌∷◌}
+use Rattle.fixed_ops.specs.Points.{Point}
+use Rattle.kuhn_cells.specs.Grids.{Grid, over_block}
+use Rattle.kuhn_cells.specs.Triangles.{GridPoint}
+use Rattle.oct_descent.specs.GridValues.{bordered}
+use Rattle.ply_writer.specs.Ply.{ply_of}
+use Rattle.solid_model.specs.Values.{solid_value}
+use Rattle.solid_model.specs.declared.clause.Clause.{Clause}
+use Rattle.tetra_mesh.specs.Cuts.{mesh_of}
+use Rattle.view_settings.specs.Places.{point_of}
+use Rattle.view_settings.specs.Window.{Window}
+use Rattle.view_settings.specs.declared.lattice.Lattice.TheVariants as lattices
+
+-- The value of a point of a view's grid, where each place has a value of its own: that of its
+-- place, or, on the outermost layer, the greater of that and 0. So no point of the outermost layer
+-- is inside.
+abbrev pub grid_value : Window → (Point → ℤ) → GridPoint → ℤ
+grid_value view value p = bordered view.n p (value (point_of view lattices.Grid p.x p.y p.z))
+
+-- the grid of a view with the values of its points, by z, then by y, then by x
+unfoldable pub grid_of : Window → (Point → ℤ) → Grid
+grid_of view value = record {
+  x = view.n;
+  y = view.n;
+  z = view.n;
+  values = over_block (view.n + 1) (view.n + 1) (view.n + 1) (λ p. grid_value view value p ∷ []);
+}
+
+-- the whole mesh of a solid over a view, as PLY text
+unfoldable pub mesh_text : Window → List Clause → List ℕ
+mesh_text view clauses =
+    let mesh = mesh_of (grid_of view (λ p. solid_value p clauses)) in
+    ply_of view mesh.vertices mesh.faces
+
+-- how many evaluations evaluating each of so many clauses once at each point of the grid takes
+abbrev pub plain_grid : Window → ℕ → ℕ
+plain_grid view clauses = (view.n + 1) * ((view.n + 1) * ((view.n + 1) * clauses))

@@ -1,0 +1,14 @@
+//! Sessions: models that are edited and drawn, frame after frame.
+#![tactic(auto)]
+
+mod draw;
+mod height;
+mod mesh;
+mod session;
+
+pub use draw::draw_tree;
+pub use mesh::mesh_texts_are_sound;
+pub use session::Session;
+
+#[cfg(test)]
+mod tests;

@@ -1,0 +1,88 @@
+// The mesh of a solid over a view.
+ghost use Rattle.std.specs.Prelude.{◌≡◌, length, IfOk};
+ghost use Rattle.box_chains.specs.Tallied.{CountsAtMost};
+ghost use Rattle.kuhn_cells.specs.Lists.{ListsCells};
+ghost use Rattle.live_clauses.specs.Steps.{tape_value};
+ghost use Rattle.oct_descent.specs.Bound.{mesh_points, mesh_spans};
+ghost use Rattle.solid_model.specs.Values.{solid_value};
+ghost use Rattle.tetra_mesh.specs.Cuts.{mesh_of};
+ghost use Rattle.view_settings.specs.Window.{FitsMesh};
+ghost use Rattle.edit_session.specs.Meshes.{grid_of, mesh_text, plain_grid};
+ghost use Rattle.edit_session.specs.SoundTexts.{MeshTextsAreSound};
+ghost use Rattle.edit_session.specs.Work.{CountsWithin, PointsRiseAtMost, mesh_work};
+
+use crate::draw::window_holds;
+use fixed_ops::Tally;
+use kuhn_cells::{CellList, vertices_are_mixed_edges};
+use live_clauses::{Tape, root_tape};
+use oct_descent::{cell_list, cells, grid_work_is_bounded};
+use ply_writer::ply_text;
+use solid_model::Model;
+use std::alloc::{AllocError, Global};
+use tetra_mesh::{Mesh, build, meshes_are_sound};
+use view_settings::View;
+
+// The mesh of a model over a view, as PLY text. No more work is counted than that of the boxes that
+// are looked into and of the corners of working cells, whether or not memory suffices.
+pub(crate) fn mesh(
+    alloc: Global,
+    model: &Model,
+    view: &View,
+    tally: &mut Tally,
+) -> Result<Vec<u8>, AllocError>
+    requires { FitsMesh view.now }
+    ensures ok { IfOk result (λ text. text.items ≡ mesh_text view.now model.now) }
+    ensures at_most { CountsWithin tally.old tally.new (mesh_work view.now model.now) }
+    ensures plain { PointsRiseAtMost tally.old tally.new (plain_grid view.now (length model.now)) }
+{
+    vertices_are_mixed_edges();
+    window_holds(view);
+    let mesh = solid_mesh(alloc, model, view, tally)?;
+    ply_text(alloc, &mesh, view)
+}
+
+// The mesh of a model over a view. The list of its cells is given up before it is handed on.
+fn solid_mesh(
+    alloc: Global,
+    model: &Model,
+    view: &View,
+    tally: &mut Tally,
+) -> Result<Mesh, AllocError>
+    requires { FitsMesh view.now }
+    ensures mesh { IfOk result (λ mesh.
+        mesh ≡ mesh_of (grid_of view.now (λ p. solid_value p model.now))) }
+    ensures at_most { CountsWithin tally.old tally.new (mesh_work view.now model.now) }
+    ensures plain { PointsRiseAtMost tally.old tally.new (plain_grid view.now (length model.now)) }
+{
+    grid_work_is_bounded();
+    window_holds(view);
+    let list = root_tape(alloc, model)?;
+    let cells = mixed_cells(alloc, &list, view, tally)?;
+    build(alloc, &cells, view)
+}
+
+// The mixed cells of the grid of a list over a view. The values of the grid are given up before the
+// list is handed on.
+fn mixed_cells(
+    alloc: Global,
+    list: &Tape,
+    view: &View,
+    tally: &mut Tally,
+) -> Result<CellList, AllocError>
+    requires { FitsMesh view.now }
+    ensures cells { IfOk result (λ cells.
+        ListsCells view.now.n cells (grid_of view.now (λ p. tape_value p list.now))) }
+    ensures at_most { CountsAtMost (mesh_points view.now list.now) (mesh_spans view.now list.now)
+        tally.old tally.new }
+{
+    let tree = cells(alloc, list, view, tally)?;
+    cell_list(alloc, &tree)
+}
+
+/// The text of the mesh of each solid is that of a sound mesh, over each view whose cells have
+/// 65536 raw units along each axis.
+pub fn mesh_texts_are_sound()
+    ensures { MeshTextsAreSound }
+{
+    meshes_are_sound();
+}

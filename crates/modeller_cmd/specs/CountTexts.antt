@@ -1,0 +1,8 @@
+-- What `count` writes of the work of an image.
+use Rattle.std.specs.Prelude.{ℕ, List, ◌++◌, codes, decimal}
+use Rattle.edit_session.specs.Work.{Work}
+
+-- the three lines that tell the work of an image
+abbrev pub count_text : Work → List ℕ
+count_text work =
+    codes "points " ++ decimal work.points ++ codes "\nspans " ++ decimal work.spans ++ codes "\nplain " ++ decimal work.plain ++ codes "\n"
