@@ -1,6 +1,6 @@
 -- Where the mark stands between the text of a model and the commands.
 use Rattle.std.specs.Prelude.{ℕ, ◌+◌, min, Bool, false, List, [], ◌∷◌, length, take, position, Option, codes}
-use Rattle.std.specs.Option.{option_map}
+use Rattle.std.specs.Option.{option_map, option_map_or}
 use Rattle.std.specs.Str.{bytes_eq}
 use Rattle.clause_reader.specs.LineLaws.{ended}
 use Rattle.clause_reader.specs.Lines.{lines_of, tokens_of}
@@ -27,3 +27,7 @@ line_start input place = min (length (ended (take place (lines_of input)))) (len
 -- where the first mark line begins, and where the line after it does
 abbrev pub mark_ends : List ℕ → Option (ℕ × ℕ)
 mark_ends input = option_map (λ place. (line_start input place, line_start input (place + 1))) (mark_place input)
+
+-- the text of the model in an input: what stands before the first mark line, or all of it where there is none
+abbrev pub before_mark : List ℕ → List ℕ
+before_mark input = option_map_or (λ ends. take ends.0 input) (mark_ends input) input

@@ -7,11 +7,15 @@ use Rattle.box_chains.specs.Chains.{chain_within}
 use Rattle.box_chains.specs.Counts.{points_in, spans_in}
 use Rattle.clause_reader.specs.Reading.{text_read}
 use Rattle.clause_reader.specs.declared.text_reason.TextReason.TheVariants as text
+use Rattle.edit_script.specs.declared.script_reason.ScriptReason.TheVariants as script
+use Rattle.fixed_ops.specs.NumberTexts.{size_text}
+use Rattle.fixed_ops.specs.Numerals.{cut_magnitude, is_unsigned_numeral, nearest_raw, unsigned_raw}
 use Rattle.fixed_ops.specs.Operations.{op_result}
 use Rattle.fixed_ops.specs.Raw.{greatest, least}
 use Rattle.fixed_ops.specs.declared.operation.Op.TheVariants as op
 use Rattle.height_map.specs.Bound.{points_where}
 use Rattle.modeller_io.specs.Count.{last_count}
+use Rattle.view_settings.specs.Setting.{setting_of}
 use Rattle.view_settings.specs.Window.{Window}
 use Rattle.view_settings.specs.declared.job.Job.{Job}
 use Rattle.view_settings.specs.declared.job.Job.TheVariants.{Count, Height, Render}
@@ -19,7 +23,9 @@ use Rattle.view_settings.specs.declared.word_fault.WordReason.TheVariants as wor
 use Rattle.modeller_cmd.specs.Endings.{IsAnswer, NoFault}
 use Rattle.edit_session.specs.Heights.{heights_of}
 use Rattle.modeller_cmd.specs.Notes.{line_of}
-use Rattle.modeller_cmd.specs.Output.{Output, input_limit, made, output_as, output_of, parts_after}
+use Rattle.modeller_cmd.specs.Output.{Output, input_limit, made, model_bytes, output_as, output_of, parts_after}
+use Rattle.modeller_cmd.specs.Parts.{Part}
+use Rattle.modeller_cmd.specs.Replays.{replayed}
 use Rattle.edit_session.specs.Work.{no_work}
 use Rattle.modeller_cmd.specs.declared.refusal.Refusal.TheVariants as refusal
 use Rattle.modeller_cmd.specs.declared.status.Status.{Status}
@@ -132,8 +138,64 @@ empty_input : output_of (codes "text" ∷ []) [] ≡ refused status.BadModel (co
 unfolding digits
 empty_input = refl
 
+-- what a script writes: the frames of a replay and the lines of edits that are refused
+abbrev replayed_of : List ℕ → Output
+replayed_of input = output_of (codes "replay" ∷ []) input
+
+-- a run that is done, with these parts, and the parts that take no work
+abbrev played : List Part → Output
+played parts = record { status = status.Done; parts = parts; note = [] }
+
+abbrev idle : List ℕ → Part
+idle bytes = record { bytes = bytes; exact = true; work = no_work }
+
+-- the frame of a picture of three pixels, of which two are inside, drawn by three clauses
+abbrev picture : Part
+picture = record {
+  bytes = codes "@ render 14\nP5\n3 1\n255\n" ++ 255 ∷ 255 ∷ 0 ∷ [];
+  exact = true;
+  work = record { points = 9; spans = 3; plain = 9 };
+}
+
+-- Of three pixels the places -1 and 0 lie below 0.5. Each of three edits is refused for its own reason, so the picture is
+-- the same afterwards.
+refused_edits_change_nothing : replayed_of (codes "x var-x\nc const 0.5\nf sub x c\n%%\nrender w=3 h=1\ncut c\nadd x var-y\nset c sub x f\nrender w=3 h=1\n")
+    ≡ played (picture ∷ idle (codes "@ refused 6 InUse\n") ∷ idle (codes "@ refused 7 DoubleName\n") ∷ idle (codes "@ refused 8 NotEarlier\n") ∷ picture ∷ [])
+unfolding digits points_in spans_in chain_within replayed is_unsigned_numeral unsigned_raw nearest_raw cut_magnitude setting_of
+refused_edits_change_nothing = refl
+
+-- a clause is put before another, the output is cut twice, and the last clause can not be
+clauses_come_and_go : replayed_of (codes "x var-x\n%%\nput x c const 0.5\nadd f sub x c\ntext\ncut f\ncut x\ncut c\n")
+    ≡ played (idle (codes "@ text 39\nc const 0.5000000000\nx var-x\nf sub x c\n") ∷ idle (codes "@ refused 8 LastClause\n") ∷ [])
+unfolding digits replayed is_unsigned_numeral unsigned_raw nearest_raw cut_magnitude size_text
+clauses_come_and_go = refl
+
+-- a name that begins with `#` names no clause
+comment_is_no_name : replayed_of (codes "x var-x\n%%\n\nset #x var-y\n# c\ntext\n")
+    ≡ played (idle (codes "@ refused 4 UnknownName\n") ∷ idle (codes "@ text 8\nx var-x\n") ∷ [])
+unfolding digits replayed
+comment_is_no_name = refl
+
+-- a mark with nothing behind it writes nothing
+no_commands : replayed_of (codes "x var-x\n%%") ≡ played []
+unfolding digits replayed
+no_commands = refl
+
+-- a model is refused before its script is, and a script before anything is drawn
+bad_model_first : replayed_of (codes "x neg y\nrender\n") ≡ refused status.BadModel (codes "modeller: line 1: UnknownName\n")
+unfolding digits
+bad_model_first = refl
+
+no_mark : replayed_of (codes "x var-x\n") ≡ refused status.BadScript (codes "modeller: script line 0: NoMark\n")
+unfolding digits
+no_mark = refl
+
+bad_script_draws_nothing : replayed_of (codes "x var-x\n%%\ntext\nrender w=0\n") ≡ refused status.BadScript (codes "modeller: script line 4: BadSetting\n")
+unfolding digits setting_of
+bad_script_draws_nothing = refl
+
 -- words are refused whatever the input is
-verb_not_built : (input : List ℕ) → output_of (codes "replay" ∷ []) input ≡ refused status.Usage (codes "modeller: word 1: NotBuilt\n")
+verb_not_built : (input : List ℕ) → output_of (codes "forge" ∷ []) input ≡ refused status.Usage (codes "modeller: word 1: NotBuilt\n")
 unfolding digits
 verb_not_built input = refl
 
@@ -154,6 +216,10 @@ model_line : line_of (stop.Refused (refusal.Model (record { line = 307; reason =
 unfolding digits
 model_line = refl
 
+script_line : line_of (stop.Refused (refusal.Script (record { line = 40; reason = script.UnknownCommand }))) ≡ codes "modeller: script line 40: UnknownCommand\n"
+unfolding digits
+script_line = refl
+
 not_built_line : line_of (stop.Refused refusal.NotBuilt) ≡ codes "modeller: word 1: NotBuilt\n"
 unfolding digits
 not_built_line = refl
@@ -171,7 +237,7 @@ no_memory_line : line_of stop.NoMemory ≡ codes "modeller: no memory\n"
 no_memory_line = refl
 
 -- an input of the most bytes is read
-limit_is_read : (job : Job) (input : List ℕ) → length input ≡ input_limit → made job input ≡ parts_after job (text_read input)
+limit_is_read : (job : Job) (input : List ℕ) → length input ≡ input_limit → made job input ≡ parts_after job input (text_read (model_bytes job input))
 limit_is_read job input full = rw (le-ltb input_limit (length input) (omega (arith, full))) refl
 
 -- and one byte more is too long, whatever the bytes are

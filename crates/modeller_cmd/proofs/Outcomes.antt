@@ -4,6 +4,7 @@ use Rattle.std.specs.Prelude.{All, IsTrue, OnSome, true}
 use Rattle.std.specs.Io.KnownBytes.{Consumes}
 use Rattle.std.proofs.lemmas.Bool.{le-ltb}
 use Rattle.clause_reader.specs.Reading.{text_read}
+use Rattle.clause_reader.specs.declared.text_fault.TextFault.{TextFault}
 use Rattle.edit_session.specs.Heights.{heights_of}
 use Rattle.edit_session.specs.Images.{image_of}
 use Rattle.edit_session.specs.Meshes.{mesh_text}
@@ -15,10 +16,11 @@ use Rattle.modeller_io.specs.Took.{LosesAtMost}
 use Rattle.solid_model.specs.declared.clause.Clause.{Clause}
 use Rattle.view_settings.specs.Window.{Window}
 use Rattle.view_settings.specs.declared.job.Job.{Job}
-use Rattle.view_settings.specs.declared.job.Job.TheVariants.{Count, Height, Mesh, Render, Text}
+use Rattle.view_settings.specs.declared.job.Job.TheVariants.{Count, Height, Mesh, Render, Replay, Text}
 use Rattle.modeller_cmd.specs.Asking.{asked}
 use Rattle.modeller_cmd.specs.Endings.{CountsForSome, Ends, IsAnswer, Makes, status_after}
-use Rattle.modeller_cmd.specs.Output.{AreExact, Part, bytes_of_parts, input_limit, made, outcome, output_as, output_of, parts_of, work_of_parts}
+use Rattle.modeller_cmd.specs.Output.{count_part, input_limit, made, model_bytes, outcome, output_as, output_of, parts_of}
+use Rattle.modeller_cmd.specs.Parts.{AreExact, Part, bytes_of_parts, heights_part, image_part, mesh_part, text_part, work_of_parts}
 use Rattle.modeller_cmd.specs.Statuses.{status_of}
 use Rattle.modeller_cmd.specs.Stops.{status_at}
 use Rattle.modeller_cmd.specs.declared.refusal.Refusal.{Refusal}
@@ -56,6 +58,7 @@ refusal_answer (refusal.Words fault) = refl
 refusal_answer refusal.NotBuilt = refl
 refusal_answer refusal.TooLong = refl
 refusal_answer (refusal.Model fault) = refl
+refusal_answer (refusal.Script fault) = refl
 
 -- what ends a run is an answer to its output's status
 pub answer_of : {T : Type 0} (outcome : Result (List Part) Refusal) (ending : Result T Stop) → Ends outcome ending
@@ -80,6 +83,7 @@ other_status (refusal.Words fault) e = grind (arith, e)
 other_status refusal.NotBuilt e = grind (arith, e)
 other_status refusal.TooLong e = grind (arith, e)
 other_status (refusal.Model fault) e = grind (arith, e)
+other_status (refusal.Script fault) e = grind (arith, e)
 
 -- only a fault of the sink has its status
 pub write_fault_of : (why : Stop) → status_at why ≡ status.WriteFault → why ≡ stop.WriteFault
@@ -88,16 +92,50 @@ write_fault_of stop.ReadFault e = absurd (grind (arith, e))
 write_fault_of stop.WriteFault e = refl
 write_fault_of stop.NoMemory e = absurd (grind (arith, e))
 
--- the parts of what is made of a model that was read, and their work
-pub made_parts : (job : Job) (input : List ℕ) (clauses : List Clause) → length input ≤ input_limit → text_read input ≡ Ok clauses
-    → (output_as (made job input)).parts ≡ parts_of job clauses
-made_parts job input clauses few reads =
+-- what is made of an input whose solid was read
+pub made_as : (job : Job) (input : List ℕ) (clauses : List Clause) → length input ≤ input_limit → text_read (model_bytes job input) ≡ Ok clauses
+    → made job input ≡ parts_of job input clauses
+made_as job input clauses few reads =
     let short : nat_lt input_limit (length input) ≡ false = le-ltb input_limit (length input) few in
     rw (short, reads) refl
 
-made_work : (job : Job) (input : List ℕ) (clauses : List Clause) → length input ≤ input_limit → text_read input ≡ Ok clauses
-    → work_of_parts (output_as (made job input)).parts ≡ work_of_parts (parts_of job clauses)
-made_work job input clauses few reads = ap work_of_parts (made_parts job input clauses few reads)
+-- and of one whose solid is refused
+pub made_refused : (job : Job) (input : List ℕ) (fault : TextFault) → length input ≤ input_limit → text_read (model_bytes job input) ≡ Err fault
+    → made job input ≡ Err (refusal.Model fault)
+made_refused job input fault few reads =
+    let short : nat_lt input_limit (length input) ≡ false = le-ltb input_limit (length input) few in
+    rw (short, reads) refl
+
+-- all of the input is the text of a solid where no script is asked for
+pub model_alone : (job : Job) (input : List ℕ) → job ≢ Replay → model_bytes job input ≡ input
+model_alone Replay input other = absurd (other refl)
+model_alone job input other = refl
+
+-- an image, one that is counted, a height map, a mesh, and a text
+pub made_render : (job : Job) (view : Window) (input : List ℕ) (clauses : List Clause) → job ≡ Render view → length input ≤ input_limit → text_read input ≡ Ok clauses
+    → made job input ≡ Ok (image_part view clauses ∷ [])
+made_render job view input clauses is few reads =
+    ap (λ j. made j input) is ∙ made_as (Render view) input clauses few reads
+
+pub made_count : (job : Job) (view : Window) (input : List ℕ) (clauses : List Clause) → job ≡ Count view → length input ≤ input_limit → text_read input ≡ Ok clauses
+    → made job input ≡ Ok (count_part view clauses ∷ [])
+made_count job view input clauses is few reads =
+    ap (λ j. made j input) is ∙ made_as (Count view) input clauses few reads
+
+pub made_height : (job : Job) (view : Window) (input : List ℕ) (clauses : List Clause) → job ≡ Height view → length input ≤ input_limit → text_read input ≡ Ok clauses
+    → made job input ≡ Ok (heights_part view clauses ∷ [])
+made_height job view input clauses is few reads =
+    ap (λ j. made j input) is ∙ made_as (Height view) input clauses few reads
+
+pub made_mesh : (job : Job) (view : Window) (input : List ℕ) (clauses : List Clause) → job ≡ Mesh view → length input ≤ input_limit → text_read input ≡ Ok clauses
+    → made job input ≡ Ok (mesh_part view clauses ∷ [])
+made_mesh job view input clauses is few reads =
+    ap (λ j. made j input) is ∙ made_as (Mesh view) input clauses few reads
+
+pub made_text : (job : Job) (input : List ℕ) (clauses : List Clause) → job ≡ Text → length input ≤ input_limit → text_read input ≡ Ok clauses
+    → made job input ≡ Ok (text_part clauses ∷ [])
+made_text job input clauses is few reads =
+    ap (λ j. made j input) is ∙ made_as Text input clauses few reads
 
 -- the work of one part alone
 one_work : (work : Work) → both work no_work ≡ work
@@ -107,92 +145,77 @@ one_work work =
     let n : work.plain + 0 ≡ work.plain = omega arith in
     λ k. record { points = p k; spans = s k; plain = n k }
 
+-- the work of what is made where its parts are one, and its bytes
+pub work_of_one : (outcome : Result (List Part) Refusal) (part : Part) → outcome ≡ Ok (part ∷ []) → work_of_parts (output_as outcome).parts ≡ part.work
+work_of_one outcome part is = ap (λ o. work_of_parts (output_as o).parts) is ∙ one_work part.work
+
+pub bytes_of_one : (outcome : Result (List Part) Refusal) (part : Part) (bytes : List ℕ) → outcome ≡ Ok (part ∷ []) → bytes ≡ part.bytes → Makes outcome (λ whole. bytes ≡ whole)
+bytes_of_one outcome part bytes is same =
+    subst (λ o. Makes o (λ whole. bytes ≡ whole)) (sym is) (same ∙ sym (append-nil part.bytes))
+
+-- it is not exact where that part is not
+pub one_bounded : (outcome : Result (List Part) Refusal) (part : Part) → outcome ≡ Ok (part ∷ []) → part.exact ≡ false → AreExact (output_as outcome).parts → ⊥
+unfolding AreExact
+one_bounded outcome part is bounded exact =
+    let one = subst (λ o. All (λ p. IsTrue p.exact) (output_as o).parts) is exact 0 part (omega arith) in
+    grind (arith, one, bounded)
+
 -- the work of an image, of one that is counted, of a height map, of a mesh, and of a text
 pub render_work : (job : Job) (view : Window) (input : List ℕ) (clauses drawn : List Clause) → job ≡ Render view → length input ≤ input_limit
     → text_read input ≡ Ok clauses → drawn ≡ clauses → work_of_parts (output_as (made job input)).parts ≡ frame_work view drawn
 render_work job view input clauses drawn is few reads same =
-    made_work job input clauses few reads ∙ ap (λ j. work_of_parts (parts_of j clauses)) is ∙ one_work (frame_work view clauses) ∙ ap (frame_work view) (sym same)
+    work_of_one (made job input) (image_part view clauses) (made_render job view input clauses is few reads) ∙ ap (frame_work view) (sym same)
 
 pub count_work : (job : Job) (view : Window) (input : List ℕ) (clauses : List Clause) → job ≡ Count view → length input ≤ input_limit → text_read input ≡ Ok clauses
     → work_of_parts (output_as (made job input)).parts ≡ frame_work view clauses
 count_work job view input clauses is few reads =
-    made_work job input clauses few reads ∙ ap (λ j. work_of_parts (parts_of j clauses)) is ∙ one_work (frame_work view clauses)
+    work_of_one (made job input) (count_part view clauses) (made_count job view input clauses is few reads)
 
 pub height_work_of : (job : Job) (view : Window) (input : List ℕ) (clauses drawn : List Clause) → job ≡ Height view → length input ≤ input_limit
     → text_read input ≡ Ok clauses → drawn ≡ clauses → work_of_parts (output_as (made job input)).parts ≡ height_work view drawn
 height_work_of job view input clauses drawn is few reads same =
-    made_work job input clauses few reads ∙ ap (λ j. work_of_parts (parts_of j clauses)) is ∙ one_work (height_work view clauses) ∙ ap (height_work view) (sym same)
+    work_of_one (made job input) (heights_part view clauses) (made_height job view input clauses is few reads) ∙ ap (height_work view) (sym same)
 
 pub mesh_work_of : (job : Job) (view : Window) (input : List ℕ) (clauses drawn : List Clause) → job ≡ Mesh view → length input ≤ input_limit
     → text_read input ≡ Ok clauses → drawn ≡ clauses → work_of_parts (output_as (made job input)).parts ≡ mesh_work view drawn
 mesh_work_of job view input clauses drawn is few reads same =
-    made_work job input clauses few reads ∙ ap (λ j. work_of_parts (parts_of j clauses)) is ∙ one_work (mesh_work view clauses) ∙ ap (mesh_work view) (sym same)
+    work_of_one (made job input) (mesh_part view clauses) (made_mesh job view input clauses is few reads) ∙ ap (mesh_work view) (sym same)
 
 pub text_work : (job : Job) (input : List ℕ) (clauses : List Clause) → job ≡ Text → length input ≤ input_limit → text_read input ≡ Ok clauses
     → work_of_parts (output_as (made job input)).parts ≡ no_work
 text_work job input clauses is few reads =
-    made_work job input clauses few reads ∙ ap (λ j. work_of_parts (parts_of j clauses)) is
+    work_of_one (made job input) (text_part clauses) (made_text job input clauses is few reads)
 
 -- the work of a height map is not exact
 pub height_bounded : (job : Job) (view : Window) (input : List ℕ) (clauses : List Clause) → job ≡ Height view → length input ≤ input_limit → text_read input ≡ Ok clauses
     → AreExact (output_as (made job input)).parts → ⊥
-unfolding AreExact
 height_bounded job view input clauses is few reads exact =
-    let parts : (output_as (made job input)).parts ≡ parts_of (Height view) clauses =
-    made_parts job input clauses few reads ∙ ap (λ j. parts_of j clauses) is in
-    let none = subst (All (λ part. IsTrue part.exact)) parts exact 0 (record { bytes = []; exact = true; work = no_work }) (omega arith) in
-    grind (arith, none)
+    one_bounded (made job input) (heights_part view clauses) (made_height job view input clauses is few reads) refl exact
 
 -- nor is that of a mesh
 pub mesh_bounded : (job : Job) (view : Window) (input : List ℕ) (clauses : List Clause) → job ≡ Mesh view → length input ≤ input_limit → text_read input ≡ Ok clauses
     → AreExact (output_as (made job input)).parts → ⊥
-unfolding AreExact
 mesh_bounded job view input clauses is few reads exact =
-    let parts : (output_as (made job input)).parts ≡ parts_of (Mesh view) clauses =
-    made_parts job input clauses few reads ∙ ap (λ j. parts_of j clauses) is in
-    let none = subst (All (λ part. IsTrue part.exact)) parts exact 0 (record { bytes = []; exact = true; work = no_work }) (omega arith) in
-    grind (arith, none)
-
--- one part alone is what a job makes
-one_made : (job other : Job) (input : List ℕ) (clauses : List Clause) (part : Part) (bytes : List ℕ) → job ≡ other → length input ≤ input_limit
-    → text_read input ≡ Ok clauses → parts_of other clauses ≡ part ∷ [] → bytes ≡ part.bytes → Makes (made job input) (λ whole. bytes ≡ whole)
-one_made job other input clauses part bytes is few reads one same =
-    let short : nat_lt input_limit (length input) ≡ false = le-ltb input_limit (length input) few in
-    let parts : Job → Result (List Part) Refusal = λ j. Ok (parts_of j clauses) in
-    let all : made job input ≡ parts job = rw (short, reads) refl in
-    let made_one : made job input ≡ Ok (part ∷ []) = all ∙ ap parts is ∙ ap Ok one in
-    subst (λ outcome. Makes outcome (λ whole. bytes ≡ whole)) (sym made_one) (same ∙ sym (append-nil part.bytes))
+    one_bounded (made job input) (mesh_part view clauses) (made_mesh job view input clauses is few reads) refl exact
 
 -- the bytes of an image, a height map and a mesh are those that their jobs make
 pub image_bytes : (job : Job) (view : Window) (input : List ℕ) (clauses drawn : List Clause) (bytes : List ℕ) → job ≡ Render view
     → length input ≤ input_limit → text_read input ≡ Ok clauses → drawn ≡ clauses → bytes ≡ image_of view drawn
     → Makes (made job input) (λ whole. bytes ≡ whole)
 image_bytes job view input clauses drawn bytes is few reads same drawing =
-    one_made job (Render view) input clauses (record { bytes = image_of view clauses; exact = true; work = frame_work view clauses }) bytes is few reads refl
-    (drawing ∙ ap (image_of view) same)
+    bytes_of_one (made job input) (image_part view clauses) bytes (made_render job view input clauses is few reads) (drawing ∙ ap (image_of view) same)
 
 pub height_bytes : (job : Job) (view : Window) (input : List ℕ) (clauses drawn : List Clause) (bytes : List ℕ) → job ≡ Height view
     → length input ≤ input_limit → text_read input ≡ Ok clauses → drawn ≡ clauses → bytes ≡ heights_of view drawn
     → Makes (made job input) (λ whole. bytes ≡ whole)
 height_bytes job view input clauses drawn bytes is few reads same drawing =
-    one_made job (Height view) input clauses (record { bytes = heights_of view clauses; exact = false; work = height_work view clauses }) bytes is few reads refl
-    (drawing ∙ ap (heights_of view) same)
+    bytes_of_one (made job input) (heights_part view clauses) bytes (made_height job view input clauses is few reads) (drawing ∙ ap (heights_of view) same)
 
 pub mesh_bytes : (job : Job) (view : Window) (input : List ℕ) (clauses drawn : List Clause) (bytes : List ℕ) → job ≡ Mesh view
     → length input ≤ input_limit → text_read input ≡ Ok clauses → drawn ≡ clauses → bytes ≡ mesh_text view drawn
     → Makes (made job input) (λ whole. bytes ≡ whole)
 mesh_bytes job view input clauses drawn bytes is few reads same drawing =
-    one_made job (Mesh view) input clauses (record { bytes = mesh_text view clauses; exact = false; work = mesh_work view clauses }) bytes is few reads refl
-    (drawing ∙ ap (mesh_text view) same)
-
--- a run that does nothing counts no more than some output's work
-pub some-none : (words : List (List ℕ)) (counts : Counts) → CountsForSome words counts counts
-some-none words counts = record {
-  input = [];
-  few = omega arith;
-  work = within-none counts (work_of_parts (output_of words []).parts);
-  plain = plain-none counts (work_of_parts (output_of words []).parts).plain;
-}
+    bytes_of_one (made job input) (mesh_part view clauses) bytes (made_mesh job view input clauses is few reads) (drawing ∙ ap (mesh_text view) same)
 
 -- what words that are accepted make of an input
 pub asked_made : (words : List (List ℕ)) (job : Job) (input : List ℕ) → Ok job ≡ asked words → outcome words input ≡ made job input
@@ -213,4 +236,13 @@ read_whole rest taken before after most bytes len many few rose all empty = reco
   within = omega (arith, many, few);
   lost = lost_all (rest before) (rest after) bytes all empty;
   counted = subst (RoseBy taken before after) many rose;
+}
+
+-- a run that does nothing counts no more than some output's work
+pub some-none : (words : List (List ℕ)) (counts : Counts) → CountsForSome words counts counts
+some-none words counts = record {
+  input = [];
+  few = omega arith;
+  work = within-none counts (work_of_parts (output_of words []).parts);
+  plain = plain-none counts (work_of_parts (output_of words []).parts).plain;
 }

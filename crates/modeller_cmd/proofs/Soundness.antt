@@ -1,18 +1,35 @@
 -- What a run writes of a mesh is the text of a sound one.
-use Rattle.std.proofs.Common.{◌≡◌, ℕ, ◌≤◌, Bool, true, false, List, [], ◌++◌, length, append-nil, Result, Ok, refl, ap, sym, subst, ◌∙◌, arith}
-use Rattle.std.specs.Prelude.{IfOk, nat_lt}
+use Rattle.std.proofs.Common.{◌≡◌, ◌≢◌, ℕ, ◌≤◌, Bool, true, false, List, [], ◌∷◌, ◌++◌, length, append-nil, Result, Ok, Err, IsOk, refl, ap, sym, subst, ◌∙◌, arith, rules}
+use Rattle.std.specs.Prelude.{All, IfOk, nat_lt}
 use Rattle.std.proofs.lemmas.Bool.{ltb-false}
+use Rattle.clause_reader.specs.Reading.{text_read}
+use Rattle.edit_script.specs.Commands.{IsCommand}
+use Rattle.edit_script.specs.Marks.{before_mark}
+use Rattle.edit_script.specs.Scripts.{script_read}
+use Rattle.edit_script.specs.declared.command.Command.{Command}
+use Rattle.edit_script.specs.declared.command.Command.TheVariants as commands
 use Rattle.edit_session.specs.Meshes.{mesh_text}
 use Rattle.edit_session.specs.SoundTexts.{IsSoundText, MeshTextsAreSound}
 use Rattle.view_settings.specs.Settings.{IsJob}
 use Rattle.view_settings.specs.declared.job.Job.{Job}
-use Rattle.view_settings.specs.declared.job.Job.TheVariants.{Mesh}
+use Rattle.view_settings.specs.declared.job.Job.TheVariants.{Mesh, Replay}
 use Rattle.modeller_cmd.specs.Asking.{asked}
-use Rattle.modeller_cmd.specs.Output.{bytes_of_parts, input_limit, made, outcome, output_as}
-use Rattle.modeller_cmd.specs.SoundTexts.{MeshesAreSound}
+use Rattle.view_settings.specs.Window.{Window}
+use Rattle.solid_model.specs.declared.clause.Clause.{Clause}
+use Rattle.modeller_cmd.specs.Endings.{IsRead, status_after}
+use Rattle.modeller_cmd.specs.Output.{input_limit, made, outcome, output_as, parts_played}
+use Rattle.modeller_cmd.specs.Parts.{Part, bytes_of_parts, mesh_part}
+use Rattle.modeller_cmd.specs.Replays.{clauses_after, framed, replayed, standing}
+use Rattle.modeller_cmd.specs.SoundTexts.{HasSoundFrame, MeshFramesAreSound, MeshesAreSound}
+use Rattle.modeller_cmd.specs.declared.frame_kind.FrameKind.TheVariants as frames
 use Rattle.modeller_cmd.specs.declared.refusal.Refusal.{Refusal}
+use Rattle.modeller_cmd.specs.declared.refusal.Refusal.TheVariants as refusal
+use Rattle.modeller_cmd.specs.declared.stop.Stop.{Stop}
+use Rattle.modeller_cmd.specs.declared.stop.Stop.TheVariants.{NoMemory}
 use Rattle.modeller_cmd.specs.declared.status.Status.TheVariants.{Done}
-use Rattle.modeller_cmd.proofs.Outcomes.{made_parts}
+use Rattle.modeller_cmd.proofs.Outcomes.{made_as, made_mesh}
+use Rattle.modeller_cmd.proofs.Playback.{replayed-between}
+use Rattle.modeller_cmd.proofs.WorkSums.{All-between}
 
 -- a job that words are found to ask for keeps what jobs keep
 job_kept : (r : Result Job Refusal) (job : Job) → r ≡ Ok job → IfOk r IsJob → IsJob job
@@ -34,7 +51,52 @@ run_is_sound words input r is keeps texts view clauses asks reads done =
     let job = job_kept r (Mesh view) (is ∙ asks) keeps in
     let made_of = outcome_of words input (Mesh view) asks in
     let few = few_of (Mesh view) input (ap (λ o. (output_as o).status) (sym made_of) ∙ done) in
-    let parts = ap (λ o. (output_as o).parts) made_of ∙ made_parts (Mesh view) input clauses few reads in
+    let parts = ap (λ o. (output_as o).parts) (made_of ∙ made_mesh (Mesh view) view input clauses refl few reads) in
     let one : mesh_text view clauses ++ [] ≡ mesh_text view clauses = append-nil (mesh_text view clauses) in
     let bytes = ap bytes_of_parts parts ∙ one in
     subst (IsSoundText view clauses) (sym bytes) (texts view clauses job.0 job.1)
+
+-- an outcome that is done has parts
+done_ok : (outcome : Result (List Part) Refusal) → (output_as outcome).status ≡ Done → IsOk outcome
+done_ok (Ok parts) done = search rules
+done_ok (Err (refusal.Words fault)) done = absurd (grind (arith, done))
+done_ok (Err refusal.NotBuilt) done = absurd (grind (arith, done))
+done_ok (Err refusal.TooLong) done = absurd (grind (arith, done))
+done_ok (Err (refusal.Model fault)) done = absurd (grind (arith, done))
+done_ok (Err (refusal.Script fault)) done = absurd (grind (arith, done))
+
+-- what the commands of a script write for a mesh is the frame of the text of a sound one
+script_frames : (clauses : List Clause) (before after : List Command) (view : Window) (input : List ℕ) → MeshTextsAreSound → length input ≤ input_limit
+    → text_read (before_mark input) ≡ Ok clauses → script_read input ≡ Ok (before ++ commands.Mesh view ∷ after) → IfOk (script_read input) (All IsCommand)
+    → HasSoundFrame view (standing clauses before) (replayed clauses before) (output_as (made Replay input)).parts
+script_frames clauses before after view input texts few reads says keeps =
+    let shown = standing clauses before in
+    let all = subst (λ r. IfOk r (All IsCommand)) says keeps in
+    let fits = All-between IsCommand before (commands.Mesh view) after all in
+    let played = made_as Replay input clauses few reads ∙ ap (parts_played clauses) says in
+    let after_it = replayed (clauses_after shown (commands.Mesh view)) after in
+    record {
+      text = mesh_text view shown;
+      sound = texts view shown fits.0 fits.1;
+      frame = framed frames.Mesh (mesh_part view shown);
+      bytes = refl;
+      after = after_it;
+      stands = ap (λ o. (output_as o).parts) played ∙ replayed-between clauses before (commands.Mesh view) after;
+    }
+
+-- so it is of a run that was read to the end of its script
+pub frames_are_sound : {T : Type 0} (words : List (List ℕ)) (input : List ℕ) (job : Job) (r : Result T Stop) → Ok job ≡ asked words → MeshTextsAreSound
+    → (job ≡ Replay → IsOk (made job input) → r ≢ Err NoMemory → IfOk (script_read input) (All IsCommand)) → IsRead (status_after r)
+    → MeshFramesAreSound words input
+frames_are_sound {T} words input job r asks texts keeps read clauses before after view replays reads says done =
+    let same : job ≡ Replay = cc in
+    let made_of = outcome_of words input Replay replays in
+    let finished = ap (λ o. (output_as o).status) (sym made_of) ∙ done in
+    let ok = done_ok (made Replay input) finished in
+    let few = few_of Replay input finished in
+    let commands_kept = keeps same (subst (λ j. IsOk (made j input)) (sym same) ok) (λ memory. read_no_memory r read memory) in
+    subst (HasSoundFrame view (standing clauses before) (replayed clauses before)) (ap (λ o. (output_as o).parts) (sym made_of))
+    (script_frames clauses before after view input texts few reads says commands_kept)
+  where
+    read_no_memory : (q : Result T Stop) → IsRead (status_after q) → q ≡ Err NoMemory → ⊥
+    read_no_memory q read memory = subst (λ s. IsRead (status_after s)) memory read

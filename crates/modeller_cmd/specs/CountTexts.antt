@@ -5,4 +5,5 @@ use Rattle.edit_session.specs.Work.{Work}
 -- the three lines that tell the work of an image
 abbrev pub count_text : Work → List ℕ
 count_text work =
-    codes "points " ++ decimal work.points ++ codes "\nspans " ++ decimal work.spans ++ codes "\nplain " ++ decimal work.plain ++ codes "\n"
+    codes "points " ++ decimal work.points ++ codes "\nspans " ++ decimal work.spans
+    ++ codes "\nplain " ++ decimal work.plain ++ codes "\n"

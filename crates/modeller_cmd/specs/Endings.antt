@@ -1,40 +1,41 @@
 -- Which status a run may end with, what each of them leaves, and what the notes are told.
-use Rattle.std.specs.Prelude.{◌≡◌, ℕ, ◌≤◌, ◌<◌, List, [], length, Option, Some, Result, Ok, Err, IfSome, IfErr, IsOk, ⊤}
-use Rattle.clause_reader.specs.Reading.{text_read}
-use Rattle.clause_reader.specs.declared.text_fault.TextFault.{TextFault}
+use Rattle.std.specs.Prelude.{◌≡◌, ℕ, ◌≤◌, ◌<◌, List, [], length, take, Option, Some, Result, Ok, Err, IfSome, IfErr, IsOk, ⊤}
 use Rattle.fixed_ops.specs.Counts.{Counts}
 use Rattle.modeller_io.specs.Count.{last_count}
 use Rattle.modeller_io.specs.Held.{Gains, GainsPrefix}
 use Rattle.modeller_cmd.specs.Notes.{line_of, refusal_line}
-use Rattle.modeller_cmd.specs.Output.{Part, bytes_of_parts, input_limit, output_of, work_of_parts}
+use Rattle.modeller_cmd.specs.Output.{input_limit, outcome, output_of}
+use Rattle.modeller_cmd.specs.Parts.{Part, bytes_of_parts, work_of_parts}
 use Rattle.modeller_cmd.specs.Stops.{status_at}
-use Rattle.modeller_cmd.specs.Asking.{asked}
+use Rattle.modeller_cmd.specs.Asking.{WritesAtOnce, asked}
 use Rattle.edit_session.specs.Work.{CountsWithin, PointsRiseAtMost}
 use Rattle.modeller_cmd.specs.declared.refusal.Refusal.{Refusal}
 use Rattle.modeller_cmd.specs.declared.refusal.Refusal.TheVariants as refusal
 use Rattle.modeller_cmd.specs.declared.status.Status.{Status}
-use Rattle.modeller_cmd.specs.declared.status.Status.TheVariants.{Done, Usage, BadModel, TooLong, ReadFault, WriteFault, NoMemory}
+use Rattle.modeller_cmd.specs.declared.status.Status.TheVariants.{Done, Usage, BadModel, BadScript, TooLong, ReadFault, WriteFault, NoMemory}
 use Rattle.modeller_cmd.specs.declared.stop.Stop.{Stop}
 use Rattle.modeller_cmd.specs.declared.stop.Stop.TheVariants as stop
 
--- What a run may answer where this status is expected: the status itself, a fault or want of memory on the way,
--- and a fault of the sink only where there is something to write.
+-- What a run may answer where this status is expected: the status itself, a fault or want of memory
+-- on the way, and a fault of the sink only where there is something to write.
 abbrev pub IsAnswer : Status → Status → Type 0
 IsAnswer expected ReadFault = ⊤
 IsAnswer expected NoMemory = ⊤
 IsAnswer expected WriteFault = expected ≡ Done
 IsAnswer expected answer = expected ≡ answer
 
--- the statuses under which the work was done whole, and was counted
-abbrev pub IsWorked : Status → Type 0
-IsWorked Done = ⊤
-IsWorked WriteFault = ⊤
-IsWorked status = ⊥
+-- The statuses under which the work was done whole, and was counted. Under a fault of the sink it
+-- was where all of it was done before the first byte was written.
+abbrev pub IsWorked : List (List ℕ) → Status → Type 0
+IsWorked words Done = ⊤
+IsWorked words WriteFault = WritesAtOnce words
+IsWorked words status = ⊥
 
 -- the statuses that come only where the source was read to its end
 abbrev pub IsRead : Status → Type 0
 IsRead Done = ⊤
 IsRead BadModel = ⊤
+IsRead BadScript = ⊤
 IsRead WriteFault = ⊤
 IsRead status = ⊥
 
@@ -45,11 +46,13 @@ IsRefusal WriteFault = ⊥
 IsRefusal NoMemory = ⊥
 IsRefusal status = ⊤
 
--- The statuses under which nothing was written. Want of memory is one of them as long as no verb writes in parts.
-abbrev pub IsUnwritten : Status → Type 0
-IsUnwritten Done = ⊥
-IsUnwritten WriteFault = ⊥
-IsUnwritten status = ⊤
+-- The statuses under which nothing was written. Want of memory is one of them where all the bytes
+-- were made before the first was written.
+abbrev pub IsUnwritten : List (List ℕ) → Status → Type 0
+IsUnwritten words Done = ⊥
+IsUnwritten words WriteFault = ⊥
+IsUnwritten words NoMemory = WritesAtOnce words
+IsUnwritten words status = ⊤
 
 -- the source was read to its end, and had no more bytes than are accepted
 abbrev pub ReadsWhole : {S : Type 0} → (S → Option (List ℕ)) → S → S → Type 0
@@ -67,30 +70,40 @@ pub record CountsForSome (words : List (List ℕ)) (before after : Counts) : Typ
   pub work : CountsWithin before after (work_of_parts (output_of words input).parts)
   pub plain : PointsRiseAtMost before after (work_of_parts (output_of words input).parts).plain
 
+-- a sink that tells what it holds grew by the first of these parts, each of them whole
+pub record GainsParts {K : Type 0} (held : K
+    → Option (List ℕ)) (before after : K) (parts : List Part) : Type 0 where
+  pub count : ℕ
+  pub within : count ≤ length parts
+  pub gained : Gains held before after (bytes_of_parts (take count parts))
+
 -- The notes took a line from its front on, and all of it where they counted no fault.
 pub record TakesLine {N : Type 0} (faults : N → ℕ) (held : N
     → Option (List ℕ)) (before after : N) (line : List ℕ) : Type 0 where
   pub front : GainsPrefix held before after line
   pub whole : NoFault faults before after → Gains held before after line
 
--- the notes are told why a model is refused: where the input is told, as its text says
-pub record TellsModel (input : Option (List ℕ)) (takes : List ℕ → Type 0) : Type 0 where
-  pub fault : TextFault
-  pub told : takes (refusal_line (refusal.Model fault))
-  pub refused : IfSome input (λ text. text_read text ≡ Err fault)
+-- the notes are told a refusal of this kind: where the input is told, the one that the words give
+-- of it
+pub record TellsRefusal {F : Type 0} (refused : F → Refusal) (words : List (List ℕ))
+    (input : Option (List ℕ)) (takes : List ℕ → Type 0) : Type 0 where
+  pub fault : F
+  pub told : takes (refusal_line (refused fault))
+  pub given : IfSome input (λ bytes. outcome words bytes ≡ Err (refused fault))
 
 -- what the notes are told under a status, for these words and this input
 abbrev pub Tells : List (List ℕ) → Option (List ℕ) → Status → (List ℕ → Type 0) → Type 0
 Tells words input Done takes = ⊤
 Tells words input Usage takes = IfErr (asked words) (λ why. takes (refusal_line why))
-Tells words input BadModel takes = TellsModel input takes
+Tells words input BadModel takes = TellsRefusal refusal.Model words input takes
+Tells words input BadScript takes = TellsRefusal refusal.Script words input takes
 Tells words input TooLong takes = takes (line_of (stop.Refused refusal.TooLong))
 Tells words input ReadFault takes = takes (line_of stop.ReadFault)
 Tells words input WriteFault takes = takes (line_of stop.WriteFault)
 Tells words input NoMemory takes = takes (line_of stop.NoMemory)
-Tells words input other takes = ⊥
 
--- What may end work whose outcome is this: what the outcome says, or a fault or want of memory on the way.
+-- What may end work whose outcome is this: what the outcome says, or a fault or want of memory on
+-- the way.
 abbrev pub Ends : {T : Type 0} → Result (List Part) Refusal → Result T Stop → Type 0
 Ends expected (Ok done) = IsOk expected
 Ends expected (Err (stop.Refused why)) = expected ≡ Err why
@@ -107,16 +120,31 @@ abbrev pub Makes : Result (List Part) Refusal → (List ℕ → Type 0) → Type
 Makes (Ok parts) P = P (bytes_of_parts parts)
 Makes (Err why) P = ⊥
 
--- what may stop the work on an input that was read: its model is refused, or memory
+-- what may stop the work on an input that was read, before anything of it is written: its solid or
+-- its script is refused, or memory
 abbrev pub IsWorkStop : Stop → Type 0
 IsWorkStop (stop.Refused (refusal.Model fault)) = ⊤
+IsWorkStop (stop.Refused (refusal.Script fault)) = ⊤
 IsWorkStop stop.NoMemory = ⊤
 IsWorkStop other = ⊥
+
+-- what may stop the writing of parts as they are made: the sink, or memory
+abbrev pub IsPlayStop : Stop → Type 0
+IsPlayStop stop.WriteFault = ⊤
+IsPlayStop stop.NoMemory = ⊤
+IsPlayStop other = ⊥
+
+-- what may stop the work on an input that was read, and the writing of what it makes
+abbrev pub IsServeStop : Stop → Type 0
+IsServeStop stop.WriteFault = ⊤
+IsServeStop other = IsWorkStop other
 
 -- what a stop that is a refusal says is so of the words and the input
 abbrev pub IsTold : List (List ℕ) → Option (List ℕ) → Stop → Type 0
 IsTold words input (stop.Refused (refusal.Model fault)) =
-    IfSome input (λ text. text_read text ≡ Err fault)
+    IfSome input (λ bytes. outcome words bytes ≡ Err (refusal.Model fault))
+IsTold words input (stop.Refused (refusal.Script fault)) =
+    IfSome input (λ bytes. outcome words bytes ≡ Err (refusal.Script fault))
 IsTold words input (stop.Refused refusal.TooLong) = ⊤
 IsTold words input (stop.Refused other) = asked words ≡ Err other
 IsTold words input other = ⊤

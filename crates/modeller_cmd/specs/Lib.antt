@@ -1,8 +1,12 @@
 pub mod Asking
 pub mod CountTexts
 pub mod Endings
+pub mod Frames
 pub mod Notes
 pub mod Output
+pub mod Parts
+pub mod Playing
+pub mod Replays
 pub mod SoundTexts
 pub mod Statuses
 pub mod Stops

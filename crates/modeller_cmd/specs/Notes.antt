@@ -2,10 +2,12 @@
 use Rattle.std.specs.Prelude.{ℕ, List, ◌++◌, codes, decimal}
 use Rattle.clause_reader.specs.declared.text_reason.TextReason.{TextReason}
 use Rattle.clause_reader.specs.declared.text_reason.TextReason.TheVariants as text
+use Rattle.edit_script.specs.declared.script_reason.ScriptReason.{ScriptReason}
+use Rattle.edit_script.specs.declared.script_reason.ScriptReason.TheVariants as script
 use Rattle.view_settings.specs.declared.word_fault.WordReason.{WordReason}
 use Rattle.view_settings.specs.declared.word_fault.WordReason.TheVariants as word
 use Rattle.modeller_cmd.specs.declared.refusal.Refusal.{Refusal}
-use Rattle.modeller_cmd.specs.declared.refusal.Refusal.TheVariants.{Words, NotBuilt, TooLong, Model}
+use Rattle.modeller_cmd.specs.declared.refusal.Refusal.TheVariants.{Words, NotBuilt, TooLong, Model, Script}
 use Rattle.modeller_cmd.specs.declared.stop.Stop.{Stop}
 use Rattle.modeller_cmd.specs.declared.stop.Stop.TheVariants.{Refused, ReadFault, WriteFault, NoMemory}
 
@@ -33,6 +35,18 @@ text_reason_name text.TooMany = codes "TooMany"
 text_reason_name text.Empty = codes "Empty"
 text_reason_name text.NoMemory = codes "NoMemory"
 
+-- the name of a reason why a script is refused
+abbrev pub script_reason_name : ScriptReason → List ℕ
+script_reason_name script.NoMark = codes "NoMark"
+script_reason_name script.UnknownCommand = codes "UnknownCommand"
+script_reason_name script.TooShort = codes "TooShort"
+script_reason_name script.BadName = codes "BadName"
+script_reason_name script.UnknownOperation = codes "UnknownOperation"
+script_reason_name script.WrongArity = codes "WrongArity"
+script_reason_name script.BadNumeral = codes "BadNumeral"
+script_reason_name script.BadSetting = codes "BadSetting"
+script_reason_name script.NoMemory = codes "NoMemory"
+
 -- what is wrong in the place of this number
 abbrev pub fault_line : List ℕ → ℕ → List ℕ → List ℕ
 fault_line place number reason =
@@ -44,6 +58,8 @@ refusal_line (Words fault) = fault_line (codes "word") fault.at (word_reason_nam
 refusal_line NotBuilt = fault_line (codes "word") 1 (codes "NotBuilt")
 refusal_line TooLong = codes "modeller: input too long\n"
 refusal_line (Model fault) = fault_line (codes "line") fault.line (text_reason_name fault.reason)
+refusal_line (Script fault) =
+    fault_line (codes "script line") fault.line (script_reason_name fault.reason)
 
 -- the line that is written for a stop
 abbrev pub line_of : Stop → List ℕ

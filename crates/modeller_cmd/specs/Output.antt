@@ -1,21 +1,25 @@
--- What a run gives for its words and its input: a status, the bytes in their parts, and a note line.
-use Rattle.std.specs.Prelude.{ℕ, nat_lt, Bool, true, false, IsTrue, List, All, [], ◌∷◌, ◌++◌, length, Option, Result, Ok, Err, IfSome, if◌then◌else◌}
+-- What a run gives for its words and its input: a status, the bytes in their parts, and a note
+-- line.
+use Rattle.std.specs.Prelude.{ℕ, nat_lt, true, List, [], ◌∷◌, length, Option, Result, Ok, Err, IfSome, if◌then◌else◌}
 use Rattle.clause_reader.specs.Reading.{text_read}
-use Rattle.clause_reader.specs.ModelText.{model_text}
 use Rattle.clause_reader.specs.declared.text_fault.TextFault.{TextFault}
+use Rattle.edit_script.specs.Marks.{before_mark}
+use Rattle.edit_script.specs.Scripts.{script_read}
+use Rattle.edit_script.specs.declared.command.Command.{Command}
+use Rattle.edit_script.specs.declared.script_fault.ScriptFault.{ScriptFault}
+use Rattle.edit_session.specs.Work.{frame_work}
 use Rattle.solid_model.specs.declared.clause.Clause.{Clause}
+use Rattle.view_settings.specs.Window.{Window}
 use Rattle.view_settings.specs.declared.job.Job.{Job}
-use Rattle.view_settings.specs.declared.job.Job.TheVariants.{Count, Height, Mesh, Render, Text}
-use Rattle.edit_session.specs.Heights.{heights_of}
-use Rattle.edit_session.specs.Images.{image_of}
-use Rattle.edit_session.specs.Meshes.{mesh_text}
+use Rattle.view_settings.specs.declared.job.Job.TheVariants.{Count, Height, Mesh, Render, Replay, Text}
+use Rattle.modeller_cmd.specs.Asking.{asked}
 use Rattle.modeller_cmd.specs.CountTexts.{count_text}
 use Rattle.modeller_cmd.specs.Notes.{refusal_line}
+use Rattle.modeller_cmd.specs.Parts.{Part, heights_part, image_part, mesh_part, text_part}
+use Rattle.modeller_cmd.specs.Replays.{replayed}
 use Rattle.modeller_cmd.specs.Statuses.{status_of}
-use Rattle.modeller_cmd.specs.Asking.{asked}
-use Rattle.edit_session.specs.Work.{Work, both, frame_work, height_work, mesh_work, no_work}
 use Rattle.modeller_cmd.specs.declared.refusal.Refusal.{Refusal}
-use Rattle.modeller_cmd.specs.declared.refusal.Refusal.TheVariants.{TooLong, Model}
+use Rattle.modeller_cmd.specs.declared.refusal.Refusal.TheVariants.{Model, Script, TooLong}
 use Rattle.modeller_cmd.specs.declared.status.Status.{Status}
 use Rattle.modeller_cmd.specs.declared.status.Status.TheVariants as status
 
@@ -23,51 +27,47 @@ use Rattle.modeller_cmd.specs.declared.status.Status.TheVariants as status
 abbrev pub input_limit : ℕ
 input_limit = 8388608
 
--- a part of the bytes that a run writes, with the work that it takes: exactly so much, or else at most
-pub record Part : Type 0 where
-  pub bytes : List ℕ
-  pub exact : Bool
-  pub work : Work
+-- the parts that a script makes of a solid, or why it makes none: those of its commands
+abbrev pub parts_played : List Clause → Result (List Command) ScriptFault
+    → Result (List Part) Refusal
+parts_played clauses (Ok commands) = Ok (replayed clauses commands)
+parts_played clauses (Err fault) = Err (Script fault)
 
--- the bytes of the parts, one after the other
-abbrev pub bytes_of_parts : List Part → List ℕ
-bytes_of_parts [] = []
-bytes_of_parts (part ∷ parts) = part.bytes ++ bytes_of_parts parts
-
--- the work of all the parts
-abbrev pub work_of_parts : List Part → Work
-work_of_parts [] = no_work
-work_of_parts (part ∷ parts) = both part.work (work_of_parts parts)
-
--- all the parts take exactly their work
-unfoldable pub AreExact : List Part → Type 0
-AreExact parts = All (λ part. IsTrue part.exact) parts
-
--- the parts that a job makes of a model
-abbrev pub parts_of : Job → List Clause → List Part
-parts_of (Render view) clauses =
-    record { bytes = image_of view clauses; exact = true; work = frame_work view clauses } ∷ []
-parts_of (Height view) clauses =
-    record { bytes = heights_of view clauses; exact = false; work = height_work view clauses } ∷ []
-parts_of (Mesh view) clauses =
-    record { bytes = mesh_text view clauses; exact = false; work = mesh_work view clauses } ∷ []
-parts_of (Count view) clauses = record {
+-- the part that tells the work of an image
+abbrev pub count_part : Window → List Clause → Part
+count_part view clauses = record {
   bytes = count_text (frame_work view clauses);
   exact = true;
   work = frame_work view clauses;
-} ∷ []
-parts_of Text clauses = record { bytes = model_text clauses; exact = true; work = no_work } ∷ []
-parts_of other clauses = []
+}
 
--- the parts that a job makes of a text that was read, or its refusal
-abbrev pub parts_after : Job → Result (List Clause) TextFault → Result (List Part) Refusal
-parts_after job (Ok clauses) = Ok (parts_of job clauses)
-parts_after job (Err fault) = Err (Model fault)
+-- the parts that a job makes of an input and of the solid that it holds, or why it makes none
+abbrev pub parts_of : Job → List ℕ → List Clause → Result (List Part) Refusal
+parts_of (Render view) input clauses = Ok (image_part view clauses ∷ [])
+parts_of (Height view) input clauses = Ok (heights_part view clauses ∷ [])
+parts_of (Mesh view) input clauses = Ok (mesh_part view clauses ∷ [])
+parts_of (Count view) input clauses = Ok (count_part view clauses ∷ [])
+parts_of Text input clauses = Ok (text_part clauses ∷ [])
+parts_of Replay input clauses = parts_played clauses (script_read input)
+parts_of other input clauses = Ok []
 
--- the parts that a job makes of an input, or why it makes none
+-- the text of the solid in the input of a job: what stands before the mark of a script, and else
+-- all of it
+abbrev pub model_bytes : Job → List ℕ → List ℕ
+model_bytes Replay input = before_mark input
+model_bytes other input = input
+
+-- the parts that a job makes of an input whose text of a solid was read, or its refusal
+abbrev pub parts_after : Job → List ℕ → Result (List Clause) TextFault → Result (List Part) Refusal
+parts_after job input (Ok clauses) = parts_of job input clauses
+parts_after job input (Err fault) = Err (Model fault)
+
+-- the parts that a job makes of an input, or why it makes none: its length, its solid and its
+-- script are looked at in this order
 abbrev pub made : Job → List ℕ → Result (List Part) Refusal
 made job input =
-    if nat_lt input_limit (length input) then Err TooLong else parts_after job (text_read input)
+    if nat_lt input_limit (length input) then Err TooLong
+    else parts_after job input (text_read (model_bytes job input))
 
 -- the parts that a run writes, or why it writes none
 abbrev pub outcome : List (List ℕ) → List ℕ → Result (List Part) Refusal

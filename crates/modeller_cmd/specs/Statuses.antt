@@ -22,3 +22,4 @@ status_of (refusal.Words fault) = Usage
 status_of refusal.NotBuilt = Usage
 status_of refusal.TooLong = TooLong
 status_of (refusal.Model fault) = BadModel
+status_of (refusal.Script fault) = BadScript

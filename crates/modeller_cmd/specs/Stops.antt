@@ -2,6 +2,9 @@
 use Rattle.clause_reader.specs.declared.text_fault.TextFault.{TextFault}
 use Rattle.clause_reader.specs.declared.text_reason.TextReason.{TextReason}
 use Rattle.clause_reader.specs.declared.text_reason.TextReason.TheVariants as reason
+use Rattle.edit_script.specs.declared.script_fault.ScriptFault.{ScriptFault}
+use Rattle.edit_script.specs.declared.script_reason.ScriptReason.{ScriptReason}
+use Rattle.edit_script.specs.declared.script_reason.ScriptReason.TheVariants as script
 use Rattle.modeller_io.specs.declared.read_end.ReadEnd.{ReadEnd}
 use Rattle.modeller_io.specs.declared.read_end.ReadEnd.TheVariants as end
 use Rattle.modeller_cmd.specs.Statuses.{status_of}
@@ -31,3 +34,11 @@ stop_of_text fault = by fault.reason
     by : TextReason → Stop
     by reason.NoMemory = NoMemory
     by reason = Refused (refusal.Model fault)
+
+-- why a script stops a run
+abbrev pub stop_of_script : ScriptFault → Stop
+stop_of_script fault = by fault.reason
+  where
+    by : ScriptReason → Stop
+    by script.NoMemory = NoMemory
+    by reason = Refused (refusal.Script fault)

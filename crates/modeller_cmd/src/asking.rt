@@ -37,6 +37,6 @@ fn is_built(job: &Job) -> bool
 {
     matches!(
         job,
-        Job::Render(_) | Job::Height(_) | Job::Mesh(_) | Job::Count(_) | Job::Text
+        Job::Render(_) | Job::Height(_) | Job::Mesh(_) | Job::Count(_) | Job::Text | Job::Replay
     )
 }

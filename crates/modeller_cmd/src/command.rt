@@ -1,15 +1,19 @@
 // The modeller's one call.
-ghost use Rattle.std.specs.Prelude.{◌≡◌, ◌≢◌, ◌+◌, ◌<◌, ◌≤◌, ◌↔◌, [], ℕ, length, Some, None, Ok, Err, IfOk, IfErr, IsErr, IfSome, OnOk, IsTrue};
+ghost use Rattle.std.specs.Prelude.{◌≡◌, ◌≢◌, ◌+◌, ◌<◌, ◌≤◌, ◌↔◌, [], ℕ, length, All, Some, None, Ok, Err, IfOk, IfErr, IsOk, IsErr, IfSome, OnOk, IsTrue};
+ghost use Rattle.edit_script.specs.Commands.{IsCommand};
+ghost use Rattle.edit_script.specs.Scripts.{script_read};
 ghost use Rattle.modeller_io.specs.Count.{last_count, RoseBy, Stands};
 ghost use Rattle.modeller_io.specs.Held.{Gains, GainsPrefix, Grew};
 ghost use Rattle.modeller_io.specs.Took.{LosesAtMost};
 ghost use Rattle.view_settings.specs.Settings.{IsJob};
 ghost use Rattle.view_settings.specs.Words.{bytes_of};
-ghost use Rattle.modeller_cmd.specs.Endings.{CountsForSome, Ends, IsAnswer, IsRead, IsRefusal, IsTold, IsUnwritten, IsWorkStop, IsWorked, Makes, NoFault, ReadsWhole, TakesLine, Tells, status_after};
+ghost use Rattle.modeller_cmd.specs.Endings.{CountsForSome, Ends, GainsParts, IsAnswer, IsRead, IsRefusal, IsServeStop, IsTold, IsUnwritten, IsWorkStop, IsWorked, Makes, NoFault, ReadsWhole, TakesLine, Tells, status_after};
 ghost use Rattle.modeller_cmd.specs.Notes.{line_of};
-ghost use Rattle.modeller_cmd.specs.Output.{AreExact, WithOutput, bytes_of_parts, input_limit, made, outcome, output_as, work_of_parts};
+ghost use Rattle.modeller_cmd.specs.Output.{WithOutput, input_limit, made, outcome, output_as};
+ghost use Rattle.modeller_cmd.specs.Parts.{AreExact, bytes_of_parts, work_of_parts};
+ghost use Rattle.modeller_cmd.specs.Playing.{Played, Stopped};
 ghost use Rattle.modeller_cmd.specs.Asking.{asked, is_built};
-ghost use Rattle.modeller_cmd.specs.SoundTexts.{MeshesAreSound};
+ghost use Rattle.modeller_cmd.specs.SoundTexts.{MeshFramesAreSound, MeshesAreSound};
 ghost use Rattle.edit_session.specs.Work.{CountsWithin, CountsWork, PointsRiseAtMost};
 
 use crate::Status;
@@ -17,6 +21,7 @@ use crate::asking::read_job;
 use crate::count::count;
 use crate::note::note_of;
 use crate::refusal::Refusal;
+use crate::replay::replay;
 use crate::stop::Stop;
 use clause_reader::{read_model, write_model};
 use edit_session::{Session, mesh_texts_are_sound};
@@ -28,11 +33,13 @@ use view_settings::Job;
 // The most bytes that an input may have.
 const INPUT_LIMIT: u64 = 8_388_608;
 
-/// Runs the modeller: reads the words and the source, and writes what they ask for to `out`, or one line to
-/// `notes` that says why there is nothing.
+/// Runs the modeller: reads the words and the source, and writes what they ask for to `out`, or one
+/// line to `notes` that says why there is nothing.
 ///
-/// `source` and `out` may fail, and memory may be refused: then the status says so, and under a write fault
-/// `out` holds a front of the bytes. A failure of `notes` changes no status. `tally` counts the work.
+/// `source` and `out` may fail, and memory may be refused: then the status says so. Under a write
+/// fault `out` holds a front of the bytes. Where memory is refused it holds nothing, but of a
+/// script the first frames and refused lines, each of them whole. A failure of `notes` changes no
+/// status. `tally` counts the work.
 pub fn run<S: Source, K: Sink, N: Sink>(
     alloc: Global,
     words: &[String],
@@ -42,19 +49,26 @@ pub fn run<S: Source, K: Sink, N: Sink>(
     tally: &mut Tally,
 ) -> Status
     // What a finished run has written, whatever faults rose: all of the output, and nothing else.
-    ensures done { result ≡ Status.Done → WithOutput S.rest source.old (bytes_of words.now) (λ output.
-        (output.status ≡ Status.Done) × Gains K.held out.old out.new (bytes_of_parts output.parts)) }
+    ensures done { result ≡ Status.Done
+        → WithOutput S.rest source.old (bytes_of words.now) (λ output.
+        (output.status ≡ Status.Done)
+        × Gains K.held out.old out.new (bytes_of_parts output.parts)) }
     ensures silent { result ≡ Status.Done → notes.new ≡ notes.old }
 
-    // Where a mesh is asked for, that output is the text of a closed, manifold and separating one.
+    // Where a mesh is asked for, that output is the text of a closed, manifold and separating one,
+    // and where a command of a script asks for one, so is that of its frame.
     ensures sound { IfSome (S.rest source.old) (MeshesAreSound (bytes_of words.now)) }
+    ensures sound_frames { IsRead result
+        → IfSome (S.rest source.old) (MeshFramesAreSound (bytes_of words.now)) }
 
     // When each status comes.
-    ensures answer { WithOutput S.rest source.old (bytes_of words.now) (λ output. IsAnswer output.status result) }
+    ensures answer { WithOutput S.rest source.old (bytes_of words.now) (λ output.
+        IsAnswer output.status result) }
     ensures usage { (result ≡ Status.Usage) ↔ IsErr (asked (bytes_of words.now)) }
     ensures read { IsRead result → ReadsWhole S.rest source.old source.new }
-    ensures no_script { result ≢ Status.BadScript }
-    ensures too_long { result ≡ Status.TooLong → RoseBy S.taken source.old source.new (input_limit + 1) }
+    ensures script { result ≡ Status.BadScript → asked (bytes_of words.now) ≡ Ok Job.Replay }
+    ensures too_long { result ≡ Status.TooLong
+        → RoseBy S.taken source.old source.new (input_limit + 1) }
     ensures too_long_there { S.taken source.new ≡ S.taken source.old + (input_limit + 1)
         → S.taken source.new < last_count → result ≡ Status.TooLong }
     ensures read_fault { result ≡ Status.ReadFault → RoseBy S.faults source.old source.new 1 }
@@ -69,17 +83,25 @@ pub fn run<S: Source, K: Sink, N: Sink>(
 
     // What stays.
     ensures unread { result ≡ Status.Usage → source.new ≡ source.old }
-    ensures lost { result ≢ Status.Usage → LosesAtMost S.rest S.taken source.old source.new (input_limit + 1) }
-    ensures unwritten { IsUnwritten result → out.new ≡ out.old }
-    ensures front { result ≡ Status.WriteFault → WithOutput S.rest source.old (bytes_of words.now) (λ output.
+    ensures lost { result ≢ Status.Usage
+        → LosesAtMost S.rest S.taken source.old source.new (input_limit + 1) }
+    ensures unwritten { IsUnwritten (bytes_of words.now) result → out.new ≡ out.old }
+    ensures front { result ≡ Status.WriteFault
+        → WithOutput S.rest source.old (bytes_of words.now) (λ output.
         GainsPrefix K.held out.old out.new (bytes_of_parts output.parts)) }
+    ensures whole { result ≡ Status.NoMemory
+        → WithOutput S.rest source.old (bytes_of words.now) (λ output.
+        GainsParts K.held out.old out.new output.parts) }
     ensures never_falls { N.faults notes.old ≤ N.faults notes.new }
 
     // The one line of the notes.
-    ensures note { Tells (bytes_of words.now) (S.rest source.old) result (TakesLine N.faults N.held notes.old notes.new) }
+    ensures note { Tells (bytes_of words.now) (S.rest source.old) result
+        (TakesLine N.faults N.held notes.old notes.new) }
 
-    // The work that is counted: all of it where it was done and is exact, and never more, whatever the status.
-    ensures counted { IsWorked result → WithOutput S.rest source.old (bytes_of words.now) (λ output.
+    // The work that is counted: all of it where it was done and is exact, and never more, whatever
+    // the status.
+    ensures counted { IsWorked (bytes_of words.now) result
+        → WithOutput S.rest source.old (bytes_of words.now) (λ output.
         AreExact output.parts → CountsWork tally.old tally.new (work_of_parts output.parts)) }
     ensures uncounted { IsRefusal result → tally.new ≡ tally.old }
     ensures work { WithOutput S.rest source.old (bytes_of words.now) (λ output.
@@ -118,11 +140,13 @@ fn perform<S: Source, K: Sink>(
 ) -> Result<(), Stop>
     ensures done { OnOk result (IfSome (S.rest source.old) (λ input.
         Makes (outcome (bytes_of words.now) input) (Gains K.held out.old out.new))) }
-    ensures ends { IfSome (S.rest source.old) (λ input. Ends (outcome (bytes_of words.now) input) result) }
+    ensures ends { IfSome (S.rest source.old) (λ input.
+        Ends (outcome (bytes_of words.now) input) result) }
     ensures usage { (status_after result ≡ Status.Usage) ↔ IsErr (asked (bytes_of words.now)) }
     ensures refused { IfErr result (λ stop. IsTold (bytes_of words.now) (S.rest source.old) stop) }
     ensures read { IsRead (status_after result) → ReadsWhole S.rest source.old source.new }
-    ensures too_long { status_after result ≡ Status.TooLong → RoseBy S.taken source.old source.new (input_limit + 1) }
+    ensures too_long { status_after result ≡ Status.TooLong
+        → RoseBy S.taken source.old source.new (input_limit + 1) }
     ensures too_long_there { S.taken source.new ≡ S.taken source.old + (input_limit + 1)
         → S.taken source.new < last_count → status_after result ≡ Status.TooLong }
     ensures read_fault { result ≡ Err Stop.ReadFault → RoseBy S.faults source.old source.new 1 }
@@ -133,11 +157,15 @@ fn perform<S: Source, K: Sink>(
     ensures unread { status_after result ≡ Status.Usage → source.new ≡ source.old }
     ensures lost { status_after result ≢ Status.Usage
         → LosesAtMost S.rest S.taken source.old source.new (input_limit + 1) }
-    ensures unwritten { IsUnwritten (status_after result) → out.new ≡ out.old }
+    ensures unwritten { IsUnwritten (bytes_of words.now) (status_after result) → out.new ≡ out.old }
     ensures front { result ≡ Err Stop.WriteFault → IfSome (S.rest source.old) (λ input.
         Makes (outcome (bytes_of words.now) input) (GainsPrefix K.held out.old out.new)) }
+    ensures whole { result ≡ Err Stop.NoMemory
+        → WithOutput S.rest source.old (bytes_of words.now) (λ output.
+        GainsParts K.held out.old out.new output.parts) }
 
-    ensures counted { IsWorked (status_after result) → WithOutput S.rest source.old (bytes_of words.now) (λ output.
+    ensures counted { IsWorked (bytes_of words.now) (status_after result)
+        → WithOutput S.rest source.old (bytes_of words.now) (λ output.
         AreExact output.parts → CountsWork tally.old tally.new (work_of_parts output.parts)) }
     ensures uncounted { IsRefusal (status_after result) → tally.new ≡ tally.old }
     ensures work { WithOutput S.rest source.old (bytes_of words.now) (λ output.
@@ -147,27 +175,102 @@ fn perform<S: Source, K: Sink>(
     ensures gained { Grew K.held out.old out.new }
     ensures untold { CountsForSome (bytes_of words.now) tally.old tally.new }
     ensures sound { IfSome (S.rest source.old) (MeshesAreSound (bytes_of words.now)) }
+    ensures sound_frames { IsRead (status_after result)
+        → IfSome (S.rest source.old) (MeshFramesAreSound (bytes_of words.now)) }
+    ensures script { status_after result ≡ Status.BadScript
+        → asked (bytes_of words.now) ≡ Ok Job.Replay }
 {
     mesh_texts_are_sound();
     let job = read_job(words)?;
     let input = read_all(alloc, source, INPUT_LIMIT)?;
-    let bytes = work(alloc, &job, &input, tally)?;
+    serve(alloc, &job, &input, out, tally)
+}
+
+// Does a job on an input, and writes what it makes: of a script as soon as it is made, and else
+// when all of it is.
+fn serve<K: Sink>(
+    alloc: Global,
+    job: &Job,
+    input: &[u8],
+    out: &mut K,
+    tally: &mut Tally,
+) -> Result<(), Stop>
+    requires built { IsTrue (is_built job.now) }
+    requires keeps { IsJob job.now }
+    requires limit { length input.now ≤ input_limit }
+    ensures ends { Ends (made job.now input.now) result }
+    ensures stop { IfErr result IsServeStop }
+    ensures played { OnOk result (Played K.held K.faults out.old out.new tally.old tally.new
+        (output_as (made job.now input.now)).parts) }
+    ensures stopped { IfErr result (Stopped K.held K.faults out.old out.new tally.old tally.new
+        (output_as (made job.now input.now)).parts) }
+    ensures unwritten { job.now ≢ Job.Replay → result ≡ Err Stop.NoMemory → out.new ≡ out.old }
+    ensures counted { job.now ≢ Job.Replay → result ≡ Err Stop.WriteFault
+        → AreExact (output_as (made job.now input.now)).parts
+        → CountsWork tally.old tally.new
+        (work_of_parts (output_as (made job.now input.now)).parts) }
+    ensures refused { IsRefusal (status_after result)
+        → (out.new ≡ out.old) × (tally.new ≡ tally.old) }
+    ensures script { status_after result ≡ Status.BadScript → job.now ≡ Job.Replay }
+    ensures commands { job.now ≡ Job.Replay → IsOk (made job.now input.now)
+        → result ≢ Err Stop.NoMemory → IfOk (script_read input.now) (All IsCommand) }
+{
+    match job {
+        Job::Replay => replay(alloc, input, out, tally),
+        _ => serve_at_once(alloc, job, input, out, tally),
+    }
+}
+
+// Does a job on an input, and writes what it makes when all of it is made.
+fn serve_at_once<K: Sink>(
+    alloc: Global,
+    job: &Job,
+    input: &[u8],
+    out: &mut K,
+    tally: &mut Tally,
+) -> Result<(), Stop>
+    requires built { IsTrue (is_built job.now) }
+    requires at_once { job.now ≢ Job.Replay }
+    requires keeps { IsJob job.now }
+    requires limit { length input.now ≤ input_limit }
+    ensures ends { Ends (made job.now input.now) result }
+    ensures stop { IfErr result IsServeStop }
+    ensures played { OnOk result (Played K.held K.faults out.old out.new tally.old tally.new
+        (output_as (made job.now input.now)).parts) }
+    ensures stopped { IfErr result (Stopped K.held K.faults out.old out.new tally.old tally.new
+        (output_as (made job.now input.now)).parts) }
+    ensures unwritten { result ≡ Err Stop.NoMemory → out.new ≡ out.old }
+    ensures counted { result ≡ Err Stop.WriteFault
+        → AreExact (output_as (made job.now input.now)).parts
+        → CountsWork tally.old tally.new
+        (work_of_parts (output_as (made job.now input.now)).parts) }
+    ensures refused { IsRefusal (status_after result)
+        → (out.new ≡ out.old) × (tally.new ≡ tally.old) }
+    ensures script { status_after result ≢ Status.BadScript }
+{
+    let bytes = work(alloc, job, input, tally)?;
     Ok(write_all(out, &bytes)?)
 }
 
 // What a job makes of an input: the table of the verbs.
 fn work(alloc: Global, job: &Job, input: &[u8], tally: &mut Tally) -> Result<Vec<u8>, Stop>
     requires built { IsTrue (is_built job.now) }
+    requires at_once { job.now ≢ Job.Replay }
     requires keeps { IsJob job.now }
     requires limit { length input.now ≤ input_limit }
-    ensures bytes { IfOk result (λ bytes. Makes (made job.now input.now) (λ whole. bytes.items ≡ whole)) }
+    ensures bytes { IfOk result (λ bytes.
+        Makes (made job.now input.now) (λ whole. bytes.items ≡ whole)) }
     ensures ends { Ends (made job.now input.now) result }
     ensures stop { IfErr result IsWorkStop }
+    ensures script { status_after result ≢ Status.BadScript }
     ensures counted { OnOk result (AreExact (output_as (made job.now input.now)).parts
-        → CountsWork tally.old tally.new (work_of_parts (output_as (made job.now input.now)).parts)) }
+        → CountsWork tally.old tally.new
+        (work_of_parts (output_as (made job.now input.now)).parts)) }
     ensures uncounted { IsRefusal (status_after result) → tally.new ≡ tally.old }
-    ensures at_most { CountsWithin tally.old tally.new (work_of_parts (output_as (made job.now input.now)).parts) }
-    ensures plain { PointsRiseAtMost tally.old tally.new (work_of_parts (output_as (made job.now input.now)).parts).plain }
+    ensures at_most { CountsWithin tally.old tally.new
+        (work_of_parts (output_as (made job.now input.now)).parts) }
+    ensures plain { PointsRiseAtMost tally.old tally.new
+        (work_of_parts (output_as (made job.now input.now)).parts).plain }
 {
     let model = read_model(alloc, input)?;
     match job {

@@ -21,8 +21,10 @@ pub fn count(
 ) -> Result<Vec<u8>, AllocError>
     ensures ok { IfOk result (λ text. text.items ≡ count_text (frame_work view.now model.now)) }
     ensures counted { OnOk result (CountsWork tally.old tally.new (frame_work view.now model.now)) }
-    ensures at_most { OnErr result (CountsWithin tally.old tally.new (frame_work view.now model.now)) }
-    ensures plain { PointsRiseAtMost tally.old tally.new (plain_points_of view.now (length model.now)) }
+    ensures at_most { OnErr result
+        (CountsWithin tally.old tally.new (frame_work view.now model.now)) }
+    ensures plain { PointsRiseAtMost tally.old tally.new
+        (plain_points_of view.now (length model.now)) }
 {
     let mut frame = Tally::new();
     let drawn = draw_tree(alloc, model, view, &mut frame);

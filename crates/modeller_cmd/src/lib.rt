@@ -1,11 +1,14 @@
-//! The modeller's one call: words and an input in, a picture or a text and at most one note line out.
+//! The modeller's one call: words and an input in, pictures or texts and at most one note line out.
 #![tactic(auto)]
 
 mod asking;
 mod command;
 mod count;
+mod frame;
+mod frame_kind;
 mod note;
 mod refusal;
+mod replay;
 mod status;
 mod stop;
 mod sure;

@@ -1,16 +1,17 @@
 // The one line that says why a run has not done its work.
 ghost use Rattle.std.specs.Prelude.{◌≡◌, ◌≤◌, length, codes, ◌++◌};
-ghost use Rattle.modeller_cmd.specs.Notes.{fault_line, line_of, refusal_line, text_reason_name, word_reason_name};
+ghost use Rattle.modeller_cmd.specs.Notes.{fault_line, line_of, refusal_line, script_reason_name, text_reason_name, word_reason_name};
 
 use crate::refusal::Refusal;
 use crate::stop::Stop;
 use arrayvec::ArrayVec;
 use clause_reader::TextReason;
+use edit_script::ScriptReason;
 use itoa::Buffer;
 use view_settings::WordReason;
 
-/// A line of at most 51 bytes, made without memory: as long as a place of two words, a number of ten
-/// digits and the longest name of a reason need.
+/// A line of at most 51 bytes, made without memory: as long as a place of two words, a number of
+/// ten digits and the longest name of a reason need.
 pub type Note = ArrayVec<u8, 51>;
 
 /// The line that is written for a stop.
@@ -34,6 +35,7 @@ fn refusal_note(refusal: Refusal) -> Note
         Refusal::NotBuilt => placed(b"word", 1, b"NotBuilt"),
         Refusal::TooLong => whole(b"modeller: input too long\n"),
         Refusal::Model(fault) => placed(b"line", fault.line, text_reason(fault.reason)),
+        Refusal::Script(fault) => placed(b"script line", fault.line, script_reason(fault.reason)),
     }
 }
 
@@ -98,5 +100,23 @@ fn text_reason(reason: TextReason) -> &'static [u8]
         TextReason::TooMany => b"TooMany",
         TextReason::Empty => b"Empty",
         TextReason::NoMemory => b"NoMemory",
+    }
+}
+
+// The name of a reason why a script is refused.
+fn script_reason(reason: ScriptReason) -> &'static [u8]
+    ensures name { result.now ≡ script_reason_name reason }
+    ensures short { length result.now ≤ 16 }
+{
+    match reason {
+        ScriptReason::NoMark => b"NoMark",
+        ScriptReason::UnknownCommand => b"UnknownCommand",
+        ScriptReason::TooShort => b"TooShort",
+        ScriptReason::BadName => b"BadName",
+        ScriptReason::UnknownOperation => b"UnknownOperation",
+        ScriptReason::WrongArity => b"WrongArity",
+        ScriptReason::BadNumeral => b"BadNumeral",
+        ScriptReason::BadSetting => b"BadSetting",
+        ScriptReason::NoMemory => b"NoMemory",
     }
 }

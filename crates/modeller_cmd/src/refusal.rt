@@ -2,6 +2,7 @@
 
 use crate::Status;
 use clause_reader::TextFault;
+use edit_script::ScriptFault;
 use view_settings::WordFault;
 
 /// Why a run does nothing: what it was given is refused.
@@ -15,6 +16,8 @@ pub enum Refusal {
     TooLong,
     /// The model's text is refused.
     Model(TextFault),
+    /// The script is refused.
+    Script(ScriptFault),
 }
 
 impl Refusal {
@@ -29,6 +32,7 @@ impl Refusal {
             Refusal::Words(_) | Refusal::NotBuilt => Status::Usage,
             Refusal::TooLong => Status::TooLong,
             Refusal::Model(_) => Status::BadModel,
+            Refusal::Script(_) => Status::BadScript,
         }
     }
 }

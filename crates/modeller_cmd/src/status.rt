@@ -9,7 +9,7 @@ pub enum Status {
     Usage = 2,
     /// The model's text is refused.
     BadModel = 3,
-    /// The script is refused. No verb of today reads one.
+    /// The script is refused.
     BadScript = 4,
     /// The input has more than 8,388,608 bytes.
     TooLong = 5,

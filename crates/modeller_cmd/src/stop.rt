@@ -3,6 +3,7 @@
 use crate::Status;
 use crate::refusal::Refusal;
 use clause_reader::{TextFault, TextReason};
+use edit_script::{ScriptFault, ScriptReason};
 use modeller_io::{Failed, ReadEnd};
 use std::alloc::AllocError;
 
@@ -72,6 +73,20 @@ impl From<TextFault> for Stop {
         match fault.reason {
             TextReason::NoMemory => Stop::NoMemory,
             _ => Stop::Refused(Refusal::Model(fault)),
+        }
+    }
+}
+
+impl From<ScriptFault> for Stop {
+    ghost use Rattle.std.specs.Prelude.{◌≡◌};
+    ghost use Rattle.modeller_cmd.specs.Stops.{stop_of_script};
+
+    ghost from_gives = { λ fault stop. stop ≡ stop_of_script fault };
+
+    fn from(fault: ScriptFault) -> Stop {
+        match fault.reason {
+            ScriptReason::NoMemory => Stop::NoMemory,
+            _ => Stop::Refused(Refusal::Script(fault)),
         }
     }
 }

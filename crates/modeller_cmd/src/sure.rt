@@ -2,7 +2,8 @@
 ghost use Rattle.std.specs.Prelude.{◌≡◌, ◌⊎◌, Some};
 ghost use Rattle.modeller_io.specs.Held.{Extends};
 ghost use Rattle.view_settings.specs.Words.{bytes_of};
-ghost use Rattle.modeller_cmd.specs.Output.{bytes_of_parts, output_of};
+ghost use Rattle.modeller_cmd.specs.Output.{output_of};
+ghost use Rattle.modeller_cmd.specs.Parts.{bytes_of_parts};
 ghost use Rattle.modeller_cmd.specs.declared.status.Status.TheVariants.{Done, NoMemory};
 
 use crate::{Status, run};
@@ -10,8 +11,8 @@ use fixed_ops::Tally;
 use modeller_io::{SureSink, SureSource};
 use std::alloc::Global;
 
-/// Runs the modeller over a source and sinks that never fail. It answers the status that the words ask for of
-/// the source's bytes, whatever they are, or that memory was refused, and nothing else.
+/// Runs the modeller over a source and sinks that never fail. It answers the status that the words
+/// ask for of the source's bytes, whatever they are, or that memory was refused, and nothing else.
 pub fn run_surely(
     alloc: Global,
     words: &[String],
@@ -20,9 +21,11 @@ pub fn run_surely(
     notes: &mut SureSink,
     tally: &mut Tally,
 ) -> Status
-    ensures answer { (result ≡ (output_of (bytes_of words.now) source.old.rest).status) ⊎ (result ≡ NoMemory) }
+    ensures answer { (result ≡ (output_of (bytes_of words.now) source.old.rest).status)
+        ⊎ (result ≡ NoMemory) }
     ensures done { result ≡ Done
-        → Extends out.old.held out.new.held (bytes_of_parts (output_of (bytes_of words.now) source.old.rest).parts) }
+        → Extends out.old.held out.new.held
+        (bytes_of_parts (output_of (bytes_of words.now) source.old.rest).parts) }
 {
     run(alloc, words, source, out, notes, tally)
 }

@@ -1,0 +1,75 @@
+-- What writes do to the bytes that a sink holds, one after the other.
+use Rattle.std.proofs.Common.{◌≡◌, ℕ, ◌+◌, ◌≤◌, List, [], ◌++◌, length, take, Option, Some, None, Result, Ok, Err, sym, ap, subst, ◌∙◌, append_assoc, append-nil, length-append, arith}
+use Rattle.std.specs.Prelude.{OnErr, OnOk}
+use Rattle.std.proofs.Math.Seq.{take-append-add}
+use Rattle.std.proofs.lemmas.List.{take-append-le}
+use Rattle.modeller_io.specs.Count.{RoseBy, Stands, raised}
+use Rattle.modeller_io.specs.Held.{Extends, Gains, GainsPrefix, Grew}
+
+-- a sink that stands grew by no bytes
+pub Extends-none : (a : Option (List ℕ)) → Extends a a []
+Extends-none None = tt
+Extends-none (Some x) = sym (append-nil x)
+
+pub Extends-append : (a b c : Option (List ℕ)) (xs ys : List ℕ) → Extends a b xs → Extends b c ys → Extends a c (xs ++ ys)
+Extends-append a b None xs ys p q = tt
+Extends-append a None (Some z) xs ys p q = absurd q
+Extends-append None (Some y) (Some z) xs ys p q = absurd p
+Extends-append (Some x) (Some y) (Some z) xs ys p q =
+    q ∙ ap (λ l. l ++ ys) p ∙ append_assoc x xs ys
+
+pub Gains-then : {K : Type 0} (held : K → Option (List ℕ)) (a b c : K) (xs ys : List ℕ) → Gains held a b xs → Gains held b c ys → Gains held a c (xs ++ ys)
+Gains-then held a b c xs ys p q = Extends-append (held a) (held b) (held c) xs ys p q
+
+-- a front of bytes after other bytes is a front of all of them, whatever comes behind
+pub GainsPrefix-after : {K : Type 0} (held : K → Option (List ℕ)) (a b c : K) (xs ys zs : List ℕ) → Gains held a b xs → GainsPrefix held b c ys
+    → GainsPrefix held a c (xs ++ (ys ++ zs))
+GainsPrefix-after held a b c xs ys zs first next = record {
+  count = length xs + next.count;
+  within = omega (arith, next.within, length-append xs (ys ++ zs), length-append ys zs);
+  gained = subst (Gains held a c)
+      (sym (take-append-add xs (ys ++ zs) next.count ∙ ap (λ l. xs ++ l) (take-append-le next.count ys zs next.within)))
+      (Gains-then held a b c xs (take next.count ys) first next.gained);
+}
+
+-- bytes after bytes are some bytes
+pub Grew-after : {K : Type 0} (held : K → Option (List ℕ)) (a b c : K) (xs : List ℕ) → Gains held a b xs → Grew held b c → Grew held a c
+Grew-after held a b c xs first next = record {
+  bytes = xs ++ next.bytes;
+  gained = Gains-then held a b c xs next.bytes first next.gained;
+}
+
+pub Grew-gains : {K : Type 0} (held : K → Option (List ℕ)) (a b : K) (xs : List ℕ) → Gains held a b xs → Grew held a b
+Grew-gains held a b xs gains = record { bytes = xs; gained = gains }
+
+pub Grew-prefix : {K : Type 0} (held : K → Option (List ℕ)) (a b : K) (xs : List ℕ) → GainsPrefix held a b xs → Grew held a b
+Grew-prefix held a b xs front = record { bytes = take front.count xs; gained = front.gained }
+
+-- a count that stood and next rose has risen
+pub RoseBy-after : {K : Type 0} (count : K → ℕ) (a b c : K) (n : ℕ) → Stands count a b → RoseBy count b c n → RoseBy count a c n
+RoseBy-after count a b c n stands rose = subst (λ m. count c ≡ raised m n) stands rose
+
+-- what fails after other bytes leaves a front of both
+pub front-after : {K T E : Type 0} (held : K → Option (List ℕ)) (a b c : K) (xs ys : List ℕ) (r : Result T E) → Gains held a b xs → OnErr r (GainsPrefix held b c ys)
+    → OnErr r (GainsPrefix held a c (xs ++ ys))
+front-after held a b c xs ys (Ok x) first next = tt
+front-after held a b c xs ys (Err e) first next =
+    subst (λ l. GainsPrefix held a c (xs ++ l)) (append-nil ys) (GainsPrefix-after held a b c xs ys [] first next)
+
+-- a front of the first bytes is a front of all
+pub front-of : {K : Type 0} (held : K → Option (List ℕ)) (a b : K) (xs ys : List ℕ) → GainsPrefix held a b xs → GainsPrefix held a b (xs ++ ys)
+front-of held a b xs ys front = record {
+  count = front.count;
+  within = omega (arith, front.within, length-append xs ys);
+  gained = subst (Gains held a b) (sym (take-append-le front.count xs ys front.within)) front.gained;
+}
+
+-- what is so says that it is so of a failure
+pub on-err : {T E : Type 0} (r : Result T E) (P : Type 0) → P → OnErr r P
+on-err (Ok x) P p = tt
+on-err (Err e) P p = p
+
+-- and of a success
+pub on-ok : {T E : Type 0} (r : Result T E) (P : Type 0) → P → OnOk r P
+on-ok (Ok x) P p = p
+on-ok (Err e) P p = tt

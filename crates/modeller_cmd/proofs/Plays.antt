@@ -1,0 +1,230 @@
+-- Parts that are written one after the other, up to what stops that.
+use Rattle.std.proofs.Common.{◌≡◌, ◌≢◌, ℕ, ◌+◌, ◌≤◌, List, [], ◌∷◌, ◌++◌, length, take, Option, Result, Ok, Err, refl, sym, ap, subst, ◌∙◌, append-nil, length-append, arith}
+use Rattle.std.specs.Prelude.{IfErr, IsErrAnd, IsTrue, OnOk}
+use Rattle.std.proofs.Math.Seq.{take-append-add}
+use Rattle.std.proofs.lemmas.List.{take-append-le}
+use Rattle.edit_script.specs.declared.command.Command.{Command as Given}
+use Rattle.edit_script.specs.declared.command.Command.TheVariants as Command
+use Rattle.edit_session.specs.Work.{CountsWithin, CountsWork, PointsRiseAtMost, Work, both, no_work}
+use Rattle.edit_session.specs.WorkLaws.{plain-none, within-none, work-none}
+use Rattle.fixed_ops.specs.Counts.{Counts}
+use Rattle.modeller_io.specs.Count.{RoseBy, Stands}
+use Rattle.modeller_io.specs.Held.{Gains, GainsPrefix}
+use Rattle.solid_model.specs.Edits.{edited}
+use Rattle.solid_model.specs.declared.clause.Clause.{Clause}
+use Rattle.solid_model.specs.declared.edit.Edit.{Edit}
+use Rattle.solid_model.specs.declared.edit.EditFault.{EditFault as Fault}
+use Rattle.solid_model.specs.declared.edit.EditFault.TheVariants as EditFault
+use Rattle.modeller_cmd.specs.Endings.{GainsParts, IsWorkStop}
+use Rattle.modeller_cmd.specs.Parts.{AreExact, Part, bytes_of_parts, work_of_parts}
+use Rattle.modeller_cmd.specs.Playing.{Played, Stopped}
+use Rattle.modeller_cmd.specs.Replays.{clauses_after, parts_at, refusal}
+use Rattle.modeller_cmd.specs.declared.stop.Stop.{Stop}
+use Rattle.modeller_cmd.specs.declared.stop.Stop.TheVariants.{Refused, ReadFault, WriteFault, NoMemory}
+use Rattle.modeller_cmd.proofs.Gaining.{Extends-none, Gains-then, GainsPrefix-after, Grew-after, Grew-gains, Grew-prefix, RoseBy-after, on-ok}
+use Rattle.modeller_cmd.proofs.WorkSums.{bytes-append, exact-left, exact-right, exact-then, plain-more, plain-then, within-more, within-then, work-append}
+
+-- nothing was played
+pub played-none : {K : Type 0} (held : K → Option (List ℕ)) (faults : K → ℕ) (out : K) (counts : Counts) → Played held faults out out counts counts []
+played-none held faults out counts = record {
+  gained = Extends-none (held out);
+  no_fault = refl;
+  counted = λ _. work-none counts;
+  at_most = within-none counts no_work;
+  plain = plain-none counts 0;
+}
+
+-- parts after parts
+pub played-then : {K : Type 0} (held : K → Option (List ℕ)) (faults : K → ℕ) (a b c : K) (s t u : Counts) (ps qs : List Part)
+    → Played held faults a b s t ps → Played held faults b c t u qs → Played held faults a c s u (ps ++ qs)
+played-then held faults a b c s t u ps qs first next =
+    let work = sym (work-append ps qs) in
+    record {
+      gained = subst (Gains held a c) (sym (bytes-append ps qs)) (Gains-then held a b c (bytes_of_parts ps) (bytes_of_parts qs) first.gained next.gained);
+      no_fault = next.no_fault ∙ first.no_fault;
+      counted = λ exact. subst (CountsWork s u) work
+          (exact-then s t u (work_of_parts ps) (work_of_parts qs) (first.counted (exact-left ps qs exact)) (next.counted (exact-right ps qs exact)));
+      at_most = subst (CountsWithin s u) work
+          (within-then s t u (work_of_parts ps) (work_of_parts qs) first.at_most next.at_most);
+      plain = subst (λ w. PointsRiseAtMost s u w.plain) work
+          (plain-then s t u (work_of_parts ps).plain (work_of_parts qs).plain first.plain next.plain);
+    }
+
+-- the bytes and the work of three lists of parts
+bytes-three : (ps qs rs : List Part) → bytes_of_parts (ps ++ (qs ++ rs)) ≡ bytes_of_parts ps ++ (bytes_of_parts qs ++ bytes_of_parts rs)
+bytes-three ps qs rs =
+    bytes-append ps (qs ++ rs) ∙ ap (λ bytes. bytes_of_parts ps ++ bytes) (bytes-append qs rs)
+
+work-three : (ps qs rs : List Part) → work_of_parts (ps ++ (qs ++ rs)) ≡ both (work_of_parts ps) (both (work_of_parts qs) (work_of_parts rs))
+work-three ps qs rs =
+    work-append ps (qs ++ rs) ∙ ap (both (work_of_parts ps)) (work-append qs rs)
+
+-- the first parts of a list, and the first of the next
+parts-more : {K : Type 0} (held : K → Option (List ℕ)) (a b c : K) (ps qs rs : List Part)
+    → Gains held a b (bytes_of_parts ps) → GainsParts held b c qs → GainsParts held a c (ps ++ (qs ++ rs))
+parts-more held a b c ps qs rs first next =
+    let front : take (length ps + next.count) (ps ++ (qs ++ rs)) ≡ ps ++ take next.count qs =
+    take-append-add ps (qs ++ rs) next.count ∙ ap (λ l. ps ++ l) (take-append-le next.count qs rs next.within) in
+    record {
+      count = length ps + next.count;
+      within = omega (arith, next.within, length-append ps (qs ++ rs), length-append qs rs);
+      gained = subst (Gains held a c) (sym (ap bytes_of_parts front ∙ bytes-append ps (take next.count qs)))
+          (Gains-then held a b c (bytes_of_parts ps) (bytes_of_parts (take next.count qs)) first next.gained);
+    }
+
+-- what stops the parts that follow stops them all
+pub stopped-after : {K : Type 0} (held : K → Option (List ℕ)) (faults : K → ℕ) (a b c : K) (s t u : Counts) (ps qs rs : List Part) (stop : Stop)
+    → Played held faults a b s t ps → Stopped held faults b c t u qs stop → Stopped held faults a c s u (ps ++ (qs ++ rs)) stop
+stopped-after held faults a b c s t u ps qs rs stop first next =
+    let work = sym (work-three ps qs rs) in
+    record {
+      front = λ is. subst (GainsPrefix held a c) (sym (bytes-three ps qs rs))
+          (GainsPrefix-after held a b c (bytes_of_parts ps) (bytes_of_parts qs) (bytes_of_parts rs) first.gained (next.front is));
+      whole = λ is. parts-more held a b c ps qs rs first.gained (next.whole is);
+      write_fault = λ is. RoseBy-after faults a b c 1 first.no_fault (next.write_fault is);
+      no_write_fault = λ is. next.no_write_fault is ∙ first.no_fault;
+      at_most = subst (CountsWithin s u) work
+          (within-then s t u (work_of_parts ps) (both (work_of_parts qs) (work_of_parts rs)) first.at_most
+          (within-more t u (work_of_parts qs) (work_of_parts rs) next.at_most));
+      plain = subst (λ w. PointsRiseAtMost s u w.plain) work
+          (plain-then s t u (work_of_parts ps).plain (both (work_of_parts qs) (work_of_parts rs)).plain first.plain
+          (plain-more t u (work_of_parts qs).plain (work_of_parts rs).plain next.plain));
+      grew = Grew-after held a b c (bytes_of_parts ps) first.gained next.grew;
+    }
+
+-- no parts were written, and work within theirs was counted
+pub parts-none : {K : Type 0} (held : K → Option (List ℕ)) (out : K) (parts : List Part) → GainsParts held out out parts
+parts-none held out parts = record { count = 0; within = omega arith; gained = Extends-none (held out) }
+
+pub stopped-before : {K : Type 0} (held : K → Option (List ℕ)) (faults : K → ℕ) (out : K) (s t : Counts) (parts : List Part) (stop : Stop)
+    → stop ≢ WriteFault → CountsWithin s t (work_of_parts parts) → PointsRiseAtMost s t (work_of_parts parts).plain
+    → Stopped held faults out out s t parts stop
+stopped-before held faults out s t parts stop other few plain = record {
+  front = λ is. absurd (other is);
+  whole = λ _. parts-none held out parts;
+  write_fault = λ is. absurd (other is);
+  no_write_fault = λ _. refl;
+  at_most = few;
+  plain = plain;
+  grew = Grew-gains held out out [] (Extends-none (held out));
+}
+
+-- nothing was done
+pub stopped-at-once : {K : Type 0} (held : K → Option (List ℕ)) (faults : K → ℕ) (out : K) (counts : Counts) (parts : List Part) (stop : Stop)
+    → stop ≢ WriteFault → Stopped held faults out out counts counts parts stop
+stopped-at-once held faults out counts parts stop other =
+    stopped-before held faults out counts counts parts stop other (within-none counts (work_of_parts parts)) (plain-none counts (work_of_parts parts).plain)
+
+-- want of memory is no fault of a sink
+pub memory-other : (stop : Stop) → stop ≡ NoMemory → stop ≢ WriteFault
+memory-other stop is fault = cc
+
+-- nor is what stops the work before anything is written
+pub work-other : (stop : Stop) → IsWorkStop stop → stop ≢ WriteFault
+work-other (Refused why) is fault = cc
+work-other ReadFault is fault = cc
+work-other WriteFault is fault = absurd is
+work-other NoMemory is fault = cc
+
+-- one part, written whole after its work was counted, and what stops that
+module _ {K : Type 0} (held : K → Option (List ℕ)) (faults : K → ℕ) (before after : K) (s t : Counts) (part : Part) (bytes : List ℕ) (is : bytes ≡ part.bytes) where
+  one-work : both part.work no_work ≡ part.work
+  one-work =
+      let p : part.work.points + 0 ≡ part.work.points = omega arith in
+      let n : part.work.spans + 0 ≡ part.work.spans = omega arith in
+      let q : part.work.plain + 0 ≡ part.work.plain = omega arith in
+      λ k. record { points = p k; spans = n k; plain = q k }
+
+  one-bytes : bytes ≡ part.bytes ++ []
+  one-bytes = is ∙ sym (append-nil part.bytes)
+
+  pub part-played : Gains held before after bytes → Stands faults before after → (IsTrue part.exact → CountsWork s t part.work)
+      → CountsWithin s t part.work → PointsRiseAtMost s t part.work.plain → Played held faults before after s t (part ∷ [])
+  unfolding AreExact
+  part-played gained stands exact few plain = record {
+    gained = subst (Gains held before after) one-bytes gained;
+    no_fault = stands;
+    counted = λ all. subst (CountsWork s t) (sym one-work) (exact (all 0 part (omega arith)));
+    at_most = subst (CountsWithin s t) (sym one-work) few;
+    plain = subst (λ w. PointsRiseAtMost s t w.plain) (sym one-work) plain;
+  }
+
+  pub part-stopped : GainsPrefix held before after bytes → RoseBy faults before after 1
+      → CountsWithin s t part.work → PointsRiseAtMost s t part.work.plain → Stopped held faults before after s t (part ∷ []) WriteFault
+  part-stopped front rose few plain = record {
+    front = λ _. subst (GainsPrefix held before after) one-bytes front;
+    whole = λ memory. cc;
+    write_fault = λ _. rose;
+    no_write_fault = λ other. absurd (other refl);
+    at_most = subst (CountsWithin s t) (sym one-work) few;
+    plain = subst (λ w. PointsRiseAtMost s t w.plain) (sym one-work) plain;
+    grew = Grew-prefix held before after bytes front;
+  }
+
+-- memory is refused to a part before it is written
+pub part-undrawn : {K : Type 0} (held : K → Option (List ℕ)) (faults : K → ℕ) (out : K) (s t : Counts) (part : Part)
+    → CountsWithin s t part.work → PointsRiseAtMost s t part.work.plain → Stopped held faults out out s t (part ∷ []) NoMemory
+part-undrawn held faults out s t part few plain =
+    let w = one-work held faults out out s t part part.bytes refl in
+    stopped-before held faults out s t (part ∷ []) NoMemory (memory-other NoMemory refl)
+    (subst (CountsWithin s t) (sym w) few) (subst (λ v. PointsRiseAtMost s t v.plain) (sym w) plain)
+
+-- an ending of which only one stop is known
+pub stops-with : {T : Type 0} (r : Result T Stop) (stop : Stop) (P : Stop → Type 0) → IsErrAnd r (λ e. e ≡ stop) → P stop → IfErr r P
+stops-with (Ok x) stop P is p = absurd is
+stops-with (Err e) stop P is p = subst P (sym is) p
+
+-- what is written of an edit depends on what the edit gives
+pub edit-played : {K : Type 0} (held : K → Option (List ℕ)) (faults : K → ℕ) (out : K) (counts : Counts) (clauses new : List Clause) (line : ℕ) (edit : Edit)
+    → edited clauses edit ≡ Ok new → Played held faults out out counts counts (parts_at clauses (Command.Edit line edit))
+edit-played held faults out counts clauses new line edit is = rw is (played-none held faults out counts)
+
+pub edit-refused : (clauses : List Clause) (line : ℕ) (edit : Edit) (fault : Fault) → edited clauses edit ≡ Err fault
+    → parts_at clauses (Command.Edit line edit) ≡ refusal line fault ∷ []
+edit-refused clauses line edit fault is = rw is refl
+
+pub edit-stands : (clauses : List Clause) (line : ℕ) (edit : Edit) (fault : Fault) → edited clauses edit ≡ Err fault
+    → clauses_after clauses (Command.Edit line edit) ≡ clauses
+edit-stands clauses line edit fault is = rw is refl
+
+-- an edit that is refused for a fault other than want of memory
+module _ {K T : Type 0} (held : K → Option (List ℕ)) (faults : K → ℕ) (before after : K) (clauses : List Clause) (line : ℕ) (edit : Edit) (fault : Fault) (r : Result T Stop)
+    (refused : fault ≢ EditFault.NoMemory → edited clauses edit ≡ Err fault) (memory : fault ≡ EditFault.NoMemory → (r ≡ Err NoMemory) × (after ≡ before)) where
+  pub refused-played : OnOk r ((counts : Counts) → Played held faults before after counts counts (refusal line fault ∷ []))
+      → OnOk r ((counts : Counts) → Played held faults before after counts counts (parts_at clauses (Command.Edit line edit)))
+  refused-played = by fault refl
+    where
+      by : (f : Fault) → fault ≡ f → OnOk r ((counts : Counts) → Played held faults before after counts counts (refusal line fault ∷ []))
+          → OnOk r ((counts : Counts) → Played held faults before after counts counts (parts_at clauses (Command.Edit line edit)))
+      by EditFault.NoMemory is = λ p. rw (memory is).0 tt
+      by other is = λ p. subst (λ ps. OnOk r ((counts : Counts) → Played held faults before after counts counts ps)) (sym (edit-refused clauses line edit fault (refused (λ e. cc)))) p
+
+  pub refused-stopped : IfErr r (λ stop. (counts : Counts) → Stopped held faults before after counts counts (refusal line fault ∷ []) stop)
+      → IfErr r (λ stop. (counts : Counts) → Stopped held faults before after counts counts (parts_at clauses (Command.Edit line edit)) stop)
+  refused-stopped = by fault refl
+    where
+      by : (f : Fault) → fault ≡ f → IfErr r (λ stop. (counts : Counts) → Stopped held faults before after counts counts (refusal line fault ∷ []) stop)
+          → IfErr r (λ stop. (counts : Counts) → Stopped held faults before after counts counts (parts_at clauses (Command.Edit line edit)) stop)
+      by EditFault.NoMemory is = λ p. rw ((memory is).0, (memory is).1) (λ counts. stopped-at-once held faults before counts (parts_at clauses (Command.Edit line edit)) NoMemory (memory-other NoMemory refl))
+      by other is = λ p. subst (λ ps. IfErr r (λ stop. (counts : Counts) → Stopped held faults before after counts counts ps stop)) (sym (edit-refused clauses line edit fault (refused (λ e. cc)))) p
+
+  pub refused-stands : (new : List Clause) → new ≡ clauses → OnOk r (new ≡ clauses_after clauses (Command.Edit line edit))
+  refused-stands new same = by fault refl
+    where
+      by : (f : Fault) → fault ≡ f → OnOk r (new ≡ clauses_after clauses (Command.Edit line edit))
+      by EditFault.NoMemory is = rw (memory is).0 tt
+      by other is =
+          on-ok r (new ≡ clauses_after clauses (Command.Edit line edit)) (same ∙ sym (edit-stands clauses line edit fault (refused (λ e. cc))))
+
+-- what is so of the parts of a command is so where the command is told
+pub at-command : (P : List Part → Type 0) (clauses : List Clause) (command told : Given) → command ≡ told → P (parts_at clauses told) → P (parts_at clauses command)
+at-command P clauses command told is p = subst (λ one. P (parts_at clauses one)) (sym is) p
+
+-- what is so whatever a tally holds is so of this one
+pub err-at : {T : Type 0} (r : Result T Stop) (P : Counts → Stop → Type 0) (counts : Counts) → IfErr r (λ stop. (held : Counts) → P held stop) → IfErr r (P counts)
+err-at (Ok x) P counts p = tt
+err-at (Err e) P counts p = p counts
+
+pub ok-at : {T : Type 0} (r : Result T Stop) (P : Counts → Type 0) (counts : Counts) → OnOk r ((held : Counts) → P held) → OnOk r (P counts)
+ok-at (Ok x) P counts p = p counts
+ok-at (Err e) P counts p = tt

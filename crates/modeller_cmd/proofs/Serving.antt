@@ -1,0 +1,74 @@
+-- What work on the bytes that were read says of the words and of what the source tells.
+use Rattle.std.proofs.Common.{◌≡◌, ◌≢◌, ℕ, ◌≤◌, List, length, take, Option, Some, None, Result, Ok, Err, IsOk, IfSome, refl, sym, subst, arith}
+use Rattle.std.specs.Prelude.{IfErr, OnErr, OnOk}
+use Rattle.std.proofs.Math.Seq.{take-length}
+use Rattle.modeller_io.specs.Count.{RoseBy}
+use Rattle.modeller_io.specs.Held.{Gains, GainsPrefix}
+use Rattle.view_settings.specs.declared.job.Job.{Job}
+use Rattle.modeller_cmd.specs.Asking.{asked}
+use Rattle.modeller_cmd.specs.Endings.{Ends, Makes, NoFault, TakesLine}
+use Rattle.modeller_cmd.specs.Output.{made, outcome, output_as}
+use Rattle.modeller_cmd.specs.Parts.{Part, bytes_of_parts}
+use Rattle.modeller_cmd.specs.declared.refusal.Refusal.{Refusal}
+use Rattle.modeller_cmd.specs.declared.stop.Stop.{Stop}
+use Rattle.modeller_cmd.specs.declared.stop.Stop.TheVariants.{WriteFault}
+use Rattle.modeller_cmd.proofs.Outcomes.{asked_made}
+
+-- what is so of the parts of an outcome that has some
+makes : (outcome : Result (List Part) Refusal) (P : List ℕ → Type 0) → IsOk outcome → P (bytes_of_parts (output_as outcome).parts) → Makes outcome P
+makes (Ok parts) P ok p = p
+makes (Err why) P ok p = absurd (grind (arith, ok))
+
+-- what is so of the bytes that were read is so of those that are told
+pub told-input : (told : Option (List ℕ)) (input : List ℕ) (P : List ℕ → Type 0) → IfSome told (λ rest. input ≡ rest) → P input → IfSome told P
+told-input None input P all p = tt
+told-input (Some rest) input P all p = subst P all p
+
+module _ (words : List (List ℕ)) (told : Option (List ℕ)) (input : List ℕ) (all : IfSome told (λ rest. input ≡ rest)) (job : Job) (asks : Ok job ≡ asked words) where
+  -- what is so of what a job makes is so of the outcome
+  pub as-told : (P : Result (List Part) Refusal → Type 0) → P (made job input) → IfSome told (λ bytes. P (outcome words bytes))
+  as-told P p =
+      told-input told input (λ bytes. P (outcome words bytes)) all (subst P (sym (asked_made words job input asks)) p)
+
+  -- the bytes of work that is done
+  pub served : {T : Type 0} (r : Result T Stop) (P : List ℕ → Type 0) → Ends (made job input) r → OnOk r (P (bytes_of_parts (output_as (made job input)).parts))
+      → OnOk r (IfSome told (λ bytes. Makes (outcome words bytes) P))
+  served (Ok x) P ends p = as-told (λ o. Makes o P) (makes (made job input) P ends p)
+  served (Err e) P ends p = tt
+
+  -- and those of work that a fault of the sink ends
+  pub served-front : {T : Type 0} (r : Result T Stop) (P : List ℕ → Type 0) → r ≡ Err WriteFault → Ends (made job input) r
+      → IfErr r (λ stop. stop ≡ WriteFault → P (bytes_of_parts (output_as (made job input)).parts))
+      → IfSome told (λ bytes. Makes (outcome words bytes) P)
+  served-front r P is ends p =
+      let ok = subst (Ends (made job input)) is ends in
+      let front = subst (λ q. IfErr q (λ stop. stop ≡ WriteFault → P (bytes_of_parts (output_as (made job input)).parts))) is p in
+      as-told (λ o. Makes o P) (makes (made job input) P ok (front refl))
+
+-- a line that is written to the notes
+pub takes-line : {N T E : Type 0} (faults : N → ℕ) (held : N → Option (List ℕ)) (before after : N) (bytes line : List ℕ) (r : Result T E) → bytes ≡ line
+    → OnOk r (Gains held before after bytes) → OnErr r (GainsPrefix held before after bytes) → OnErr r (RoseBy faults before after 1)
+    → TakesLine faults held before after line
+takes-line faults held before after bytes line (Ok x) is gains front rose =
+    let whole = subst (Gains held before after) is gains in
+    record {
+      front = record {
+        count = length line;
+        within = omega arith;
+        gained = subst (Gains held before after) (sym (take-length line)) whole;
+      };
+      whole = λ none. whole;
+    }
+takes-line faults held before after bytes line (Err e) is gains front rose = record {
+  front = subst (GainsPrefix held before after) is front;
+  whole = λ none. absurd (omega (arith, none.0, none.1, rose));
+}
+
+-- what follows from a success, and from a failure
+pub ok-follows : {T E : Type 0} (r : Result T E) (P Q : Type 0) → (P → Q) → OnOk r P → OnOk r Q
+ok-follows (Ok x) P Q step p = step p
+ok-follows (Err e) P Q step p = tt
+
+pub err-follows : {T E : Type 0} (r : Result T E) (P Q : E → Type 0) → ((e : E) → P e → Q e) → IfErr r P → IfErr r Q
+err-follows (Ok x) P Q step p = tt
+err-follows (Err e) P Q step p = step e p

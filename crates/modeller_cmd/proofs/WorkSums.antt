@@ -1,0 +1,87 @@
+-- The work of parts, one after the other.
+use Rattle.std.proofs.Common.{◌≡◌, ℕ, ◌+◌, ◌<◌, ◌≤◌, List, [], ◌∷◌, ◌++◌, length, get_or, refl, sym, ap, subst, ◌∙◌, append_assoc, length-append, arith}
+use Rattle.std.specs.Prelude.{All, IsTrue}
+use Rattle.std.proofs.Math.ListN.{get_or-append}
+use Rattle.std.proofs.lemmas.List.{get_or-append-add}
+use Rattle.box_chains.specs.TallyLaws.{exactly-then, most-more, most-then}
+use Rattle.edit_session.specs.Work.{CountsWithin, CountsWork, PointsRiseAtMost, Work, both, no_work}
+use Rattle.fixed_ops.specs.CountLaws.{risen-risen}
+use Rattle.fixed_ops.specs.Counts.{Counts, risen}
+use Rattle.modeller_cmd.specs.Parts.{AreExact, Part, bytes_of_parts, work_of_parts}
+
+-- the bytes of some parts and of others
+pub bytes-append : (ps qs : List Part) → bytes_of_parts (ps ++ qs) ≡ bytes_of_parts ps ++ bytes_of_parts qs
+bytes-append [] qs = refl
+bytes-append (p ∷ ps) qs =
+    ap (λ bytes. p.bytes ++ bytes) (bytes-append ps qs) ∙ sym (append_assoc p.bytes (bytes_of_parts ps) (bytes_of_parts qs))
+
+-- no work and some is that
+none-both : (work : Work) → both no_work work ≡ work
+none-both work =
+    let p : 0 + work.points ≡ work.points = omega arith in
+    let s : 0 + work.spans ≡ work.spans = omega arith in
+    let n : 0 + work.plain ≡ work.plain = omega arith in
+    λ k. record { points = p k; spans = s k; plain = n k }
+
+both-both : (a b c : Work) → both (both a b) c ≡ both a (both b c)
+both-both a b c =
+    let p : a.points + b.points + c.points ≡ a.points + (b.points + c.points) = omega arith in
+    let s : a.spans + b.spans + c.spans ≡ a.spans + (b.spans + c.spans) = omega arith in
+    let n : a.plain + b.plain + c.plain ≡ a.plain + (b.plain + c.plain) = omega arith in
+    λ k. record { points = p k; spans = s k; plain = n k }
+
+-- the work of some parts and of others
+pub work-append : (ps qs : List Part) → work_of_parts (ps ++ qs) ≡ both (work_of_parts ps) (work_of_parts qs)
+work-append [] qs = sym (none-both (work_of_parts qs))
+work-append (p ∷ ps) qs =
+    ap (both p.work) (work-append ps qs) ∙ sym (both-both p.work (work_of_parts ps) (work_of_parts qs))
+
+-- where all parts are exact, so are the first of them, and the others
+All-left : {X : Type 0} (P : X → Type 0) (xs ys : List X) → All P (xs ++ ys) → All P xs
+All-left P xs ys all k d less =
+    subst P (get_or-append xs ys d k less) (all k d (omega (arith, less, length-append xs ys)))
+
+All-right : {X : Type 0} (P : X → Type 0) (xs ys : List X) → All P (xs ++ ys) → All P ys
+All-right P xs ys all k d less =
+    subst P (get_or-append-add xs ys k d) (all (length xs + k) d (omega (arith, less, length-append xs ys)))
+
+pub exact-left : (ps qs : List Part) → AreExact (ps ++ qs) → AreExact ps
+unfolding AreExact
+exact-left ps qs all = All-left (λ part. IsTrue part.exact) ps qs all
+
+pub exact-right : (ps qs : List Part) → AreExact (ps ++ qs) → AreExact qs
+unfolding AreExact
+exact-right ps qs all = All-right (λ part. IsTrue part.exact) ps qs all
+
+-- an item between others has what all have
+pub All-between : {X : Type 0} (P : X → Type 0) (xs : List X) (x : X) (ys : List X) → All P (xs ++ x ∷ ys) → P x
+All-between P xs x ys all = All-right P xs (x ∷ ys) all 0 x (omega arith)
+
+-- exact work after exact work, and bounded work after bounded work
+pub exact-then : (before mid after : Counts) (a b : Work) → CountsWork before mid a → CountsWork mid after b → CountsWork before after (both a b)
+unfolding CountsWork
+exact-then before mid after a b first next =
+    exactly-then before mid after a.points a.spans b.points b.spans first next
+
+pub within-then : (before mid after : Counts) (a b : Work) → CountsWithin before mid a → CountsWithin mid after b → CountsWithin before after (both a b)
+unfolding CountsWithin
+within-then before mid after a b first next =
+    most-then before mid after a.points a.spans b.points b.spans (a.points + b.points) (a.spans + b.spans) (omega arith) (omega arith) first next
+
+-- bounded work is within that and more
+pub within-more : (before after : Counts) (a b : Work) → CountsWithin before after a → CountsWithin before after (both a b)
+unfolding CountsWithin
+within-more before after a b few =
+    most-more before after a.points a.spans (a.points + b.points) (a.spans + b.spans) (omega arith) (omega arith) few
+
+-- evaluations after evaluations
+pub plain-then : (before mid after : Counts) (m n : ℕ) → PointsRiseAtMost before mid m → PointsRiseAtMost mid after n → PointsRiseAtMost before after (m + n)
+plain-then before mid after m n first next = record {
+  by = first.by + next.by;
+  few = omega (arith, first.few, next.few);
+  rises = next.rises ∙ ap (λ count. risen count next.by) first.rises ∙ risen-risen before.points first.by next.by;
+}
+
+pub plain-more : (before after : Counts) (m n : ℕ) → PointsRiseAtMost before after m → PointsRiseAtMost before after (m + n)
+plain-more before after m n rise =
+    record { by = rise.by; few = omega (arith, rise.few); rises = rise.rises }

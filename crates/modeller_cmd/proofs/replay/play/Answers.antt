@@ -1,0 +1,49 @@
+use Rattle.std.proofs.Common.{[], ◌∷◌, ◌++◌, sym, ap, subst, ◌∙◌}
+use Rattle.std.specs.Vec.Iter.{into_iter_items}
+use Rattle.modeller_cmd.specs.Playing.{Played, Stopped}
+use Rattle.modeller_cmd.specs.Replays.{clauses_after, parts_at, replayed, standing}
+use Rattle.modeller_cmd.proofs.Playback.{items-between, replayed-between, replayed-more, replayed-none, standing-more, standing-none}
+use Rattle.modeller_cmd.proofs.Plays.{played-none, played-then, stopped-after, stops-with}
+use Rattle.modeller_cmd.proofs.replay.play.Goals as goal
+
+pub loop-command-init : goal.loop-command-init
+loop-command-init g c = record {
+  stands = sym (standing-none c.args.session);
+  played = subst (Played g.K.Sink.held g.K.Sink.faults c.args.out.now c.args.out.now c.args.tally.now c.args.tally.now) (sym (replayed-none c.args.session))
+      (played-none g.K.Sink.held g.K.Sink.faults c.args.out.now c.args.tally.now);
+}
+
+pub loop-command-preserved : goal.loop-command-preserved
+loop-command-preserved g c =
+    let so_far = c.loop-command.invariant in
+    let before = c.loop-command.yielded in
+    let command = c.in-Some.command in
+    let shown = standing c.args.session before in
+    record {
+      stands = c.in_ok-step.ensures.model ∙ ap (λ clauses. clauses_after clauses command) so_far.stands ∙ sym (standing-more c.args.session before command);
+      played = subst (Played g.K.Sink.held g.K.Sink.faults c.args.out.now c.step.new.out c.args.tally.now c.step.new.tally)
+          (sym (replayed-more c.args.session before command))
+          (played-then g.K.Sink.held g.K.Sink.faults c.args.out.now c.loop-command.out c.step.new.out c.args.tally.now c.loop-command.tally c.step.new.tally (replayed c.args.session before) (parts_at shown command)
+          so_far.played
+          (subst (λ clauses. Played g.K.Sink.held g.K.Sink.faults c.loop-command.out c.step.new.out c.loop-command.tally c.step.new.tally (parts_at clauses command)) so_far.stands
+          c.in_ok-step.ensures.played));
+    }
+
+pub returns-in_err-step-clause-stopped : goal.returns-in_err-step-clause-stopped
+returns-in_err-step-clause-stopped g c =
+    let so_far = c.loop-command.invariant in
+    let before = c.loop-command.yielded in
+    let command = c.in-Some.command in
+    let after = into_iter_items c.next.new.self in
+    let shown = standing c.args.session before in
+    let items = items-between c.into_iter-command-iterator.result c.args.commands.items before c.loop-command.command-iterator c.next.new.self command c.into_iter-command-iterator.ensures.into_iter_gives.0 c.loop-command.yielded_by
+    c.in-Some.ensures.steps.0 in
+    stops-with c.from_residual.result c.in_err-step.field-0.0
+    (Stopped g.K.Sink.held g.K.Sink.faults c.args.out.now c.step.new.out c.args.tally.now c.step.new.tally (replayed c.args.session c.args.commands.items))
+    c.from_residual.ensures.1
+    (subst (λ parts. Stopped g.K.Sink.held g.K.Sink.faults c.args.out.now c.step.new.out c.args.tally.now c.step.new.tally parts c.in_err-step.field-0.0)
+    (sym (ap (replayed c.args.session) items ∙ replayed-between c.args.session before command after))
+    (stopped-after g.K.Sink.held g.K.Sink.faults c.args.out.now c.loop-command.out c.step.new.out c.args.tally.now c.loop-command.tally c.step.new.tally (replayed c.args.session before) (parts_at shown command)
+    (replayed (clauses_after shown command) after) c.in_err-step.field-0.0 so_far.played
+    (subst (λ clauses. Stopped g.K.Sink.held g.K.Sink.faults c.loop-command.out c.step.new.out c.loop-command.tally c.step.new.tally (parts_at clauses command) c.in_err-step.field-0.0) so_far.stands
+    c.in_err-step.ensures.stopped)))

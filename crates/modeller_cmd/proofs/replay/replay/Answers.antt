@@ -1,0 +1,21 @@
+use Rattle.view_settings.specs.declared.job.Job.TheVariants.{Replay}
+use Rattle.modeller_cmd.specs.Output.{made, output_as}
+use Rattle.modeller_cmd.specs.Playing.{Stopped}
+use Rattle.modeller_cmd.specs.Stops.{stop_of_script, stop_of_text}
+use Rattle.modeller_cmd.proofs.Playback.{script-other, text-other}
+use Rattle.modeller_cmd.proofs.Plays.{stopped-at-once, stops-with}
+use Rattle.modeller_cmd.proofs.replay.replay.Goals as goal
+
+pub returns-in_err-model-clause-stopped : goal.returns-in_err-model-clause-stopped
+returns-in_err-model-clause-stopped g c =
+    let fault = c.in_err-model.field-0.0 in
+    stops-with c.from_residual.result (stop_of_text fault)
+    (Stopped g.K.Sink.held g.K.Sink.faults c.args.out.now c.args.out.now c.args.tally.now c.args.tally.now (output_as (made Replay c.args.input.now)).parts) c.from_residual.ensures.1
+    (stopped-at-once g.K.Sink.held g.K.Sink.faults c.args.out.now c.args.tally.now (output_as (made Replay c.args.input.now)).parts (stop_of_text fault) (text-other fault.line fault.reason))
+
+pub returns-in_err-commands-clause-stopped : goal.returns-in_err-commands-clause-stopped
+returns-in_err-commands-clause-stopped g c =
+    let fault = c.in_err-commands.field-0.0 in
+    stops-with c.from_residual-in_err-commands.result (stop_of_script fault)
+    (Stopped g.K.Sink.held g.K.Sink.faults c.args.out.now c.args.out.now c.args.tally.now c.args.tally.now (output_as (made Replay c.args.input.now)).parts) c.from_residual-in_err-commands.ensures.1
+    (stopped-at-once g.K.Sink.held g.K.Sink.faults c.args.out.now c.args.tally.now (output_as (made Replay c.args.input.now)).parts (stop_of_script fault) (script-other fault.line fault.reason))

@@ -1,0 +1,31 @@
+-- What playing commands does to a sink and to a tally.
+use Rattle.std.specs.Prelude.{◌≡◌, ◌≢◌, ℕ, List, Option}
+use Rattle.edit_session.specs.Work.{CountsWithin, CountsWork, PointsRiseAtMost}
+use Rattle.fixed_ops.specs.Counts.{Counts}
+use Rattle.modeller_io.specs.Count.{RoseBy, Stands}
+use Rattle.modeller_io.specs.Held.{Gains, GainsPrefix, Grew}
+use Rattle.modeller_cmd.specs.Endings.{GainsParts}
+use Rattle.modeller_cmd.specs.Parts.{AreExact, Part, bytes_of_parts, work_of_parts}
+use Rattle.modeller_cmd.specs.declared.stop.Stop.{Stop}
+use Rattle.modeller_cmd.specs.declared.stop.Stop.TheVariants.{WriteFault, NoMemory}
+
+-- the parts were written whole, and their work was counted
+pub record Played {K : Type 0} (held : K → Option (List ℕ)) (faults : K → ℕ)
+    (before after : K) (first last : Counts) (parts : List Part) : Type 0 where
+  pub gained : Gains held before after (bytes_of_parts parts)
+  pub no_fault : Stands faults before after
+  pub counted : AreExact parts → CountsWork first last (work_of_parts parts)
+  pub at_most : CountsWithin first last (work_of_parts parts)
+  pub plain : PointsRiseAtMost first last (work_of_parts parts).plain
+
+-- Something stopped that. A fault of the sink leaves it with a front of the bytes, and want of
+-- memory with the first parts, each of them whole. No more than the work of the parts was counted.
+pub record Stopped {K : Type 0} (held : K → Option (List ℕ)) (faults : K → ℕ)
+    (before after : K) (first last : Counts) (parts : List Part) (stop : Stop) : Type 0 where
+  pub front : stop ≡ WriteFault → GainsPrefix held before after (bytes_of_parts parts)
+  pub whole : stop ≡ NoMemory → GainsParts held before after parts
+  pub write_fault : stop ≡ WriteFault → RoseBy faults before after 1
+  pub no_write_fault : stop ≢ WriteFault → Stands faults before after
+  pub at_most : CountsWithin first last (work_of_parts parts)
+  pub plain : PointsRiseAtMost first last (work_of_parts parts).plain
+  pub grew : Grew held before after

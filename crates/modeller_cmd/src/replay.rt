@@ -1,0 +1,148 @@
+// A script that is played on the model before its mark.
+ghost use Rattle.std.specs.Prelude.{◌≡◌, ◌≢◌, ◌≤◌, [], ◌∷◌, length, Err, All, IfErr, IfOk, IsOk, OnOk};
+ghost use Rattle.edit_script.specs.Commands.{IsCommand};
+ghost use Rattle.edit_script.specs.Marks.{before_mark};
+ghost use Rattle.edit_script.specs.Scripts.{script_read};
+ghost use Rattle.fixed_ops.specs.Counts.{Counts};
+ghost use Rattle.modeller_cmd.specs.Endings.{Ends, IsPlayStop, IsRefusal, IsServeStop, status_after};
+ghost use Rattle.modeller_cmd.specs.Output.{input_limit, made, output_as};
+ghost use Rattle.modeller_cmd.specs.Playing.{Played, Stopped};
+ghost use Rattle.modeller_cmd.specs.Replays.{clauses_after, parts_at, refusal, replayed};
+
+use crate::frame::{write_frame, write_refused};
+use crate::frame_kind::FrameKind;
+use crate::stop::Stop;
+use clause_reader::read_model;
+use edit_script::{Command, read_script, split_input};
+use edit_session::Session;
+use fixed_ops::Tally;
+use modeller_io::Sink;
+use solid_model::{Edit, EditFault};
+use std::alloc::Global;
+use view_settings::Job;
+
+/// Plays the script of an input on the model before its mark. What a command writes is written as
+/// soon as it is made, and nothing before the whole script was read.
+pub fn replay<K: Sink>(
+    alloc: Global,
+    input: &[u8],
+    out: &mut K,
+    tally: &mut Tally,
+) -> Result<(), Stop>
+    requires { length input.now ≤ input_limit }
+    ensures ends { Ends (made Job.Replay input.now) result }
+    ensures stop { IfErr result IsServeStop }
+    ensures played { OnOk result (Played K.held K.faults out.old out.new tally.old tally.new
+        (output_as (made Job.Replay input.now)).parts) }
+    ensures stopped { IfErr result (Stopped K.held K.faults out.old out.new tally.old tally.new
+        (output_as (made Job.Replay input.now)).parts) }
+    ensures refused { IsRefusal (status_after result)
+        → (out.new ≡ out.old) × (tally.new ≡ tally.old) }
+    ensures commands { IsOk (made Job.Replay input.now) → result ≢ Err Stop.NoMemory
+        → IfOk (script_read input.now) (All IsCommand) }
+{
+    let model = read_model(alloc, model_text(input))?;
+    let commands = read_script(alloc, input)?;
+    play(Session::start(alloc, model), commands, out, tally)
+}
+
+// The text of the model in an input: what stands before the mark.
+fn model_text(input: &[u8]) -> &[u8]
+    ensures { result.now ≡ before_mark input.now }
+{
+    match split_input(input) {
+        Some((start, _)) => &input[..start],
+        None => input,
+    }
+}
+
+// Plays commands one after the other.
+fn play<K: Sink>(
+    mut session: Session,
+    commands: Vec<Command>,
+    out: &mut K,
+    tally: &mut Tally,
+) -> Result<(), Stop>
+    requires { All IsCommand commands.items }
+    ensures stop { IfErr result IsPlayStop }
+    ensures played { OnOk result (Played K.held K.faults out.old out.new tally.old tally.new
+        (replayed session commands.items)) }
+    ensures stopped { IfErr result (Stopped K.held K.faults out.old out.new tally.old tally.new
+        (replayed session commands.items)) }
+{
+    for command in commands {
+        step(&mut session, command, out, tally)?;
+    }
+    Ok(())
+}
+
+// Plays one command. A frame is drawn whole before its first byte is written.
+fn step<K: Sink>(
+    session: &mut Session,
+    command: Command,
+    out: &mut K,
+    tally: &mut Tally,
+) -> Result<(), Stop>
+    requires { IsCommand command }
+    ensures stop { IfErr result IsPlayStop }
+    ensures model { OnOk result (session.new ≡ clauses_after session.old command) }
+    ensures played { OnOk result (Played K.held K.faults out.old out.new tally.old tally.new
+        (parts_at session.old command)) }
+    ensures stopped { IfErr result (Stopped K.held K.faults out.old out.new tally.old tally.new
+        (parts_at session.old command)) }
+{
+    match command {
+        Command::Edit(line, edit) => change(session, line, edit, out),
+        Command::Stray(line) => refuse(out, line, EditFault::UnknownName),
+        Command::Render(view) => {
+            let image = session.render(&view, tally)?;
+            Ok(write_frame(out, FrameKind::Render, &image)?)
+        }
+        Command::Height(view) => {
+            let map = session.height(&view, tally)?;
+            Ok(write_frame(out, FrameKind::Height, &map)?)
+        }
+        Command::Mesh(view) => {
+            let mesh = session.mesh(&view, tally)?;
+            Ok(write_frame(out, FrameKind::Mesh, &mesh)?)
+        }
+        Command::Text => {
+            let text = session.text()?;
+            Ok(write_frame(out, FrameKind::Text, &text)?)
+        }
+    }
+}
+
+// Makes the edit of the line of this number, or writes why it is refused. Nothing is counted.
+fn change<K: Sink>(session: &mut Session, line: u32, edit: Edit, out: &mut K) -> Result<(), Stop>
+    ensures stop { IfErr result IsPlayStop }
+    ensures model { OnOk result (session.new ≡ clauses_after session.old (Command.Edit line edit)) }
+    ensures played { OnOk result ((counts : Counts)
+        → Played K.held K.faults out.old out.new counts counts
+        (parts_at session.old (Command.Edit line edit))) }
+    ensures stopped { IfErr result (λ stop. (counts : Counts)
+        → Stopped K.held K.faults out.old out.new counts counts
+        (parts_at session.old (Command.Edit line edit)) stop) }
+{
+    match session.edit(edit) {
+        Ok(()) => Ok(()),
+        Err(fault) => refuse(out, line, fault),
+    }
+}
+
+// Writes why the edit of the line of this number is refused. Want of memory is no line, but the
+// end. Nothing is counted.
+fn refuse<K: Sink>(out: &mut K, line: u32, fault: EditFault) -> Result<(), Stop>
+    ensures stop { IfErr result IsPlayStop }
+    ensures memory { fault ≡ EditFault.NoMemory
+        → (result ≡ Err Stop.NoMemory) × (out.new ≡ out.old) }
+    ensures played { OnOk result ((counts : Counts)
+        → Played K.held K.faults out.old out.new counts counts (refusal line fault ∷ [])) }
+    ensures stopped { IfErr result (λ stop. (counts : Counts)
+        → Stopped K.held K.faults out.old out.new counts counts (refusal line fault ∷ []) stop) }
+{
+    match fault {
+        EditFault::NoMemory => Err(Stop::NoMemory),
+        _ => Ok(write_refused(out, line, fault)?),
+    }
+}
