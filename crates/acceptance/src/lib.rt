@@ -18,6 +18,10 @@ mod pictures;
 #[cfg(test)]
 mod refusals;
 #[cfg(test)]
+mod replays;
+#[cfg(test)]
+mod scripts;
+#[cfg(test)]
 mod sure;
 #[cfg(test)]
 mod tapes;

@@ -61,8 +61,9 @@ const CASES: [(&[&str], u32, &str); 49] = [
     (&["height", "y1=-2"], 0, "EmptySpan"),
     (&["height", "z0=0.5", "z1=0.25"], 0, "EmptySpan"),
     // Good words of verbs that are not built.
-    (&["replay"], 1, "NotBuilt"),
     (&["forge", "seed=18446744073709551615"], 1, "NotBuilt"),
+    // Settings of verbs that take none.
+    (&["replay", "w"], 2, "NotASetting"),
     (&["replay", "w=1"], 2, "UnknownSetting"),
 ];
 

@@ -1,0 +1,206 @@
+// Scripts that are played: what their commands write, and what they leave.
+use crate::trial::{Trial, sink};
+use modeller_cmd::Status;
+use modeller_io::MemSink;
+use std::alloc::{AllocError, Global};
+use std::test::Fail;
+
+// Inputs, and what they write. The pixels, the tops and the lengths were worked out by hand.
+const CASES: [(&str, &[u8]); 8] = [
+    // Edits that are refused, each for another reason, and the same picture before and after.
+    (
+        "x var-x\nc const 0.5\nf sub x c\n%%\nrender w=3 h=1\ncut c\nadd x var-y\nset c sub x f\nrender w=3 h=1\n",
+        b"@ render 14\nP5\n3 1\n255\n\xff\xff\x00@ refused 6 InUse\n@ refused 7 DoubleName\n@ refused 8 NotEarlier\n@ render 14\nP5\n3 1\n255\n\xff\xff\x00",
+    ),
+    // A clause before another, the output cut twice, and the last clause.
+    (
+        "x var-x\n%%\nput x c const 0.5\nadd f sub x c\ntext\ncut f\ncut x\ncut c\n",
+        b"@ text 39\nc const 0.5000000000\nx var-x\nf sub x c\n@ refused 8 LastClause\n",
+    ),
+    // Two bars, of which the right one is moved over the left one.
+    (
+        "x var-x\np const -0.5\nq const 0.5\na sub x p\nb abs a\nc sub x q\nd abs c\ne min b d\nr const 0.25\nf sub e r\n%%\nrender w=16 h=1\nset q const -0.75\nrender w=16 h=1",
+        b"@ render 28\nP5\n16 1\n255\n\x00\x00\xff\xff\xff\xff\x00\x00\x00\x00\xff\xff\xff\xff\x00\x00@ render 28\nP5\n16 1\n255\n\x00\xff\xff\xff\xff\xff\x00\x00\x00\x00\x00\x00\x00\x00\x00\x00",
+    ),
+    // Height maps of a slope, of all and of nothing.
+    (
+        "z var-z\n%%\nheight w=1 h=1 d=3\nheight w=1 h=1 d=300\nset z const -1\nheight w=1 h=1 d=3\nset z const 1\nheight w=1 h=1 d=3\n",
+        b"@ height 10\nP5\n1 1\n3\n\x01@ height 13\nP5\n1 1\n300\n\x00\x96@ height 10\nP5\n1 1\n3\n\x03@ height 10\nP5\n1 1\n3\n\x00",
+    ),
+    // A mesh of one cell, all of whose corners lie in the outermost layer.
+    (
+        "a const -1\n%%\nmesh n=1\n",
+        b"@ mesh 157\nply\nformat ascii 1.0\nelement vertex 0\nproperty double x\nproperty double y\nproperty double z\nelement face 0\nproperty list uchar int vertex_indices\nend_header\n",
+    ),
+    // Each draw has its own settings.
+    (
+        "x var-x\n%%\nrender w=1 h=1 x0=1\nrender w=1 h=1\n",
+        b"@ render 12\nP5\n1 1\n255\n\x00@ render 12\nP5\n1 1\n255\n\xff",
+    ),
+    // Blanks round the mark, blank lines and comments, and no line feed at the end.
+    (
+        "x var-x\r\n\t %% \r\n\r\n# text\r\n text\t\r\ntext",
+        b"@ text 8\nx var-x\n@ text 8\nx var-x\n",
+    ),
+    // Nothing behind the mark.
+    ("x var-x\n%%", b""),
+];
+
+// A trial over this input, with room for more than one frame.
+fn trial(alloc: Global, input: &str) -> Result<Trial, AllocError> {
+    let mut trial = Trial::new(alloc, input.as_bytes())?;
+    let room = vec![in alloc; 0; 2048]?;
+    trial.out = MemSink::new(8192, Vec::new(alloc), room);
+    Ok(trial)
+}
+
+#[test]
+fn commands_write_frames_of_the_model_then_standing(rt: HostRuntime) -> Result<(), Fail> {
+    for (input, written) in CASES {
+        let mut trial = trial(rt.alloc(), input)?;
+        let status = trial.run(rt.alloc(), &["replay"])?;
+        assert_eq!(rt; status, Status::Done, "{input:?}");
+        trial.assert_holds(&rt, written, b"");
+    }
+    Ok(())
+}
+
+// The model that the edits below leave as it is.
+const SUM: &str = "a var-x\nb var-y\nc add a b\n";
+
+// What `text` writes of it.
+const SUM_TEXT: &str = "@ text 26\na var-x\nb var-y\nc add a b\n";
+
+// Edits that are refused, in the lines 5, 7, 9 and so on, and why: the first reason that holds, also
+// where others hold too.
+const REFUSED: [(&str, &str); 20] = [
+    // The clause is none, also where an argument stands too late; an argument is none.
+    ("set d neg c", "@ refused 5 UnknownName\n"),
+    ("set a add c d", "@ refused 7 UnknownName\n"),
+    // An argument is the clause itself, or stands after it.
+    ("set b neg b", "@ refused 9 NotEarlier\n"),
+    ("set a add b c", "@ refused 11 NotEarlier\n"),
+    // An argument is none, also where the name stands already.
+    ("add c neg d", "@ refused 13 UnknownName\n"),
+    ("add d neg d", "@ refused 15 UnknownName\n"),
+    ("add c neg a", "@ refused 17 DoubleName\n"),
+    // The other clause is none, or an argument, also where the name stands already.
+    ("put d c neg c", "@ refused 19 UnknownName\n"),
+    ("put b c neg d", "@ refused 21 UnknownName\n"),
+    // The name stands already, also where an argument stands too late.
+    ("put b c neg c", "@ refused 23 DoubleName\n"),
+    ("put b d neg c", "@ refused 25 NotEarlier\n"),
+    ("put b d neg b", "@ refused 27 NotEarlier\n"),
+    ("cut d", "@ refused 29 UnknownName\n"),
+    ("cut a", "@ refused 31 InUse\n"),
+    ("cut b", "@ refused 33 InUse\n"),
+    // A token that begins with `#` names no clause.
+    ("set #a var-x", "@ refused 35 UnknownName\n"),
+    ("set b neg #a", "@ refused 37 UnknownName\n"),
+    ("put #b d var-x", "@ refused 39 UnknownName\n"),
+    ("add c add #a b", "@ refused 41 UnknownName\n"),
+    ("cut #c", "@ refused 43 UnknownName\n"),
+];
+
+#[test]
+fn an_edit_that_is_refused_changes_nothing(rt: HostRuntime) -> Result<(), Fail> {
+    let mut script = String::from_str(rt.alloc(), SUM)?;
+    script.push_str("%%\n")?;
+    let mut written = String::new(rt.alloc());
+    for (edit, refused) in REFUSED {
+        writeln!(script, "{edit}\ntext")?;
+        written.push_str(refused)?;
+        written.push_str(SUM_TEXT)?;
+    }
+    let mut trial = trial(rt.alloc(), &script)?;
+    assert_eq!(rt; trial.run(rt.alloc(), &["replay"])?, Status::Done);
+    trial.assert_holds(&rt, written.as_bytes(), b"");
+    Ok(())
+}
+
+// Edits that are accepted, and the text after each.
+const ACCEPTED: [(&str, &str); 7] = [
+    ("set b neg a", "@ text 26\na var-x\nb neg a\nc add a b\n"),
+    (
+        "put b d abs a",
+        "@ text 34\na var-x\nd abs a\nb neg a\nc add a b\n",
+    ),
+    (
+        "set c min d b",
+        "@ text 34\na var-x\nd abs a\nb neg a\nc min d b\n",
+    ),
+    (
+        "add e neg c",
+        "@ text 42\na var-x\nd abs a\nb neg a\nc min d b\ne neg c\n",
+    ),
+    ("cut e", "@ text 34\na var-x\nd abs a\nb neg a\nc min d b\n"),
+    ("cut c", "@ text 24\na var-x\nd abs a\nb neg a\n"),
+    ("cut d", "@ text 16\na var-x\nb neg a\n"),
+];
+
+#[test]
+fn edits_change_the_model_one_after_the_other(rt: HostRuntime) -> Result<(), Fail> {
+    let mut script = String::from_str(rt.alloc(), SUM)?;
+    script.push_str("%%\n")?;
+    let mut written = String::new(rt.alloc());
+    for (edit, text) in ACCEPTED {
+        writeln!(script, "{edit}\ntext")?;
+        written.push_str(text)?;
+    }
+    let mut trial = trial(rt.alloc(), &script)?;
+    assert_eq!(rt; trial.run(rt.alloc(), &["replay"])?, Status::Done);
+    trial.assert_holds(&rt, written.as_bytes(), b"");
+    Ok(())
+}
+
+#[test]
+fn a_full_model_takes_no_clause_more(rt: HostRuntime) -> Result<(), Fail> {
+    let mut script = String::new(rt.alloc());
+    for number in 0..65_535u32 {
+        writeln!(script, "{number} var-x")?;
+    }
+    script.push_str(
+        "%%\nadd a neg b\nadd 0 var-y\nadd a var-y\nput 0 a neg 1\nput 1 a var-y\ncut 0\nadd a const 0\nrender w=1 h=1\n",
+    )?;
+    let mut trial = trial(rt.alloc(), &script)?;
+    assert_eq!(rt; trial.run(rt.alloc(), &["replay"])?, Status::Done);
+    trial.assert_holds(
+        &rt,
+        b"@ refused 65537 UnknownName\n@ refused 65538 DoubleName\n@ refused 65539 Full\n@ refused 65540 NotEarlier\n@ refused 65541 Full\n@ render 12\nP5\n1 1\n255\n\x00",
+        b"",
+    );
+    Ok(())
+}
+
+#[test]
+fn frames_take_the_work_that_they_take_alone(rt: HostRuntime) -> Result<(), Fail> {
+    // Three samples of three clauses, and then three of two, whose boxes are leaves.
+    let input =
+        "x var-x\nc const 0.5\nf sub x c\n%%\nrender w=3 h=1\ncut f\nadd f neg x\nrender w=3 h=1\n";
+    let mut trial = trial(rt.alloc(), input)?;
+    assert_eq!(rt; trial.run(rt.alloc(), &["replay"])?, Status::Done);
+    assert_eq!(rt; trial.tally.points(), 15);
+    assert_eq!(rt; trial.tally.spans(), 5);
+    Ok(())
+}
+
+#[test]
+fn a_write_that_fails_leaves_a_front_of_the_frames(rt: HostRuntime) -> Result<(), Fail> {
+    // Each frame is written by two calls: its line, and its bytes.
+    let input = b"x var-x\n%%\ntext\ncut y\ntext\n";
+    let cases: [(u64, &[u8]); 5] = [
+        (1, b""),
+        (2, b"@ text 8\n"),
+        (3, b"@ text 8\nx var-x\n"),
+        (4, b"@ text 8\nx var-x\n@ refused 4 UnknownName\n"),
+        (5, b"@ text 8\nx var-x\n@ refused 4 UnknownName\n@ text 8\n"),
+    ];
+    for (call, held) in cases {
+        let mut trial = Trial::new(rt.alloc(), input)?;
+        trial.out = sink(rt.alloc(), 8192, &[call])?;
+        let status = trial.run(rt.alloc(), &["replay"])?;
+        assert_eq!(rt; status, Status::WriteFault);
+        trial.assert_holds(&rt, held, b"modeller: write fault\n");
+    }
+    Ok(())
+}
