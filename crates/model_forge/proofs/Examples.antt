@@ -1,0 +1,44 @@
+-- The definitions, computed for the seed 0: numbers and clauses that were worked out by hand and by another program.
+use Rattle.std.proofs.Common.{◌≡◌, pos, [], ◌∷◌, take, drop, refl}
+use Rattle.std.specs.Prelude.{codes, negsuc}
+use Rattle.std.specs.Fmt.{digits}
+use Rattle.fixed_ops.specs.declared.operation.Op.TheVariants.{X, Y, Sub, Square, Neg, Min, Max}
+use Rattle.model_forge.specs.Discs.{centre_of, radius_of}
+use Rattle.model_forge.specs.Forged.{constant, forged, of_disc, says}
+use Rattle.model_forge.specs.Stream.{drawn}
+
+first_draw : drawn 0 0 ≡ 335903614
+first_draw = refl
+
+least_centre : centre_of 131072 ≡ negsuc 4294967295
+least_centre = refl
+
+greatest_radius : radius_of 4095 ≡ pos 268435456
+greatest_radius = refl
+
+begins : take 5 (forged 0 1)
+    ≡ says (codes "x") X [] ∷ says (codes "y") Y []
+    ∷ constant (codes "a0") (pos 2071855104)
+    ∷ says (codes "b0") Sub (codes "x" ∷ codes "a0" ∷ [])
+    ∷ says (codes "c0") Square (codes "b0" ∷ []) ∷ []
+unfolding digits
+begins = refl
+
+-- the second disc joins the first, and the third is cut out of both
+joins : drop 21 (take 23 (forged 0 3))
+    ≡ says (codes "m1") Sub (codes "g1" ∷ codes "k1" ∷ [])
+    ∷ says (codes "u1") Min (codes "m0" ∷ codes "m1" ∷ []) ∷ []
+unfolding digits
+joins = refl
+
+cuts_out : drop 32 (forged 0 3)
+    ≡ says (codes "m2") Sub (codes "g2" ∷ codes "k2" ∷ [])
+    ∷ says (codes "n2") Neg (codes "m2" ∷ [])
+    ∷ says (codes "u2") Max (codes "u1" ∷ codes "n2" ∷ []) ∷ []
+unfolding digits
+cuts_out = refl
+
+-- the number of a name has no leading zero
+eleventh : of_disc (codes "a") 10 ≡ codes "a10"
+unfolding digits
+eleventh = refl

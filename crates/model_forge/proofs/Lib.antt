@@ -1,0 +1,6 @@
+pub mod Counting
+mod Examples
+pub mod Joining
+pub mod LabelLemmas
+pub mod NamedLemmas
+pub mod PlacedLemmas

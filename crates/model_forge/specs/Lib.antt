@@ -1,0 +1,4 @@
+pub mod Discs
+pub mod Forged
+pub mod Placed
+pub mod Stream
