@@ -1,5 +1,5 @@
 -- The clauses of a further disc by places are those by names.
-use Rattle.std.proofs.Common.{◌≡◌, ℕ, zero, suc, ◌+◌, ◌-◌, ◌<◌, ◌≤◌, ◌==◌, ℤ, cond, List, [], ◌∷◌, ◌++◌, length, map, take, refl, ap, sym, ◌∙◌, length-append, arith}
+use Rattle.std.proofs.Common.{◌≡◌, ℕ, zero, suc, ◌+◌, ◌-◌, ◌*◌, ◌<◌, ◌≤◌, ◌==◌, ℤ, Bool, true, false, cond, List, [], ◌∷◌, ◌++◌, length, map, take, refl, ap, sym, ◌∙◌, length-append, arith}
 use Rattle.std.specs.Prelude.{codes, decimal}
 use Rattle.std.proofs.Math.Dec.{eqb-suc-zero}
 use Rattle.std.proofs.lemmas.Bool.{ne_eqb}
@@ -117,3 +117,17 @@ disc_axes xs ys axes =
       x = name_front xs ys 0 (omega (arith, two)) ∙ axes.x;
       y = name_front xs ys 1 (omega (arith, two)) ∙ axes.y;
     }
+
+-- a disc has at most 12 clauses
+pub disc_few : (xs : List Clause) (i : ℕ) (x y radius : ℤ) (role : Role) → length xs ≤ 2 + 12 * i + (97 - 97)
+    → length (xs ++ disc_at (length xs) i x y radius role) ≤ 2 + 12 * (i + 1)
+disc_few xs i x y radius role few =
+    let all = length-append xs (disc_at (length xs) i x y radius role) in
+    let own = by (i == 0) role in
+    omega (arith, all, own, few)
+  where
+    by : (first : Bool) (r : Role)
+        → length (circle_at (length xs) i x y radius ++ cond first [] (joined_at (length xs - 1) (length xs + 9) i r)) ≤ 12
+    by true r = omega arith
+    by false Solid = omega arith
+    by false Hole = omega arith

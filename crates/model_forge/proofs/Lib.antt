@@ -1,5 +1,6 @@
 pub mod Counting
 mod Examples
+pub mod FreshLemmas
 pub mod Joining
 pub mod LabelLemmas
 pub mod NamedLemmas

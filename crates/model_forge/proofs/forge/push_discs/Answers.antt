@@ -1,5 +1,5 @@
 -- One disc more.
-use Rattle.std.proofs.Common.{◌≡◌, ℕ, ◌+◌, ◌*◌, ℤ, ◌++◌, [], cond, ◌==◌, List, length, ap, sym, subst, ◌∙◌, append_assoc, arith}
+use Rattle.std.proofs.Common.{◌≡◌, ℕ, ◌+◌, ◌*◌, ◌≤◌, ℤ, ◌++◌, [], cond, ◌==◌, List, length, ap, sym, subst, ◌∙◌, append_assoc, arith}
 use Rattle.std.specs.List.{flat_map, range_with_len}
 use Rattle.solid_model.specs.declared.clause.Clause.{Clause}
 use Rattle.solid_model.specs.Clauses.{AreInOrder}
@@ -10,7 +10,8 @@ use Rattle.model_forge.specs.Forged.{axes, circle, disc_clauses, forged, joining
 use Rattle.model_forge.specs.Placed.{disc_at}
 use Rattle.model_forge.specs.Stream.{drawn, state_after}
 use Rattle.model_forge.proofs.Counting.{drawn_later, flat_map_range, state_later}
-use Rattle.model_forge.proofs.Joining.{EndsWithSolid, HasAxes, disc_axes, disc_last, disc_named}
+use Rattle.model_forge.proofs.FreshLemmas.{next_disc}
+use Rattle.model_forge.proofs.Joining.{EndsWithSolid, HasAxes, disc_axes, disc_few, disc_last, disc_named}
 use Rattle.model_forge.proofs.forge.push_discs.Goals as goal
 
 -- what four draws from a state make
@@ -51,5 +52,7 @@ loop-number-preserved c =
       named = more c.args.seed i old c.push_disc.new.builder d.x d.y d.radius d.role c.in_ok-push_disc.ensures.in_order so_far.axes so_far.solid so_far.named is
           (from_state c.args.seed c.loop-number.stream.state i d.x d.y d.radius d.role so_far.state e.x e.y e.radius e.role);
       solid = subst (λ l. EndsWithSolid l (i + 1)) (sym is) (disc_last old i d.x d.y d.radius d.role);
+      next = next_disc c.push_disc.new.builder 118 i (subst (λ l. length l ≤ 2 + 12 * (i + 1)) (sym is) (disc_few old i d.x d.y d.radius d.role (so_far.next 97 (omega arith)).few))
+          (c.in_ok-push_disc.ensures.later 118 (omega arith));
       state = e.state ∙ ap (λ s. state_after s 4) so_far.state ∙ state_later c.args.seed (4 * i) 4 ∙ ap (state_after c.args.seed) next;
     }
