@@ -54,7 +54,8 @@ joining i Hole =
 -- the clauses of the disc of a number, which takes four draws in turn; nothing is before the first disc
 abbrev pub disc_clauses : ℕ → ℕ → List Named
 disc_clauses seed i =
-    circle i (centre_of (drawn seed (4 * i))) (centre_of (drawn seed (4 * i + 1))) (radius_of (drawn seed (4 * i + 2)))
+    circle i (centre_of (drawn seed (4 * i))) (centre_of (drawn seed (4 * i + 1)))
+    (radius_of (drawn seed (4 * i + 2)))
     ++ (if i == 0 then [] else joining i (role_of (drawn seed (4 * i + 3))))
 
 -- the whole model
