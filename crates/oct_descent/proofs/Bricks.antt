@@ -1,47 +1,92 @@
 -- Where the values of points stand.
-use Rattle.std.proofs.Common.{◌≡◌, ◌≢◌, ℕ, zero, suc, ◌+◌, ◌*◌, ◌/◌, ◌%◌, ◌<◌, ◌≤◌, ℤ, Bool, true, false, cond, List, [], ◌∷◌, length, get_or, set, replicate, refl, sym, ap, ◌∙◌, ◌⊎◌, inl, inr, arith}
-use Rattle.std.specs.Prelude.{Some, None, pos, nat_le, nat_lt, ◌&&◌}
+use Rattle.std.proofs.Common.{◌≡◌, ◌≢◌, ℕ, zero, suc, ◌+◌, ◌-◌, ◌*◌, ◌/◌, ◌%◌, ◌<◌, ◌≤◌, ℤ, Bool, true, false, cond, List, ◌++◌, length, get_or, set, replicate, take, refl, sym, ap, ◌∙◌, ◌⊎◌, inl, inr, arith}
+use Rattle.std.specs.Prelude.{Option, is_some, unwrap_or, Some, None, pos, nat_le, ◌&&◌}
 use Rattle.std.proofs.lemmas.Bool.{and_parts, cases_lt, false≢true, le-leb, leb-true}
-use Rattle.std.proofs.lemmas.Bool.Decides.{nat_tests}
-use Rattle.std.proofs.lemmas.List.{get_or-set_other, get_or-set_same}
+use Rattle.std.proofs.lemmas.List.{get_or-append_right, get_or-set_other, get_or-set_same, get_or-take, get_or_append_left, get_or_past, length-set, length-take, take_all}
 use Rattle.std.proofs.lemmas.Nat.{same_from_place}
-use Rattle.kuhn_cells.specs.Triangles.{GridPoint, point}
-use Rattle.oct_descent.specs.Tables.{is_known, IsSame, Marks, PointValues, Sets, brick_of, has_room, is_made, is_within, known_at, no_marks, read, same_point, slot}
+use Rattle.kuhn_cells.specs.Triangles.{GridPoint, further, point}
+use Rattle.oct_descent.specs.Corners.{AreTogether}
+use Rattle.oct_descent.specs.Tables.{AreKept, IsSame, Marks, PointValues, Sets, brick_of, is_known, is_within, known_at, read, read_at, same_point, slot, stand, stand_in}
 use Rattle.oct_descent.proofs.TableLaws.{same-is, same-self}
 
--- ---- one brick
+-- ---- marks
 
 pub replicate-false : (n k : ℕ) → get_or (replicate n false) k false ≡ false
 replicate-false zero k = refl
 replicate-false (suc n) zero = refl
 replicate-false (suc n) (suc k) = replicate-false n k
 
--- what has no mark is not known
-pub read-unmarked : (b : Marks) (place : ℕ) → get_or b.known place false ≡ false → read b place ≡ None
-read-unmarked b place e = rw e refl
+pub replicate-none : (n k : ℕ) → ◌≡◌ {A = ℕ} (get_or (replicate n 0) k 0) 0
+replicate-none zero k = refl
+replicate-none (suc n) zero = refl
+replicate-none (suc n) (suc k) = replicate-none n k
 
-pub unmade-reads : (b : Marks) (place : ℕ) → is_made b ≡ false → read b place ≡ None
-unmade-reads b place e = read-unmarked b place (by b.known e)
-  where
-    by : (xs : List Bool) → nat_lt 0 (length xs) ≡ false → get_or xs place false ≡ false
-    by [] h = refl
-    by (x ∷ xs) h =
-        let none : length (x ∷ xs) ≤ 0 = grind (arith, nat_tests, h) in
-        absurd (omega (arith, none))
+-- what has no mark is not known
+read-unmarked : (b : Marks) (at : ℕ) → get_or b.known at false ≡ false → read b at ≡ None
+read-unmarked b at e = rw e refl
+
+read-marked : (b : Marks) (at : ℕ) → get_or b.known at false ≡ true → read b at ≡ Some (get_or b.values at (pos 0))
+read-marked b at e = rw e refl
 
 -- a place that is written is known, and all others stay
-pub written-reads : (b after : Marks) (place : ℕ) (v : ℤ) → place < length b.known → place < length b.values → after ≡ record { known = set b.known place true; values = set b.values place v }
-    → read after place ≡ Some v
-written-reads b after place v marks values is =
-    let a = get_or-set_same b.known place true false marks in
-    let c = get_or-set_same b.values place v (pos 0) values in
-    ap (λ m. read m place) is ∙ (rw (a, c) refl)
+written-reads : (b : Marks) (at : ℕ) (v : ℤ) → at < length b.known → at < length b.values → read (record { known = set b.known at true; values = set b.values at v }) at ≡ Some v
+written-reads b at v marks values =
+    let a = get_or-set_same b.known at true false marks in
+    let c = get_or-set_same b.values at v (pos 0) values in
+    rw (a, c) refl
 
-pub written-others : (b after : Marks) (place k : ℕ) (v : ℤ) → k ≢ place → after ≡ record { known = set b.known place true; values = set b.values place v } → read after k ≡ read b k
-written-others b after place k v other is =
-    let a = get_or-set_other b.known place k true false other in
-    let c = get_or-set_other b.values place k v (pos 0) other in
-    ap (λ m. read m k) is ∙ (rw (a, c) refl)
+written-others : (b : Marks) (at k : ℕ) (v : ℤ) → k ≢ at → read (record { known = set b.known at true; values = set b.values at v }) k ≡ read b k
+written-others b at k v other =
+    let a = get_or-set_other b.known at k true false other in
+    let c = get_or-set_other b.values at k v (pos 0) other in
+    rw (a, c) refl
+
+-- a list that is filled up begins as before
+filled-old : {A : Type 0} (xs : List A) (n m k : ℕ) (v d : A) → k < n → k < length xs → get_or (take n xs ++ replicate m v) k d ≡ get_or xs k d
+filled-old xs n m k v d below within =
+    let some : k < length (take n xs) = omega (arith, length-take n xs, below, within) in
+    get_or_append_left (take n xs) (replicate m v) d k some ∙ get_or-take n xs k d below
+
+-- what stands behind has no mark
+filled-new : (xs : List Bool) (n m k : ℕ) → length xs ≤ n → length xs ≤ k → get_or (take n xs ++ replicate m false) k false ≡ false
+filled-new xs n m k all behind =
+    ap (λ l. get_or (l ++ replicate m false) k false) (take_all n xs all) ∙ get_or-append_right xs (replicate m false) (length xs) k false refl behind ∙ replicate-false m (k - length xs)
+
+marked-within : (xs : List Bool) (k : ℕ) → get_or xs k false ≡ true → k < length xs
+marked-within xs k e = by (cases_lt k (length xs))
+  where
+    by : (k < length xs) ⊎ (length xs ≤ k) → k < length xs
+    by (inl within) = within
+    by (inr behind) = absurd (false≢true (sym (get_or_past xs k false behind) ∙ e))
+
+-- where more values stand behind, the same are known
+pub values-filled : (b : Marks) (n m k : ℕ) (v : ℤ) → length b.known ≤ n → length b.known ≤ length b.values → read (record { known = b.known; values = take n b.values ++ replicate m v }) k ≡ read b k
+values-filled b n m k v more enough = by (get_or b.known k false) refl
+  where
+    by : (t : Bool) → get_or b.known k false ≡ t → read (record { known = b.known; values = take n b.values ++ replicate m v }) k ≡ read b k
+    by false e = read-unmarked (record { known = b.known; values = take n b.values ++ replicate m v }) k e ∙ sym (read-unmarked b k e)
+    by true e =
+        let within : k < length b.known = marked-within b.known k e in
+        read-marked (record { known = b.known; values = take n b.values ++ replicate m v }) k e
+        ∙ ap Some (filled-old b.values n m k v (pos 0) (omega (arith, within, more)) (omega (arith, within, enough)))
+        ∙ sym (read-marked b k e)
+
+-- and so where marks that say nothing stand behind
+pub marks-filled : (b : Marks) (n m k : ℕ) → length b.known ≤ n → read (record { known = take n b.known ++ replicate m false; values = b.values }) k ≡ read b k
+marks-filled b n m k more = by (cases_lt k (length b.known))
+  where
+    by : (k < length b.known) ⊎ (length b.known ≤ k) → read (record { known = take n b.known ++ replicate m false; values = b.values }) k ≡ read b k
+    by (inl within) = ap (λ t. cond t (Some (get_or b.values k (pos 0))) None) (filled-old b.known n m k false false (omega (arith, within, more)) within)
+    by (inr behind) =
+        read-unmarked (record { known = take n b.known ++ replicate m false; values = b.values }) k (filled-new b.known n m k more behind)
+        ∙ sym (read-unmarked b k (get_or_past b.known k false behind))
+
+pub behind-unknown : (b : Marks) (k : ℕ) → length b.known ≤ k → read b k ≡ None
+behind-unknown b k behind = read-unmarked b k (get_or_past b.known k false behind)
+
+read_at-same : (b after : Marks) (o : Option ℕ) → ((k : ℕ) → read after k ≡ read b k) → read_at after o ≡ read_at b o
+read_at-same b after None same = refl
+read_at-same b after (Some at) same = same at
 
 -- ---- all bricks
 
@@ -70,19 +115,52 @@ place-one n p q here there bricks slots =
     ∙ ap (λ (j : ℕ). point q.x j p.z) (whole-from p.y q.y layer.1 innermost.1)
     ∙ ap (λ (k : ℕ). point q.x q.y k) (whole-from p.z q.z layer.0 innermost.0)
 
+-- where the value of a point stands
+pub stand-none : (t : PointValues) (p : GridPoint) → get_or t.places (brick_of t.n p) 0 ≡ 0 → stand t p ≡ None
+unfolding stand
+stand-none t p e = ap (λ k. stand_in k (slot p)) e
+
+pub stand-some : (t : PointValues) (p : GridPoint) (place : ℕ) → place ≡ get_or t.places (brick_of t.n p) 0 → 0 < place → stand t p ≡ Some ((place - 1) * 512 + slot p)
+unfolding stand
+stand-some t p place is some = ap (λ k. stand_in k (slot p)) (sym is) ∙ by place some
+  where
+    by : (place : ℕ) → 0 < place → stand_in place (slot p) ≡ Some ((place - 1) * 512 + slot p)
+    by zero h = absurd (omega (arith, h))
+    by (suc k) h = let less : k ≡ suc k - 1 = omega arith in ap (λ j. Some (j * 512 + slot p)) less
+
+-- the place of a brick that has a value
+pub stand-place : (t : PointValues) (p : GridPoint) (at : ℕ) → stand t p ≡ Some at → (0 < get_or t.places (brick_of t.n p) 0) × (at ≡ (get_or t.places (brick_of t.n p) 0 - 1) * 512 + slot p)
+unfolding stand
+stand-place t p at e = by (get_or t.places (brick_of t.n p) 0) e
+  where
+    by : (place : ℕ) → stand_in place (slot p) ≡ Some at → (0 < place) × (at ≡ (place - 1) * 512 + slot p)
+    by zero h = absurd (false≢true (ap is_some h))
+    by (suc k) h = (omega arith, let less : k ≡ suc k - 1 = omega arith in ap (λ o. unwrap_or o at) (sym h) ∙ ap (λ j. j * 512 + slot p) less)
+
+pub roomless : (t : PointValues) (p : GridPoint) → stand t p ≡ None → get_or t.places (brick_of t.n p) 0 ≡ 0
+unfolding stand
+roomless t p e = by (get_or t.places (brick_of t.n p) 0) e
+  where
+    by : (place : ℕ) → stand_in place (slot p) ≡ None → place ≡ 0
+    by zero h = refl
+    by (suc k) h = absurd (false≢true (sym (ap is_some h)))
+
 -- what is read of a point
-pub reads : (t : PointValues) (p : GridPoint) → p.x ≤ t.n → p.y ≤ t.n → p.z ≤ t.n → read (get_or t.bricks (brick_of t.n p) no_marks) (slot p) ≡ known_at t p
+pub reads : (t : PointValues) (p : GridPoint) (at : ℕ) → p.x ≤ t.n → p.y ≤ t.n → p.z ≤ t.n → stand t p ≡ Some at → read t.kept at ≡ known_at t p
 unfolding known_at
-reads t p x y z = rw (within-from t.n p x y z) refl
+reads t p at x y z is = sym (ap (λ w. cond w (read_at t.kept (stand t p)) None) (within-from t.n p x y z) ∙ ap (read_at t.kept) is)
 
--- there is a place for a point where its brick is made
-pub room-made : (t : PointValues) (p : GridPoint) → is_made (get_or t.bricks (brick_of t.n p) no_marks) ≡ true → has_room t p ≡ true
-unfolding has_room
-room-made t p e = e
+-- nothing is known of a brick that is not kept
+pub unkept-unknown : (t : PointValues) (p : GridPoint) → stand t p ≡ None → known_at t p ≡ None
+unfolding known_at
+unkept-unknown t p e = ap (λ o. cond (is_within t.n p) (read_at t.kept o) None) e ∙ by (is_within t.n p)
+  where
+    by : (w : Bool) → cond {A = Option ℤ} w None None ≡ None
+    by true = refl
+    by false = refl
 
-pub made-room : (t : PointValues) (p : GridPoint) → has_room t p ≡ true → is_made (get_or t.bricks (brick_of t.n p) no_marks) ≡ true
-unfolding has_room
-made-room t p e = e
+pub none-known : (t : PointValues) (p : GridPoint) → ((k : ℕ) → get_or t.places k 0 ≡ 0) → known_at t p ≡ None
+none-known t p none = unkept-unknown t p (stand-none t p (none (brick_of t.n p)))
 
 same-or : (a b : ℕ) → (a ≡ b) ⊎ (a ≢ b)
 same-or a b = by (cases_lt a b) (cases_lt b a)
@@ -92,66 +170,196 @@ same-or a b = by (cases_lt a b) (cases_lt b a)
     by (inr more) (inl less) = inr (λ same. omega (arith, less, same))
     by (inr more) (inr most) = inl (omega (arith, more, most))
 
--- nothing is known of new bricks
-pub none-known : (t : PointValues) (p : GridPoint) → ((k : ℕ) → get_or t.bricks k no_marks ≡ no_marks) → known_at t p ≡ None
-unfolding known_at
-none-known t p none = rw (none (brick_of t.n p)) (by (is_within t.n p))
-  where
-    by : (w : Bool) → cond w (read no_marks (slot p)) None ≡ None
-    by true = refl
-    by false = refl
+-- the same is known where the same is kept of the same bricks
+pub kept-same : (t : PointValues) (after : Marks) → ((k : ℕ) → read after k ≡ read t.kept k) → IsSame t (record { n = t.n; places = t.places; kept = after })
+unfolding known_at stand
+kept-same t after same = record {
+  n = refl;
+  each = λ q. ap (λ o. cond (is_within t.n q) o None) (read_at-same t.kept after (stand_in (get_or t.places (brick_of t.n q) 0) (slot q)) same);
+}
 
--- a brick that reads as the one before changes nothing
-pub brick-same : (t after : PointValues) (at : ℕ) (b : Marks) → at < length t.bricks → ((place : ℕ) → read b place ≡ read (get_or t.bricks at no_marks) place)
-    → after ≡ record { n = t.n; bricks = set t.bricks at b } → IsSame t after
-unfolding known_at
-brick-same t after at b within same is = record { n = ap (λ u. u.n) is; each = λ q. ap (λ u. known_at u q) is ∙ by q (same-or (brick_of t.n q) at) }
+pub same-then : (before mid after : PointValues) → IsSame before mid → IsSame mid after → IsSame before after
+same-then before mid after first second = record { n = second.n ∙ first.n; each = λ q. second.each q ∙ first.each q }
+
+-- a brick that is kept from now on, behind all that is known, changes nothing
+pub brick-added : (t : PointValues) (at place : ℕ) → at < length t.places → get_or t.places at 0 ≡ 0 → ((k : ℕ) → place * 512 ≤ k → read t.kept k ≡ None)
+    → IsSame t (record { n = t.n; places = set t.places at (place + 1); kept = t.kept })
+unfolding known_at stand
+brick-added t at place within none behind = record { n = refl; each = λ q. ap (λ o. cond (is_within t.n q) o None) (by q (same-or (brick_of t.n q) at)) }
   where
-    by : (q : GridPoint) → (brick_of t.n q ≡ at) ⊎ (brick_of t.n q ≢ at) → known_at (record { n = t.n; bricks = set t.bricks at b }) q ≡ known_at t q
+    by : (q : GridPoint) → (brick_of t.n q ≡ at) ⊎ (brick_of t.n q ≢ at)
+        → read_at t.kept (stand_in (get_or (set t.places at (place + 1)) (brick_of t.n q) 0) (slot q)) ≡ read_at t.kept (stand_in (get_or t.places (brick_of t.n q) 0) (slot q))
     by q (inl here) =
-        ap (λ r. cond (is_within t.n q) r None)
-        (ap (λ k. read (get_or (set t.bricks at b) k no_marks) (slot q)) here ∙ ap (λ m. read m (slot q)) (get_or-set_same t.bricks at b no_marks within) ∙ same (slot q)
-        ∙ ap (λ k. read (get_or t.bricks k no_marks) (slot q)) (sym here))
-    by q (inr other) = ap (λ m. cond (is_within t.n q) (read m (slot q)) None) (get_or-set_other t.bricks at (brick_of t.n q) b no_marks other)
+        let now : get_or (set t.places at (place + 1)) (brick_of t.n q) 0 ≡ place + 1 = ap (λ k. get_or (set t.places at (place + 1)) k 0) here ∙ get_or-set_same t.places at (place + 1) 0 within in
+        let before : get_or t.places (brick_of t.n q) 0 ≡ 0 = ap (λ k. get_or t.places k 0) here ∙ none in
+        let next : place + 1 ≡ suc place = omega arith in
+        ap (λ k. read_at t.kept (stand_in k (slot q))) (now ∙ next) ∙ behind (place * 512 + slot q) (omega arith) ∙ ap (λ k. read_at t.kept (stand_in k (slot q))) (sym before)
+    by q (inr other) = ap (λ k. read_at t.kept (stand_in k (slot q))) (get_or-set_other t.places at (brick_of t.n q) (place + 1) 0 other)
 
--- a brick in which one place is written sets the point of that place
-pub brick-sets : (t after : PointValues) (p : GridPoint) (v : ℤ) (b : Marks) → p.x ≤ t.n → p.y ≤ t.n → p.z ≤ t.n → brick_of t.n p < length t.bricks → read b (slot p) ≡ Some v
-    → ((place : ℕ) → place ≢ slot p → read b place ≡ read (get_or t.bricks (brick_of t.n p) no_marks) place)
-    → after ≡ record { n = t.n; bricks = set t.bricks (brick_of t.n p) b } → Sets p v t after
-unfolding known_at
-brick-sets t after p v b x y z within here others is = record { n = ap (λ u. u.n) is; each = λ q. ap (λ u. known_at u q) is ∙ by q (same_point p q) refl (is_within t.n q) refl (same-or (brick_of t.n q) (brick_of t.n p)) }
+-- and so does a brick whose points stand behind all others
+pub brick-filled : (t : PointValues) (known : List Bool) (values : List ℤ) (start at m j : ℕ) (v : ℤ) → start ≡ length t.kept.known → AreKept t.places (length t.kept.known) (length t.kept.values)
+    → at < length t.places → get_or t.places at 0 ≡ 0 → values ≡ take (start + 512) t.kept.values ++ replicate j v → known ≡ take (start + 512) t.kept.known ++ replicate m false
+    → IsSame t (record { n = t.n; places = set t.places at (start / 512 + 1); kept = record { known = known; values = values } })
+brick-filled t known values start at m j v len kept within none filled marked =
+    same-then t (record { n = t.n; places = t.places; kept = after }) _ (kept-same t after same)
+    (brick-added (record { n = t.n; places = t.places; kept = after }) at (start / 512) within none
+    (λ k above. same k ∙ behind-unknown t.kept k (omega (arith, above, len, kept.whole))))
   where
+    after : Marks
+    after = record { known = known; values = values }
+
+    same : (k : ℕ) → read after k ≡ read t.kept k
+    same k =
+        ap (λ l. read (record { known = l; values = values }) k) marked
+        ∙ marks-filled (record { known = t.kept.known; values = values }) (start + 512) m k (omega (arith, len))
+        ∙ ap (λ l. read (record { known = t.kept.known; values = l }) k) filled
+        ∙ values-filled t.kept (start + 512) j k v (omega (arith, len)) kept.enough
+
+-- where its points stand
+pub brick-stands : (t : PointValues) (kept : Marks) (p : GridPoint) (start at : ℕ) → AreKept t.places (length t.kept.known) (length t.kept.values) → start ≡ length t.kept.known → at ≡ brick_of t.n p → at < length t.places
+    → stand (record { n = t.n; places = set t.places at (start / 512 + 1); kept = kept }) p ≡ Some (start + slot p)
+brick-stands t kept p start at are len brick within =
+    let place : start / 512 + 1 ≡ get_or (set t.places at (start / 512 + 1)) (brick_of t.n p) 0
+    = sym (ap (λ k. get_or (set t.places at (start / 512 + 1)) k 0) (sym brick) ∙ get_or-set_same t.places at (start / 512 + 1) 0 within) in
+    let from : (start / 512 + 1 - 1) * 512 + slot p ≡ start + slot p = omega (arith, len, are.whole) in
+    stand-some (record { n = t.n; places = set t.places at (start / 512 + 1); kept = kept }) p (start / 512 + 1) place (omega arith) ∙ ap Some from
+
+-- the places of bricks, one of which is kept from now on
+pub added-kept : (places : List ℕ) (marks values at place more : ℕ) → AreKept places marks values → get_or places at 0 ≡ 0 → place * 512 ≡ marks + 512 → marks + 512 ≤ more
+    → AreKept (set places at place) (marks + 512) more
+added-kept places marks values at place more kept none whole enough = record {
+  whole = omega (arith, kept.whole);
+  enough = enough;
+  within = λ k. by k (same-or k at) (cases_lt at (length places));
+  apart = λ j k e. part j k e (same-or j at) (same-or k at);
+}
+  where
+    other : (k : ℕ) → k ≢ at → get_or (set places at place) k 0 ≡ get_or places k 0
+    other k apart = get_or-set_other places at k place 0 apart
+
+    -- what stands there now, the new place or nothing
+    most : (k : ℕ) → k ≡ at → (at < length places) ⊎ (length places ≤ at) → (get_or (set places at place) k 0 ≡ place) ⊎ (get_or (set places at place) k 0 ≡ 0)
+    most k here (inl within) = inl (ap (λ i. get_or (set places at place) i 0) here ∙ get_or-set_same places at place 0 within)
+    most k here (inr past) = inr (get_or_past (set places at place) k 0 (omega (arith, here, past, length-set places at place)))
+
+    by : (k : ℕ) → (k ≡ at) ⊎ (k ≢ at) → (at < length places) ⊎ (length places ≤ at) → get_or (set places at place) k 0 * 512 ≤ marks + 512
+    by k (inr apart) l = omega (arith, other k apart, kept.within k)
+    by k (inl here) l = bound (most k here l)
+      where
+        bound : (get_or (set places at place) k 0 ≡ place) ⊎ (get_or (set places at place) k 0 ≡ 0) → get_or (set places at place) k 0 * 512 ≤ marks + 512
+        bound (inl e) = omega (arith, e, whole)
+        bound (inr e) = omega (arith, e)
+
+    -- another brick has no such place
+    never : (j k : ℕ) → j ≡ at → k ≢ at → get_or (set places at place) j 0 ≡ get_or (set places at place) k 0 → get_or (set places at place) j 0 ≡ 0
+    never j k here apart e = pick (most j here (cases_lt at (length places)))
+      where
+        pick : (get_or (set places at place) j 0 ≡ place) ⊎ (get_or (set places at place) j 0 ≡ 0) → get_or (set places at place) j 0 ≡ 0
+        pick (inr none') = none'
+        pick (inl is) = absurd (omega (arith, is, e, other k apart, kept.within k, whole))
+
+    part : (j k : ℕ) → get_or (set places at place) j 0 ≡ get_or (set places at place) k 0 → (j ≡ at) ⊎ (j ≢ at) → (k ≡ at) ⊎ (k ≢ at) → (j ≡ k) ⊎ (get_or (set places at place) j 0 ≡ 0)
+    part j k e (inl here) (inl there) = inl (here ∙ sym there)
+    part j k e (inl here) (inr apart) = inr (never j k here apart e)
+    part j k e (inr apart) (inl there) = inr (e ∙ never k j there apart (sym e))
+    part j k e (inr a) (inr b) = old (kept.apart j k (sym (other j a) ∙ e ∙ other k b))
+      where
+        old : (j ≡ k) ⊎ (get_or places j 0 ≡ 0) → (j ≡ k) ⊎ (get_or (set places at place) j 0 ≡ 0)
+        old (inl same) = inl same
+        old (inr none') = inr (other j a ∙ none')
+
+-- points whose values stand in one place are one
+stand-one : (t : PointValues) (p q : GridPoint) (at : ℕ) → AreKept t.places (length t.kept.known) (length t.kept.values) → is_within t.n p ≡ true → is_within t.n q ≡ true
+    → stand t p ≡ Some at → stand t q ≡ Some at → p ≡ q
+stand-one t p q at kept here there first second =
+    let a = stand-place t p at first in
+    let b = stand-place t q at second in
+    let places : get_or t.places (brick_of t.n p) 0 ≡ get_or t.places (brick_of t.n q) 0 = omega (arith, a.0, a.1, b.0, b.1, low p, low q) in
+    let slots : slot p ≡ slot q = omega (arith, a.0, a.1, b.0, b.1, low p, low q) in
+    by (kept.apart (brick_of t.n p) (brick_of t.n q) places) slots a.0
+  where
+    low : (r : GridPoint) → slot r < 512
+    low r = omega arith
+
+    by : (brick_of t.n p ≡ brick_of t.n q) ⊎ (get_or t.places (brick_of t.n p) 0 ≡ 0) → slot p ≡ slot q → 0 < get_or t.places (brick_of t.n p) 0 → p ≡ q
+    by (inl same) slots some = place-one t.n p q here there same slots
+    by (inr none) slots some = absurd (omega (arith, none, some))
+
+-- what is written where the value of a point stands sets the point
+pub brick-sets : (t : PointValues) (p : GridPoint) (v : ℤ) (at : ℕ) → AreKept t.places (length t.kept.known) (length t.kept.values) → is_within t.n p ≡ true → stand t p ≡ Some at → at < length t.kept.known
+    → Sets p v t (record { n = t.n; places = t.places; kept = record { known = set t.kept.known at true; values = set t.kept.values at v } })
+unfolding known_at stand
+brick-sets t p v at kept inside is fits = record { n = refl; each = λ q. by q (same_point p q) refl (is_within t.n q) refl }
+  where
+    now : Marks
+    now = record { known = set t.kept.known at true; values = set t.kept.values at v }
+
     made : PointValues
-    made = record { n = t.n; bricks = set t.bricks (brick_of t.n p) b }
+    made = record { n = t.n; places = t.places; kept = now }
 
-    inside : is_within t.n p ≡ true
-    inside = within-from t.n p x y z
+    there : known_at made p ≡ Some v
+    there =
+        ap (λ w. cond w (read_at now (stand t p)) None) inside ∙ ap (read_at now) is ∙ written-reads t.kept at v fits (omega (arith, fits, kept.enough))
 
-    there : get_or (set t.bricks (brick_of t.n p) b) (brick_of t.n p) no_marks ≡ b
-    there = get_or-set_same t.bricks (brick_of t.n p) b no_marks within
+    -- a point of another place
+    elsewhere : (q : GridPoint) (o : Option ℕ) → stand t q ≡ o → same_point p q ≡ false → is_within t.n q ≡ true → read_at now o ≡ read_at t.kept o
+    elsewhere q None e f w = refl
+    elsewhere q (Some k) e f w =
+        written-others t.kept at k v (λ same. false≢true (sym f ∙ ap (same_point p) (sym (stand-one t p q at kept inside w is (e ∙ ap Some same))) ∙ same-self p))
 
-    by : (q : GridPoint) (s : Bool) → same_point p q ≡ s → (w : Bool) → is_within t.n q ≡ w → (brick_of t.n q ≡ brick_of t.n p) ⊎ (brick_of t.n q ≢ brick_of t.n p)
-        → known_at made q ≡ cond s (Some v) (known_at t q)
-    by q true e w f g =
-        ap (λ r. known_at made r) (sym (same-is p q e)) ∙ (rw inside (ap (λ m. read m (slot p)) there ∙ here))
-    by q false e false f g = rw f refl
-    by q false e true f (inr other) = ap (λ m. cond (is_within t.n q) (read m (slot q)) None) (get_or-set_other t.bricks (brick_of t.n p) (brick_of t.n q) b no_marks other)
-    by q false e true f (inl same) =
-        let apart : slot q ≢ slot p = λ slots. false≢true (sym e ∙ ap (same_point p) (place-one t.n q p f inside same slots) ∙ same-self p) in
-        ap (λ r. cond (is_within t.n q) r None)
-        (ap (λ k. read (get_or (set t.bricks (brick_of t.n p) b) k no_marks) (slot q)) same ∙ ap (λ m. read m (slot q)) there ∙ others (slot q) apart
-        ∙ ap (λ k. read (get_or t.bricks k no_marks) (slot q)) (sym same))
-
--- whether there is a place, by the brick
-pub room-is : (t : PointValues) (p : GridPoint) → is_made (get_or t.bricks (brick_of t.n p) no_marks) ≡ has_room t p
-unfolding has_room
-room-is t p = refl
+    by : (q : GridPoint) (s : Bool) → same_point p q ≡ s → (w : Bool) → is_within t.n q ≡ w → known_at made q ≡ cond s (Some v) (known_at t q)
+    by q true e w f = ap (known_at made) (sym (same-is p q e)) ∙ there
+    by q false e false f = rw f refl
+    by q false e true f = ap (λ o. cond (is_within t.n q) o None) (elsewhere q (stand t q) refl e f)
 
 -- where there is no place, no point of the brick is known
-pub roomless-unknown : (t : PointValues) (p q : GridPoint) → has_room t p ≡ false → brick_of t.n q ≡ brick_of t.n p → is_known (known_at t q) ≡ false
-unfolding known_at has_room
-roomless-unknown t p q e same = rw (unmade-reads (get_or t.bricks (brick_of t.n q) no_marks) (slot q) (ap (λ k. is_made (get_or t.bricks k no_marks)) same ∙ e)) (by (is_within t.n q))
+pub roomless-unknown : (t : PointValues) (p q : GridPoint) → stand t p ≡ None → brick_of t.n q ≡ brick_of t.n p → is_known (known_at t q) ≡ false
+roomless-unknown t p q e same = ap is_known (unkept-unknown t q (stand-none t q (ap (λ k. get_or t.places k 0) same ∙ roomless t p e)))
+
+-- a part of a place that does not end its brick
+next-part : (i b : ℕ) → i % 8 ≢ 7 → b < 2 → ((i + b) / 8 ≡ i / 8) × ((i + b) % 8 ≡ i % 8 + b)
+next-part i b inner bit = by b bit
   where
-    by : (w : Bool) → is_known (cond w None None) ≡ false
-    by true = refl
-    by false = refl
+    by : (b : ℕ) → b < 2 → ((i + b) / 8 ≡ i / 8) × ((i + b) % 8 ≡ i % 8 + b)
+    by zero h = (omega arith, omega arith)
+    by (suc zero) h = let less : i % 8 < 7 = below i inner in (omega (arith, less), omega (arith, less))
+      where
+        below : (i : ℕ) → i % 8 ≢ 7 → i % 8 < 7
+        below i apart = pick (cases_lt (i % 8) 7)
+          where
+            pick : (i % 8 < 7) ⊎ (7 ≤ i % 8) → i % 8 < 7
+            pick (inl less) = less
+            pick (inr more) = absurd (apart (omega (arith, more)))
+    by (suc (suc b)) h = absurd (omega (arith, h))
+
+-- the corners of a cell that do not end their brick stand in one
+pub together-is : (t : PointValues) (p : GridPoint) (first : ℕ) → AreKept t.places (length t.kept.known) (length t.kept.values) → p.x < t.n → p.y < t.n → p.z < t.n
+    → stand t p ≡ Some first → p.x % 8 ≢ 7 → p.y % 8 ≢ 7 → p.z % 8 ≢ 7 → AreTogether t p first
+together-is t p first kept x y z is ix iy iz = record {
+  within =
+      omega (
+        arith,
+        at.0,
+        at.1,
+        kept.within (brick_of t.n p),
+        (next-part p.x 1 ix (omega arith)).1,
+        (next-part p.y 1 iy (omega arith)).1,
+        (next-part p.z 1 iz (omega arith)).1,
+      );
+  each = each;
+}
+  where
+    at : (0 < get_or t.places (brick_of t.n p) 0) × (first ≡ (get_or t.places (brick_of t.n p) 0 - 1) * 512 + slot p)
+    at = stand-place t p first is
+
+    each : (c : ℕ) → c < 8 → read t.kept (first + (c / 4 % 2 * 64 + c / 2 % 2 * 8 + c % 2)) ≡ known_at t (further p c)
+    each c few =
+        let q = further p c in
+        let a = next-part p.x (c % 2) ix (omega arith) in
+        let b = next-part p.y (c / 2 % 2) iy (omega arith) in
+        let d = next-part p.z (c / 4 % 2) iz (omega arith) in
+        let brick : brick_of t.n q ≡ brick_of t.n p = rw (a.0, b.0, d.0) refl in
+        let place = get_or t.places (brick_of t.n p) 0 in
+        let here : first + (c / 4 % 2 * 64 + c / 2 % 2 * 8 + c % 2) ≡ (place - 1) * 512 + slot q = omega (arith, at.1, a.1, b.1, d.1) in
+        reads t q (first + (c / 4 % 2 * 64 + c / 2 % 2 * 8 + c % 2)) (omega (arith, x)) (omega (arith, y)) (omega (arith, z))
+        (stand-some t q place (ap (λ k. get_or t.places k 0) (sym brick)) at.0 ∙ ap Some (sym here))

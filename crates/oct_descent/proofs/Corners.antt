@@ -1,19 +1,26 @@
 -- The corners of a cell, one after another.
 use Rattle.std.proofs.Common.{◌≡◌, ℕ, zero, suc, ◌+◌, ◌-◌, ◌%◌, ◌<◌, ◌≤◌, ℤ, Bool, true, false, refl, sym, ap, subst, ◌∙◌, ◌⊎◌, inl, inr, arith}
-use Rattle.std.specs.Prelude.{Option, Some, None, is_some, nat_lt, not}
+use Rattle.std.specs.Prelude.{Option, Some, None, is_some, nat_lt, not, ◌||◌}
 use Rattle.std.proofs.lemmas.Bool.{cases_lt, false≢true}
 use Rattle.std.proofs.lemmas.Bool.Decides.{nat_tests}
 use Rattle.kuhn_cells.specs.Triangles.{GridPoint, further, point}
 use Rattle.view_settings.specs.Boxes.{Indices, IsBox}
 use Rattle.box_chains.specs.Chains.{is_long}
+use Rattle.fixed_ops.specs.Raw.{is_inside}
+use Rattle.oct_descent.specs.Corners.{ShowsCorner, side_seen}
 use Rattle.oct_descent.specs.Fills.{point_box}
 use Rattle.oct_descent.specs.Tables.{AllKnown, PointValues, is_known, known_at}
 use Rattle.oct_descent.specs.Ways.{Covers}
+use Rattle.oct_descent.specs.declared.seen.Seen.{Seen}
 use Rattle.oct_descent.proofs.Covered.{or-false}
 
 pub none-is : (o : Option ℤ) (t : Bool) → is_some o ≡ not t → t ≡ true → o ≡ None
 none-is None t e h = refl
 none-is (Some v) t e h = absurd (false≢true (sym (e ∙ ap not h)))
+
+pub none-there : (o : Option ℕ) (t : Bool) → is_some o ≡ not t → t ≡ true → o ≡ None
+none-there None t e h = refl
+none-there (Some v) t e h = absurd (false≢true (sym (e ∙ ap not h)))
 
 -- a point is covered by its own box
 pub itself : (p : GridPoint) → Covers (point_box p) p
@@ -106,3 +113,44 @@ one-more_known b before after c p at stays known here k less = by (cases_lt k c)
     by (inr above) =
         let same : c ≡ k = omega (arith, above, less) in
         ap (λ q. is_known (known_at after q)) (ap (further (point b.x0 b.y0 b.z0)) (sym same) ∙ sym at) ∙ here
+
+-- what the first known corners of a cell show
+pub record IsSeenTo (t : PointValues) (p : GridPoint) (n : ℕ) (seen : Seen) : Type 0 where
+  pub all : seen.all ≡ true → (c : ℕ) → c < n → is_known (known_at t (further p c)) ≡ true
+  pub inside : seen.inside ≡ true → ShowsCorner t p true
+  pub outside : seen.outside ≡ true → ShowsCorner t p false
+
+or-parts : (a b : Bool) → (a || b) ≡ true → (a ≡ true) ⊎ (b ≡ true)
+or-parts true b e = inl refl
+or-parts false b e = inr e
+
+not-true : (a : Bool) → not a ≡ true → a ≡ false
+not-true true e = sym e
+not-true false e = refl
+
+-- and with one more
+pub seen-more : (t : PointValues) (p : GridPoint) (n : ℕ) (seen : Seen) (o : Option ℤ) → n < 8 → o ≡ known_at t (further p n) → IsSeenTo t p n seen → IsSeenTo t p (n + 1) (side_seen seen o)
+seen-more t p n seen None few is so = record {
+  all = λ e. absurd (false≢true e);
+  inside = so.inside;
+  outside = so.outside;
+}
+seen-more t p n seen (Some v) few is so = record {
+  all = λ e c less. by e c less (cases_lt c n);
+  inside = λ e. inner (or-parts seen.inside (is_inside v) e);
+  outside = λ e. outer (or-parts seen.outside (not (is_inside v)) e);
+}
+  where
+    by : seen.all ≡ true → (c : ℕ) → c < n + 1 → (c < n) ⊎ (n ≤ c) → is_known (known_at t (further p c)) ≡ true
+    by e c less (inl below) = so.all e c below
+    by e c less (inr above) =
+        let same : n ≡ c = omega (arith, above, less) in
+        ap (λ k. is_known (known_at t (further p k))) (sym same) ∙ ap is_known (sym is)
+
+    inner : (seen.inside ≡ true) ⊎ (is_inside v ≡ true) → ShowsCorner t p true
+    inner (inl e) = so.inside e
+    inner (inr e) = record { corner = n; few = few; value = v; known = sym is; side = e }
+
+    outer : (seen.outside ≡ true) ⊎ (not (is_inside v) ≡ true) → ShowsCorner t p false
+    outer (inl e) = so.outside e
+    outer (inr e) = record { corner = n; few = few; value = v; known = sym is; side = not-true (is_inside v) e }

@@ -1,6 +1,6 @@
 -- The mixed cells of a list's grid, from what is known of its points.
 use Rattle.std.proofs.Common.{◌≡◌, ℕ, zero, suc, ◌+◌, ◌-◌, ◌*◌, ◌/◌, ◌%◌, ◌<◌, ◌≤◌, ℤ, Bool, true, false, cond, List, [], ◌∷◌, ◌++◌, get_or, refl, sym, ap, ◌∙◌, ◌⊎◌, inl, inr, append_assoc, append-nil, add-zero, arith}
-use Rattle.std.specs.Prelude.{pos, min, map, filter, not, ◌&&◌, unwrap_or}
+use Rattle.std.specs.Prelude.{None, pos, min, map, filter, not, ◌&&◌, unwrap_or}
 use Rattle.std.specs.List.{All, flat_map, list_any, range_with_len}
 use Rattle.std.proofs.lemmas.Bool.{false≢true}
 use Rattle.std.proofs.lemmas.List.{ext_get_or}
@@ -18,7 +18,7 @@ use Rattle.oct_descent.specs.Bound.{sample_of}
 use Rattle.oct_descent.specs.Corners.{AreCorners, LacksCorner, is_mixed}
 use Rattle.oct_descent.specs.GridValues.{grid_of, grid_value}
 use Rattle.oct_descent.specs.Rows.{cells_at, cells_between, cells_in_layer}
-use Rattle.oct_descent.specs.Tables.{AllKnown, IsUniform, PointValues, brick_of, has_room, is_known}
+use Rattle.oct_descent.specs.Tables.{AllKnown, IsUniform, PointValues, brick_of, is_known, stand}
 use Rattle.oct_descent.specs.Trees.{IsTold}
 use Rattle.oct_descent.specs.Ways.{cell_box}
 use Rattle.oct_descent.proofs.Blocks.{value-at_grid}
@@ -200,7 +200,7 @@ grid-z view list = refl
 
 -- no cell is mixed whose lowest corners lie in a brick of which nothing is known
 pub eight-none : (view : Window) (list : List Step) (t : PointValues) (first high y z : ℕ) → IsTold view list t → first % 8 ≡ 0 → high ≤ view.n → high ≤ first + 8 → y < view.n → z < view.n
-    → has_room t (point first y z) ≡ false → [] ≡ cells_between view list first high y z
+    → stand t (point first y z) ≡ None → [] ≡ cells_between view list first high y z
 eight-none view list t first high y z told eighth within near fy fz e =
     flat-none (λ x. cells_at view list (point x y z)) first (high - first)
     (λ x low less.

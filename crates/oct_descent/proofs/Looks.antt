@@ -1,6 +1,6 @@
 -- What looking into a box leaves.
-use Rattle.std.proofs.Common.{◌≡◌, ℕ, ◌+◌, ◌<◌, ◌≤◌, ℤ, Bool, true, false, List, [], ◌∷◌, ◌++◌, length, get_or, take, refl, sym, ap, subst, ◌∙◌, Result, Ok, Err, ◌⊎◌, inl, inr, arith}
-use Rattle.std.specs.Prelude.{Option, Some, None, ◌&&◌, not, OnOk}
+use Rattle.std.proofs.Common.{◌≡◌, ℕ, ◌+◌, ◌<◌, ◌≤◌, ℤ, Bool, true, false, List, [], ◌∷◌, ◌++◌, length, get_or, take, refl, sym, ap, subst, ◌∙◌, Result, Ok, Err, inl, inr, arith}
+use Rattle.std.specs.Prelude.{Option, Some, None, ◌&&◌, not, unwrap_or, OnOk}
 use Rattle.std.specs.List.{All, Contains}
 use Rattle.std.proofs.lemmas.Bool.{false≢true}
 use Rattle.std.proofs.lemmas.List.{take_more}
@@ -10,13 +10,15 @@ use Rattle.box_chains.specs.Chains.{Descent, Visit, decision, handed_on, is_long
 use Rattle.box_chains.specs.HalfLaws.{IsPart, half_with-among, halves-are_parts, part-is_box, part-is_shorter, part-lies}
 use Rattle.box_chains.specs.Sums.{LiesIn, Sample}
 use Rattle.box_chains.specs.ValueLaws.{IsVisit, Lawful}
+use Rattle.box_chains.specs.Tallied.{CountsAtMost}
 use Rattle.choice_trace.specs.Hulls.{choices_over, tape_hull}
 use Rattle.fixed_ops.specs.Counts.{Counts}
 use Rattle.interval_ops.specs.Decided.{decided_of}
 use Rattle.interval_ops.specs.HullCounts.{CountsHulls}
 use Rattle.interval_ops.specs.declared.choice.Choice.{Choice}
 use Rattle.interval_ops.specs.declared.region.Region.{Region}
-use Rattle.kuhn_cells.specs.Triangles.{GridPoint}
+use Rattle.fixed_ops.specs.Raw.{is_inside}
+use Rattle.kuhn_cells.specs.Triangles.{GridPoint, further, point}
 use Rattle.live_clauses.specs.Live.{live_of}
 use Rattle.live_clauses.specs.declared.step.Step.{Step}
 use Rattle.view_settings.specs.Boxes.{Indices, IsBox, halves_of}
@@ -26,14 +28,16 @@ use Rattle.view_settings.specs.Window.{Window}
 use Rattle.view_settings.specs.declared.lattice.Lattice.{Lattice}
 use Rattle.view_settings.specs.declared.lattice.Lattice.TheVariants as lattices
 use Rattle.oct_descent.specs.Bound.{spans_in}
-use Rattle.oct_descent.specs.Desks.{ChargesHalves, halves_spans}
+use Rattle.oct_descent.specs.Corners.{ShowsCorner}
+use Rattle.oct_descent.specs.Desks.{ChargesHalves, KeepsDesk, MayLook, halves_spans}
 use Rattle.oct_descent.specs.Fills.{ChargesCorners}
 use Rattle.oct_descent.specs.GridValues.{grid_value}
-use Rattle.oct_descent.specs.Tables.{AllKnown, AreSettled, Charges, ChargesBox, Grows, IsEnough, IsUniform, PointValues}
+use Rattle.oct_descent.specs.Tables.{AllKnown, AreRight, AreSettled, Charges, ChargesBox, Grows, IsEnough, IsUniform, PointValues, is_known}
 use Rattle.oct_descent.specs.Ways.{Covers, cell_box, gridded, is_cut, is_open, is_open_by, is_working, way_end}
-use Rattle.oct_descent.proofs.Corners.{IsOne, short-one}
+use Rattle.oct_descent.specs.declared.desk.Desk.{Desk}
+use Rattle.oct_descent.proofs.Corners.{IsOne, mask-covered, short-one}
 use Rattle.oct_descent.proofs.Covered.{corner-covered, handed-grid_value, inside-uniform, outside-uniform}
-use Rattle.oct_descent.proofs.TableLaws.{charges-hulls, charges-more, charges-then, grows-wider, settled-same, settled-stays}
+use Rattle.oct_descent.proofs.TableLaws.{charges-hulls, charges-more, charges-most, charges-then, grows-wider, right-same, settled-same, settled-stays}
 use Rattle.oct_descent.proofs.WayLaws.{end-ends, end-of_half, spans-end, spans-some, spans-split}
 
 pub on_ok-then : {T E : Type 0} (r : Result T E) (P Q : Type 0) → (P → Q) → OnOk r P → OnOk r Q
@@ -58,26 +62,78 @@ pub opened : (view : Window) (b : Indices) (list : List Step) (n : ℕ) (told : 
     → open' ≡ is_open_by n b told → is_open (gridded view) (visit b list) ≡ open'
 opened view b list n told open' same tells is = ap (is_open_by view.n b) tells ∙ ap (λ m. is_open_by m b told) (sym same) ∙ sym is
 
--- the cells of a box that does not stay open have all corners on one side
-pub closed-settled : (laws : Lawful) (view : Window) (v : Visit) (t : PointValues) → IsVisit (gridded view) v → is_open (gridded view) v ≡ false → AreSettled (grid_value view v.list) v.box t
-closed-settled laws view v t is e s lies = by (decision (gridded view) v) refl
+-- each cell of a box that does not stay open has all corners on one side
+closed-uniform : (laws : Lawful) (view : Window) (v : Visit) (s : Sample) → IsVisit (gridded view) v → is_open (gridded view) v ≡ false → LiesIn v.box s → IsUniform (grid_value view v.list) (cell_box s)
+closed-uniform laws view v s is e lies = by (decision (gridded view) v) refl
   where
-    by : (o : Option Bool) → decision (gridded view) v ≡ o → AllKnown t (cell_box s) ⊎ IsUniform (grid_value view v.list) (cell_box s)
+    by : (o : Option Bool) → decision (gridded view) v ≡ o → IsUniform (grid_value view v.list) (cell_box s)
     by None h = absurd (false≢true (sym e ∙ ap (is_open_by view.n v.box) h))
-    by (Some false) h = inr (outside-uniform laws view v s is lies h)
-    by (Some true) h = inr (inside-uniform laws view v s is lies h (sym (ap (is_open_by view.n v.box) h) ∙ e))
+    by (Some false) h = outside-uniform laws view v s is lies h
+    by (Some true) h = inside-uniform laws view v s is lies h (sym (ap (is_open_by view.n v.box) h) ∙ e)
+
+pub closed-settled : (laws : Lawful) (view : Window) (v : Visit) (t : PointValues) → IsVisit (gridded view) v → is_open (gridded view) v ≡ false → AreSettled (grid_value view v.list) v.box t
+closed-settled laws view v t is e s lies = inr (closed-uniform laws view v s is e lies)
 
 -- a box takes at least its own trace
 pub trace-charged : (d : Descent) (v : Visit) (t : PointValues) (told now : Counts) → 0 < d.leaf → IsBox v.box → HalvesPart → CountsHulls (length v.list) told now → ChargesBox d v t t told now
 trace-charged d v t told now some is law h f enough =
     charges-more f (length v.list) (spans_in d v) t t told now (spans-some d v some is law) (charges-hulls f (length v.list) t told now h)
 
+-- and no more than that, where it is not looked into
+pub look-charged : (d : Descent) (v : Visit) (t : PointValues) (told now : Counts) → 0 < d.leaf → IsBox v.box → HalvesPart → CountsAtMost 0 (length v.list) told now → ChargesBox d v t t told now
+look-charged d v t told now some is law h f enough =
+    charges-more f (length v.list) (spans_in d v) t t told now (spans-some d v some is law) (charges-most f (length v.list) t told now h)
+
+-- what is kept may be looked at again
+pub may-kept : (before after : Desk) (b : Indices) (list : List Step) (t : PointValues) → KeepsDesk before after → MayLook before b list t → MayLook after b list t
+may-kept before after b list t kept may = record {
+  lattice = ap (λ p. p.lattice) kept.places ∙ may.lattice;
+  visit_is = subst (λ p. IsVisit (gridded p.view) (visit b list)) (sym kept.places) may.visit_is;
+  n = may.n ∙ ap (λ p. p.view.n) (sym kept.places);
+  room = omega (arith, kept.room, may.room);
+  values = omega (arith, kept.values, may.values);
+  right = subst (λ p. AreRight (grid_value p.view list) b t) (sym kept.places) may.right;
+}
+
+-- two known corners on either side show that a cell stays open
+pub sides-open : (laws : Lawful) (view : Window) (v : Visit) (t : PointValues) → IsVisit (gridded view) v → is_long 1 v.box ≡ false
+    → AreRight (grid_value view v.list) v.box t → ShowsCorner t (point v.box.x0 v.box.y0 v.box.z0) true
+    → ShowsCorner t (point v.box.x0 v.box.y0 v.box.z0) false → is_open (gridded view) v ≡ true
+sides-open laws view v t is short right inner outer = by (is_open (gridded view) v) refl
+  where
+    one : IsOne v.box
+    one = short-one v.box is.box short
+
+    s : Sample
+    s = record { i = v.box.x0; j = v.box.y0; k = v.box.z0 }
+
+    lies : LiesIn v.box s
+    lies = record { x = (omega arith, omega (arith, one.x)); y = (omega arith, omega (arith, one.y)); z = (omega arith, omega (arith, one.z)) }
+
+    corner : ℕ → GridPoint
+    corner c = further (point v.box.x0 v.box.y0 v.box.z0) c
+
+    own : (c : ℕ) → Covers (cell_box s) (corner c)
+    own c = mask-covered (cell_box s) c (record { x = refl; y = refl; z = refl })
+
+    -- the side that a corner shows is that of its grid value
+    shown : (inside : Bool) (h : ShowsCorner t (point v.box.x0 v.box.y0 v.box.z0) inside) → is_inside (grid_value view v.list (corner h.corner)) ≡ inside
+    shown inside h =
+        let known = right (corner h.corner) (mask-covered v.box h.corner one) (ap is_known h.known) in
+        ap (λ o. is_inside (unwrap_or o h.value)) (sym known ∙ h.known) ∙ h.side
+
+    by : (open' : Bool) → is_open (gridded view) v ≡ open' → is_open (gridded view) v ≡ true
+    by true e = e
+    by false e =
+        let uniform = closed-uniform laws view v s is e lies in
+        absurd (false≢true (sym (shown false outer) ∙ uniform.each (corner outer.corner) (own outer.corner) ∙ sym (uniform.each (corner inner.corner) (own inner.corner)) ∙ shown true inner))
+
 -- a working cell takes what its corners do
 pub cell-charged : (laws : Lawful) (view : Window) (v : Visit) (before after : PointValues) (told since now : Counts) → IsVisit (gridded view) v → is_open (gridded view) v ≡ true → is_long 1 v.box ≡ false
-    → CountsHulls (length v.list) told since → ChargesCorners v.box (length v.list) before after since now → ChargesBox (gridded view) v before after told now
+    → CountsAtMost 0 (length v.list) told since → ChargesCorners v.box (length v.list) before after since now → ChargesBox (gridded view) v before after told now
 cell-charged laws view v before after told since now is open' short hulls corners f enough =
     charges-then f (length v.list) 0 (spans_in d v) before before after told since now (omega (arith, spans-end d v is.box uncut))
-    (charges-hulls f (length v.list) before told since hulls) (corners f each)
+    (charges-most f (length v.list) before told since hulls) (corners f each)
   where
     d : Descent
     d = gridded view
@@ -119,6 +175,11 @@ pub handed-grows : (laws : Lawful) (view : Window) (v : Visit) (live : List Step
 handed-grows laws view v live before after is same grows =
     grows-wider (grid_value view live) (grid_value view v.list) v.box v.box before after (λ p covers. covers)
     (λ p covers. ap (λ l. grid_value view l p) same ∙ handed-grid_value laws view v p is covers) grows
+
+pub handed-right : (laws : Lawful) (view : Window) (v : Visit) (live : List Step) (t : PointValues) → IsVisit (gridded view) v → live ≡ handed_on (gridded view) v
+    → AreRight (grid_value view v.list) v.box t → AreRight (grid_value view live) v.box t
+handed-right laws view v live t is same right =
+    right-same (grid_value view v.list) (grid_value view live) v.box t (λ p covers. sym (ap (λ l. grid_value view l p) same ∙ handed-grid_value laws view v p is covers)) right
 
 pub handed-settled : (laws : Lawful) (view : Window) (v : Visit) (live : List Step) (t : PointValues) → IsVisit (gridded view) v → live ≡ handed_on (gridded view) v
     → AreSettled (grid_value view live) v.box t → AreSettled (grid_value view v.list) v.box t

@@ -3,16 +3,17 @@ use Rattle.std.proofs.Common.{◌≡◌, ℕ, ◌+◌, ◌-◌, ◌*◌, ◌<◌
 use Rattle.std.specs.Prelude.{Some, None, ◌==◌, ◌&&◌}
 use Rattle.box_chains.specs.SumLaws.{along-parts, along-same, sum_in-plus, sum_in-same, upto-const}
 use Rattle.box_chains.specs.Sums.{LiesIn, Sample, sum_along, sum_in}
+use Rattle.box_chains.specs.Tallied.{CountsAtMost}
 use Rattle.box_chains.specs.TallyLaws.{most-hulls, most-more, most-none, most-points, most-then}
 use Rattle.fixed_ops.specs.Counts.{Counts, RisesBy, points_of}
 use Rattle.fixed_ops.specs.Raw.{is_inside}
 use Rattle.interval_ops.specs.HullCounts.{CountsHulls}
 use Rattle.kuhn_cells.specs.Triangles.{GridPoint, point}
-use Rattle.std.proofs.lemmas.Bool.{and_parts, cond-false, cond-true, eq-eqb, eqb-true, ne_eqb}
+use Rattle.std.proofs.lemmas.Bool.{false≢true, and_parts, cond-false, cond-true, eq-eqb, eqb-true, ne_eqb}
 use Rattle.view_settings.specs.Boxes.{Indices}
 use Rattle.oct_descent.specs.Bound.{points_of_grid}
 use Rattle.oct_descent.specs.Fills.{point_box}
-use Rattle.oct_descent.specs.Tables.{AllKnown, AreSettled, Charges, Grows, IsNew, IsSame, IsUniform, PointValues, Sets, is_known, known_at, left, same_point}
+use Rattle.oct_descent.specs.Tables.{AllKnown, AreRight, AreSettled, Charges, Grows, IsNew, IsSame, IsUniform, PointValues, Sets, is_known, known_at, left, same_point}
 use Rattle.oct_descent.specs.Ways.{Covers, cell_box}
 
 -- ---- growth
@@ -63,6 +64,22 @@ settled-same g h b t same settled s lies = by (settled s lies)
     by : AllKnown t (cell_box s) ⊎ IsUniform g (cell_box s) → AllKnown t (cell_box s) ⊎ IsUniform h (cell_box s)
     by (inl known) = inl known
     by (inr uniform) = inr (record { inside = uniform.inside; each = λ p covers. ap is_inside (sym (same s p lies covers)) ∙ uniform.each p covers })
+
+-- ---- right values
+
+pub right-same : (g h : GridPoint → ℤ) (b : Indices) (t : PointValues) → ((p : GridPoint) → Covers b p → g p ≡ h p) → AreRight g b t → AreRight h b t
+right-same g h b t same right p covers known = right p covers known ∙ ap Some (same p covers)
+
+-- what is known of a part of a box is right once the box has grown by right values
+pub right-grows : (g : GridPoint → ℤ) (part b : Indices) (before after : PointValues) → ((p : GridPoint) → Covers part p → Covers b p) → Grows g b before after → AreRight g b before → AreRight g part after
+right-grows g part b before after wider grows right p covers known = by (grows.each p)
+  where
+    by : (known_at after p ≡ known_at before p) ⊎ IsNew g b before after p → known_at after p ≡ Some (g p)
+    by (inl stays) = stays ∙ right p (wider p covers) (ap is_known (sym stays) ∙ known)
+    by (inr new) = new.value
+
+pub right-none : (g : GridPoint → ℤ) (b : Indices) (t : PointValues) → ((p : GridPoint) → known_at t p ≡ None) → AreRight g b t
+right-none g b t none p covers known = absurd (false≢true (sym (ap is_known (none p)) ∙ known))
 
 -- ---- what is left
 
@@ -155,6 +172,9 @@ charges-none f spans t now = record { points = 0; enough = omega arith; counts =
 
 pub charges-hulls : (f : GridPoint → ℕ) (n : ℕ) (t : PointValues) (told now : Counts) → CountsHulls n told now → Charges f n t t told now
 charges-hulls f n t told now h = record { points = 0; enough = omega arith; counts = most-hulls told now n h }
+
+pub charges-most : (f : GridPoint → ℕ) (n : ℕ) (t : PointValues) (told now : Counts) → CountsAtMost 0 n told now → Charges f n t t told now
+charges-most f n t told now h = record { points = 0; enough = omega arith; counts = h }
 
 pub charges-more : (f : GridPoint → ℕ) (s u : ℕ) (before after : PointValues) (told now : Counts) → s ≤ u → Charges f s before after told now → Charges f u before after told now
 charges-more f s u before after told now less h = record { points = h.points; enough = h.enough; counts = most-more told now h.points s h.points u (omega arith) less h.counts }

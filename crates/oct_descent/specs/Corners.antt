@@ -1,9 +1,10 @@
 -- The corners of a cell.
-use Rattle.std.specs.Prelude.{◌≡◌, ℕ, ◌<◌, ℤ, pos, Bool, false, not, ◌&&◌, List, length, get_or, Some}
+use Rattle.std.specs.Prelude.{◌≡◌, ℕ, ◌+◌, ◌*◌, ◌/◌, ◌%◌, ◌<◌, ℤ, pos, Bool, true, false, not, ◌&&◌, ◌||◌, List, length, get_or, Option, Some, None}
 use Rattle.std.specs.List.{list_any}
 use Rattle.fixed_ops.specs.Raw.{is_inside}
 use Rattle.kuhn_cells.specs.Triangles.{GridPoint, further}
-use Rattle.oct_descent.specs.Tables.{PointValues, is_known, known_at}
+use Rattle.oct_descent.specs.Tables.{PointValues, is_known, known_at, read}
+use Rattle.oct_descent.specs.declared.seen.Seen.{Seen}
 
 -- the values of the corners of a cell, by their masks
 pub record AreCorners (t : PointValues) (p : GridPoint) (values : List ℤ) : Type 0 where
@@ -15,6 +16,34 @@ pub record LacksCorner (t : PointValues) (p : GridPoint) : Type 0 where
   pub corner : ℕ
   pub few : corner < 8
   pub unknown : is_known (known_at t (further p corner)) ≡ false
+
+-- the value of the lowest corner of a cell stands there, and those of the other corners in the same brick
+pub record AreTogether (t : PointValues) (p : GridPoint) (first : ℕ) : Type 0 where
+  pub within : first + 73 < length t.kept.known
+  pub each : (c : ℕ) → c < 8 → read t.kept (first + (c / 4 % 2 * 64 + c / 2 % 2 * 8 + c % 2)) ≡ known_at t (further p c)
+
+-- some corner of a cell is known, and is inside or not
+pub record ShowsCorner (t : PointValues) (p : GridPoint) (inside : Bool) : Type 0 where
+  pub corner : ℕ
+  pub few : corner < 8
+  pub value : ℤ
+  pub known : known_at t (further p corner) ≡ Some value
+  pub side : is_inside value ≡ inside
+
+-- what the known corners of a cell show
+pub record IsSeen (t : PointValues) (p : GridPoint) (seen : Seen) : Type 0 where
+  pub all : seen.all ≡ true → (c : ℕ) → c < 8 → is_known (known_at t (further p c)) ≡ true
+  pub inside : seen.inside ≡ true → ShowsCorner t p true
+  pub outside : seen.outside ≡ true → ShowsCorner t p false
+
+-- what is seen with one more corner
+abbrev pub side_seen : Seen → Option ℤ → Seen
+side_seen seen None = record { all = false; inside = seen.inside; outside = seen.outside }
+side_seen seen (Some v) = record {
+  all = seen.all;
+  inside = seen.inside || is_inside v;
+  outside = seen.outside || not (is_inside v);
+}
 
 -- some value is inside and some value is outside
 abbrev pub is_mixed : List ℤ → Bool

@@ -10,17 +10,20 @@ use Rattle.view_settings.specs.Boxes.{Indices}
 use Rattle.view_settings.specs.Window.{Window}
 use Rattle.view_settings.specs.declared.lattice.Lattice.TheVariants as lattices
 use Rattle.oct_descent.specs.Bound.{spans_in}
-use Rattle.oct_descent.specs.Tables.{Charges, IsEnough, PointValues}
+use Rattle.oct_descent.specs.GridValues.{grid_value}
+use Rattle.oct_descent.specs.Tables.{AreRight, Charges, IsEnough, PointValues}
 use Rattle.oct_descent.specs.Ways.{gridded}
 use Rattle.oct_descent.specs.declared.desk.Desk.{Desk}
 
--- the box is one of the grid's, whose points these are, and there is room for the list
+-- The box is one of the grid's, whose points these are, and there is room for the list. What is known of the points that
+-- the box covers are the list's grid values.
 pub record MayLook (desk : Desk) (b : Indices) (list : List Step) (t : PointValues) : Type 0 where
   pub lattice : desk.places.lattice ≡ lattices.Grid
   pub visit_is : IsVisit (gridded desk.places.view) (visit b list)
   pub n : t.n ≡ desk.places.view.n
   pub room : length list ≤ length desk.room
   pub values : length list ≤ length desk.values.items
+  pub right : AreRight (grid_value desk.places.view list) b t
 
 -- the places stay, and so does the room
 pub record KeepsDesk (before after : Desk) : Type 0 where

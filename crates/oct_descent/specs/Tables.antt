@@ -1,5 +1,5 @@
 -- Values of some points of a grid, and how they become more.
-use Rattle.std.specs.Prelude.{◌≡◌, ℕ, ◌+◌, ◌*◌, ◌/◌, ◌%◌, ◌≤◌, ◌==◌, nat_le, nat_lt, ℤ, pos, Bool, true, false, ◌&&◌, List, [], length, get_or, Option, Some, None, ◌⊎◌, if◌then◌else◌}
+use Rattle.std.specs.Prelude.{◌≡◌, ℕ, zero, suc, ◌+◌, ◌*◌, ◌/◌, ◌%◌, ◌≤◌, ◌==◌, nat_le, ℤ, pos, Bool, true, false, ◌&&◌, List, length, get_or, Option, Some, None, ◌⊎◌, if◌then◌else◌}
 use Rattle.box_chains.specs.Chains.{Descent, Visit}
 use Rattle.box_chains.specs.Sums.{LiesIn, Sample, sum_in}
 use Rattle.box_chains.specs.Tallied.{CountsAtMost}
@@ -11,26 +11,29 @@ use Rattle.oct_descent.specs.Bound.{points_of_grid, spans_in}
 use Rattle.oct_descent.specs.Ways.{Covers, cell_box, is_working, way_end}
 
 -- the values that are known of some points: a mark and a value for each place, where a value counts where its mark is
--- true; none where there is no place for them
+-- true
 pub record Marks : Type 0 where
   pub known : List Bool
   pub values : List ℤ
-
-abbrev pub no_marks : Marks
-no_marks = record { known = []; values = [] }
-
-abbrev pub is_made : Marks → Bool
-is_made b = nat_lt 0 (length b.known)
 
 -- the value at a place, where it is known
 abbrev pub read : Marks → ℕ → Option ℤ
 read b place = if get_or b.known place false then Some (get_or b.values place (pos 0)) else None
 
 -- The values that are known of the points of a grid of n cells along each axis, in bricks of eight points along each
--- axis, by z, then by y, then by x.
+-- axis. Of each brick, by z, then by y, then by x, stands as which one it is kept, from 1 on, and 0 where it is not.
 pub record PointValues : Type 0 where
   pub n : ℕ
-  pub bricks : List Marks
+  pub places : List ℕ
+  pub kept : Marks
+
+-- So many marks and values are those of whole bricks, and each brick that is kept has a place of its own among them.
+pub record AreKept (places : List ℕ) (marks values : ℕ) : Type 0 where
+  pub whole : marks % 512 ≡ 0
+  pub enough : marks ≤ values
+  pub within : (k : ℕ) → get_or places k 0 * 512 ≤ marks
+  pub apart : (j k : ℕ) → get_or places j 0 ≡ get_or places k 0
+      → (j ≡ k) ⊎ (get_or places j 0 ≡ 0)
 
 abbrev pub is_known : Option ℤ → Bool
 is_known None = false
@@ -48,13 +51,23 @@ brick_of n p = (p.z / 8 * (n / 8 + 1) + p.y / 8) * (n / 8 + 1) + p.x / 8
 abbrev pub slot : GridPoint → ℕ
 slot p = (p.z % 8 * 8 + p.y % 8) * 8 + p.x % 8
 
+-- where the value of a point stands in a brick that is kept, by which one that is
+abbrev pub stand_in : ℕ → ℕ → Option ℕ
+stand_in zero at = None
+stand_in (suc place) at = Some (place * 512 + at)
+
+-- where the value of a point stands, if its brick is kept
+unfoldable pub stand : PointValues → GridPoint → Option ℕ
+stand t p = stand_in (get_or t.places (brick_of t.n p) 0) (slot p)
+
+-- the value that stands somewhere, where it is known
+abbrev pub read_at : Marks → Option ℕ → Option ℤ
+read_at kept None = None
+read_at kept (Some at) = read kept at
+
 -- the value of a point, where it is known
 unfoldable pub known_at : PointValues → GridPoint → Option ℤ
-known_at t p = if is_within t.n p then read (get_or t.bricks (brick_of t.n p) no_marks) (slot p) else None
-
--- there is a place for the value of a point
-unfoldable pub has_room : PointValues → GridPoint → Bool
-has_room t p = is_made (get_or t.bricks (brick_of t.n p) no_marks)
+known_at t p = if is_within t.n p then read_at t.kept (stand t p) else None
 
 abbrev pub same_point : GridPoint → GridPoint → Bool
 same_point p q = p.x == q.x && (p.y == q.y && p.z == q.z)
@@ -81,6 +94,10 @@ pub record IsNew (g : GridPoint
 pub record Grows (g : GridPoint → ℤ) (b : Indices) (before after : PointValues) : Type 0 where
   pub n : after.n ≡ before.n
   pub each : (p : GridPoint) → (known_at after p ≡ known_at before p) ⊎ IsNew g b before after p
+
+-- what is known of the points that a box covers are their values
+abbrev pub AreRight : (GridPoint → ℤ) → Indices → PointValues → Type 0
+AreRight g b t = (p : GridPoint) → Covers b p → is_known (known_at t p) ≡ true → known_at t p ≡ Some (g p)
 
 -- all corners of a box of cells are known
 abbrev pub AllKnown : PointValues → Indices → Type 0

@@ -1,10 +1,47 @@
 // The values of the corners of a cell.
 ghost use Rattle.std.specs.Prelude.{◌≡◌, ◌<◌, ◌≤◌, None, IfSome};
 ghost use Rattle.kuhn_cells.specs.Triangles.{point};
-ghost use Rattle.oct_descent.specs.Corners.{AreCorners, LacksCorner, is_mixed as is_mixed_of};
+ghost use Rattle.oct_descent.specs.Corners.{AreCorners, IsSeen, LacksCorner, is_mixed as is_mixed_of, side_seen};
 
 use crate::grid_values::GridValues;
+use crate::seen::Seen;
 use fixed_ops::{Fx, is_inside};
+
+/// What the known corners of the cell at a place show.
+#[inline]
+pub fn seen(values: &GridValues, x: u32, y: u32, z: u32) -> Seen
+    requires few { values.now.n ≤ 256 }
+    requires x { x < values.now.n }
+    requires y { y < values.now.n }
+    requires z { z < values.now.n }
+    ensures { IsSeen values.now (point x y z) result }
+{
+    let first = values.together(x, y, z);
+    let mut seen = Seen {
+        all: true,
+        inside: false,
+        outside: false,
+    };
+    for c in 0..8 {
+        seen = with_corner(seen, values.corner(first, x, y, z, c));
+    }
+    seen
+}
+
+// What is seen with one more corner.
+#[inline]
+fn with_corner(seen: Seen, corner: Option<Fx>) -> Seen
+    ensures { result ≡ side_seen seen corner }
+{
+    match corner {
+        None => Seen { all: false, ..seen },
+        Some(value) => Seen {
+            all: seen.all,
+            inside: seen.inside || is_inside(value),
+            outside: seen.outside || !is_inside(value),
+        },
+    }
+}
 
 /// The values of the corners of the cell at a place, each at the place of its mask, where all of
 /// them are known.
@@ -17,9 +54,10 @@ pub fn corners(values: &GridValues, x: u32, y: u32, z: u32) -> Option<[Fx; 8]>
     ensures all { IfSome result (λ found. AreCorners values.now (point x y z) found) }
     ensures lacks { result ≡ None → LacksCorner values.now (point x y z) }
 {
+    let first = values.together(x, y, z);
     let mut found = [Fx::from_raw(0); 8];
     for c in 0..8 {
-        let value = values.get(x + c % 2, y + c / 2 % 2, z + c / 4 % 2)?;
+        let value = values.corner(first, x, y, z, c)?;
         found[c as usize] = value;
     }
     Some(found)

@@ -1,17 +1,21 @@
 // Boxes of cells that are looked into.
-ghost use Rattle.std.specs.Prelude.{◌≡◌, ◌*◌, ◌+◌, ℕ, OnOk, IsTrue, true};
+ghost use Rattle.std.specs.Prelude.{◌≡◌, ◌*◌, ◌+◌, ℕ, OnOk, IsTrue, false, length, true};
 ghost use Rattle.std.specs.List.{All};
 ghost use Rattle.box_chains.specs.Chains.{is_long as is_long_for, visit};
-ghost use Rattle.kuhn_cells.specs.Triangles.{GridPoint};
+ghost use Rattle.box_chains.specs.Tallied.{CountsAtMost};
+ghost use Rattle.kuhn_cells.specs.Triangles.{GridPoint, point};
 ghost use Rattle.view_settings.specs.Boxes.{halves_of};
+ghost use Rattle.oct_descent.specs.Corners.{IsSeen};
 ghost use Rattle.oct_descent.specs.Desks.{ChargesHalves, KeepsDesk, MayLook};
 ghost use Rattle.oct_descent.specs.GridValues.{grid_value};
-ghost use Rattle.oct_descent.specs.Tables.{AreSettled, ChargesBox, Grows};
-ghost use Rattle.oct_descent.specs.Ways.{gridded, is_open_by, meets_border as meets_border_of};
+ghost use Rattle.oct_descent.specs.Tables.{AreSettled, ChargesBox, Grows, PointValues};
+ghost use Rattle.oct_descent.specs.Ways.{gridded, is_open as is_open_for, is_open_by, meets_border as meets_border_of};
 
+use crate::corner_values::seen;
 use crate::desk::Desk;
 use crate::filling::fill_cell;
 use crate::grid_values::GridValues;
+use crate::seen::Seen;
 use box_chains::{is_long, layers_hold};
 use fixed_ops::Tally;
 use live_clauses::Tape;
@@ -39,12 +43,12 @@ pub fn look_into(
     ensures kept { KeepsDesk desk.old desk.new }
 {
     layers_hold();
+    if !is_long(b, LEAF) {
+        return look_into_cell(desk, b, received, values, tally);
+    }
     let told = desk.room.look(received, desk.places.region(b), tally);
     if !is_open(told, values.n(), b) {
         return Ok(());
-    }
-    if !is_long(b, LEAF) {
-        return fill_cell(alloc, desk, b, received, values, tally);
     }
     let live = desk.room.hand_on(alloc, received)?;
     look_into_halves(alloc, desk, b, &live, values, tally)
@@ -73,6 +77,58 @@ fn look_into_halves(
         look_into(alloc, desk, *half, live, values, tally)?;
     }
     Ok(())
+}
+
+// Looks into a cell.
+fn look_into_cell(
+    desk: &mut Desk,
+    b: IndexBox,
+    received: &Tape,
+    values: &mut GridValues,
+    tally: &mut Tally,
+) -> Result<(), AllocError>
+    requires may { MayLook desk.old b received.now values.old }
+    requires one { is_long_for 1 b ≡ false }
+    ensures settled { OnOk result (AreSettled (grid_value desk.old.places.view received.now) b values.new) }
+    ensures grows { Grows (grid_value desk.old.places.view received.now) b values.old values.new }
+    ensures counted { ChargesBox (gridded desk.old.places.view) (visit b received.now) values.old values.new tally.old tally.new }
+    ensures kept { KeepsDesk desk.old desk.new }
+{
+    layers_hold();
+    let seen = seen(values, b.x0, b.y0, b.z0);
+    if seen.all {
+        return Ok(());
+    }
+    if !is_working(desk, b, received, values.n(), seen, tally) {
+        return Ok(());
+    }
+    fill_cell(desk, b, received, values, tally)
+}
+
+// Whether a cell is a working one, by what its known corners show. Nothing is traced where they lie
+// on both sides.
+#[inline]
+fn is_working(
+    desk: &mut Desk,
+    b: IndexBox,
+    received: &Tape,
+    n: u32,
+    seen: Seen,
+    tally: &mut Tally,
+) -> bool
+    requires may { (t : PointValues) × MayLook desk.old b received.now t × IsSeen t (point b.x0 b.y0 b.z0) seen }
+    requires one { is_long_for 1 b ≡ false }
+    requires n { n ≡ desk.old.places.view.n }
+    ensures open { result ≡ is_open_for (gridded desk.old.places.view) (visit b received.now) }
+    ensures counted { CountsAtMost 0 (length received.now) tally.old tally.new }
+    ensures kept { KeepsDesk desk.old desk.new }
+{
+    layers_hold();
+    if seen.inside && seen.outside {
+        return true;
+    }
+    let told = desk.room.look(received, desk.places.region(b), tally);
+    is_open(told, n, b)
 }
 
 // Whether a box stays open, by what a look told.

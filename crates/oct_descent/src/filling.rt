@@ -14,13 +14,12 @@ use crate::grid_values::GridValues;
 use choice_trace::{Inputs, evaluate};
 use fixed_ops::{Fx, Tally, border};
 use live_clauses::Tape;
-use std::alloc::{AllocError, Global};
+use std::alloc::AllocError;
 use view_settings::IndexBox;
 
 /// Evaluates a list at those corners of a cell that are not known. AllocError: there is no memory for
 /// their values.
 pub fn fill_cell(
-    alloc: Global,
     desk: &mut Desk,
     b: IndexBox,
     list: &Tape,
@@ -37,7 +36,7 @@ pub fn fill_cell(
     let (x, y, z) = (b.x0, b.y0, b.z0);
     for c in 0..8 {
         let (i, j, k) = (x + c % 2, y + c / 2 % 2, z + c / 4 % 2);
-        fill_point(alloc, desk, i, j, k, list, values, tally)?;
+        fill_point(desk, i, j, k, list, values, tally)?;
     }
     Ok(())
 }
@@ -45,7 +44,6 @@ pub fn fill_cell(
 // Evaluates a list at a point that is not known.
 #[inline]
 fn fill_point(
-    alloc: Global,
     desk: &mut Desk,
     x: u32,
     y: u32,
@@ -67,10 +65,10 @@ fn fill_point(
 {
     if values.get(x, y, z).is_none() {
         // The place is made first, so that no value is lost for want of memory.
-        values.make_room(alloc, x, y, z)?;
+        let at = values.make_room(x, y, z)?;
         let value = value_at(desk, x, y, z, list, tally);
         let n = values.n();
-        values.set(x, y, z, closed(value, n, x, y, z));
+        values.set(at, closed(value, n, x, y, z));
     }
     Ok(())
 }

@@ -1,47 +1,60 @@
 // The values that are known of the points of a grid.
-ghost use Rattle.std.specs.Prelude.{◌≡◌, ◌+◌, ◌*◌, ◌/◌, ◌<◌, ◌≤◌, ℕ, true, None, IfOk, OnOk};
-ghost use Rattle.kuhn_cells.specs.Triangles.{GridPoint, point};
-ghost use Rattle.oct_descent.specs.Tables.{IsSame, Sets, brick_of as brick_of_point, has_room as has_room_for, known_at, slot as slot_of};
+ghost use Rattle.std.specs.Prelude.{◌≡◌, ◌+◌, ◌*◌, ◌/◌, ◌<◌, ◌≤◌, None, Some, IfOk, IfSome, IsTrue, length};
+ghost use Rattle.kuhn_cells.specs.Triangles.{GridPoint, further, point};
+ghost use Rattle.oct_descent.specs.Corners.{AreTogether};
+ghost use Rattle.oct_descent.specs.Tables.{IsSame, Sets, brick_of as brick_of_point, is_within, known_at, read as read_of, slot as slot_of, stand as stand_of};
 
-use crate::brick::Brick;
 use fixed_ops::Fx;
 use std::alloc::{AllocError, Global};
 use std::marker::Model;
 
+/// How many points a brick has.
+const POINTS: usize = 512;
+
 /// The values that are known of the points of a grid of n cells along each axis. They stand in bricks
-/// of eight points along each axis, and there is memory for those bricks alone that have some.
+/// of eight points along each axis, and there is memory for those bricks alone that have some: one
+/// brick after another, in two lists. `places` tells of each brick as which one it is kept, from 1
+/// on, and 0 where it is not.
 #[derive(Debug, Drop)]
 pub struct GridValues {
     n: u32,
-    bricks: Vec<Brick>,
+    places: Vec<usize>,
+    known: Vec<bool>,
+    values: Vec<Fx>,
 }
 
 impl Model for GridValues {
     ghost use Rattle.std.specs.Prelude.{◌≡◌, ◌+◌, ◌*◌, ◌/◌, ◌≤◌, length};
-    ghost use Rattle.oct_descent.specs.Tables.{PointValues};
+    ghost use Rattle.oct_descent.specs.Tables.{AreKept, PointValues};
 
     ghost Value = { PointValues };
 
-    ghost view = { λ g. record { n = g.n; bricks = g.bricks.items } };
+    ghost view = { λ g. record {
+      n = g.n;
+      places = g.places.items;
+      kept = record { known = g.known.items; values = g.values.items };
+    } };
 
     ghost invariant = { λ g. (g.n ≤ 256)
-        × (length g.bricks.items ≡ (g.n / 8 + 1) * ((g.n / 8 + 1) * (g.n / 8 + 1))) };
+        × (length g.places.items ≡ (g.n / 8 + 1) * ((g.n / 8 + 1) * (g.n / 8 + 1)))
+        × AreKept g.places.items (length g.known.items) (length g.values.items) };
 }
 
 impl GridValues {
-    /// No known value. AllocError: there is no memory for the bricks.
+    /// No known value. AllocError: there is no memory for the bricks' places.
     pub fn new(alloc: Global, n: u32) -> Result<GridValues, AllocError>
         requires { n ≤ 256 }
         ensures n { IfOk result (λ values. values.n ≡ n) }
         ensures none { IfOk result (λ values. (p : GridPoint) → known_at values p ≡ None) }
     {
         let side = n as usize / 8 + 1;
-        let count = side * (side * side);
-        let mut bricks = Vec::with_capacity(alloc, count)?;
-        for _ in 0..count {
-            bricks.push(Brick::new(alloc))?;
-        }
-        Ok(GridValues { n, bricks })
+        let places = vec![in alloc; 0usize; side * (side * side)]?;
+        Ok(GridValues {
+            n,
+            places,
+            known: Vec::new(alloc),
+            values: Vec::new(alloc),
+        })
     }
 
     /// How many cells there are along each axis.
@@ -60,47 +73,117 @@ impl GridValues {
         requires z { z ≤ self.now.n }
         ensures { result ≡ known_at self.now (point x y z) }
     {
-        self.bricks[brick_of(self.n, x, y, z)].get(slot(x, y, z))
+        self.read(self.stand(x, y, z)?)
     }
 
-    /// Whether there is a place for the value of a point.
+    /// Where the value of a point stands, if its brick is kept.
     #[inline]
-    pub fn has_room(&self, x: u32, y: u32, z: u32) -> bool
+    pub fn stand(&self, x: u32, y: u32, z: u32) -> Option<usize>
         requires x { x ≤ self.now.n }
         requires y { y ≤ self.now.n }
         requires z { z ≤ self.now.n }
-        ensures { result ≡ has_room_for self.now (point x y z) }
+        ensures stand { result ≡ stand_of self.now (point x y z) }
+        ensures within { IfSome result (λ at. at < length self.now.kept.known) }
     {
-        self.bricks[brick_of(self.n, x, y, z)].is_made()
+        let place = self.places[brick_of(self.n, x, y, z)];
+        if place == 0 {
+            return None;
+        }
+        Some((place - 1) * POINTS + slot(x, y, z))
     }
 
-    /// Makes a place for the value of a point. AllocError: there is no memory for it.
+    /// Where the value of the lowest corner of a cell stands, if one brick that is kept has all
+    /// corners of the cell.
     #[inline]
-    pub fn make_room(&mut self, alloc: Global, x: u32, y: u32, z: u32) -> Result<(), AllocError>
+    pub fn together(&self, x: u32, y: u32, z: u32) -> Option<usize>
+        requires x { x < self.now.n }
+        requires y { y < self.now.n }
+        requires z { z < self.now.n }
+        ensures { IfSome result (AreTogether self.now (point x y z)) }
+    {
+        // Each brick that is kept has a place of its own.
+        let _kept = &self.known;
+        if x % 8 == 7 || y % 8 == 7 || z % 8 == 7 {
+            return None;
+        }
+        self.stand(x, y, z)
+    }
+
+    /// The value of corner c of a cell, where it is known. `first` is what `together` told.
+    #[inline]
+    pub fn corner(&self, first: Option<usize>, x: u32, y: u32, z: u32, c: u32) -> Option<Fx>
+        requires first { IfSome first (AreTogether self.now (point x y z)) }
+        requires x { x < self.now.n }
+        requires y { y < self.now.n }
+        requires z { z < self.now.n }
+        requires c { c < 8 }
+        ensures { result ≡ known_at self.now (further (point x y z) c) }
+    {
+        // No grid has more than 256 cells along an axis.
+        let _n = self.n;
+        let (i, j, k) = (c % 2, c / 2 % 2, c / 4 % 2);
+        match first {
+            Some(first) => self.read(first + (k * 64 + j * 8 + i) as usize),
+            None => self.get(x + i, y + j, z + k),
+        }
+    }
+
+    // The value that stands somewhere, where it is known.
+    #[inline]
+    fn read(&self, at: usize) -> Option<Fx>
+        requires { at < length self.now.kept.known }
+        ensures { result ≡ read_of self.now.kept at }
+    {
+        if self.known[at] {
+            Some(self.values[at])
+        } else {
+            None
+        }
+    }
+
+    /// Keeps the brick of a point, and gives where the point's value stands. AllocError: there is no
+    /// memory for the brick.
+    #[inline]
+    pub fn make_room(&mut self, x: u32, y: u32, z: u32) -> Result<usize, AllocError>
         requires x { x ≤ self.old.n }
         requires y { y ≤ self.old.n }
         requires z { z ≤ self.old.n }
-        ensures room { OnOk result (has_room_for self.new (point x y z) ≡ true) }
+        ensures room { IfOk result (λ at. stand_of self.new (point x y z) ≡ Some at) }
+        ensures within { IfOk result (λ at. at < length self.new.kept.known) }
         ensures same { IsSame self.old self.new }
     {
-        let at = brick_of(self.n, x, y, z);
-        if !self.bricks[at].is_made() {
-            self.bricks[at] = Brick::made(alloc)?;
+        match self.stand(x, y, z) {
+            Some(at) => Ok(at),
+            None => self.add_brick(x, y, z),
         }
-        Ok(())
     }
 
-    /// Keeps the value of a point for which there is a place.
-    #[inline]
-    pub fn set(&mut self, x: u32, y: u32, z: u32, value: Fx)
+    // The same for a brick that is not kept. Few calls come here.
+    fn add_brick(&mut self, x: u32, y: u32, z: u32) -> Result<usize, AllocError>
         requires x { x ≤ self.old.n }
         requires y { y ≤ self.old.n }
         requires z { z ≤ self.old.n }
-        requires room { has_room_for self.old (point x y z) ≡ true }
-        ensures { Sets (point x y z) value self.old self.new }
+        requires room { stand_of self.old (point x y z) ≡ None }
+        ensures room { IfOk result (λ at. stand_of self.new (point x y z) ≡ Some at) }
+        ensures within { IfOk result (λ at. at < length self.new.kept.known) }
+        ensures same { IsSame self.old self.new }
     {
-        let at = brick_of(self.n, x, y, z);
-        self.bricks[at].set(slot(x, y, z), value);
+        let start = self.known.len();
+        self.values.resize(start + POINTS, Fx::from_raw(0))?;
+        self.known.resize(start + POINTS, false)?;
+        self.places[brick_of(self.n, x, y, z)] = start / POINTS + 1;
+        Ok(start + slot(x, y, z))
+    }
+
+    /// Keeps the value of a point, which stands there.
+    #[inline]
+    pub fn set(&mut self, at: usize, value: Fx)
+        requires { at < length self.old.kept.known }
+        ensures { (p : GridPoint) → IsTrue (is_within self.old.n p) → stand_of self.old p ≡ Some at
+            → Sets p value self.old self.new }
+    {
+        self.known[at] = true;
+        self.values[at] = value;
     }
 }
 

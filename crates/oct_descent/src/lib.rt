@@ -2,7 +2,6 @@
 //! the values of their corners, at the cost of the surface alone.
 #![tactic(auto)]
 
-mod brick;
 mod corner_values;
 mod descent;
 mod desk;
@@ -11,6 +10,7 @@ mod grid_values;
 mod laws;
 mod listing;
 mod oct_tree;
+mod seen;
 
 pub use laws::{grid_work_is_bounded, grids_are_bordered};
 pub use listing::cell_list;

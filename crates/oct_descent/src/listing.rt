@@ -65,7 +65,7 @@ impl OctTree {
         requires z { z < self.now.view.n }
         ensures { OnOk result (cells.new.items ≡ cells.old.items ++ cells_between self.now.view self.now.list first (min self.now.view.n (first + 8)) y z) }
     {
-        if !self.values.has_room(first, y, z) {
+        if self.values.stand(first, y, z).is_none() {
             return Ok(());
         }
         for x in first..self.view.n.min(first + 8) {

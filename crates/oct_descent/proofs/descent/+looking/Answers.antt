@@ -1,17 +1,18 @@
-use Rattle.std.proofs.Common.{◌+◌, ℕ, ap, arith, refl, subst, sym, ◌∙◌}
+use Rattle.std.proofs.Common.{◌+◌, ℕ, ap, arith, length, refl, subst, sym, ◌∙◌}
 use Rattle.std.specs.List.{All}
 use Rattle.std.proofs.lemmas.List.{take_all}
 use Rattle.std.proofs.lemmas.List.Elements.{All-nil}
 use Rattle.box_chains.specs.Chains.{visit}
 use Rattle.live_clauses.specs.Choices.{AreChoices}
+use Rattle.live_clauses.specs.Steps.{IsTape}
 use Rattle.box_chains.specs.ValueLaws.{IsVisit}
 use Rattle.oct_descent.specs.GridValues.{grid_value}
 use Rattle.oct_descent.specs.Desks.{halves_spans}
 use Rattle.kuhn_cells.specs.Triangles.{GridPoint}
-use Rattle.oct_descent.specs.Tables.{AreSettled, Charges, IsEnough}
+use Rattle.oct_descent.specs.Tables.{AreRight, AreSettled, Charges, IsEnough}
 use Rattle.oct_descent.specs.Ways.{gridded}
-use Rattle.oct_descent.proofs.Looks.{all-settled, cell-charged, closed-settled, half-grows, half-part, half-shorter, half-visit, halves-charged, known-settled, handed, handed-grows, handed-settled, looked, next-charged, next-settled, on_ok-then, opened, some-charged, trace-charged}
-use Rattle.oct_descent.proofs.TableLaws.{charges-none, grows-none, grows-then}
+use Rattle.oct_descent.proofs.Looks.{handed-right, all-settled, closed-settled, half-grows, half-part, half-shorter, half-visit, halves-charged, handed, handed-grows, handed-settled, looked, next-charged, next-settled, on_ok-then, opened, part-covers, some-charged, trace-charged}
+use Rattle.oct_descent.proofs.TableLaws.{charges-none, grows-none, grows-then, right-grows}
 use Rattle.oct_descent.proofs.descent.+looking.Goals as goal
 
 pub look_into-returns-then-not-is_open-clause-settled : goal.look_into-returns-then-not-is_open-clause-settled
@@ -28,23 +29,29 @@ look_into-returns-then-not-is_open-clause-counted t c =
     trace-charged (gridded c.args.desk.now.places.view) (visit c.args.b c.args.received.now) c.args.values.now c.args.tally.now c.look-told.new.tally (omega arith) c.requires.visit_is.box c.layers_hold.ensures.halves
     c.look-told.ensures.counted
 
-pub look_into-returns-then-not-is_long-clause-counted : goal.look_into-returns-then-not-is_long-clause-counted
-look_into-returns-then-not-is_long-clause-counted t c =
-    let view = c.args.desk.now.places.view in
-    let b = c.args.b in
-    let list = c.args.received.now in
-    let told = looked view c.args.desk.now.places.lattice b list c.region.result c.look-told.result c.requires.lattice c.region.ensures c.look-told.ensures.decision in
-    let open' = opened view b list c.n.result c.look-told.result c.is_open.result (c.n.ensures ∙ c.requires.n) told c.is_open.ensures in
-    cell-charged c.layers_hold.ensures view (visit b list) c.args.values.now c.fill_cell.new.values c.args.tally.now c.look-told.new.tally c.fill_cell.new.tally c.requires.visit_is (open' ∙ c.if-not-is_open.false)
-    (sym c.is_long.ensures ∙ c.if-not-is_long.true) c.look-told.ensures.counted c.fill_cell.ensures.counted
-
-pub look_into-returns-then-not-is_long-clause-settled : goal.look_into-returns-then-not-is_long-clause-settled
-look_into-returns-then-not-is_long-clause-settled t c =
-    on_ok-then c.fill_cell.result _ _ (known-settled (grid_value c.args.desk.now.places.view c.args.received.now) c.args.b c.fill_cell.new.values) c.fill_cell.ensures.known
-
 pub look_into-hand_on-requires-clause-choices : goal.look_into-hand_on-requires-clause-choices
 look_into-hand_on-requires-clause-choices t c =
     subst (λ choices. AreChoices c.args.received.now choices) (sym c.look-told.ensures.choices) (c.layers_hold.ensures.choices c.region.result c.args.received.now)
+
+pub look_into-look_into_halves-requires : goal.look_into-look_into_halves-requires
+look_into-look_into_halves-requires t c =
+    let view = c.args.desk.now.places.view in
+    let v = visit c.args.b c.args.received.now in
+    let live = c.in_ok-live.live in
+    let same = handed view c.args.desk.now.places.lattice c.args.b c.args.received.now live c.region.result c.look-told.new.self c.requires.lattice c.region.ensures c.look-told.ensures.choices c.in_ok-live.ensures.list in (
+      omega (arith, c.decreases),
+      (
+        record {
+          lattice = c.requires.lattice;
+          visit_is = record { window = c.requires.visit_is.window; box = c.requires.visit_is.box; within = c.requires.visit_is.within; tape = subst IsTape c.live.view_is c.live.invariant };
+          n = c.requires.n;
+          room = omega (arith, c.in_ok-live.ensures.shorter, c.requires.room, c.look-told.ensures.room, ap length c.in_ok-live.ensures.same);
+          values = omega (arith, c.in_ok-live.ensures.shorter, c.requires.values);
+          right = handed-right c.layers_hold.ensures view v live c.args.values.now c.requires.visit_is same c.requires.right;
+        },
+        sym c.is_long.ensures ∙ c.if-not-is_long.false,
+      ),
+    )
 
 pub look_into-returns-in_err-live-clause-counted : goal.look_into-returns-in_err-live-clause-counted
 look_into-returns-in_err-live-clause-counted t c =
@@ -99,6 +106,8 @@ look_into_halves-look_into-requires t c =
         n = c.loop-half.invariant.grows.n ∙ c.requires.may.n ∙ ap (λ p. p.view.n) (sym kept.places);
         room = omega (arith, kept.room, c.requires.may.room);
         values = omega (arith, kept.values, c.requires.may.values);
+        right = subst (λ p. AreRight (grid_value p.view c.args.live.now) c.half-item.result c.loop-half.values) (sym kept.places)
+            (right-grows (grid_value c.args.desk.now.places.view c.args.live.now) c.half-item.result c.args.b c.args.values.now c.loop-half.values (λ p covers. part-covers c.args.b c.half-item.result p part covers) c.loop-half.invariant.grows c.requires.may.right);
       },
     )
 

@@ -1,0 +1,34 @@
+use Rattle.std.proofs.Common.{ap, arith, sym, ◌∙◌}
+use Rattle.box_chains.specs.Chains.{visit}
+use Rattle.kuhn_cells.specs.Triangles.{further, point}
+use Rattle.oct_descent.specs.GridValues.{grid_value}
+use Rattle.oct_descent.specs.Tables.{is_known, known_at}
+use Rattle.oct_descent.specs.Ways.{gridded}
+use Rattle.oct_descent.proofs.Corners.{all-known, short-one}
+use Rattle.oct_descent.proofs.Looks.{cell-charged, closed-settled, known-settled, look-charged}
+use Rattle.oct_descent.proofs.TableLaws.{charges-none}
+use Rattle.oct_descent.proofs.descent.look_into_cell.Goals as goal
+
+pub returns-then-seen-clause-settled : goal.returns-then-seen-clause-settled
+returns-then-seen-clause-settled c =
+    let b = c.args.b in
+    known-settled (grid_value c.args.desk.now.places.view c.args.received.now) b c.args.values.now
+    (all-known b c.args.values.now (short-one b c.requires.may.visit_is.box c.requires.one)
+    (λ k less. ap (λ i. is_known (known_at c.args.values.now (further (point i.x0 i.y0 i.z0) k))) (sym c.b.view_is) ∙ c.seen-seen.ensures.all c.if-seen.true k less))
+
+pub returns-then-seen-clause-counted : goal.returns-then-seen-clause-counted
+returns-then-seen-clause-counted c f enough = charges-none f _ c.args.values.now c.args.tally.now
+
+pub returns-then-not-is_working-clause-settled : goal.returns-then-not-is_working-clause-settled
+returns-then-not-is_working-clause-settled c =
+    closed-settled c.layers_hold.ensures c.args.desk.now.places.view (visit c.args.b c.args.received.now) c.args.values.now c.requires.may.visit_is (sym c.is_working.ensures.open ∙ c.if-not-is_working.true)
+
+pub returns-then-not-is_working-clause-counted : goal.returns-then-not-is_working-clause-counted
+returns-then-not-is_working-clause-counted c =
+    look-charged (gridded c.args.desk.now.places.view) (visit c.args.b c.args.received.now) c.args.values.now c.args.tally.now c.is_working.new.tally (omega arith) c.requires.may.visit_is.box c.layers_hold.ensures.halves
+    c.is_working.ensures.counted
+
+pub returns-clause-counted : goal.returns-clause-counted
+returns-clause-counted c =
+    cell-charged c.layers_hold.ensures c.args.desk.now.places.view (visit c.args.b c.args.received.now) c.args.values.now c.fill_cell.new.values c.args.tally.now c.is_working.new.tally c.fill_cell.new.tally c.requires.may.visit_is
+    (sym c.is_working.ensures.open ∙ c.if-not-is_working.false) c.requires.one c.is_working.ensures.counted c.fill_cell.ensures.counted

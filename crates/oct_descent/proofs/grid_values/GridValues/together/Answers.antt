@@ -1,0 +1,22 @@
+use Rattle.std.proofs.Common.{◌≡◌, ℕ, arith, length, subst, sym}
+use Rattle.std.specs.Prelude.{Option, Some, None, IfSome}
+use Rattle.kuhn_cells.specs.Triangles.{point}
+use Rattle.oct_descent.specs.Corners.{AreTogether}
+use Rattle.oct_descent.specs.Tables.{AreKept, PointValues, stand}
+use Rattle.oct_descent.proofs.Bricks.{together-is}
+use Rattle.oct_descent.proofs.grid_values.GridValues.together.Goals as goal
+
+pub returns : goal.returns
+returns c = by c.stand.result c.stand.ensures.stand
+  where
+    t : PointValues
+    t = c.args.self.now
+
+    kept : AreKept t.places (length t.kept.known) (length t.kept.values)
+    kept = subst (λ (u : PointValues). AreKept u.places (length u.kept.known) (length u.kept.values)) c.self.view_is c.self.invariant.2
+
+    by : (o : Option ℕ) → o ≡ stand t (point c.args.x c.args.y c.args.z) → IfSome o (AreTogether t (point c.args.x c.args.y c.args.z))
+    by None e = tt
+    by (Some first) e =
+        together-is t (point c.args.x c.args.y c.args.z) first kept c.requires.x c.requires.y c.requires.z (sym e) (λ h. absurd (omega (arith, h, c.if-x-eq7.false))) (λ h. absurd (omega (arith, h, c.if-y-eq7.false)))
+        (λ h. absurd (omega (arith, h, c.if-z-eq7.false)))
