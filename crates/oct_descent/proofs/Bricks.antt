@@ -5,7 +5,7 @@ use Rattle.std.proofs.lemmas.Bool.{and_parts, cases_lt, false≢true, le-leb, le
 use Rattle.std.proofs.lemmas.List.{get_or-append_right, get_or-set_other, get_or-set_same, get_or-take, get_or_append_left, get_or_past, length-set, length-take, take_all}
 use Rattle.std.proofs.lemmas.Nat.{same_from_place}
 use Rattle.kuhn_cells.specs.Triangles.{GridPoint, further, point}
-use Rattle.oct_descent.specs.Corners.{AreTogether}
+use Rattle.oct_descent.specs.Corners.{AreTogether, IsRow}
 use Rattle.oct_descent.specs.Tables.{AreKept, IsSame, Marks, PointValues, Sets, brick_of, is_known, is_within, known_at, read, read_at, same_point, slot, stand, stand_in}
 use Rattle.oct_descent.proofs.TableLaws.{same-is, same-self}
 
@@ -331,6 +331,22 @@ next-part i b inner bit = by b bit
             pick (inl less) = less
             pick (inr more) = absurd (apart (omega (arith, more)))
     by (suc (suc b)) h = absurd (omega (arith, h))
+
+-- eight points along x stand in one brick, from one on that begins it
+pub row-is : (t : PointValues) (p : GridPoint) (start : ℕ) → AreKept t.places (length t.kept.known) (length t.kept.values) → p.y ≤ t.n → p.z ≤ t.n → p.x % 8 ≡ 0 → stand t p ≡ Some start → IsRow t p start
+row-is t p start kept y z first is = record { within = omega (arith, at.0, at.1, first, kept.within (brick_of t.n p)); each = each }
+  where
+    at : (0 < get_or t.places (brick_of t.n p) 0) × (start ≡ (get_or t.places (brick_of t.n p) 0 - 1) * 512 + slot p)
+    at = stand-place t p start is
+
+    each : (i : ℕ) → i < 8 → p.x + i ≤ t.n → read t.kept (start + i) ≡ known_at t (point (p.x + i) p.y p.z)
+    each i few x =
+        let q = point (p.x + i) p.y p.z in
+        let column : (p.x + i) / 8 ≡ p.x / 8 = omega (arith, first, few) in
+        let brick : brick_of t.n q ≡ brick_of t.n p = rw column refl in
+        let place = get_or t.places (brick_of t.n p) 0 in
+        let here : start + i ≡ (place - 1) * 512 + slot q = omega (arith, at.1, first, few) in
+        reads t q (start + i) x y z (stand-some t q place (ap (λ k. get_or t.places k 0) (sym brick)) at.0 ∙ ap Some (sym here))
 
 -- the corners of a cell that do not end their brick stand in one
 pub together-is : (t : PointValues) (p : GridPoint) (first : ℕ) → AreKept t.places (length t.kept.known) (length t.kept.values) → p.x < t.n → p.y < t.n → p.z < t.n

@@ -15,10 +15,10 @@ use Rattle.kuhn_cells.specs.declared.cell_list.CellValues.{CellValues}
 use Rattle.live_clauses.specs.declared.step.Step.{Step}
 use Rattle.view_settings.specs.Window.{Window}
 use Rattle.oct_descent.specs.Bound.{sample_of}
-use Rattle.oct_descent.specs.Corners.{AreCorners, LacksCorner, is_mixed}
+use Rattle.oct_descent.specs.Corners.{AreCorners, IsRow, LacksCorner, is_mixed}
 use Rattle.oct_descent.specs.GridValues.{grid_of, grid_value}
 use Rattle.oct_descent.specs.Rows.{cells_at, cells_between, cells_in_layer}
-use Rattle.oct_descent.specs.Tables.{AllKnown, IsUniform, PointValues, brick_of, is_known, stand}
+use Rattle.oct_descent.specs.Tables.{AllKnown, IsUniform, PointValues, brick_of, is_known, known_at, read, stand}
 use Rattle.oct_descent.specs.Trees.{IsTold}
 use Rattle.oct_descent.specs.Ways.{cell_box}
 use Rattle.oct_descent.proofs.Blocks.{value-at_grid}
@@ -197,6 +197,23 @@ grid-y view list = refl
 pub grid-z : (view : Window) (list : List Step) → (grid_of view list).z ≡ view.n
 unfolding grid_of
 grid-z view list = refl
+
+-- no cell of a row is mixed whose lowest corner is not known
+pub row-none : (view : Window) (list : List Step) (t : PointValues) (first x y z start : ℕ) → IsTold view list t → IsRow t (point first y z) start → first ≤ x → x < first + 8 → x < view.n → y < view.n → z < view.n
+    → is_known (read t.kept (start + (x - first))) ≡ false → [] ≡ cells_at view list (point x y z)
+row-none view list t first x y z start told row low high fx fy fz e =
+    let back : first + (x - first) ≡ x = omega (arith, low) in
+    let within : first + (x - first) ≤ t.n = omega (arith, low, fx, told.n) in
+    listed-none view list t (point x y z) told fx fy fz (record {
+      corner = 0;
+      few = omega arith;
+      unknown =
+          ap (λ q. is_known (known_at t q)) (starts (point x y z) ∙ ap (λ k. point k y z) (sym back))
+          ∙ ap is_known (sym (row.each (x - first) (omega (arith, high)) within)) ∙ e;
+    })
+  where
+    starts : (p : GridPoint) → further p 0 ≡ p
+    starts p = rw (add-zero p.x, add-zero p.y, add-zero p.z) refl
 
 -- no cell is mixed whose lowest corners lie in a brick of which nothing is known
 pub eight-none : (view : Window) (list : List Step) (t : PointValues) (first high y z : ℕ) → IsTold view list t → first % 8 ≡ 0 → high ≤ view.n → high ≤ first + 8 → y < view.n → z < view.n

@@ -1,8 +1,8 @@
 -- The corners of a cell.
-use Rattle.std.specs.Prelude.{◌≡◌, ℕ, ◌+◌, ◌*◌, ◌/◌, ◌%◌, ◌<◌, ℤ, pos, Bool, true, false, not, ◌&&◌, ◌||◌, List, length, get_or, Option, Some, None}
+use Rattle.std.specs.Prelude.{◌≡◌, ℕ, ◌+◌, ◌*◌, ◌/◌, ◌%◌, ◌<◌, ◌≤◌, ℤ, pos, Bool, true, false, not, ◌&&◌, ◌||◌, List, length, get_or, Option, Some, None}
 use Rattle.std.specs.List.{list_any}
 use Rattle.fixed_ops.specs.Raw.{is_inside}
-use Rattle.kuhn_cells.specs.Triangles.{GridPoint, further}
+use Rattle.kuhn_cells.specs.Triangles.{GridPoint, further, point}
 use Rattle.oct_descent.specs.Tables.{PointValues, is_known, known_at, read}
 use Rattle.oct_descent.specs.declared.seen.Seen.{Seen}
 
@@ -16,6 +16,12 @@ pub record LacksCorner (t : PointValues) (p : GridPoint) : Type 0 where
   pub corner : ℕ
   pub few : corner < 8
   pub unknown : is_known (known_at t (further p corner)) ≡ false
+
+-- the values of eight points along x stand there, from one on
+pub record IsRow (t : PointValues) (p : GridPoint) (start : ℕ) : Type 0 where
+  pub within : start + 7 < length t.kept.known
+  pub each : (i : ℕ) → i < 8 → p.x + i ≤ t.n
+      → read t.kept (start + i) ≡ known_at t (point (p.x + i) p.y p.z)
 
 -- the value of the lowest corner of a cell stands there, and those of the other corners in the same brick
 pub record AreTogether (t : PointValues) (p : GridPoint) (first : ℕ) : Type 0 where

@@ -1,8 +1,8 @@
 // The values that are known of the points of a grid.
-ghost use Rattle.std.specs.Prelude.{◌≡◌, ◌+◌, ◌*◌, ◌/◌, ◌<◌, ◌≤◌, None, Some, IfOk, IfSome, IsTrue, length};
+ghost use Rattle.std.specs.Prelude.{◌≡◌, ◌+◌, ◌*◌, ◌/◌, ◌%◌, ◌<◌, ◌≤◌, None, Some, IfOk, IfSome, IsTrue, length};
 ghost use Rattle.kuhn_cells.specs.Triangles.{GridPoint, further, point};
-ghost use Rattle.oct_descent.specs.Corners.{AreTogether};
-ghost use Rattle.oct_descent.specs.Tables.{IsSame, Sets, brick_of as brick_of_point, is_within, known_at, read as read_of, slot as slot_of, stand as stand_of};
+ghost use Rattle.oct_descent.specs.Corners.{AreTogether, IsRow};
+ghost use Rattle.oct_descent.specs.Tables.{IsSame, Sets, brick_of as brick_of_point, is_known as is_known_of, is_within, known_at, read as read_of, slot as slot_of, stand as stand_of};
 
 use fixed_ops::Fx;
 use std::alloc::{AllocError, Global};
@@ -90,6 +90,31 @@ impl GridValues {
             return None;
         }
         Some((place - 1) * POINTS + slot(x, y, z))
+    }
+
+    /// Where the values of eight points along x stand, from one whose index is divisible by 8 on, if
+    /// their brick is kept.
+    #[inline]
+    pub fn row(&self, x: u32, y: u32, z: u32) -> Option<usize>
+        requires x { x ≤ self.now.n }
+        requires y { y ≤ self.now.n }
+        requires z { z ≤ self.now.n }
+        requires eighth { x % 8 ≡ 0 }
+        ensures row { IfSome result (IsRow self.now (point x y z)) }
+        ensures none { result ≡ None → stand_of self.now (point x y z) ≡ None }
+    {
+        // Each brick that is kept has room for all its points.
+        let _kept = &self.known;
+        self.stand(x, y, z)
+    }
+
+    /// Whether the value is known that stands so many places behind a start.
+    #[inline]
+    pub fn is_known(&self, start: usize, further: usize) -> bool
+        requires { start + further < length self.now.kept.known }
+        ensures { result ≡ is_known_of (read_of self.now.kept (start + further)) }
+    {
+        self.known[start + further]
     }
 
     /// Where the value of the lowest corner of a cell stands, if one brick that is kept has all

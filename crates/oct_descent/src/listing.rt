@@ -50,7 +50,7 @@ impl OctTree {
     }
 
     // Adds those of eight cells of a row that are mixed. None is where nothing is known of the brick
-    // that has their lowest corners.
+    // that has their lowest corners, nor where the lowest corner is not known.
     #[inline]
     fn push_eight(
         &self,
@@ -65,11 +65,13 @@ impl OctTree {
         requires z { z < self.now.view.n }
         ensures { OnOk result (cells.new.items ≡ cells.old.items ++ cells_between self.now.view self.now.list first (min self.now.view.n (first + 8)) y z) }
     {
-        if self.values.stand(first, y, z).is_none() {
+        let Some(start) = self.values.row(first, y, z) else {
             return Ok(());
-        }
+        };
         for x in first..self.view.n.min(first + 8) {
-            self.push_cell(x, y, z, cells)?;
+            if self.values.is_known(start, (x - first) as usize) {
+                self.push_cell(x, y, z, cells)?;
+            }
         }
         Ok(())
     }
