@@ -1,12 +1,12 @@
 -- Where the values of points stand.
 use Rattle.std.proofs.Common.{◌≡◌, ◌≢◌, ℕ, zero, suc, ◌+◌, ◌-◌, ◌*◌, ◌/◌, ◌%◌, ◌<◌, ◌≤◌, ℤ, Bool, true, false, cond, List, ◌++◌, length, get_or, set, replicate, take, refl, sym, ap, ◌∙◌, ◌⊎◌, inl, inr, arith}
-use Rattle.std.specs.Prelude.{Option, is_some, unwrap_or, Some, None, pos, nat_le, ◌&&◌}
+use Rattle.std.specs.Prelude.{Option, is_some, unwrap_or, Some, None, IfSome, pos, nat_le, ◌&&◌}
 use Rattle.std.proofs.lemmas.Bool.{and_parts, cases_lt, false≢true, le-leb, leb-true}
 use Rattle.std.proofs.lemmas.List.{get_or-append_right, get_or-set_other, get_or-set_same, get_or-take, get_or_append_left, get_or_past, length-set, length-take, take_all}
 use Rattle.std.proofs.lemmas.Nat.{same_from_place}
 use Rattle.kuhn_cells.specs.Triangles.{GridPoint, further, point}
-use Rattle.oct_descent.specs.Corners.{AreTogether, IsRow}
-use Rattle.oct_descent.specs.Tables.{AreKept, IsSame, Marks, PointValues, Sets, brick_of, is_known, is_within, known_at, read, read_at, same_point, slot, stand, stand_in}
+use Rattle.oct_descent.specs.Corners.{AreTogether, IsRow, places_to}
+use Rattle.oct_descent.specs.Tables.{AreKept, IsSame, KeepsPlaces, Marks, PointValues, Sets, brick_of, is_known, is_within, known_at, read, read_at, same_point, slot, stand, stand_in}
 use Rattle.oct_descent.proofs.TableLaws.{same-is, same-self}
 
 -- ---- marks
@@ -362,14 +362,14 @@ together-is t p first kept x y z is ix iy iz = record {
         (next-part p.y 1 iy (omega arith)).1,
         (next-part p.z 1 iz (omega arith)).1,
       );
-  each = each;
+  stands = stands;
 }
   where
     at : (0 < get_or t.places (brick_of t.n p) 0) × (first ≡ (get_or t.places (brick_of t.n p) 0 - 1) * 512 + slot p)
     at = stand-place t p first is
 
-    each : (c : ℕ) → c < 8 → read t.kept (first + (c / 4 % 2 * 64 + c / 2 % 2 * 8 + c % 2)) ≡ known_at t (further p c)
-    each c few =
+    stands : (c : ℕ) → c < 8 → stand t (further p c) ≡ Some (first + places_to c)
+    stands c few =
         let q = further p c in
         let a = next-part p.x (c % 2) ix (omega arith) in
         let b = next-part p.y (c / 2 % 2) iy (omega arith) in
@@ -377,5 +377,42 @@ together-is t p first kept x y z is ix iy iz = record {
         let brick : brick_of t.n q ≡ brick_of t.n p = rw (a.0, b.0, d.0) refl in
         let place = get_or t.places (brick_of t.n p) 0 in
         let here : first + (c / 4 % 2 * 64 + c / 2 % 2 * 8 + c % 2) ≡ (place - 1) * 512 + slot q = omega (arith, at.1, a.1, b.1, d.1) in
-        reads t q (first + (c / 4 % 2 * 64 + c / 2 % 2 * 8 + c % 2)) (omega (arith, x)) (omega (arith, y)) (omega (arith, z))
-        (stand-some t q place (ap (λ k. get_or t.places k 0) (sym brick)) at.0 ∙ ap Some (sym here))
+        stand-some t q place (ap (λ k. get_or t.places k 0) (sym brick)) at.0 ∙ ap Some (sym here)
+
+-- and go on to
+pub together-stays : (t after : PointValues) (p : GridPoint) (o : Option ℕ) → KeepsPlaces t after → IfSome o (AreTogether t p) → IfSome o (AreTogether after p)
+together-stays t after p None keeps h = tt
+together-stays t after p (Some first) keeps h = record {
+  within = omega (arith, h.within, keeps.more);
+  stands = λ c few. keeps.each (further p c) (first + places_to c) (h.stands c few);
+}
+
+-- what stands somewhere stays there where a brick is added
+pub added-keeps : (t : PointValues) (kept : Marks) (at place : ℕ) → get_or t.places at 0 ≡ 0 → length t.kept.known ≤ length kept.known
+    → KeepsPlaces t (record { n = t.n; places = set t.places at place; kept = kept })
+added-keeps t kept at place none more = record { n = refl; more = more; each = λ q i is. by q i is (same-or (brick_of t.n q) at) }
+  where
+    after : PointValues
+    after = record { n = t.n; places = set t.places at place; kept = kept }
+
+    by : (q : GridPoint) (i : ℕ) → stand t q ≡ Some i → (brick_of t.n q ≡ at) ⊎ (brick_of t.n q ≢ at) → stand after q ≡ Some i
+    by q i is (inl here) = absurd (omega (arith, (stand-place t q i is).0, ap (λ k. get_or t.places k 0) here, none))
+    by q i is (inr other) =
+        let b = stand-place t q i is in
+        let stays : get_or t.places (brick_of t.n q) 0 ≡ get_or (set t.places at place) (brick_of t.n q) 0 = sym (get_or-set_other t.places at (brick_of t.n q) place 0 other) in
+        stand-some after q (get_or t.places (brick_of t.n q) 0) stays b.0 ∙ ap Some (sym b.1)
+
+-- and where other values are kept
+pub kept-keeps : (t : PointValues) (kept : Marks) → length t.kept.known ≤ length kept.known → KeepsPlaces t (record { n = t.n; places = t.places; kept = kept })
+unfolding stand
+kept-keeps t kept more = record { n = refl; more = more; each = λ q i is. is }
+
+pub keeps-then : (before mid after : PointValues) → KeepsPlaces before mid → KeepsPlaces mid after → KeepsPlaces before after
+keeps-then before mid after first second = record {
+  n = second.n ∙ first.n;
+  more = omega (arith, first.more, second.more);
+  each = λ q at is. second.each q at (first.each q at is);
+}
+
+pub keeps-none : (t : PointValues) → KeepsPlaces t t
+keeps-none t = record { n = refl; more = omega arith; each = λ q at is. is }

@@ -14,13 +14,9 @@ use Rattle.oct_descent.specs.Ways.{Covers}
 use Rattle.oct_descent.specs.declared.seen.Seen.{Seen}
 use Rattle.oct_descent.proofs.Covered.{or-false}
 
-pub none-is : (o : Option ℤ) (t : Bool) → is_some o ≡ not t → t ≡ true → o ≡ None
-none-is None t e h = refl
-none-is (Some v) t e h = absurd (false≢true (sym (e ∙ ap not h)))
-
-pub none-there : (o : Option ℕ) (t : Bool) → is_some o ≡ not t → t ≡ true → o ≡ None
-none-there None t e h = refl
-none-there (Some v) t e h = absurd (false≢true (sym (e ∙ ap not h)))
+pub unknown-is : (o : Option ℤ) → is_some o ≡ false → o ≡ None
+unknown-is None e = refl
+unknown-is (Some v) e = absurd (false≢true (sym e))
 
 -- a point is covered by its own box
 pub itself : (p : GridPoint) → Covers (point_box p) p

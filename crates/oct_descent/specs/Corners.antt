@@ -3,7 +3,7 @@ use Rattle.std.specs.Prelude.{◌≡◌, ℕ, ◌+◌, ◌*◌, ◌/◌, ◌%◌
 use Rattle.std.specs.List.{list_any}
 use Rattle.fixed_ops.specs.Raw.{is_inside}
 use Rattle.kuhn_cells.specs.Triangles.{GridPoint, further, point}
-use Rattle.oct_descent.specs.Tables.{PointValues, is_known, known_at, read}
+use Rattle.oct_descent.specs.Tables.{PointValues, is_known, known_at, read, stand}
 use Rattle.oct_descent.specs.declared.seen.Seen.{Seen}
 
 -- the values of the corners of a cell, by their masks
@@ -23,10 +23,14 @@ pub record IsRow (t : PointValues) (p : GridPoint) (start : ℕ) : Type 0 where
   pub each : (i : ℕ) → i < 8 → p.x + i ≤ t.n
       → read t.kept (start + i) ≡ known_at t (point (p.x + i) p.y p.z)
 
+-- how far behind the value of the lowest corner of a cell that of a corner stands in their brick
+abbrev pub places_to : ℕ → ℕ
+places_to c = c / 4 % 2 * 64 + c / 2 % 2 * 8 + c % 2
+
 -- the value of the lowest corner of a cell stands there, and those of the other corners in the same brick
 pub record AreTogether (t : PointValues) (p : GridPoint) (first : ℕ) : Type 0 where
   pub within : first + 73 < length t.kept.known
-  pub each : (c : ℕ) → c < 8 → read t.kept (first + (c / 4 % 2 * 64 + c / 2 % 2 * 8 + c % 2)) ≡ known_at t (further p c)
+  pub stands : (c : ℕ) → c < 8 → stand t (further p c) ≡ Some (first + places_to c)
 
 -- some corner of a cell is known, and is inside or not
 pub record ShowsCorner (t : PointValues) (p : GridPoint) (inside : Bool) : Type 0 where

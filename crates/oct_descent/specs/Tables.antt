@@ -77,6 +77,12 @@ pub record IsSame (before after : PointValues) : Type 0 where
   pub n : after.n ≡ before.n
   pub each : (q : GridPoint) → known_at after q ≡ known_at before q
 
+-- what stands somewhere stays there
+pub record KeepsPlaces (before after : PointValues) : Type 0 where
+  pub n : after.n ≡ before.n
+  pub more : length before.kept.known ≤ length after.kept.known
+  pub each : (q : GridPoint) (at : ℕ) → stand before q ≡ Some at → stand after q ≡ Some at
+
 -- one point gets a value
 pub record Sets (p : GridPoint) (v : ℤ) (before after : PointValues) : Type 0 where
   pub n : after.n ≡ before.n

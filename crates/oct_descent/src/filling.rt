@@ -1,13 +1,14 @@
 // Working cells, whose corners are evaluated.
-ghost use Rattle.std.specs.Prelude.{◌≡◌, ◌≤◌, true, false, length, OnOk};
+ghost use Rattle.std.specs.Prelude.{◌≡◌, ◌<◌, ◌≤◌, true, false, IfSome, length, OnOk};
 ghost use Rattle.box_chains.specs.Chains.{is_long as is_long_for};
 ghost use Rattle.fixed_ops.specs.Counts.{RisesBy, points_of};
-ghost use Rattle.kuhn_cells.specs.Triangles.{point};
+ghost use Rattle.kuhn_cells.specs.Triangles.{further, point};
 ghost use Rattle.view_settings.specs.declared.lattice.Lattice.TheVariants as lattices;
+ghost use Rattle.oct_descent.specs.Corners.{AreTogether};
 ghost use Rattle.oct_descent.specs.Desks.{KeepsDesk, MayLook};
 ghost use Rattle.oct_descent.specs.Fills.{ChargesCorners, point_box};
 ghost use Rattle.oct_descent.specs.GridValues.{bordered, grid_value, value_on};
-ghost use Rattle.oct_descent.specs.Tables.{AllKnown, Grows, is_known, known_at};
+ghost use Rattle.oct_descent.specs.Tables.{AllKnown, Grows, KeepsPlaces, is_known, known_at};
 
 use crate::desk::Desk;
 use crate::grid_values::GridValues;
@@ -34,42 +35,50 @@ pub fn fill_cell(
     ensures kept { KeepsDesk desk.old desk.new }
 {
     let (x, y, z) = (b.x0, b.y0, b.z0);
+    let first = values.together(x, y, z);
     for c in 0..8 {
-        let (i, j, k) = (x + c % 2, y + c / 2 % 2, z + c / 4 % 2);
-        fill_point(desk, i, j, k, list, values, tally)?;
+        fill_corner(desk, first, x, y, z, c, list, values, tally)?;
     }
     Ok(())
 }
 
-// Evaluates a list at a point that is not known.
+// Evaluates a list at a corner of a cell that is not known. `first` is what `together` tells of the
+// cell.
 #[inline]
-fn fill_point(
+fn fill_corner(
     desk: &mut Desk,
+    first: Option<usize>,
     x: u32,
     y: u32,
     z: u32,
+    c: u32,
     list: &Tape,
     values: &mut GridValues,
     tally: &mut Tally,
 ) -> Result<(), AllocError>
+    requires first { IfSome first (AreTogether values.old (point x y z)) }
     requires lattice { desk.old.places.lattice ≡ lattices.Grid }
     requires n { values.old.n ≡ desk.old.places.view.n }
+    requires few { values.old.n ≤ 256 }
     requires room { length list.now ≤ length desk.old.values.items }
-    requires x { x ≤ values.old.n }
-    requires y { y ≤ values.old.n }
-    requires z { z ≤ values.old.n }
-    ensures known { OnOk result (is_known (known_at values.new (point x y z)) ≡ true) }
-    ensures grows { Grows (grid_value desk.old.places.view list.now) (point_box (point x y z)) values.old values.new }
-    ensures counted { ChargesCorners (point_box (point x y z)) (length list.now) values.old values.new tally.old tally.new }
+    requires x { x < values.old.n }
+    requires y { y < values.old.n }
+    requires z { z < values.old.n }
+    requires c { c < 8 }
+    ensures known { OnOk result (is_known (known_at values.new (further (point x y z) c)) ≡ true) }
+    ensures grows { Grows (grid_value desk.old.places.view list.now) (point_box (further (point x y z) c)) values.old values.new }
+    ensures counted { ChargesCorners (point_box (further (point x y z) c)) (length list.now) values.old values.new tally.old tally.new }
+    ensures keeps { OnOk result (KeepsPlaces values.old values.new) }
     ensures kept { KeepsDesk desk.old desk.new }
 {
-    if values.get(x, y, z).is_none() {
-        // The place is made first, so that no value is lost for want of memory.
-        let at = values.make_room(x, y, z)?;
-        let value = value_at(desk, x, y, z, list, tally);
-        let n = values.n();
-        values.set(at, closed(value, n, x, y, z));
+    if values.corner(first, x, y, z, c).is_some() {
+        return Ok(());
     }
+    // The place is made first, so that no value is lost for want of memory.
+    let at = values.corner_room(first, x, y, z, c)?;
+    let (i, j, k) = (x + c % 2, y + c / 2 % 2, z + c / 4 % 2);
+    let value = value_at(desk, i, j, k, list, tally);
+    values.set(at, closed(value, values.n(), i, j, k));
     Ok(())
 }
 

@@ -1,8 +1,8 @@
 // The values that are known of the points of a grid.
-ghost use Rattle.std.specs.Prelude.{◌≡◌, ◌+◌, ◌*◌, ◌/◌, ◌%◌, ◌<◌, ◌≤◌, None, Some, IfOk, IfSome, IsTrue, length};
+ghost use Rattle.std.specs.Prelude.{◌≡◌, ◌+◌, ◌*◌, ◌/◌, ◌%◌, ◌<◌, ◌≤◌, None, Some, IfOk, IfSome, IsTrue, OnOk, length};
 ghost use Rattle.kuhn_cells.specs.Triangles.{GridPoint, further, point};
 ghost use Rattle.oct_descent.specs.Corners.{AreTogether, IsRow};
-ghost use Rattle.oct_descent.specs.Tables.{IsSame, Sets, brick_of as brick_of_point, is_known as is_known_of, is_within, known_at, read as read_of, slot as slot_of, stand as stand_of};
+ghost use Rattle.oct_descent.specs.Tables.{IsSame, KeepsPlaces, Sets, brick_of as brick_of_point, is_known as is_known_of, is_within, known_at, read as read_of, slot as slot_of, stand as stand_of};
 
 use fixed_ops::Fx;
 use std::alloc::{AllocError, Global};
@@ -153,6 +153,36 @@ impl GridValues {
         }
     }
 
+    /// Keeps the brick of corner c of a cell, and gives where the corner's value stands. `first` is
+    /// what `together` told. AllocError: there is no memory for the brick.
+    #[inline]
+    pub fn corner_room(
+        &mut self,
+        first: Option<usize>,
+        x: u32,
+        y: u32,
+        z: u32,
+        c: u32,
+    ) -> Result<usize, AllocError>
+        requires first { IfSome first (AreTogether self.old (point x y z)) }
+        requires x { x < self.old.n }
+        requires y { y < self.old.n }
+        requires z { z < self.old.n }
+        requires c { c < 8 }
+        ensures room { IfOk result (λ at. stand_of self.new (further (point x y z) c) ≡ Some at) }
+        ensures within { IfOk result (λ at. at < length self.new.kept.known) }
+        ensures keeps { OnOk result (KeepsPlaces self.old self.new) }
+        ensures same { IsSame self.old self.new }
+    {
+        // No grid has more than 256 cells along an axis.
+        let _n = self.n;
+        let (i, j, k) = (c % 2, c / 2 % 2, c / 4 % 2);
+        match first {
+            Some(first) => Ok(first + (k * 64 + j * 8 + i) as usize),
+            None => self.make_room(x + i, y + j, z + k),
+        }
+    }
+
     // The value that stands somewhere, where it is known.
     #[inline]
     fn read(&self, at: usize) -> Option<Fx>
@@ -166,15 +196,16 @@ impl GridValues {
         }
     }
 
-    /// Keeps the brick of a point, and gives where the point's value stands. AllocError: there is no
-    /// memory for the brick.
+    // Keeps the brick of a point, and gives where the point's value stands. AllocError: there is no
+    // memory for the brick.
     #[inline]
-    pub fn make_room(&mut self, x: u32, y: u32, z: u32) -> Result<usize, AllocError>
+    fn make_room(&mut self, x: u32, y: u32, z: u32) -> Result<usize, AllocError>
         requires x { x ≤ self.old.n }
         requires y { y ≤ self.old.n }
         requires z { z ≤ self.old.n }
         ensures room { IfOk result (λ at. stand_of self.new (point x y z) ≡ Some at) }
         ensures within { IfOk result (λ at. at < length self.new.kept.known) }
+        ensures keeps { OnOk result (KeepsPlaces self.old self.new) }
         ensures same { IsSame self.old self.new }
     {
         match self.stand(x, y, z) {
@@ -191,6 +222,7 @@ impl GridValues {
         requires room { stand_of self.old (point x y z) ≡ None }
         ensures room { IfOk result (λ at. stand_of self.new (point x y z) ≡ Some at) }
         ensures within { IfOk result (λ at. at < length self.new.kept.known) }
+        ensures keeps { OnOk result (KeepsPlaces self.old self.new) }
         ensures same { IsSame self.old self.new }
     {
         let start = self.known.len();
@@ -204,8 +236,9 @@ impl GridValues {
     #[inline]
     pub fn set(&mut self, at: usize, value: Fx)
         requires { at < length self.old.kept.known }
-        ensures { (p : GridPoint) → IsTrue (is_within self.old.n p) → stand_of self.old p ≡ Some at
+        ensures sets { (p : GridPoint) → IsTrue (is_within self.old.n p) → stand_of self.old p ≡ Some at
             → Sets p value self.old self.new }
+        ensures keeps { KeepsPlaces self.old self.new }
     {
         self.known[at] = true;
         self.values[at] = value;

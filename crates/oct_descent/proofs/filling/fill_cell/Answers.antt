@@ -3,6 +3,7 @@ use Rattle.kuhn_cells.specs.Triangles.{GridPoint, further, point}
 use Rattle.oct_descent.specs.Fills.{point_box}
 use Rattle.oct_descent.specs.GridValues.{grid_value}
 use Rattle.oct_descent.specs.Ways.{Covers}
+use Rattle.oct_descent.proofs.Bricks.{together-stays}
 use Rattle.oct_descent.proofs.Corners.{all-known, corner-wider, one-more_known, short-one}
 use Rattle.oct_descent.proofs.TableLaws.{charges-none, charges-then, grows-none, grows-then, grows-wider, stays-known}
 use Rattle.oct_descent.proofs.filling.fill_cell.Goals as goal
@@ -13,6 +14,7 @@ loop-c-init c = record {
   known = λ k less. absurd (omega (arith, less));
   grows = grows-none (grid_value c.args.desk.now.places.view c.args.list.now) c.args.b c.args.values.now;
   counted = λ f enough. charges-none f 0 c.args.values.now c.args.tally.now;
+  together = c.together-first.ensures;
 }
 
 pub loop-c-preserved : goal.loop-c-preserved
@@ -26,17 +28,18 @@ loop-c-preserved c =
     let one = short-one b c.requires.may.visit_is.box c.requires.one in
     let wider : (q : GridPoint) → Covers (point_box p) q → Covers b q = λ q covers. corner-wider b n p q one at covers in
     let before = c.loop-c.invariant in
-    let after = c.fill_point.ensures in
+    let after = c.fill_corner.ensures in
     let view = ap (λ a. a.view) before.kept.places in
     let g = grid_value c.args.desk.now.places.view list in
-    let filled = grows-wider (grid_value c.loop-c.desk.places.view list) g (point_box p) b c.loop-c.values c.fill_point.new.values wider (λ q covers. ap (λ v. grid_value v list q) view) after.grows in
+    let filled = grows-wider (grid_value c.loop-c.desk.places.view list) g (point_box p) b c.loop-c.values c.fill_corner.new.values wider (λ q covers. ap (λ v. grid_value v list q) view) after.grows in
     record {
       kept = record { places = after.kept.places ∙ before.kept.places; room = after.kept.room ∙ before.kept.room; values = after.kept.values ∙ before.kept.values };
-      known = one-more_known b c.loop-c.values c.fill_point.new.values n p at (λ q known. stays-known g b c.loop-c.values c.fill_point.new.values q filled known) before.known c.in_ok-fill_point.ensures.known;
-      grows = grows-then g b c.args.values.now c.loop-c.values c.fill_point.new.values before.grows filled;
+      known = one-more_known b c.loop-c.values c.fill_corner.new.values n p at (λ q known. stays-known g b c.loop-c.values c.fill_corner.new.values q filled known) before.known c.in_ok-fill_corner.ensures.known;
+      grows = grows-then g b c.args.values.now c.loop-c.values c.fill_corner.new.values before.grows filled;
       counted = λ f enough.
-          charges-then f 0 0 0 c.args.values.now c.loop-c.values c.fill_point.new.values c.args.tally.now c.loop-c.tally c.fill_point.new.tally (omega arith) (before.counted f enough)
+          charges-then f 0 0 0 c.args.values.now c.loop-c.values c.fill_corner.new.values c.args.tally.now c.loop-c.tally c.fill_corner.new.tally (omega arith) (before.counted f enough)
           (after.counted f (λ q covers. enough q (wider q covers)));
+      together = together-stays c.loop-c.values c.fill_corner.new.values (point i.x0 i.y0 i.z0) c.together-first.result c.in_ok-fill_corner.ensures.keeps before.together;
     }
 
 pub returns-clause-known : goal.returns-clause-known
@@ -44,19 +47,19 @@ returns-clause-known c =
     all-known c.args.b c.loop-c.values (short-one c.args.b c.requires.may.visit_is.box c.requires.one)
     (λ k less. c.loop-c.invariant.known k (omega (arith, less, c.loop-c-test.false, c.loop-c.auto.c-end)))
 
-pub returns-in_err-fill_point-clause-counted : goal.returns-in_err-fill_point-clause-counted
-returns-in_err-fill_point-clause-counted c f enough =
+pub returns-in_err-fill_corner-clause-counted : goal.returns-in_err-fill_corner-clause-counted
+returns-in_err-fill_corner-clause-counted c f enough =
     let b = c.args.b in
     let n = c.loop-c.c in
     let i = c.b.inside in
     let p = point (i.x0 + n % 2) (i.y0 + n / 2 % 2) (i.z0 + n / 4 % 2) in
     let at : p ≡ further (point b.x0 b.y0 b.z0) n = ap (λ a. further (point a.x0 a.y0 a.z0) n) c.b.view_is in
     let one = short-one b c.requires.may.visit_is.box c.requires.one in
-    charges-then f 0 0 0 c.args.values.now c.loop-c.values c.fill_point.new.values c.args.tally.now c.loop-c.tally c.fill_point.new.tally (omega arith) (c.loop-c.invariant.counted f enough)
-    (c.in_err-fill_point.ensures.counted f (λ q covers. enough q (corner-wider b n p q one at covers)))
+    charges-then f 0 0 0 c.args.values.now c.loop-c.values c.fill_corner.new.values c.args.tally.now c.loop-c.tally c.fill_corner.new.tally (omega arith) (c.loop-c.invariant.counted f enough)
+    (c.in_err-fill_corner.ensures.counted f (λ q covers. enough q (corner-wider b n p q one at covers)))
 
-pub returns-in_err-fill_point-clause-grows : goal.returns-in_err-fill_point-clause-grows
-returns-in_err-fill_point-clause-grows c =
+pub returns-in_err-fill_corner-clause-grows : goal.returns-in_err-fill_corner-clause-grows
+returns-in_err-fill_corner-clause-grows c =
     let b = c.args.b in
     let n = c.loop-c.c in
     let list = c.args.list.now in
@@ -66,6 +69,6 @@ returns-in_err-fill_point-clause-grows c =
     let one = short-one b c.requires.may.visit_is.box c.requires.one in
     let view = ap (λ a. a.view) c.loop-c.invariant.kept.places in
     let g = grid_value c.args.desk.now.places.view list in
-    grows-then g b c.args.values.now c.loop-c.values c.fill_point.new.values c.loop-c.invariant.grows
-    (grows-wider (grid_value c.loop-c.desk.places.view list) g (point_box p) b c.loop-c.values c.fill_point.new.values (λ q covers. corner-wider b n p q one at covers) (λ q covers. ap (λ v. grid_value v list q) view)
-    c.in_err-fill_point.ensures.grows)
+    grows-then g b c.args.values.now c.loop-c.values c.fill_corner.new.values c.loop-c.invariant.grows
+    (grows-wider (grid_value c.loop-c.desk.places.view list) g (point_box p) b c.loop-c.values c.fill_corner.new.values (λ q covers. corner-wider b n p q one at covers) (λ q covers. ap (λ v. grid_value v list q) view)
+    c.in_err-fill_corner.ensures.grows)

@@ -1,5 +1,7 @@
 use Rattle.std.proofs.Common.{◌≡◌, ◌<◌, ℕ, length, true}
 use Rattle.kuhn_cells.specs.Triangles.{further, point}
+use Rattle.std.specs.Prelude.{IfSome}
+use Rattle.oct_descent.specs.Corners.{AreTogether}
 use Rattle.oct_descent.specs.Desks.{KeepsDesk}
 use Rattle.oct_descent.specs.Fills.{ChargesCorners}
 use Rattle.oct_descent.specs.GridValues.{grid_value}
@@ -12,4 +14,5 @@ invariant-loop-c l = record {
   known : (c : ℕ) → c < l.c → is_known (known_at l.values (further (point l.fn.b.x0 l.fn.b.y0 l.fn.b.z0) c)) ≡ true;
   grows : Grows (grid_value l.fn.desk.places.view l.fn.list) l.fn.b l.fn.values l.values;
   counted : ChargesCorners l.fn.b (length l.fn.list) l.fn.values l.values l.fn.tally l.tally;
+  together : IfSome l.first (AreTogether l.values (point l.x l.y l.z));
 }

@@ -1,8 +1,8 @@
 use Rattle.std.proofs.Common.{◌≡◌, ◌+◌, ◌/◌, ◌<◌, ap, arith, get_or, length, set, subst, sym, ◌∙◌}
 use Rattle.std.specs.Prelude.{Some}
 use Rattle.kuhn_cells.specs.Triangles.{point}
-use Rattle.oct_descent.specs.Tables.{IsSame, Marks, PointValues, read, stand}
-use Rattle.oct_descent.proofs.Bricks.{brick-filled, brick-stands, kept-same, roomless, values-filled}
+use Rattle.oct_descent.specs.Tables.{IsSame, KeepsPlaces, Marks, PointValues, read, stand}
+use Rattle.oct_descent.proofs.Bricks.{added-keeps, brick-filled, brick-stands, kept-same, roomless, values-filled}
 use Rattle.oct_descent.proofs.grid_values.GridValues.add_brick.Goals as goal
 
 pub returns-in_err-resize-2-clause-same : goal.returns-in_err-resize-2-clause-same
@@ -40,3 +40,13 @@ returns-clause-room c =
     let len : c.len-start.result ≡ length t.kept.known = omega (arith, c.len-start.ensures) in
     let after : Marks = record { known = c.resize-2.new.self.items; values = c.resize.new.self.items } in
     brick-stands t after p c.len-start.result c.brick_of.result c.self.invariant.2 len c.brick_of.ensures.brick within ∙ ap (λ s. Some (c.len-start.result + s)) (sym c.slot.ensures.slot)
+
+pub returns-clause-keeps : goal.returns-clause-keeps
+returns-clause-keeps c =
+    let i = c.self.inside in
+    let t : PointValues = record { n = i.n; places = i.places.items; kept = record { known = i.known.items; values = i.values.items } } in
+    let p = point c.args.x c.args.y c.args.z in
+    let none = ap (λ k. get_or t.places k 0) c.brick_of.ensures.brick ∙ roomless t p (ap (λ u. stand u p) c.self.view_is ∙ c.requires.room) in
+    let now : Marks = record { known = c.resize-2.new.self.items; values = c.resize.new.self.items } in
+    subst (λ (u : PointValues). KeepsPlaces u (record { n = t.n; places = set t.places c.brick_of.result (c.len-start.result / 512 + 1); kept = now })) c.self.view_is
+    (added-keeps t now c.brick_of.result (c.len-start.result / 512 + 1) none (omega (arith, c.in_ok-resize-2.ensures.len, c.len-start.ensures)))

@@ -1,0 +1,35 @@
+use Rattle.std.proofs.Common.{ap, arith, sym, ◌∙◌}
+use Rattle.kuhn_cells.specs.Triangles.{further, point}
+use Rattle.oct_descent.specs.GridValues.{bordered, grid_value}
+use Rattle.oct_descent.proofs.Bricks.{within-from}
+use Rattle.oct_descent.proofs.Corners.{itself, unknown-is}
+use Rattle.oct_descent.proofs.TableLaws.{charges-none, charges-set, same-charges, same-sets, set-grows}
+use Rattle.oct_descent.proofs.filling.fill_corner.Goals as goal
+
+pub returns-then-is_some-clause-counted : goal.returns-then-is_some-clause-counted
+returns-then-is_some-clause-counted c f enough = charges-none f 0 c.args.values.now c.args.tally.now
+
+pub returns-in_err-at-clause-counted : goal.returns-in_err-at-clause-counted
+returns-in_err-at-clause-counted c f enough = same-charges f c.args.values.now c.corner_room.new.self c.args.tally.now c.in_err-at.ensures.same
+
+pub returns-clause-grows : goal.returns-clause-grows
+returns-clause-grows c =
+    let p = further (point c.args.x c.args.y c.args.z) c.args.c in
+    let view = c.args.desk.now.places.view in
+    let unknown = sym c.corner.ensures ∙ unknown-is c.corner.result (sym c.is_some.ensures ∙ c.if-is_some.false) in
+    let same = c.in_ok-at.ensures.same in
+    let n = c.n.ensures ∙ same.n ∙ c.requires.n in
+    let right = c.closed.ensures ∙ ap (λ n. bordered n p c.value_at-value.result) n ∙ ap (bordered view.n p) c.value_at-value.ensures.value in
+    let within = within-from c.corner_room.new.self.n p (omega (arith, same.n, c.requires.x)) (omega (arith, same.n, c.requires.y)) (omega (arith, same.n, c.requires.z)) in
+    let sets = same-sets p c.closed.result c.args.values.now c.corner_room.new.self c.set.new.self same (c.set.ensures.sets p within c.in_ok-at.ensures.room) in
+    set-grows (grid_value view c.args.list.now) p c.closed.result c.args.values.now c.set.new.self unknown right sets
+
+pub returns-clause-counted : goal.returns-clause-counted
+returns-clause-counted c f enough =
+    let p = further (point c.args.x c.args.y c.args.z) c.args.c in
+    let unknown = sym c.corner.ensures ∙ unknown-is c.corner.result (sym c.is_some.ensures ∙ c.if-is_some.false) in
+    let same = c.in_ok-at.ensures.same in
+    let within = within-from c.corner_room.new.self.n p (omega (arith, same.n, c.requires.x)) (omega (arith, same.n, c.requires.y)) (omega (arith, same.n, c.requires.z)) in
+    let sets = same-sets p c.closed.result c.args.values.now c.corner_room.new.self c.set.new.self same (c.set.ensures.sets p within c.in_ok-at.ensures.room) in
+    charges-set f p c.closed.result _ c.args.values.now c.set.new.self c.args.tally.now c.value_at-value.new.tally (omega (arith, c.requires.x)) (omega (arith, c.requires.y)) (omega (arith, c.requires.z)) unknown sets
+    (enough p (itself p)) c.value_at-value.ensures.counted
