@@ -23,6 +23,10 @@ use view_settings::Job;
 
 /// Plays the script of an input on the model before its mark. What a command writes is written as
 /// soon as it is made, and nothing before the whole script was read.
+///
+/// `Refused`: the model is refused, or else the script, and nothing was written. `WriteFault`: the
+/// sink failed, and has taken a front of the bytes. `NoMemory`: memory was refused, and the sink has
+/// taken what the first commands write, and nothing of the next one.
 pub fn replay<K: Sink>(
     alloc: Global,
     input: &[u8],
