@@ -6,6 +6,8 @@ mod counts;
 #[cfg(test)]
 mod faults;
 #[cfg(test)]
+mod forges;
+#[cfg(test)]
 mod grids;
 #[cfg(test)]
 mod heights;

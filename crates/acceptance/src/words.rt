@@ -5,7 +5,7 @@ use modeller_io::Source;
 use std::test::Fail;
 
 // Words, the number of the one that is noted, and the reason.
-const CASES: [(&[&str], u32, &str); 49] = [
+const CASES: [(&[&str], u32, &str); 50] = [
     (&[], 0, "NoVerb"),
     (&["draw"], 1, "UnknownVerb"),
     (&["Render", "w"], 1, "UnknownVerb"),
@@ -60,8 +60,9 @@ const CASES: [(&[&str], u32, &str); 49] = [
     (&["height", "x0=1", "x1=-1"], 0, "EmptySpan"),
     (&["height", "y1=-2"], 0, "EmptySpan"),
     (&["height", "z0=0.5", "z1=0.25"], 0, "EmptySpan"),
-    // Good words of verbs that are not built.
-    (&["forge", "seed=18446744073709551615"], 1, "NotBuilt"),
+    // Words of a model that is made.
+    (&["forge", "seed=18446744073709551616"], 2, "OutOfRange"),
+    (&["forge", "seed=0", "solids=0"], 3, "OutOfRange"),
     // Settings of verbs that take none.
     (&["replay", "w"], 2, "NotASetting"),
     (&["replay", "w=1"], 2, "UnknownSetting"),

@@ -18,8 +18,9 @@ use Rattle.modeller_io.specs.Count.{last_count}
 use Rattle.view_settings.specs.Setting.{setting_of}
 use Rattle.view_settings.specs.Window.{Window}
 use Rattle.view_settings.specs.declared.job.Job.{Job}
-use Rattle.view_settings.specs.declared.job.Job.TheVariants.{Count, Height, Render}
+use Rattle.view_settings.specs.declared.job.Job.TheVariants.{Count, Forge, Height, Render}
 use Rattle.view_settings.specs.declared.word_fault.WordReason.TheVariants as word
+use Rattle.modeller_cmd.specs.Asking.{asks_nothing, reads_nothing}
 use Rattle.modeller_cmd.specs.Endings.{IsAnswer, NoFault}
 use Rattle.edit_session.specs.Heights.{heights_of}
 use Rattle.modeller_cmd.specs.Notes.{line_of}
@@ -195,10 +196,6 @@ unfolding digits setting_of
 bad_script_draws_nothing = refl
 
 -- words are refused whatever the input is
-verb_not_built : (input : List ℕ) → output_of (codes "forge" ∷ []) input ≡ refused status.Usage (codes "modeller: word 1: NotBuilt\n")
-unfolding digits
-verb_not_built input = refl
-
 unknown_verb : (input : List ℕ) → output_of (codes "draw" ∷ []) input ≡ refused status.Usage (codes "modeller: word 1: UnknownVerb\n")
 unfolding digits
 unknown_verb input = refl
@@ -220,10 +217,6 @@ script_line : line_of (stop.Refused (refusal.Script (record { line = 40; reason 
 unfolding digits
 script_line = refl
 
-not_built_line : line_of (stop.Refused refusal.NotBuilt) ≡ codes "modeller: word 1: NotBuilt\n"
-unfolding digits
-not_built_line = refl
-
 too_long_line : line_of (stop.Refused refusal.TooLong) ≡ codes "modeller: input too long\n"
 too_long_line = refl
 
@@ -237,12 +230,27 @@ no_memory_line : line_of stop.NoMemory ≡ codes "modeller: no memory\n"
 no_memory_line = refl
 
 -- an input of the most bytes is read
-limit_is_read : (job : Job) (input : List ℕ) → length input ≡ input_limit → made job input ≡ parts_after job input (text_read (model_bytes job input))
-limit_is_read job input full = rw (le-ltb input_limit (length input) (omega (arith, full))) refl
+limit_is_read : (job : Job) (input : List ℕ) → reads_nothing job ≡ false → length input ≡ input_limit → made job input ≡ parts_after job input (text_read (model_bytes job input))
+limit_is_read (Forge forge) input asks full = cc
+limit_is_read job input asks full = rw (le-ltb input_limit (length input) (omega (arith, full))) refl
 
 -- and one byte more is too long, whatever the bytes are
-above_limit_is_refused : (job : Job) (input : List ℕ) → length input ≡ input_limit + 1 → made job input ≡ Err refusal.TooLong
-above_limit_is_refused job input more = rw (lt-ltb input_limit (length input) (omega (arith, more))) refl
+above_limit_is_refused : (job : Job) (input : List ℕ) → reads_nothing job ≡ false → length input ≡ input_limit + 1 → made job input ≡ Err refusal.TooLong
+above_limit_is_refused (Forge forge) input asks more = cc
+above_limit_is_refused job input asks more = rw (lt-ltb input_limit (length input) (omega (arith, more))) refl
+
+-- forging asks for nothing of the source, and other words ask for something
+forging_asks_nothing : asks_nothing (codes "forge" ∷ codes "solids=7" ∷ []) ≡ true
+unfolding digits setting_of
+forging_asks_nothing = refl
+
+drawing_asks : asks_nothing (codes "render" ∷ []) ≡ false
+unfolding digits setting_of
+drawing_asks = refl
+
+refused_words_ask : asks_nothing (codes "forge" ∷ codes "solids=0" ∷ []) ≡ false
+unfolding digits setting_of
+refused_words_ask = refl
 
 -- a count that stands tells of no fault
 count_that_stands : NoFault (λ (n : ℕ). n) 3 3

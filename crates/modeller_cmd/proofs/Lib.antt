@@ -1,5 +1,7 @@
 mod Examples
+mod Forging
 mod Gaining
+mod Inputs
 mod Outcomes
 mod Playback
 mod Plays

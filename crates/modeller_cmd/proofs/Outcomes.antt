@@ -1,8 +1,8 @@
 -- What an outcome says of the status, the bytes and the work of a run.
-use Rattle.std.proofs.Common.{◌≡◌, ◌≢◌, ℕ, ◌+◌, ◌≤◌, false, List, [], ◌∷◌, length, nat_lt, Option, Some, None, Result, Ok, Err, IsOk, IfSome, append-nil, refl, sym, ap, subst, ◌∙◌, arith}
+use Rattle.std.proofs.Common.{◌≡◌, ◌≢◌, ℕ, ◌+◌, ◌≤◌, ◌<◌, false, List, [], ◌∷◌, length, nat_lt, Option, Some, None, Result, Ok, Err, IsOk, IfSome, append-nil, refl, sym, ap, subst, ◌∙◌, arith}
 use Rattle.std.specs.Prelude.{All, IsTrue, OnSome, true}
 use Rattle.std.specs.Io.KnownBytes.{Consumes}
-use Rattle.std.proofs.lemmas.Bool.{le-ltb}
+use Rattle.std.proofs.lemmas.Bool.{le-ltb, lt-ltb}
 use Rattle.clause_reader.specs.Reading.{text_read}
 use Rattle.clause_reader.specs.declared.text_fault.TextFault.{TextFault}
 use Rattle.edit_session.specs.Heights.{heights_of}
@@ -16,8 +16,10 @@ use Rattle.modeller_io.specs.Took.{LosesAtMost}
 use Rattle.solid_model.specs.declared.clause.Clause.{Clause}
 use Rattle.view_settings.specs.Window.{Window}
 use Rattle.view_settings.specs.declared.job.Job.{Job}
-use Rattle.view_settings.specs.declared.job.Job.TheVariants.{Count, Height, Mesh, Render, Replay, Text}
-use Rattle.modeller_cmd.specs.Asking.{asked}
+use Rattle.view_settings.specs.declared.job.Job.TheVariants.{Count, Forge, Height, Mesh, Render, Replay, Text}
+use Rattle.view_settings.specs.declared.forge.Forge.{Forge as Forged}
+use Rattle.modeller_cmd.specs.Asking.{asked, asks_nothing, reads_nothing}
+use Rattle.modeller_cmd.specs.Forging.{forge_part, forge_text, forged_clauses}
 use Rattle.modeller_cmd.specs.Endings.{CountsForSome, Ends, IsAnswer, Makes, status_after}
 use Rattle.modeller_cmd.specs.Output.{count_part, input_limit, made, model_bytes, outcome, output_as, output_of, parts_of}
 use Rattle.modeller_cmd.specs.Parts.{AreExact, Part, bytes_of_parts, heights_part, image_part, mesh_part, text_part, work_of_parts}
@@ -55,7 +57,6 @@ ok_done (Err why) p = absurd (grind (arith, p))
 
 refusal_answer : (why : Refusal) → IsAnswer (status_of why) (status_of why)
 refusal_answer (refusal.Words fault) = refl
-refusal_answer refusal.NotBuilt = refl
 refusal_answer refusal.TooLong = refl
 refusal_answer (refusal.Model fault) = refl
 refusal_answer (refusal.Script fault) = refl
@@ -80,7 +81,6 @@ status_of_refusal outcome stop.NoMemory p read write memory = absurd (memory ref
 
 other_status : (why : Refusal) → status_of why ≡ status.WriteFault → ⊥
 other_status (refusal.Words fault) e = grind (arith, e)
-other_status refusal.NotBuilt e = grind (arith, e)
 other_status refusal.TooLong e = grind (arith, e)
 other_status (refusal.Model fault) e = grind (arith, e)
 other_status (refusal.Script fault) e = grind (arith, e)
@@ -92,19 +92,45 @@ write_fault_of stop.ReadFault e = absurd (grind (arith, e))
 write_fault_of stop.WriteFault e = refl
 write_fault_of stop.NoMemory e = absurd (grind (arith, e))
 
+-- and only a fault of the source has its own
+other_read : (why : Refusal) → status_of why ≡ status.ReadFault → ⊥
+other_read (refusal.Words fault) e = grind (arith, e)
+other_read refusal.TooLong e = grind (arith, e)
+other_read (refusal.Model fault) e = grind (arith, e)
+other_read (refusal.Script fault) e = grind (arith, e)
+
+pub read_fault_of : (why : Stop) → status_at why ≡ status.ReadFault → why ≡ stop.ReadFault
+read_fault_of (stop.Refused why) e = absurd (other_read why e)
+read_fault_of stop.ReadFault e = refl
+read_fault_of stop.WriteFault e = absurd (grind (arith, e))
+read_fault_of stop.NoMemory e = absurd (grind (arith, e))
+
 -- what is made of an input whose solid was read
 pub made_as : (job : Job) (input : List ℕ) (clauses : List Clause) → length input ≤ input_limit → text_read (model_bytes job input) ≡ Ok clauses
     → made job input ≡ parts_of job input clauses
+made_as (Forge forge) input clauses few reads = refl
 made_as job input clauses few reads =
     let short : nat_lt input_limit (length input) ≡ false = le-ltb input_limit (length input) few in
     rw (short, reads) refl
 
--- and of one whose solid is refused
-pub made_refused : (job : Job) (input : List ℕ) (fault : TextFault) → length input ≤ input_limit → text_read (model_bytes job input) ≡ Err fault
-    → made job input ≡ Err (refusal.Model fault)
-made_refused job input fault few reads =
+-- of one whose solid is refused
+pub made_refused : (job : Job) (input : List ℕ) (fault : TextFault) → reads_nothing job ≡ false → length input ≤ input_limit
+    → text_read (model_bytes job input) ≡ Err fault → made job input ≡ Err (refusal.Model fault)
+made_refused (Forge forge) input fault asks few reads = cc
+made_refused job input fault asks few reads =
     let short : nat_lt input_limit (length input) ≡ false = le-ltb input_limit (length input) few in
     rw (short, reads) refl
+
+-- and of one that is too long
+pub made_long : (job : Job) (input : List ℕ) → reads_nothing job ≡ false → input_limit < length input → made job input ≡ Err refusal.TooLong
+made_long (Forge forge) input asks long = cc
+made_long job input asks long =
+    let longer : nat_lt input_limit (length input) ≡ true = lt-ltb input_limit (length input) long in
+    rw longer refl
+
+-- what is forged is one part, whatever the input is
+pub made_forge : (job : Job) (forge : Forged) (input : List ℕ) → job ≡ Forge forge → made job input ≡ Ok (forge_part forge ∷ [])
+made_forge job forge input is = ap (λ j. made j input) is
 
 -- all of the input is the text of a solid where no script is asked for
 pub model_alone : (job : Job) (input : List ℕ) → job ≢ Replay → model_bytes job input ≡ input
@@ -159,6 +185,17 @@ unfolding AreExact
 one_bounded outcome part is bounded exact =
     let one = subst (λ o. All (λ p. IsTrue p.exact) (output_as o).parts) is exact 0 part (omega arith) in
     grind (arith, one, bounded)
+
+-- the work of what is forged, and its text
+pub forge_work : (job : Job) (forge : Forged) (input : List ℕ) → job ≡ Forge forge
+    → work_of_parts (output_as (made job input)).parts ≡ frame_work forge.view (forged_clauses forge)
+forge_work job forge input is =
+    work_of_one (made job input) (forge_part forge) (made_forge job forge input is)
+
+pub forge_bytes : (job : Job) (forge : Forged) (input bytes : List ℕ) → job ≡ Forge forge → bytes ≡ forge_text forge.view (forged_clauses forge)
+    → Makes (made job input) (λ whole. bytes ≡ whole)
+forge_bytes job forge input bytes is same =
+    bytes_of_one (made job input) (forge_part forge) bytes (made_forge job forge input is) same
 
 -- the work of an image, of one that is counted, of a height map, of a mesh, and of a text
 pub render_work : (job : Job) (view : Window) (input : List ℕ) (clauses drawn : List Clause) → job ≡ Render view → length input ≤ input_limit
@@ -216,6 +253,20 @@ pub mesh_bytes : (job : Job) (view : Window) (input : List ℕ) (clauses drawn :
     → Makes (made job input) (λ whole. bytes ≡ whole)
 mesh_bytes job view input clauses drawn bytes is few reads same drawing =
     bytes_of_one (made job input) (mesh_part view clauses) bytes (made_mesh job view input clauses is few reads) (drawing ∙ ap (mesh_text view) same)
+
+-- the output of words that ask for nothing of the source is the same for every input
+pub forged_alike : (words : List (List ℕ)) (a b : List ℕ) → asks_nothing words ≡ true → output_of words a ≡ output_of words b
+forged_alike words a b none = by (asked words) refl
+  where
+    alike : (job : Job) → reads_nothing job ≡ true → made job a ≡ made job b
+    alike (Forge forge) none = refl
+    alike other none = cc
+
+    by : (r : Result Job Refusal) → asked words ≡ r → output_of words a ≡ output_of words b
+    by (Ok job) is =
+        let same = alike job (rw is at none) in
+        rw is (ap output_as same)
+    by (Err why) is = rw is refl
 
 -- what words that are accepted make of an input
 pub asked_made : (words : List (List ℕ)) (job : Job) (input : List ℕ) → Ok job ≡ asked words → outcome words input ≡ made job input

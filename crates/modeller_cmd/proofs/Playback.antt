@@ -1,5 +1,5 @@
 -- What a list of commands writes, command by command.
-use Rattle.std.proofs.Common.{◌≡◌, ◌≢◌, ℕ, List, [], ◌∷◌, ◌++◌, Option, Some, refl, sym, ap, ◌∙◌, append_assoc, append-nil}
+use Rattle.std.proofs.Common.{◌≡◌, ◌≢◌, ℕ, List, [], ◌∷◌, ◌++◌, refl, sym, ap, ◌∙◌, append_assoc, append-nil}
 use Rattle.std.specs.Iterator.{Yields}
 use Rattle.std.specs.Vec.Iter.{into_iter_items, into_iter_steps}
 use Rattle.std.specs.declared.vec.IntoIter.{IntoIter}
@@ -10,7 +10,6 @@ use Rattle.edit_script.specs.declared.command.Command.{Command}
 use Rattle.edit_script.specs.declared.script_reason.ScriptReason.{ScriptReason}
 use Rattle.edit_script.specs.declared.script_reason.ScriptReason.TheVariants as script
 use Rattle.solid_model.specs.declared.clause.Clause.{Clause}
-use Rattle.modeller_cmd.specs.Parts.{Part}
 use Rattle.modeller_cmd.specs.Replays.{clauses_after, parts_at, replayed, standing}
 use Rattle.modeller_cmd.specs.Stops.{stop_of_script, stop_of_text}
 use Rattle.modeller_cmd.specs.declared.stop.Stop.TheVariants.{WriteFault}

@@ -1,11 +1,11 @@
 -- Parts that are written one after the other, up to what stops that.
-use Rattle.std.proofs.Common.{◌≡◌, ◌≢◌, ℕ, ◌+◌, ◌≤◌, List, [], ◌∷◌, ◌++◌, length, take, Option, Result, Ok, Err, refl, sym, ap, subst, ◌∙◌, append-nil, length-append, arith}
+use Rattle.std.proofs.Common.{◌≡◌, ◌≢◌, ℕ, ◌+◌, List, [], ◌∷◌, ◌++◌, length, take, Option, Result, Ok, Err, refl, sym, ap, subst, ◌∙◌, append-nil, length-append, arith}
 use Rattle.std.specs.Prelude.{IfErr, IsErrAnd, IsTrue, OnOk}
 use Rattle.std.proofs.Math.Seq.{take-append-add}
 use Rattle.std.proofs.lemmas.List.{take-append-le}
 use Rattle.edit_script.specs.declared.command.Command.{Command as Given}
 use Rattle.edit_script.specs.declared.command.Command.TheVariants as Command
-use Rattle.edit_session.specs.Work.{CountsWithin, CountsWork, PointsRiseAtMost, Work, both, no_work}
+use Rattle.edit_session.specs.Work.{CountsWithin, CountsWork, PointsRiseAtMost, both, no_work}
 use Rattle.edit_session.specs.WorkLaws.{plain-none, within-none, work-none}
 use Rattle.fixed_ops.specs.Counts.{Counts}
 use Rattle.modeller_io.specs.Count.{RoseBy, Stands}

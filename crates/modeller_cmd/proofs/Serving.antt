@@ -1,17 +1,21 @@
 -- What work on the bytes that were read says of the words and of what the source tells.
-use Rattle.std.proofs.Common.{◌≡◌, ◌≢◌, ℕ, ◌≤◌, List, length, take, Option, Some, None, Result, Ok, Err, IsOk, IfSome, refl, sym, subst, arith}
+use Rattle.std.proofs.Common.{◌≡◌, ◌≢◌, ℕ, List, length, Option, Some, None, Result, Ok, Err, IsOk, IfSome, refl, sym, ap, subst, ◌∙◌, arith}
 use Rattle.std.specs.Prelude.{IfErr, OnErr, OnOk}
 use Rattle.std.proofs.Math.Seq.{take-length}
 use Rattle.modeller_io.specs.Count.{RoseBy}
 use Rattle.modeller_io.specs.Held.{Gains, GainsPrefix}
 use Rattle.view_settings.specs.declared.job.Job.{Job}
+use Rattle.view_settings.specs.declared.job.Job.TheVariants.{Replay}
 use Rattle.modeller_cmd.specs.Asking.{asked}
-use Rattle.modeller_cmd.specs.Endings.{Ends, Makes, NoFault, TakesLine}
+use Rattle.modeller_cmd.specs.Endings.{Ends, IsServeStop, IsTold, IsWorked, Makes, NoFault, TakesLine, Tells, status_after}
+use Rattle.modeller_cmd.specs.Notes.{line_of}
 use Rattle.modeller_cmd.specs.Output.{made, outcome, output_as}
+use Rattle.modeller_cmd.specs.Stops.{status_at}
 use Rattle.modeller_cmd.specs.Parts.{Part, bytes_of_parts}
 use Rattle.modeller_cmd.specs.declared.refusal.Refusal.{Refusal}
+use Rattle.modeller_cmd.specs.declared.refusal.Refusal.TheVariants as refusal
 use Rattle.modeller_cmd.specs.declared.stop.Stop.{Stop}
-use Rattle.modeller_cmd.specs.declared.stop.Stop.TheVariants.{WriteFault}
+use Rattle.modeller_cmd.specs.declared.stop.Stop.TheVariants.{Refused, ReadFault, WriteFault, NoMemory}
 use Rattle.modeller_cmd.proofs.Outcomes.{asked_made}
 
 -- what is so of the parts of an outcome that has some
@@ -44,6 +48,58 @@ module _ (words : List (List ℕ)) (told : Option (List ℕ)) (input : List ℕ)
       let ok = subst (Ends (made job input)) is ends in
       let front = subst (λ q. IfErr q (λ stop. stop ≡ WriteFault → P (bytes_of_parts (output_as (made job input)).parts))) is p in
       as-told (λ o. Makes o P) (makes (made job input) P ok (front refl))
+
+  -- a refusal tells what is so of the words and of the input
+  pub served-told : {T : Type 0} (r : Result T Stop) → Ends (made job input) r → IfErr r IsServeStop → IfErr r (λ stop. IsTold words told stop)
+  served-told (Ok x) ends is = tt
+  served-told (Err (Refused (refusal.Words fault))) ends is = absurd is
+  served-told (Err (Refused refusal.TooLong)) ends is = tt
+  served-told (Err (Refused (refusal.Model fault))) ends is = as-told (λ o. o ≡ Err (refusal.Model fault)) ends
+  served-told (Err (Refused (refusal.Script fault))) ends is = as-told (λ o. o ≡ Err (refusal.Script fault)) ends
+  served-told (Err ReadFault) ends is = tt
+  served-told (Err WriteFault) ends is = tt
+  served-told (Err NoMemory) ends is = tt
+
+  -- what want of memory leaves
+  pub served-whole : {T : Type 0} (r : Result T Stop) (P : List Part → Type 0) → r ≡ Err NoMemory → IfErr r (λ stop. stop ≡ NoMemory → P (output_as (made job input)).parts)
+      → IfSome told (λ bytes. P (output_as (outcome words bytes)).parts)
+  served-whole r P is p =
+      let whole = subst (λ q. IfErr q (λ stop. stop ≡ NoMemory → P (output_as (made job input)).parts)) is p in
+      as-told (λ o. P (output_as o).parts) (whole refl)
+
+  -- what is counted of work that was done whole
+  pub served-counted : {T : Type 0} (r : Result T Stop) (P : List Part → Type 0) → IsWorked words (status_after r) → OnOk r (P (output_as (made job input)).parts)
+      → (job ≢ Replay → r ≡ Err WriteFault → P (output_as (made job input)).parts)
+      → IfSome told (λ bytes. P (output_as (outcome words bytes)).parts)
+  served-counted (Ok x) P worked done fault = as-told (λ o. P (output_as o).parts) done
+  served-counted (Err WriteFault) P worked done fault =
+      as-told (λ o. P (output_as o).parts) (fault (λ is. worked (sym asks ∙ ap (λ j. Ok j) is)) refl)
+  served-counted (Err (Refused (refusal.Words fault))) P worked done other = absurd worked
+  served-counted (Err (Refused refusal.TooLong)) P worked done other = absurd worked
+  served-counted (Err (Refused (refusal.Model fault))) P worked done other = absurd worked
+  served-counted (Err (Refused (refusal.Script fault))) P worked done other = absurd worked
+  served-counted (Err ReadFault) P worked done other = absurd worked
+  served-counted (Err NoMemory) P worked done other = absurd worked
+
+-- what is so of work that is done and of work that is stopped is so
+pub done-or-stopped : {T : Type 0} (r : Result T Stop) (P Q : Type 0) (R : Stop → Type 0) → (Q → P) → ((stop : Stop) → R stop → P) → OnOk r Q → IfErr r R → P
+done-or-stopped (Ok x) P Q R f g done stopped = f done
+done-or-stopped (Err stop) P Q R f g done stopped = g stop stopped
+
+-- the notes are told what a stop says
+pub tells : (words : List (List ℕ)) (told : Option (List ℕ)) (stop : Stop) (takes : List ℕ → Type 0) → IsTold words told stop → takes (line_of stop)
+    → Tells words told (status_at stop) takes
+tells words told (Refused (refusal.Words fault)) takes is line = rw is line
+tells words told (Refused refusal.TooLong) takes is line = line
+tells words told (Refused (refusal.Model fault)) takes is line = record { fault = fault; told = line; given = is }
+tells words told (Refused (refusal.Script fault)) takes is line = record { fault = fault; told = line; given = is }
+tells words told ReadFault takes is line = line
+tells words told WriteFault takes is line = line
+tells words told NoMemory takes is line = line
+
+-- a count that rose tells of a fault
+pub rose-fault : {X : Type 0} (faults : X → ℕ) (before after : X) → RoseBy faults before after 1 → NoFault faults before after → ⊥
+rose-fault faults before after rose none = omega (arith, none.0, none.1, rose)
 
 -- a line that is written to the notes
 pub takes-line : {N T E : Type 0} (faults : N → ℕ) (held : N → Option (List ℕ)) (before after : N) (bytes line : List ℕ) (r : Result T E) → bytes ≡ line

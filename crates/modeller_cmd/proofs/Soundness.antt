@@ -1,6 +1,6 @@
 -- What a run writes of a mesh is the text of a sound one.
 use Rattle.std.proofs.Common.{◌≡◌, ◌≢◌, ℕ, ◌≤◌, Bool, true, false, List, [], ◌∷◌, ◌++◌, length, append-nil, Result, Ok, Err, IsOk, refl, ap, sym, subst, ◌∙◌, arith, rules}
-use Rattle.std.specs.Prelude.{All, IfOk, nat_lt}
+use Rattle.std.specs.Prelude.{All, IfOk, if◌then◌else◌, nat_lt}
 use Rattle.std.proofs.lemmas.Bool.{ltb-false}
 use Rattle.clause_reader.specs.Reading.{text_read}
 use Rattle.edit_script.specs.Commands.{IsCommand}
@@ -17,7 +17,7 @@ use Rattle.modeller_cmd.specs.Asking.{asked}
 use Rattle.view_settings.specs.Window.{Window}
 use Rattle.solid_model.specs.declared.clause.Clause.{Clause}
 use Rattle.modeller_cmd.specs.Endings.{IsRead, status_after}
-use Rattle.modeller_cmd.specs.Output.{input_limit, made, outcome, output_as, parts_played}
+use Rattle.modeller_cmd.specs.Output.{input_limit, made, outcome, output_as, parts_after, parts_played}
 use Rattle.modeller_cmd.specs.Parts.{Part, bytes_of_parts, mesh_part}
 use Rattle.modeller_cmd.specs.Replays.{clauses_after, framed, replayed, standing}
 use Rattle.modeller_cmd.specs.SoundTexts.{HasSoundFrame, MeshFramesAreSound, MeshesAreSound}
@@ -38,8 +38,10 @@ job_kept r job is keeps = subst (λ o. IfOk o IsJob) is keeps
 outcome_of : (words : List (List ℕ)) (input : List ℕ) (job : Job) → asked words ≡ Ok job → outcome words input ≡ made job input
 outcome_of words input job is = rw is refl
 
-few_of : (job : Job) (input : List ℕ) → (output_as (made job input)).status ≡ Done → length input ≤ input_limit
-few_of job input done = by (nat_lt input_limit (length input)) refl
+-- an input of which something is made is no longer than is accepted
+few_of : (input : List ℕ) (after : Result (List Part) Refusal) → (output_as (if nat_lt input_limit (length input) then Err refusal.TooLong else after)).status ≡ Done
+    → length input ≤ input_limit
+few_of input after done = by (nat_lt input_limit (length input)) refl
   where
     by : (long : Bool) → nat_lt input_limit (length input) ≡ long → length input ≤ input_limit
     by true is = let refused = rw is at done in absurd (grind (arith, refused))
@@ -50,7 +52,7 @@ pub run_is_sound : (words : List (List ℕ)) (input : List ℕ) (r : Result Job 
 run_is_sound words input r is keeps texts view clauses asks reads done =
     let job = job_kept r (Mesh view) (is ∙ asks) keeps in
     let made_of = outcome_of words input (Mesh view) asks in
-    let few = few_of (Mesh view) input (ap (λ o. (output_as o).status) (sym made_of) ∙ done) in
+    let few = few_of input (parts_after (Mesh view) input (text_read input)) (ap (λ o. (output_as o).status) (sym made_of) ∙ done) in
     let parts = ap (λ o. (output_as o).parts) (made_of ∙ made_mesh (Mesh view) view input clauses refl few reads) in
     let one : mesh_text view clauses ++ [] ≡ mesh_text view clauses = append-nil (mesh_text view clauses) in
     let bytes = ap bytes_of_parts parts ∙ one in
@@ -60,7 +62,6 @@ run_is_sound words input r is keeps texts view clauses asks reads done =
 done_ok : (outcome : Result (List Part) Refusal) → (output_as outcome).status ≡ Done → IsOk outcome
 done_ok (Ok parts) done = search rules
 done_ok (Err (refusal.Words fault)) done = absurd (grind (arith, done))
-done_ok (Err refusal.NotBuilt) done = absurd (grind (arith, done))
 done_ok (Err refusal.TooLong) done = absurd (grind (arith, done))
 done_ok (Err (refusal.Model fault)) done = absurd (grind (arith, done))
 done_ok (Err (refusal.Script fault)) done = absurd (grind (arith, done))
@@ -93,7 +94,7 @@ frames_are_sound {T} words input job r asks texts keeps read clauses before afte
     let made_of = outcome_of words input Replay replays in
     let finished = ap (λ o. (output_as o).status) (sym made_of) ∙ done in
     let ok = done_ok (made Replay input) finished in
-    let few = few_of Replay input finished in
+    let few = few_of input (parts_after Replay input (text_read (before_mark input))) finished in
     let commands_kept = keeps same (subst (λ j. IsOk (made j input)) (sym same) ok) (λ memory. read_no_memory r read memory) in
     subst (HasSoundFrame view (standing clauses before) (replayed clauses before)) (ap (λ o. (output_as o).parts) (sym made_of))
     (script_frames clauses before after view input texts few reads says commands_kept)

@@ -1,6 +1,7 @@
 pub mod Asking
 pub mod CountTexts
 pub mod Endings
+pub mod Forging
 pub mod Frames
 pub mod Notes
 pub mod Output

@@ -7,7 +7,7 @@ use Rattle.edit_script.specs.declared.script_reason.ScriptReason.TheVariants as 
 use Rattle.view_settings.specs.declared.word_fault.WordReason.{WordReason}
 use Rattle.view_settings.specs.declared.word_fault.WordReason.TheVariants as word
 use Rattle.modeller_cmd.specs.declared.refusal.Refusal.{Refusal}
-use Rattle.modeller_cmd.specs.declared.refusal.Refusal.TheVariants.{Words, NotBuilt, TooLong, Model, Script}
+use Rattle.modeller_cmd.specs.declared.refusal.Refusal.TheVariants.{Words, TooLong, Model, Script}
 use Rattle.modeller_cmd.specs.declared.stop.Stop.{Stop}
 use Rattle.modeller_cmd.specs.declared.stop.Stop.TheVariants.{Refused, ReadFault, WriteFault, NoMemory}
 
@@ -55,7 +55,6 @@ fault_line place number reason =
 -- the line that is written for a refusal
 abbrev pub refusal_line : Refusal → List ℕ
 refusal_line (Words fault) = fault_line (codes "word") fault.at (word_reason_name fault.reason)
-refusal_line NotBuilt = fault_line (codes "word") 1 (codes "NotBuilt")
 refusal_line TooLong = codes "modeller: input too long\n"
 refusal_line (Model fault) = fault_line (codes "line") fault.line (text_reason_name fault.reason)
 refusal_line (Script fault) =

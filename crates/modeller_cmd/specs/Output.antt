@@ -11,9 +11,10 @@ use Rattle.edit_session.specs.Work.{frame_work}
 use Rattle.solid_model.specs.declared.clause.Clause.{Clause}
 use Rattle.view_settings.specs.Window.{Window}
 use Rattle.view_settings.specs.declared.job.Job.{Job}
-use Rattle.view_settings.specs.declared.job.Job.TheVariants.{Count, Height, Mesh, Render, Replay, Text}
-use Rattle.modeller_cmd.specs.Asking.{asked}
+use Rattle.view_settings.specs.declared.job.Job.TheVariants.{Count, Forge, Height, Mesh, Render, Replay, Text}
+use Rattle.modeller_cmd.specs.Asking.{asked, asks_nothing, input_told}
 use Rattle.modeller_cmd.specs.CountTexts.{count_text}
+use Rattle.modeller_cmd.specs.Forging.{forge_part}
 use Rattle.modeller_cmd.specs.Notes.{refusal_line}
 use Rattle.modeller_cmd.specs.Parts.{Part, heights_part, image_part, mesh_part, text_part}
 use Rattle.modeller_cmd.specs.Replays.{replayed}
@@ -49,7 +50,7 @@ parts_of (Mesh view) input clauses = Ok (mesh_part view clauses ∷ [])
 parts_of (Count view) input clauses = Ok (count_part view clauses ∷ [])
 parts_of Text input clauses = Ok (text_part clauses ∷ [])
 parts_of Replay input clauses = parts_played clauses (script_read input)
-parts_of other input clauses = Ok []
+parts_of (Forge forge) input clauses = Ok (forge_part forge ∷ [])
 
 -- the text of the solid in the input of a job: what stands before the mark of a script, and else
 -- all of it
@@ -62,9 +63,10 @@ abbrev pub parts_after : Job → List ℕ → Result (List Clause) TextFault →
 parts_after job input (Ok clauses) = parts_of job input clauses
 parts_after job input (Err fault) = Err (Model fault)
 
--- the parts that a job makes of an input, or why it makes none: its length, its solid and its
--- script are looked at in this order
+-- The parts that a job makes of an input, or why it makes none: its length, its solid and its
+-- script are looked at in this order. What is forged is the same for every input.
 abbrev pub made : Job → List ℕ → Result (List Part) Refusal
+made (Forge forge) input = Ok (forge_part forge ∷ [])
 made job input =
     if nat_lt input_limit (length input) then Err TooLong
     else parts_after job input (text_read (model_bytes job input))
@@ -93,7 +95,8 @@ output_as (Err refusal) =
 abbrev pub output_of : List (List ℕ) → List ℕ → Output
 output_of words input = output_as (outcome words input)
 
--- where a source tells its bytes, this holds of the output that the words ask for of them
+-- where the input is known, this holds of the output that the words ask for of it
 abbrev pub WithOutput : {S : Type 0} → (S → Option (List ℕ)) → S → List (List ℕ) → (Output → Type 0)
     → Type 0
-WithOutput rest source words P = IfSome (rest source) (λ input. P (output_of words input))
+WithOutput rest source words P =
+    IfSome (input_told rest source (asks_nothing words)) (λ input. P (output_of words input))

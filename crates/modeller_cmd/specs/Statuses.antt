@@ -19,7 +19,6 @@ number_of NoMemory = 8
 -- the status that a refusal ends a run with
 abbrev pub status_of : Refusal → Status
 status_of (refusal.Words fault) = Usage
-status_of refusal.NotBuilt = Usage
 status_of refusal.TooLong = TooLong
 status_of (refusal.Model fault) = BadModel
 status_of (refusal.Script fault) = BadScript

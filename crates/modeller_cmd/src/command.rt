@@ -1,5 +1,5 @@
 // The modeller's one call.
-ghost use Rattle.std.specs.Prelude.{◌≡◌, ◌≢◌, ◌+◌, ◌<◌, ◌≤◌, ◌↔◌, [], ℕ, length, All, Some, None, Ok, Err, IfOk, IfErr, IsOk, IsErr, IfSome, OnOk, IsTrue};
+ghost use Rattle.std.specs.Prelude.{◌≡◌, ◌≢◌, ◌+◌, ◌<◌, ◌≤◌, ◌↔◌, [], ℕ, length, vec_len, false, true, All, Some, None, Ok, Err, IfOk, IfErr, IsOk, IsErr, IfSome, OnOk};
 ghost use Rattle.edit_script.specs.Commands.{IsCommand};
 ghost use Rattle.edit_script.specs.Scripts.{script_read};
 ghost use Rattle.modeller_io.specs.Count.{last_count, RoseBy, Stands};
@@ -12,21 +12,21 @@ ghost use Rattle.modeller_cmd.specs.Notes.{line_of};
 ghost use Rattle.modeller_cmd.specs.Output.{WithOutput, input_limit, made, outcome, output_as};
 ghost use Rattle.modeller_cmd.specs.Parts.{AreExact, bytes_of_parts, work_of_parts};
 ghost use Rattle.modeller_cmd.specs.Playing.{Played, Stopped};
-ghost use Rattle.modeller_cmd.specs.Asking.{asked, is_built};
+ghost use Rattle.modeller_cmd.specs.Asking.{asked, asks_nothing, input_told, reads_nothing};
 ghost use Rattle.modeller_cmd.specs.SoundTexts.{MeshFramesAreSound, MeshesAreSound};
 ghost use Rattle.edit_session.specs.Work.{CountsWithin, CountsWork, PointsRiseAtMost};
 
 use crate::Status;
 use crate::asking::read_job;
 use crate::count::count;
+use crate::forge::forge;
 use crate::note::note_of;
-use crate::refusal::Refusal;
 use crate::replay::replay;
 use crate::stop::Stop;
 use clause_reader::{read_model, write_model};
 use edit_session::{Session, mesh_texts_are_sound};
 use fixed_ops::Tally;
-use modeller_io::{Sink, Source, read_all, write_all};
+use modeller_io::{ReadEnd, Sink, Source, read_all, write_all};
 use std::alloc::Global;
 use view_settings::Job;
 
@@ -65,7 +65,8 @@ pub fn run<S: Source, K: Sink, N: Sink>(
     ensures answer { WithOutput S.rest source.old (bytes_of words.now) (λ output.
         IsAnswer output.status result) }
     ensures usage { (result ≡ Status.Usage) ↔ IsErr (asked (bytes_of words.now)) }
-    ensures read { IsRead result → ReadsWhole S.rest source.old source.new }
+    ensures read { asks_nothing (bytes_of words.now) ≡ false → IsRead result
+        → ReadsWhole S.rest source.old source.new }
     ensures script { result ≡ Status.BadScript → asked (bytes_of words.now) ≡ Ok Job.Replay }
     ensures too_long { result ≡ Status.TooLong
         → RoseBy S.taken source.old source.new (input_limit + 1) }
@@ -76,13 +77,17 @@ pub fn run<S: Source, K: Sink, N: Sink>(
     ensures write_fault { result ≡ Status.WriteFault → RoseBy K.faults out.old out.new 1 }
     ensures no_write_fault { result ≢ Status.WriteFault → Stands K.faults out.old out.new }
 
-    // Where nothing fails and memory is there, the status is the output's.
-    ensures complete { NoFault S.faults source.old source.new → NoFault K.faults out.old out.new
-        → result ≢ Status.NoMemory
+    // Where nothing fails and memory is there, the status is the output's. The source is asked only
+    // where the words ask for something of it.
+    ensures complete { (asks_nothing (bytes_of words.now) ≡ false
+        → NoFault S.faults source.old source.new)
+        → NoFault K.faults out.old out.new → result ≢ Status.NoMemory
         → WithOutput S.rest source.old (bytes_of words.now) (λ output. result ≡ output.status) }
 
     // What stays.
     ensures unread { result ≡ Status.Usage → source.new ≡ source.old }
+    ensures unasked { asks_nothing (bytes_of words.now) ≡ true
+        → (source.new ≡ source.old) × (result ≢ Status.ReadFault) }
     ensures lost { result ≢ Status.Usage
         → LosesAtMost S.rest S.taken source.old source.new (input_limit + 1) }
     ensures unwritten { IsUnwritten (bytes_of words.now) result → out.new ≡ out.old }
@@ -95,7 +100,8 @@ pub fn run<S: Source, K: Sink, N: Sink>(
     ensures never_falls { N.faults notes.old ≤ N.faults notes.new }
 
     // The one line of the notes.
-    ensures note { Tells (bytes_of words.now) (S.rest source.old) result
+    ensures note { Tells (bytes_of words.now)
+        (input_told S.rest source.old (asks_nothing (bytes_of words.now))) result
         (TakesLine N.faults N.held notes.old notes.new) }
 
     // The work that is counted: all of it where it was done and is exact, and never more, whatever
@@ -138,13 +144,16 @@ fn perform<S: Source, K: Sink>(
     out: &mut K,
     tally: &mut Tally,
 ) -> Result<(), Stop>
-    ensures done { OnOk result (IfSome (S.rest source.old) (λ input.
+    ensures done { OnOk result (
+        IfSome (input_told S.rest source.old (asks_nothing (bytes_of words.now))) (λ input.
         Makes (outcome (bytes_of words.now) input) (Gains K.held out.old out.new))) }
-    ensures ends { IfSome (S.rest source.old) (λ input.
-        Ends (outcome (bytes_of words.now) input) result) }
+    ensures ends { IfSome (input_told S.rest source.old (asks_nothing (bytes_of words.now)))
+        (λ input. Ends (outcome (bytes_of words.now) input) result) }
     ensures usage { (status_after result ≡ Status.Usage) ↔ IsErr (asked (bytes_of words.now)) }
-    ensures refused { IfErr result (λ stop. IsTold (bytes_of words.now) (S.rest source.old) stop) }
-    ensures read { IsRead (status_after result) → ReadsWhole S.rest source.old source.new }
+    ensures refused { IfErr result (λ stop. IsTold (bytes_of words.now)
+        (input_told S.rest source.old (asks_nothing (bytes_of words.now))) stop) }
+    ensures read { asks_nothing (bytes_of words.now) ≡ false → IsRead (status_after result)
+        → ReadsWhole S.rest source.old source.new }
     ensures too_long { status_after result ≡ Status.TooLong
         → RoseBy S.taken source.old source.new (input_limit + 1) }
     ensures too_long_there { S.taken source.new ≡ S.taken source.old + (input_limit + 1)
@@ -155,10 +164,13 @@ fn perform<S: Source, K: Sink>(
     ensures no_write_fault { result ≢ Err Stop.WriteFault → Stands K.faults out.old out.new }
 
     ensures unread { status_after result ≡ Status.Usage → source.new ≡ source.old }
+    ensures unasked { asks_nothing (bytes_of words.now) ≡ true
+        → (source.new ≡ source.old) × (result ≢ Err Stop.ReadFault) }
     ensures lost { status_after result ≢ Status.Usage
         → LosesAtMost S.rest S.taken source.old source.new (input_limit + 1) }
     ensures unwritten { IsUnwritten (bytes_of words.now) (status_after result) → out.new ≡ out.old }
-    ensures front { result ≡ Err Stop.WriteFault → IfSome (S.rest source.old) (λ input.
+    ensures front { result ≡ Err Stop.WriteFault
+        → IfSome (input_told S.rest source.old (asks_nothing (bytes_of words.now))) (λ input.
         Makes (outcome (bytes_of words.now) input) (GainsPrefix K.held out.old out.new)) }
     ensures whole { result ≡ Err Stop.NoMemory
         → WithOutput S.rest source.old (bytes_of words.now) (λ output.
@@ -182,8 +194,41 @@ fn perform<S: Source, K: Sink>(
 {
     mesh_texts_are_sound();
     let job = read_job(words)?;
-    let input = read_all(alloc, source, INPUT_LIMIT)?;
+    let input = read_input(alloc, &job, source)?;
     serve(alloc, &job, &input, out, tally)
+}
+
+// The input of a job, which is all that the source has. What is forged has none, and nothing is
+// read for it.
+fn read_input<S: Source>(alloc: Global, job: &Job, source: &mut S) -> Result<Vec<u8>, ReadEnd>
+    // Ok: the whole input, which is within the limit.
+    ensures within { IfOk result (λ input. vec_len input ≤ input_limit) }
+    ensures took { IfOk result (λ input. RoseBy S.taken source.old source.new (vec_len input)) }
+    ensures all { IfOk result (λ input.
+        IfSome (input_told S.rest source.old (reads_nothing job.now)) (λ bytes.
+        input.items ≡ bytes)) }
+    ensures whole { reads_nothing job.now ≡ false
+        → OnOk result (ReadsWhole S.rest source.old source.new) }
+    ensures unasked { reads_nothing job.now ≡ true → IsOk result × (source.new ≡ source.old) }
+
+    // When each error comes, and what it took.
+    ensures failed { result ≡ Err ReadEnd.Failed → RoseBy S.faults source.old source.new 1 }
+    ensures no_fault { result ≢ Err ReadEnd.Failed → Stands S.faults source.old source.new }
+    ensures too_long { result ≡ Err ReadEnd.TooLong
+        → IfSome (S.rest source.old) (λ bytes. input_limit < length bytes) }
+    ensures too_long_took { result ≡ Err ReadEnd.TooLong
+        → RoseBy S.taken source.old source.new (input_limit + 1) }
+    ensures too_long_there { S.taken source.new ≡ S.taken source.old + (input_limit + 1)
+        → S.taken source.new < last_count → result ≡ Err ReadEnd.TooLong }
+    ensures lost { LosesAtMost S.rest S.taken source.old source.new (input_limit + 1) }
+{
+    match job {
+        Job::Forge(_) => Ok(Vec::new(alloc)),
+        _ => {
+            let input = read_all(alloc, source, INPUT_LIMIT)?;
+            Ok(input)
+        }
+    }
 }
 
 // Does a job on an input, and writes what it makes: of a script as soon as it is made, and else
@@ -195,7 +240,6 @@ fn serve<K: Sink>(
     out: &mut K,
     tally: &mut Tally,
 ) -> Result<(), Stop>
-    requires built { IsTrue (is_built job.now) }
     requires keeps { IsJob job.now }
     requires limit { length input.now ≤ input_limit }
     ensures ends { Ends (made job.now input.now) result }
@@ -229,7 +273,6 @@ fn serve_at_once<K: Sink>(
     out: &mut K,
     tally: &mut Tally,
 ) -> Result<(), Stop>
-    requires built { IsTrue (is_built job.now) }
     requires at_once { job.now ≢ Job.Replay }
     requires keeps { IsJob job.now }
     requires limit { length input.now ≤ input_limit }
@@ -252,10 +295,35 @@ fn serve_at_once<K: Sink>(
     Ok(write_all(out, &bytes)?)
 }
 
-// What a job makes of an input: the table of the verbs.
+// What a job makes, of an input where it reads one.
 fn work(alloc: Global, job: &Job, input: &[u8], tally: &mut Tally) -> Result<Vec<u8>, Stop>
-    requires built { IsTrue (is_built job.now) }
     requires at_once { job.now ≢ Job.Replay }
+    requires keeps { IsJob job.now }
+    requires limit { length input.now ≤ input_limit }
+    ensures bytes { IfOk result (λ bytes.
+        Makes (made job.now input.now) (λ whole. bytes.items ≡ whole)) }
+    ensures ends { Ends (made job.now input.now) result }
+    ensures stop { IfErr result IsWorkStop }
+    ensures script { status_after result ≢ Status.BadScript }
+    ensures counted { OnOk result (AreExact (output_as (made job.now input.now)).parts
+        → CountsWork tally.old tally.new
+        (work_of_parts (output_as (made job.now input.now)).parts)) }
+    ensures uncounted { IsRefusal (status_after result) → tally.new ≡ tally.old }
+    ensures at_most { CountsWithin tally.old tally.new
+        (work_of_parts (output_as (made job.now input.now)).parts) }
+    ensures plain { PointsRiseAtMost tally.old tally.new
+        (work_of_parts (output_as (made job.now input.now)).parts).plain }
+{
+    match job {
+        Job::Forge(wanted) => Ok(forge(alloc, wanted, tally)?),
+        _ => work_on_input(alloc, job, input, tally),
+    }
+}
+
+// What a job makes of the model that it reads: the table of the verbs that read one.
+fn work_on_input(alloc: Global, job: &Job, input: &[u8], tally: &mut Tally) -> Result<Vec<u8>, Stop>
+    requires at_once { job.now ≢ Job.Replay }
+    requires reads { reads_nothing job.now ≡ false }
     requires keeps { IsJob job.now }
     requires limit { length input.now ≤ input_limit }
     ensures bytes { IfOk result (λ bytes.
@@ -279,6 +347,6 @@ fn work(alloc: Global, job: &Job, input: &[u8], tally: &mut Tally) -> Result<Vec
         Job::Mesh(view) => Ok(Session::start(alloc, model).mesh(view, tally)?),
         Job::Count(view) => Ok(count(alloc, &model, view, tally)?),
         Job::Text => Ok(write_model(alloc, &model)?),
-        _ => Err(Stop::Refused(Refusal::NotBuilt)),
+        Job::Replay | Job::Forge(_) => unreachable!(),
     }
 }

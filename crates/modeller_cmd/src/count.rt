@@ -35,7 +35,7 @@ pub fn count(
 }
 
 // How many evaluations evaluating each clause of a model once at each sample would take.
-fn plain_points(model: &Model, view: &View) -> u64
+pub(crate) fn plain_points(model: &Model, view: &View) -> u64
     ensures { result ≡ plain_points_of view.now (length model.now) }
 {
     u64::from(view.w) * u64::from(view.h) * u64::from(model.len())

@@ -4,6 +4,7 @@
 mod asking;
 mod command;
 mod count;
+mod forge;
 mod frame;
 mod frame_kind;
 mod note;

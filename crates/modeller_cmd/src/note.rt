@@ -32,7 +32,6 @@ fn refusal_note(refusal: Refusal) -> Note
 {
     match refusal {
         Refusal::Words(fault) => placed(b"word", fault.at, word_reason(fault.reason)),
-        Refusal::NotBuilt => placed(b"word", 1, b"NotBuilt"),
         Refusal::TooLong => whole(b"modeller: input too long\n"),
         Refusal::Model(fault) => placed(b"line", fault.line, text_reason(fault.reason)),
         Refusal::Script(fault) => placed(b"script line", fault.line, script_reason(fault.reason)),

@@ -10,8 +10,6 @@ use view_settings::WordFault;
 pub enum Refusal {
     /// The words are refused.
     Words(WordFault),
-    /// The words are accepted, and ask for a verb that is not built.
-    NotBuilt,
     /// The input has more bytes than are accepted.
     TooLong,
     /// The model's text is refused.
@@ -29,7 +27,7 @@ impl Refusal {
         ensures { result ≡ status_of self }
     {
         match self {
-            Refusal::Words(_) | Refusal::NotBuilt => Status::Usage,
+            Refusal::Words(_) => Status::Usage,
             Refusal::TooLong => Status::TooLong,
             Refusal::Model(_) => Status::BadModel,
             Refusal::Script(_) => Status::BadScript,

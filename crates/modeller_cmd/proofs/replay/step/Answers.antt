@@ -2,11 +2,7 @@
 use Rattle.std.proofs.Common.{[], ◌∷◌, ap, ◌∙◌}
 use Rattle.std.specs.Prelude.{IfErr, OnOk}
 use Rattle.std.proofs.lemmas.Bool.{false≢true}
-use Rattle.clause_reader.specs.ModelText.{model_text}
 use Rattle.edit_script.specs.declared.command.Command.TheVariants as Command
-use Rattle.edit_session.specs.Heights.{heights_of}
-use Rattle.edit_session.specs.Images.{image_of}
-use Rattle.edit_session.specs.Meshes.{mesh_text}
 use Rattle.edit_session.specs.Work.{frame_work, no_work}
 use Rattle.edit_session.specs.WorkLaws.{plain-none, within-exactly, within-none, work-none}
 use Rattle.solid_model.specs.declared.edit.EditFault.TheVariants.{UnknownName}

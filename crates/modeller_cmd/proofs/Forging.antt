@@ -1,0 +1,32 @@
+-- The pixels of an image that are inside.
+use Rattle.std.proofs.Common.{◌≡◌, ℕ, ◌==◌, map, if◌then◌else◌, ap, ◌∙◌}
+use Rattle.std.specs.Prelude.{count_by}
+use Rattle.std.specs.List.{flat_map, range_with_len}
+use Rattle.edit_session.specs.Images.{pixels_of}
+use Rattle.fixed_ops.specs.Points.{Point}
+use Rattle.fixed_ops.specs.Raw.{is_inside}
+use Rattle.live_clauses.specs.Live.{root_of}
+use Rattle.live_clauses.specs.Steps.{tape_value}
+use Rattle.live_clauses.specs.declared.step.Step.{Step}
+use Rattle.quad_descent.specs.Pixels.{pixels_of as drawn_pixels}
+use Rattle.quad_descent.specs.Raster.{Drawing}
+use Rattle.solid_model.specs.Values.{solid_value}
+use Rattle.solid_model.specs.declared.clause.Clause.{Clause}
+use Rattle.std.specs.Prelude.{List}
+use Rattle.view_settings.specs.Places.{raster_point}
+use Rattle.view_settings.specs.Window.{Window}
+use Rattle.modeller_cmd.specs.Forging.{inside_of}
+
+-- where a list of steps has the value of a solid, its image is that of the solid
+pixels-same : (view : Window) (clauses : List Clause) (list : List Step) → ((p : Point) → tape_value p list ≡ solid_value p clauses)
+    → drawn_pixels view list ≡ pixels_of view clauses
+pixels-same view clauses list same =
+    λ k. flat_map (λ j. map (λ i. if is_inside (same (raster_point view i j) k) then 255 else 0) (range_with_len 0 view.w)) (range_with_len 0 view.h)
+
+-- and so are the pixels that are inside
+pub inside-same : (view : Window) (clauses : List Clause) (tree : Drawing) (inside : ℕ) → tree ≡ record { view = view; list = root_of clauses }
+    → ((p : Point) → tape_value p tree.list ≡ solid_value p clauses)
+    → inside ≡ count_by (λ pixel. pixel == 255) (drawn_pixels tree.view tree.list) → inside ≡ inside_of view clauses
+inside-same view clauses tree inside is values counted =
+    counted ∙ ap (λ v. count_by (λ pixel. pixel == 255) (drawn_pixels v tree.list)) (ap (λ t. t.view) is)
+    ∙ ap (λ pixels. count_by (λ pixel. pixel == 255) pixels) (pixels-same view clauses tree.list values)

@@ -1,0 +1,89 @@
+-- The input of a job, and what the words say of it.
+use Rattle.std.proofs.Common.{◌≡◌, ℕ, ◌<◌, Bool, true, false, List, [], length, Option, Some, None, Result, Ok, Err, IfSome, refl, sym, subst, ◌∙◌, arith}
+use Rattle.std.specs.Prelude.{IsErrAnd}
+use Rattle.std.specs.Io.KnownBytes.{Consumes}
+use Rattle.modeller_io.specs.Count.{RoseBy}
+use Rattle.modeller_io.specs.Took.{LosesAtMost}
+use Rattle.modeller_io.specs.declared.read_end.ReadEnd.{ReadEnd}
+use Rattle.modeller_io.specs.declared.read_end.ReadEnd.TheVariants as end
+use Rattle.view_settings.specs.declared.job.Job.{Job}
+use Rattle.view_settings.specs.declared.job.Job.TheVariants.{Replay}
+use Rattle.modeller_cmd.specs.Asking.{asked, asks_nothing, input_told, reads_nothing}
+use Rattle.modeller_cmd.specs.Endings.{Ends}
+use Rattle.modeller_cmd.specs.Output.{input_limit, outcome}
+use Rattle.modeller_cmd.specs.SoundTexts.{MeshFramesAreSound}
+use Rattle.modeller_cmd.specs.Stops.{stop_of_end}
+use Rattle.modeller_cmd.specs.declared.refusal.Refusal.TheVariants as refusal
+use Rattle.modeller_cmd.specs.declared.stop.Stop.{Stop}
+use Rattle.modeller_cmd.proofs.Serving.{told-input}
+use Rattle.modeller_cmd.proofs.Outcomes.{asked_made, made_long, some_all, some_follows}
+
+-- what is so of the input of a job is so of the input of the words that ask for it
+pub told-by-words : {S : Type 0} (rest : S → Option (List ℕ)) (source : S) (a b : Bool) (P : List ℕ → Type 0) → a ≡ b
+    → IfSome (input_told rest source a) P → IfSome (input_told rest source b) P
+told-by-words rest source a b P same p = subst (λ nothing. IfSome (input_told rest source nothing) P) same p
+
+-- a job that reads its input has what the source tells
+pub told-by-source : {S : Type 0} (rest : S → Option (List ℕ)) (source : S) (nothing : Bool) (P : List ℕ → Type 0) → nothing ≡ false
+    → IfSome (rest source) P → IfSome (input_told rest source nothing) P
+told-by-source rest source true P reads p = cc
+told-by-source rest source false P reads p = p
+
+-- an input that is too long is refused
+pub too_long_outcome : (words : List (List ℕ)) (job : Job) (input : List ℕ) → Ok job ≡ asked words → reads_nothing job ≡ false → input_limit < length input
+    → outcome words input ≡ Err refusal.TooLong
+too_long_outcome words job input asks reads long =
+    asked_made words job input asks ∙ made_long job input reads long
+
+-- a job for which reading may fail reads its input
+pub reads-some : (nothing : Bool) → (nothing ≡ true → ⊥) → nothing ≡ false
+reads-some true never = absurd (never refl)
+reads-some false never = refl
+
+-- what follows from either answer
+pub either-bool : (b : Bool) (P : Type 0) → (b ≡ true → P) → (b ≡ false → P) → P
+either-bool true P so other = so refl
+either-bool false P so other = other refl
+
+-- what ends a run whose input could not be read
+pub read-ends : {S T : Type 0} (words : List (List ℕ)) (job : Job) (rest : S → Option (List ℕ)) (source : S) (why : ReadEnd) (r : Result T Stop)
+    → Ok job ≡ asked words → reads_nothing job ≡ asks_nothing words → reads_nothing job ≡ false → IsErrAnd r (λ stop. stop ≡ stop_of_end why)
+    → (why ≡ end.TooLong → IfSome (rest source) (λ bytes. input_limit < length bytes))
+    → IfSome (input_told rest source (asks_nothing words)) (λ bytes. Ends (outcome words bytes) r)
+read-ends {S} {T} words job rest source why (Ok x) asks same reads is long = absurd is
+read-ends {S} {T} words job rest source end.Failed (Err stop) asks same reads is long =
+    some_all (input_told rest source (asks_nothing words)) _ (λ bytes. subst (λ s. Ends {T = T} (outcome words bytes) (Err s)) (sym is) tt)
+read-ends {S} {T} words job rest source end.NoMemory (Err stop) asks same reads is long =
+    some_all (input_told rest source (asks_nothing words)) _ (λ bytes. subst (λ s. Ends {T = T} (outcome words bytes) (Err s)) (sym is) tt)
+read-ends {S} {T} words job rest source end.TooLong (Err stop) asks same reads is long =
+    told-by-source rest source (asks_nothing words) _ (sym same ∙ reads)
+    (some_follows (rest source) _ _ (λ bytes more. subst (λ s. Ends {T = T} (outcome words bytes) (Err s)) (sym is) (too_long_outcome words job bytes asks reads more)) (long refl))
+
+-- what is so of the frames of the input of a job is so of what the source tells, since a job without input has none
+pub frames-told : {S : Type 0} (words : List (List ℕ)) (rest : S → Option (List ℕ)) (source : S) (job : Job) (input : List ℕ) → Ok job ≡ asked words
+    → (nothing : Bool) → reads_nothing job ≡ nothing → IfSome (input_told rest source nothing) (λ bytes. input ≡ bytes)
+    → MeshFramesAreSound words input → IfSome (rest source) (MeshFramesAreSound words)
+frames-told words rest source job input asks false reads all sound = told-input (rest source) _ (MeshFramesAreSound words) all sound
+frames-told words rest source job input asks true reads all sound =
+    some_all (rest source) (MeshFramesAreSound words) (λ bytes. no_frames bytes)
+  where
+    replay_reads : (j : Job) → j ≡ Replay → reads_nothing j ≡ true → ⊥
+    replay_reads j is nothing = grind (arith, subst (λ k. reads_nothing k ≡ true) is nothing)
+
+    no_frames : (bytes : List ℕ) → MeshFramesAreSound words bytes
+    no_frames bytes clauses before after view replays texts says done =
+        let same : job ≡ Replay = cc in
+        absurd (replay_reads job same reads)
+
+-- a source that stands lost nothing
+consumes_none : (a : Option (List ℕ)) → Consumes a a []
+consumes_none None = tt
+consumes_none (Some xs) = refl
+
+pub loses_none : {S : Type 0} (rest : S → Option (List ℕ)) (taken : S → ℕ) (source : S) (most : ℕ) → RoseBy taken source source 0 → LosesAtMost rest taken source source most
+loses_none rest taken source most stands = record {
+  bytes = [];
+  within = omega arith;
+  lost = consumes_none (rest source);
+  counted = stands;
+}

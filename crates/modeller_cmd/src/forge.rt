@@ -1,0 +1,97 @@
+// A model that is made from a seed, and what its image takes, as text.
+ghost use Rattle.std.specs.Prelude.{◌≡◌, ◌==◌, ◌++◌, codes, count_by, decimal, length, IfOk, OnOk, OnErr};
+ghost use Rattle.edit_session.specs.Images.{plain_points as plain_points_of};
+ghost use Rattle.edit_session.specs.Work.{CountsWithin, CountsWork, PointsRiseAtMost, frame_work};
+ghost use Rattle.quad_descent.specs.Pixels.{pixels_of};
+ghost use Rattle.view_settings.specs.Settings.{IsJob};
+ghost use Rattle.view_settings.specs.declared.job.Job.TheVariants as jobs;
+ghost use Rattle.modeller_cmd.specs.CountTexts.{count_text};
+ghost use Rattle.modeller_cmd.specs.Forging.{forge_text, forged_clauses, inside_of};
+
+use crate::count::plain_points;
+use edit_session::draw_tree;
+use fixed_ops::Tally;
+use model_forge::forge_model;
+use quad_descent::{QuadTree, image};
+use solid_model::Model;
+use std::alloc::{AllocError, Global};
+use view_settings::{Forge, View};
+
+/// The model that a seed and a number of discs make, drawn over a view, as five lines: how many
+/// clauses it has, how many pixels are inside, and the work of the image. AllocError: memory was
+/// refused.
+#[tactic(auto, unfolding(crate::specs::Forging::forged_clauses))]
+pub fn forge(alloc: Global, wanted: &Forge, tally: &mut Tally) -> Result<Vec<u8>, AllocError>
+    requires { IsJob (jobs.Forge wanted.now) }
+    ensures ok { IfOk result (λ text. text.items
+        ≡ forge_text wanted.now.view (forged_clauses wanted.now)) }
+    ensures counted { OnOk result (CountsWork tally.old tally.new
+        (frame_work wanted.now.view (forged_clauses wanted.now))) }
+    ensures at_most { OnErr result (CountsWithin tally.old tally.new
+        (frame_work wanted.now.view (forged_clauses wanted.now))) }
+    ensures plain { PointsRiseAtMost tally.old tally.new
+        (plain_points_of wanted.now.view (length (forged_clauses wanted.now))) }
+{
+    let model = forge_model(alloc, wanted.seed, wanted.solids)?;
+    draw_lines(alloc, &model, &wanted.view, tally)
+}
+
+// The five lines of a model and of its image over a view. The image is a fresh one: what the tally
+// counted before is not told.
+#[tactic(auto, unfolding(edit_session::specs::Work::CountsWork, edit_session::specs::Work::CountsWithin))]
+fn draw_lines(
+    alloc: Global,
+    model: &Model,
+    view: &View,
+    tally: &mut Tally,
+) -> Result<Vec<u8>, AllocError>
+    ensures ok { IfOk result (λ text. text.items ≡ forge_text view.now model.now) }
+    ensures counted { OnOk result (CountsWork tally.old tally.new (frame_work view.now model.now)) }
+    ensures at_most { OnErr result
+        (CountsWithin tally.old tally.new (frame_work view.now model.now)) }
+    ensures plain { PointsRiseAtMost tally.old tally.new
+        (plain_points_of view.now (length model.now)) }
+{
+    let mut frame = Tally::new();
+    let drawn = draw_tree(alloc, model, view, &mut frame);
+    tally.join(&frame);
+    let tree = drawn?;
+    let inside = inside_pixels(alloc, &tree)?;
+    let plain = plain_points(model, view);
+    forge_lines(
+        alloc,
+        model.len(),
+        inside,
+        frame.points(),
+        frame.spans(),
+        plain,
+    )
+}
+
+// How many pixels of an image are inside.
+fn inside_pixels(alloc: Global, tree: &QuadTree) -> Result<usize, AllocError>
+    ensures { IfOk result (λ inside. inside
+        ≡ count_by (λ pixel. pixel == 255) (pixels_of tree.now.view tree.now.list)) }
+{
+    let image = image(alloc, tree)?;
+    Ok(image.pixels.iter().filter(|pixel| **pixel == 255).count())
+}
+
+// The five lines of these counts.
+fn forge_lines(
+    alloc: Global,
+    clauses: u32,
+    inside: usize,
+    points: u64,
+    spans: u64,
+    plain: u64,
+) -> Result<Vec<u8>, AllocError>
+    ensures { IfOk result (λ text. text.items
+        ≡ codes "clauses " ++ decimal clauses ++ codes "\ninside " ++ decimal inside ++ codes "\n"
+        ++ count_text (record { points = points; spans = spans; plain = plain })) }
+{
+    let text = format!(in alloc;
+        "clauses {clauses}\ninside {inside}\npoints {points}\nspans {spans}\nplain {plain}\n"
+    )?;
+    Ok(text.into_bytes())
+}
