@@ -3,9 +3,10 @@
 
 mod end;
 
-ghost use Rattle.std.specs.Prelude.{◌≡◌, ◌≢◌, ◌↔◌, IsErr};
-ghost use Rattle.modeller_cmd.specs.Asking.{asked};
+ghost use Rattle.std.specs.Prelude.{◌≡◌, ◌≢◌, ◌↔◌, true, Ok, IsErr};
+ghost use Rattle.modeller_cmd.specs.Asking.{asked, asks_nothing};
 ghost use Rattle.view_settings.specs.Words.{bytes_of};
+ghost use Rattle.view_settings.specs.declared.job.Job.TheVariants.{Replay};
 
 use crate::end::{End, exit_code};
 use fixed_ops::Tally;
@@ -34,7 +35,8 @@ fn words(rt: &HostRuntime) -> io::Result<Vec<String>> {
 // Runs the modeller over the standard streams.
 fn run_on_streams(rt: &HostRuntime, words: &[String]) -> Status
     ensures usage { (result ≡ Status.Usage) ↔ IsErr (asked (bytes_of words.now)) }
-    ensures no_script { result ≢ Status.BadScript }
+    ensures script { result ≡ Status.BadScript → asked (bytes_of words.now) ≡ Ok Replay }
+    ensures unasked { asks_nothing (bytes_of words.now) ≡ true → result ≢ Status.ReadFault }
 {
     run(
         rt.alloc(),
