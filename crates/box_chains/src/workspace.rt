@@ -51,8 +51,9 @@ impl Workspace {
     }
 
     /// Traces a list over a region: whether all of it is inside, or outside, or neither is decided. The
-    /// choices of its steps are kept.
-    #[inline]
+    /// choices of its steps are kept. Each caller gets the loop over the steps, which runs faster where
+    /// little stands beside it.
+    #[inline(always)]
     pub fn look(&mut self, tape: &Tape, region: Region, tally: &mut Tally) -> Option<bool>
         requires { length tape.now ≤ length self.old }
         ensures decision { result ≡ decided_of (tape_hull region tape.now) }
@@ -62,6 +63,18 @@ impl Workspace {
     {
         let hull = trace(tape, region, &mut self.hulls, &mut self.choices, tally);
         decided(hull)
+    }
+
+    /// The same as a call, for callers that have much beside it.
+    #[inline(never)]
+    pub fn look_apart(&mut self, tape: &Tape, region: Region, tally: &mut Tally) -> Option<bool>
+        requires { length tape.now ≤ length self.old }
+        ensures decision { result ≡ decided_of (tape_hull region tape.now) }
+        ensures choices { take (length tape.now) self.new ≡ choices_over region tape.now }
+        ensures room { length self.new ≡ length self.old }
+        ensures counted { CountsHulls (length tape.now) tally.old tally.new }
+    {
+        self.look(tape, region, tally)
     }
 
     /// What is live of the list that was looked at. AllocError: there is no memory for a shorter list.

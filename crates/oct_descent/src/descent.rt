@@ -46,7 +46,7 @@ pub fn look_into(
     if !is_long(b, LEAF) {
         return look_into_cell(desk, b, received, values, tally);
     }
-    let told = desk.room.look(received, desk.places.region(b), tally);
+    let told = desk.room.look_apart(received, desk.places.region(b), tally);
     if !is_open(told, values.n(), b) {
         return Ok(());
     }
@@ -127,7 +127,7 @@ fn is_working(
     if seen.inside && seen.outside {
         return true;
     }
-    let told = desk.room.look(received, desk.places.region(b), tally);
+    let told = desk.room.look_apart(received, desk.places.region(b), tally);
     is_open(told, n, b)
 }
 

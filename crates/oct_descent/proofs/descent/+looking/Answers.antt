@@ -20,32 +20,32 @@ look_into-returns-then-not-is_open-clause-settled t c =
     let view = c.args.desk.now.places.view in
     let b = c.args.b in
     let list = c.args.received.now in
-    let told = looked view c.args.desk.now.places.lattice b list c.region.result c.look-told.result c.requires.lattice c.region.ensures c.look-told.ensures.decision in
-    let open' = opened view b list c.n.result c.look-told.result c.is_open.result (c.n.ensures ∙ c.requires.n) told c.is_open.ensures in
+    let told = looked view c.args.desk.now.places.lattice b list c.region.result c.look_apart-told.result c.requires.lattice c.region.ensures c.look_apart-told.ensures.decision in
+    let open' = opened view b list c.n.result c.look_apart-told.result c.is_open.result (c.n.ensures ∙ c.requires.n) told c.is_open.ensures in
     closed-settled c.layers_hold.ensures view (visit b list) c.args.values.now c.requires.visit_is (open' ∙ c.if-not-is_open.true)
 
 pub look_into-returns-then-not-is_open-clause-counted : goal.look_into-returns-then-not-is_open-clause-counted
 look_into-returns-then-not-is_open-clause-counted t c =
-    trace-charged (gridded c.args.desk.now.places.view) (visit c.args.b c.args.received.now) c.args.values.now c.args.tally.now c.look-told.new.tally (omega arith) c.requires.visit_is.box c.layers_hold.ensures.halves
-    c.look-told.ensures.counted
+    trace-charged (gridded c.args.desk.now.places.view) (visit c.args.b c.args.received.now) c.args.values.now c.args.tally.now c.look_apart-told.new.tally (omega arith) c.requires.visit_is.box c.layers_hold.ensures.halves
+    c.look_apart-told.ensures.counted
 
 pub look_into-hand_on-requires-clause-choices : goal.look_into-hand_on-requires-clause-choices
 look_into-hand_on-requires-clause-choices t c =
-    subst (λ choices. AreChoices c.args.received.now choices) (sym c.look-told.ensures.choices) (c.layers_hold.ensures.choices c.region.result c.args.received.now)
+    subst (λ choices. AreChoices c.args.received.now choices) (sym c.look_apart-told.ensures.choices) (c.layers_hold.ensures.choices c.region.result c.args.received.now)
 
 pub look_into-look_into_halves-requires : goal.look_into-look_into_halves-requires
 look_into-look_into_halves-requires t c =
     let view = c.args.desk.now.places.view in
     let v = visit c.args.b c.args.received.now in
     let live = c.in_ok-live.live in
-    let same = handed view c.args.desk.now.places.lattice c.args.b c.args.received.now live c.region.result c.look-told.new.self c.requires.lattice c.region.ensures c.look-told.ensures.choices c.in_ok-live.ensures.list in (
+    let same = handed view c.args.desk.now.places.lattice c.args.b c.args.received.now live c.region.result c.look_apart-told.new.self c.requires.lattice c.region.ensures c.look_apart-told.ensures.choices c.in_ok-live.ensures.list in (
       omega (arith, c.decreases),
       (
         record {
           lattice = c.requires.lattice;
           visit_is = record { window = c.requires.visit_is.window; box = c.requires.visit_is.box; within = c.requires.visit_is.within; tape = subst IsTape c.live.view_is c.live.invariant };
           n = c.requires.n;
-          room = omega (arith, c.in_ok-live.ensures.shorter, c.requires.room, c.look-told.ensures.room, ap length c.in_ok-live.ensures.same);
+          room = omega (arith, c.in_ok-live.ensures.shorter, c.requires.room, c.look_apart-told.ensures.room, ap length c.in_ok-live.ensures.same);
           values = omega (arith, c.in_ok-live.ensures.shorter, c.requires.values);
           right = handed-right c.layers_hold.ensures view v live c.args.values.now c.requires.visit_is same c.requires.right;
         },
@@ -55,21 +55,21 @@ look_into-look_into_halves-requires t c =
 
 pub look_into-returns-in_err-live-clause-counted : goal.look_into-returns-in_err-live-clause-counted
 look_into-returns-in_err-live-clause-counted t c =
-    trace-charged (gridded c.args.desk.now.places.view) (visit c.args.b c.args.received.now) c.args.values.now c.args.tally.now c.look-told.new.tally (omega arith) c.requires.visit_is.box c.layers_hold.ensures.halves
-    c.look-told.ensures.counted
+    trace-charged (gridded c.args.desk.now.places.view) (visit c.args.b c.args.received.now) c.args.values.now c.args.tally.now c.look_apart-told.new.tally (omega arith) c.requires.visit_is.box c.layers_hold.ensures.halves
+    c.look_apart-told.ensures.counted
 
 pub look_into-returns-clause-settled : goal.look_into-returns-clause-settled
 look_into-returns-clause-settled t c =
     let view = c.args.desk.now.places.view in
     let v = visit c.args.b c.args.received.now in
-    let same = handed view c.args.desk.now.places.lattice c.args.b c.args.received.now c.in_ok-live.live c.region.result c.look-told.new.self c.requires.lattice c.region.ensures c.look-told.ensures.choices c.in_ok-live.ensures.list in
+    let same = handed view c.args.desk.now.places.lattice c.args.b c.args.received.now c.in_ok-live.live c.region.result c.look_apart-told.new.self c.requires.lattice c.region.ensures c.look_apart-told.ensures.choices c.in_ok-live.ensures.list in
     on_ok-then c.look_into_halves.result _ _ (handed-settled c.layers_hold.ensures view v c.in_ok-live.live c.look_into_halves.new.values c.requires.visit_is same) c.look_into_halves.ensures.settled
 
 pub look_into-returns-clause-grows : goal.look_into-returns-clause-grows
 look_into-returns-clause-grows t c =
     let view = c.args.desk.now.places.view in
     let v = visit c.args.b c.args.received.now in
-    let same = handed view c.args.desk.now.places.lattice c.args.b c.args.received.now c.in_ok-live.live c.region.result c.look-told.new.self c.requires.lattice c.region.ensures c.look-told.ensures.choices c.in_ok-live.ensures.list in
+    let same = handed view c.args.desk.now.places.lattice c.args.b c.args.received.now c.in_ok-live.live c.region.result c.look_apart-told.new.self c.requires.lattice c.region.ensures c.look_apart-told.ensures.choices c.in_ok-live.ensures.list in
     handed-grows c.layers_hold.ensures view v c.in_ok-live.live c.args.values.now c.look_into_halves.new.values c.requires.visit_is same c.look_into_halves.ensures.grows
 
 pub look_into-returns-clause-counted : goal.look_into-returns-clause-counted
@@ -77,11 +77,11 @@ look_into-returns-clause-counted t c =
     let view = c.args.desk.now.places.view in
     let b = c.args.b in
     let list = c.args.received.now in
-    let told = looked view c.args.desk.now.places.lattice b list c.region.result c.look-told.result c.requires.lattice c.region.ensures c.look-told.ensures.decision in
-    let open' = opened view b list c.n.result c.look-told.result c.is_open.result (c.n.ensures ∙ c.requires.n) told c.is_open.ensures in
-    let same = handed view c.args.desk.now.places.lattice b list c.in_ok-live.live c.region.result c.look-told.new.self c.requires.lattice c.region.ensures c.look-told.ensures.choices c.in_ok-live.ensures.list in
-    halves-charged c.layers_hold.ensures view (visit b list) c.in_ok-live.live c.args.values.now c.look_into_halves.new.values c.args.tally.now c.look-told.new.tally c.look_into_halves.new.tally c.requires.visit_is
-    (open' ∙ c.if-not-is_open.false) (sym c.is_long.ensures ∙ c.if-not-is_long.false) same c.look-told.ensures.counted c.look_into_halves.ensures.counted
+    let told = looked view c.args.desk.now.places.lattice b list c.region.result c.look_apart-told.result c.requires.lattice c.region.ensures c.look_apart-told.ensures.decision in
+    let open' = opened view b list c.n.result c.look_apart-told.result c.is_open.result (c.n.ensures ∙ c.requires.n) told c.is_open.ensures in
+    let same = handed view c.args.desk.now.places.lattice b list c.in_ok-live.live c.region.result c.look_apart-told.new.self c.requires.lattice c.region.ensures c.look_apart-told.ensures.choices c.in_ok-live.ensures.list in
+    halves-charged c.layers_hold.ensures view (visit b list) c.in_ok-live.live c.args.values.now c.look_into_halves.new.values c.args.tally.now c.look_apart-told.new.tally c.look_into_halves.new.tally c.requires.visit_is
+    (open' ∙ c.if-not-is_open.false) (sym c.is_long.ensures ∙ c.if-not-is_long.false) same c.look_apart-told.ensures.counted c.look_into_halves.ensures.counted
 
 pub look_into_halves-loop-half-init : goal.look_into_halves-loop-half-init
 look_into_halves-loop-half-init t c =
