@@ -1,5 +1,5 @@
 -- The definitions of a run, computed on words, texts and views that were worked out by hand.
-use Rattle.std.proofs.Common.{◌≡◌, ℕ, true, false, pos, negsuc, ◌+◌, List, [], ◌∷◌, ◌++◌, length, Err, refl, arith}
+use Rattle.std.proofs.Common.{◌≡◌, ℕ, true, false, pos, negsuc, ◌+◌, List, [], ◌∷◌, ◌++◌, length, Option, Err, refl, arith}
 use Rattle.std.specs.Prelude.{codes, ℤ}
 use Rattle.std.specs.Fmt.{digits}
 use Rattle.std.proofs.lemmas.Bool.{le-ltb, lt-ltb}
@@ -21,7 +21,10 @@ use Rattle.view_settings.specs.declared.job.Job.{Job}
 use Rattle.view_settings.specs.declared.job.Job.TheVariants.{Count, Forge, Height, Render}
 use Rattle.view_settings.specs.declared.word_fault.WordReason.TheVariants as word
 use Rattle.modeller_cmd.specs.Asking.{asks_nothing, reads_nothing}
-use Rattle.modeller_cmd.specs.Endings.{IsAnswer, NoFault}
+use Rattle.modeller_cmd.specs.Endings.{IsAnswer, IsRead, IsRefusal, IsUnwritten, IsWorked, NoFault, Tells}
+use Rattle.modeller_cmd.specs.Frames.{frame_header, refused_line}
+use Rattle.modeller_cmd.specs.declared.frame_kind.FrameKind.TheVariants as frames
+use Rattle.solid_model.specs.declared.edit.EditFault.TheVariants as fault
 use Rattle.edit_session.specs.Heights.{heights_of}
 use Rattle.modeller_cmd.specs.Notes.{line_of}
 use Rattle.modeller_cmd.specs.Output.{Output, input_limit, made, model_bytes, output_as, output_of, parts_after}
@@ -314,3 +317,62 @@ product_below = refl
 -- products are rounded down
 product_rounds_down : op_result op.Mul (negsuc 0) (pos 1) ≡ negsuc 0
 product_rounds_down = refl
+
+-- the words of frames, and of an edit that finds no room
+height_header : frame_header frames.Height 12 ≡ codes "@ height 12\n"
+unfolding digits
+height_header = refl
+
+mesh_header : frame_header frames.Mesh 305 ≡ codes "@ mesh 305\n"
+unfolding digits
+mesh_header = refl
+
+no_room : refused_line 65536 fault.Full ≡ codes "@ refused 65536 Full\n"
+unfolding digits
+no_room = refl
+
+-- nothing is counted where the words, the input or the source end a run
+words_count_nothing : IsRefusal status.Usage
+words_count_nothing = tt
+
+model_counts_nothing : IsRefusal status.BadModel
+model_counts_nothing = tt
+
+script_counts_nothing : IsRefusal status.BadScript
+script_counts_nothing = tt
+
+length_counts_nothing : IsRefusal status.TooLong
+length_counts_nothing = tt
+
+source_counts_nothing : IsRefusal status.ReadFault
+source_counts_nothing = tt
+
+-- a source is read to its end before a solid or a script is refused, and before anything is written
+model_was_read : IsRead status.BadModel
+model_was_read = tt
+
+script_was_read : IsRead status.BadScript
+script_was_read = tt
+
+written_was_read : IsRead status.WriteFault
+written_was_read = tt
+
+-- under a refusal and a fault of the source nothing is written, whatever the words ask for
+refusals_write_nothing : (words : List (List ℕ)) → IsUnwritten words status.BadScript
+refusals_write_nothing words = tt
+
+faults_write_nothing : (words : List (List ℕ)) → IsUnwritten words status.ReadFault
+faults_write_nothing words = tt
+
+-- where the sink fails all is counted that was done before
+fault_is_counted : IsWorked (codes "text" ∷ []) status.WriteFault
+fault_is_counted is = grind (arith, is)
+
+-- what the notes are told under a fault
+read_fault_is_told : (words : List (List ℕ)) (input : Option (List ℕ)) (takes : List ℕ → Type 0)
+    → Tells words input status.ReadFault takes ≡ takes (codes "modeller: read fault\n")
+read_fault_is_told words input takes = refl
+
+memory_is_told : (words : List (List ℕ)) (input : Option (List ℕ)) (takes : List ℕ → Type 0)
+    → Tells words input status.NoMemory takes ≡ takes (codes "modeller: no memory\n")
+memory_is_told words input takes = refl

@@ -7,4 +7,5 @@ mod Playback
 mod Plays
 mod Serving
 mod Soundness
+mod Stops
 mod WorkSums

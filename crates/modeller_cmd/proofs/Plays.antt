@@ -161,6 +161,11 @@ module _ {K : Type 0} (held : K → Option (List ℕ)) (faults : K → ℕ) (bef
     grew = Grew-prefix held before after bytes front;
   }
 
+  pub part-counted : (IsTrue part.exact → CountsWork s t part.work) → AreExact (part ∷ []) → CountsWork s t (work_of_parts (part ∷ []))
+  unfolding AreExact
+  part-counted exact all =
+      subst (CountsWork s t) (sym one-work) (exact (all 0 part (omega arith)))
+
 -- memory is refused to a part before it is written
 pub part-undrawn : {K : Type 0} (held : K → Option (List ℕ)) (faults : K → ℕ) (out : K) (s t : Counts) (part : Part)
     → CountsWithin s t part.work → PointsRiseAtMost s t part.work.plain → Stopped held faults out out s t (part ∷ []) NoMemory

@@ -10,4 +10,5 @@ pub mod Playing
 pub mod Replays
 pub mod SoundTexts
 pub mod Statuses
+pub mod Stopping
 pub mod Stops

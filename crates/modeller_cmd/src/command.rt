@@ -14,6 +14,7 @@ ghost use Rattle.modeller_cmd.specs.Parts.{AreExact, bytes_of_parts, work_of_par
 ghost use Rattle.modeller_cmd.specs.Playing.{Played, Stopped};
 ghost use Rattle.modeller_cmd.specs.Asking.{asked, asks_nothing, input_told, reads_nothing};
 ghost use Rattle.modeller_cmd.specs.SoundTexts.{MeshFramesAreSound, MeshesAreSound};
+ghost use Rattle.modeller_cmd.specs.Stopping.{StopsPlay, StopsRun};
 ghost use Rattle.edit_session.specs.Work.{CountsWithin, CountsWork, PointsRiseAtMost};
 
 use crate::Status;
@@ -97,6 +98,10 @@ pub fn run<S: Source, K: Sink, N: Sink>(
     ensures whole { result ≡ Status.NoMemory
         → WithOutput S.rest source.old (bytes_of words.now) (λ output.
         GainsParts K.held out.old out.new output.parts) }
+    ensures stops { result ≢ Status.Done
+        → IfSome (input_told S.rest source.old (asks_nothing (bytes_of words.now))) (λ input.
+        StopsRun K.held K.faults out.old out.new tally.old tally.new (bytes_of words.now) input
+        result) }
     ensures never_falls { N.faults notes.old ≤ N.faults notes.new }
 
     // The one line of the notes.
@@ -175,6 +180,10 @@ fn perform<S: Source, K: Sink>(
     ensures whole { result ≡ Err Stop.NoMemory
         → WithOutput S.rest source.old (bytes_of words.now) (λ output.
         GainsParts K.held out.old out.new output.parts) }
+    ensures stops { IfErr result (λ stop.
+        IfSome (input_told S.rest source.old (asks_nothing (bytes_of words.now))) (λ input.
+        asked (bytes_of words.now) ≡ Ok Job.Replay
+        → StopsPlay K.held K.faults out.old out.new tally.old tally.new input stop)) }
 
     ensures counted { IsWorked (bytes_of words.now) (status_after result)
         → WithOutput S.rest source.old (bytes_of words.now) (λ output.
@@ -258,6 +267,8 @@ fn serve<K: Sink>(
     ensures script { status_after result ≡ Status.BadScript → job.now ≡ Job.Replay }
     ensures commands { job.now ≡ Job.Replay → IsOk (made job.now input.now)
         → result ≢ Err Stop.NoMemory → IfOk (script_read input.now) (All IsCommand) }
+    ensures stops { job.now ≡ Job.Replay → IfErr result
+        (StopsPlay K.held K.faults out.old out.new tally.old tally.new input.now) }
 {
     match job {
         Job::Replay => replay(alloc, input, out, tally),

@@ -8,6 +8,10 @@ ghost use Rattle.modeller_cmd.specs.Endings.{Ends, IsPlayStop, IsRefusal, IsServ
 ghost use Rattle.modeller_cmd.specs.Output.{input_limit, made, output_as};
 ghost use Rattle.modeller_cmd.specs.Playing.{Played, Stopped};
 ghost use Rattle.modeller_cmd.specs.Replays.{clauses_after, parts_at, refusal, replayed};
+ghost use Rattle.modeller_cmd.specs.Stopping.{StopsAt, StopsPlay, WantsMemory};
+ghost use Rattle.modeller_cmd.specs.Parts.{AreExact, work_of_parts};
+ghost use Rattle.edit_session.specs.Work.{CountsWork};
+ghost use Rattle.solid_model.specs.Edits.{edited};
 
 use crate::frame::{write_frame, write_refused};
 use crate::frame_kind::FrameKind;
@@ -44,6 +48,8 @@ pub fn replay<K: Sink>(
         → (out.new ≡ out.old) × (tally.new ≡ tally.old) }
     ensures commands { IsOk (made Job.Replay input.now) → result ≢ Err Stop.NoMemory
         → IfOk (script_read input.now) (All IsCommand) }
+    ensures stops { IfErr result
+        (StopsPlay K.held K.faults out.old out.new tally.old tally.new input.now) }
 {
     let model = read_model(alloc, model_text(input))?;
     let commands = read_script(alloc, input)?;
@@ -73,6 +79,8 @@ fn play<K: Sink>(
         (replayed session commands.items)) }
     ensures stopped { IfErr result (Stopped K.held K.faults out.old out.new tally.old tally.new
         (replayed session commands.items)) }
+    ensures ends { IfErr result (StopsAt K.held K.faults out.old out.new tally.old tally.new
+        session commands.items) }
 {
     for command in commands {
         step(&mut session, command, out, tally)?;
@@ -94,6 +102,10 @@ fn step<K: Sink>(
         (parts_at session.old command)) }
     ensures stopped { IfErr result (Stopped K.held K.faults out.old out.new tally.old tally.new
         (parts_at session.old command)) }
+    ensures unwritten { result ≡ Err Stop.NoMemory → out.new ≡ out.old }
+    ensures wants { result ≡ Err Stop.NoMemory → WantsMemory session.old command }
+    ensures counted { result ≡ Err Stop.WriteFault → AreExact (parts_at session.old command)
+        → CountsWork tally.old tally.new (work_of_parts (parts_at session.old command)) }
 {
     match command {
         Command::Edit(line, edit) => change(session, line, edit, out),
@@ -127,6 +139,8 @@ fn change<K: Sink>(session: &mut Session, line: u32, edit: Edit, out: &mut K) ->
     ensures stopped { IfErr result (λ stop. (counts : Counts)
         → Stopped K.held K.faults out.old out.new counts counts
         (parts_at session.old (Command.Edit line edit)) stop) }
+    ensures unwritten { result ≡ Err Stop.NoMemory → out.new ≡ out.old }
+    ensures wants { result ≡ Err Stop.NoMemory → IsOk (edited session.old edit) }
 {
     match session.edit(edit) {
         Ok(()) => Ok(()),
@@ -144,6 +158,7 @@ fn refuse<K: Sink>(out: &mut K, line: u32, fault: EditFault) -> Result<(), Stop>
         → Played K.held K.faults out.old out.new counts counts (refusal line fault ∷ [])) }
     ensures stopped { IfErr result (λ stop. (counts : Counts)
         → Stopped K.held K.faults out.old out.new counts counts (refusal line fault ∷ []) stop) }
+    ensures no_memory { result ≡ Err Stop.NoMemory → fault ≡ EditFault.NoMemory }
 {
     match fault {
         EditFault::NoMemory => Err(Stop::NoMemory),

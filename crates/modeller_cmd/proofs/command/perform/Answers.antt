@@ -1,9 +1,9 @@
-use Rattle.std.proofs.Common.{◌≡◌, Err, refl, ap, ◌∙◌, arith}
+use Rattle.std.proofs.Common.{◌≡◌, Ok, Err, refl, ap, ◌∙◌, arith}
 use Rattle.modeller_io.specs.Held.{Gains, GainsPrefix}
 use Rattle.edit_session.specs.Work.{CountsWithin, CountsWork, PointsRiseAtMost}
 use Rattle.edit_session.specs.WorkLaws.{plain-none, within-none}
 use Rattle.view_settings.specs.Words.{bytes_of}
-use Rattle.modeller_cmd.specs.Asking.{asks_nothing, input_told, reads_nothing}
+use Rattle.modeller_cmd.specs.Asking.{asked, asks_nothing, input_told, reads_nothing}
 use Rattle.modeller_cmd.specs.Endings.{Ends, GainsParts}
 use Rattle.modeller_cmd.specs.Output.{made, output_as, output_of}
 use Rattle.modeller_cmd.specs.Parts.{AreExact, bytes_of_parts, work_of_parts}
@@ -14,6 +14,8 @@ use Rattle.modeller_cmd.proofs.Outcomes.{some-none, some_all, some_follows}
 use Rattle.modeller_cmd.proofs.Plays.{parts-none}
 use Rattle.modeller_cmd.proofs.Serving.{as-told, done-or-stopped, err-follows, ok-follows, served, served-counted, served-front, served-told, served-whole}
 use Rattle.modeller_cmd.proofs.Soundness.{frames_are_sound, run_is_sound}
+use Rattle.view_settings.specs.declared.job.Job.TheVariants.{Replay}
+use Rattle.modeller_cmd.proofs.Stops.{served-stops, unplayed}
 use Rattle.modeller_cmd.proofs.command.perform.Goals as goal
 
 pub returns-in_err-job-clause-work : goal.returns-in_err-job-clause-work
@@ -147,3 +149,21 @@ returns-clause-sound_frames g c = λ read.
     frames-told words g.S.Source.rest c.args.source.now c.in_ok-job.job c.deref.result.now c.in_ok-job.ensures.job (reads_nothing c.in_ok-job.job) refl
     (some_follows (input_told g.S.Source.rest c.args.source.now (reads_nothing c.in_ok-job.job)) _ (λ bytes. c.deref.result.now ≡ bytes) (λ bytes same. c.deref.ensures.value ∙ same) c.in_ok-input.ensures.all)
     (frames_are_sound words c.deref.result.now c.in_ok-job.job c.serve.result c.in_ok-job.ensures.job c.mesh_texts_are_sound.ensures c.serve.ensures.commands read)
+
+pub returns-in_err-job-clause-stops : goal.returns-in_err-job-clause-stops
+returns-in_err-job-clause-stops g c =
+    unplayed g.K.Sink.held g.K.Sink.faults c.args.out.now c.args.tally.now c.from_residual.result (input_told g.S.Source.rest c.args.source.now (asks_nothing (bytes_of c.args.words.now)))
+    (asked (bytes_of c.args.words.now) ≡ Ok Replay)
+
+pub returns-in_err-input-clause-stops : goal.returns-in_err-input-clause-stops
+returns-in_err-input-clause-stops g c =
+    unplayed g.K.Sink.held g.K.Sink.faults c.args.out.now c.args.tally.now c.from_residual-in_err-input.result (input_told g.S.Source.rest c.args.source.now (asks_nothing (bytes_of c.args.words.now)))
+    (asked (bytes_of c.args.words.now) ≡ Ok Replay)
+
+pub returns-clause-stops : goal.returns-clause-stops
+returns-clause-stops g c =
+    let told = input_told g.S.Source.rest c.args.source.now (asks_nothing (bytes_of c.args.words.now)) in
+    let all = some_follows told _ (λ bytes. c.deref.result.now ≡ bytes) (λ bytes same. c.deref.ensures.value ∙ same)
+    (told-by-words g.S.Source.rest c.args.source.now (reads_nothing c.in_ok-job.job) (asks_nothing (bytes_of c.args.words.now)) _ c.in_ok-job.ensures.nothing c.in_ok-input.ensures.all) in
+    served-stops g.K.Sink.held g.K.Sink.faults c.args.out.now c.serve.new.out c.args.tally.now c.serve.new.tally c.deref.result.now c.serve.result (bytes_of c.args.words.now) told all
+    c.in_ok-job.job c.in_ok-job.ensures.job c.serve.ensures.stops

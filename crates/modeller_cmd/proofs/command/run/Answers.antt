@@ -8,6 +8,7 @@ use Rattle.modeller_cmd.specs.declared.status.Status.TheVariants.{ReadFault, Wri
 use Rattle.modeller_cmd.proofs.Inputs.{either-bool}
 use Rattle.modeller_cmd.proofs.Outcomes.{answer_of, made_bytes, made_done, ok_done, read_fault_of, some_follows, status_of_refusal, write_fault_of}
 use Rattle.modeller_cmd.proofs.Serving.{rose-fault, tells}
+use Rattle.modeller_cmd.specs.Stopping.{StopsRun}
 use Rattle.modeller_cmd.proofs.command.run.Goals as goal
 
 pub returns-in-Ok-clause-done : goal.returns-in-Ok-clause-done
@@ -56,3 +57,9 @@ returns-in-Err-clause-note g c =
     let told = input_told g.S.Source.rest c.args.source.now (asks_nothing words) in
     let takes = TakesLine g.N.Sink.faults g.N.Sink.held c.args.notes.now c.tell.new.notes in
     subst (λ status. Tells words told status takes) (sym c.status.ensures) (tells words told c.in-Err.stop takes c.in-Err.ensures.refused c.tell.ensures.line)
+
+pub returns-in-Err-clause-stops : goal.returns-in-Err-clause-stops
+returns-in-Err-clause-stops g c = λ other. some_follows (input_told g.S.Source.rest c.args.source.now (asks_nothing (bytes_of c.args.words.now))) _
+    (λ input. StopsRun g.K.Sink.held g.K.Sink.faults c.args.out.now c.perform.new.out c.args.tally.now c.perform.new.tally (bytes_of c.args.words.now) input c.status.result)
+    (λ input play. record { stop = c.in-Err.stop; is = c.status.ensures; play = play })
+    c.in-Err.ensures.stops

@@ -1,7 +1,8 @@
-use Rattle.std.proofs.Common.{sym, ap, subst, ◌∙◌}
+use Rattle.std.proofs.Common.{Err, sym, ap, subst, ◌∙◌}
 use Rattle.std.specs.Vec.Iter.{into_iter_items}
 use Rattle.modeller_cmd.specs.Playing.{Played, Stopped}
 use Rattle.modeller_cmd.specs.Replays.{clauses_after, parts_at, replayed, standing}
+use Rattle.modeller_cmd.specs.Stopping.{StopsAt, StopsIn}
 use Rattle.modeller_cmd.proofs.Playback.{items-between, replayed-between, replayed-more, replayed-none, standing-more, standing-none}
 use Rattle.modeller_cmd.proofs.Plays.{played-none, played-then, stopped-after, stops-with}
 use Rattle.modeller_cmd.proofs.replay.play.Goals as goal
@@ -47,3 +48,32 @@ returns-in_err-step-clause-stopped g c =
     (replayed (clauses_after shown command) after) c.in_err-step.field-0.0 so_far.played
     (subst (λ clauses. Stopped g.K.Sink.held g.K.Sink.faults c.loop-command.out c.step.new.out c.loop-command.tally c.step.new.tally (parts_at clauses command) c.in_err-step.field-0.0) so_far.stands
     c.in_err-step.ensures.stopped)))
+
+pub returns-in_err-step-clause-ends : goal.returns-in_err-step-clause-ends
+returns-in_err-step-clause-ends g c =
+    let so_far = c.loop-command.invariant in
+    let before = c.loop-command.yielded in
+    let command = c.in-Some.command in
+    let after = into_iter_items c.next.new.self in
+    let stop = c.in_err-step.field-0.0 in
+    let items = items-between c.into_iter-command-iterator.result c.args.commands.items before c.loop-command.command-iterator c.next.new.self command c.into_iter-command-iterator.ensures.into_iter_gives.0 c.loop-command.yielded_by
+    c.in-Some.ensures.steps.0 in
+    stops-with c.from_residual.result stop
+    (StopsAt g.K.Sink.held g.K.Sink.faults c.args.out.now c.step.new.out c.args.tally.now c.step.new.tally c.args.session c.args.commands.items)
+    c.from_residual.ensures.1
+    (record {
+      earlier = before;
+      command = command;
+      later = after;
+      split = items;
+      between = c.loop-command.out;
+      counts = c.loop-command.tally;
+      played = so_far.played;
+      stops = subst (λ clauses. StopsIn g.K.Sink.held g.K.Sink.faults c.loop-command.out c.step.new.out c.loop-command.tally c.step.new.tally clauses command stop) so_far.stands
+          (record {
+            unwritten = λ is. c.in_err-step.ensures.unwritten (ap (λ s. Err s) is);
+            wants = λ is. c.in_err-step.ensures.wants (ap (λ s. Err s) is);
+            counted = λ is. c.in_err-step.ensures.counted (ap (λ s. Err s) is);
+            stopped = c.in_err-step.ensures.stopped;
+          });
+    })

@@ -1,9 +1,13 @@
+use Rattle.std.proofs.Common.{refl, inl, sym, ap, Ok, ◌∙◌}
+use Rattle.clause_reader.specs.Reading.{text_read}
 use Rattle.view_settings.specs.declared.job.Job.TheVariants.{Replay}
 use Rattle.modeller_cmd.specs.Output.{made, output_as}
 use Rattle.modeller_cmd.specs.Playing.{Stopped}
 use Rattle.modeller_cmd.specs.Stops.{stop_of_script, stop_of_text}
 use Rattle.modeller_cmd.proofs.Playback.{script-other, text-other}
+use Rattle.modeller_cmd.specs.Stopping.{StopsPlay}
 use Rattle.modeller_cmd.proofs.Plays.{stopped-at-once, stops-with}
+use Rattle.modeller_cmd.proofs.Stops.{stops-play}
 use Rattle.modeller_cmd.proofs.replay.replay.Goals as goal
 
 pub returns-in_err-model-clause-stopped : goal.returns-in_err-model-clause-stopped
@@ -19,3 +23,20 @@ returns-in_err-commands-clause-stopped g c =
     stops-with c.from_residual-in_err-commands.result (stop_of_script fault)
     (Stopped g.K.Sink.held g.K.Sink.faults c.args.out.now c.args.out.now c.args.tally.now c.args.tally.now (output_as (made Replay c.args.input.now)).parts) c.from_residual-in_err-commands.ensures.1
     (stopped-at-once g.K.Sink.held g.K.Sink.faults c.args.out.now c.args.tally.now (output_as (made Replay c.args.input.now)).parts (stop_of_script fault) (script-other fault.line fault.reason))
+
+pub returns-in_err-model-clause-stops : goal.returns-in_err-model-clause-stops
+returns-in_err-model-clause-stops g c =
+    stops-with c.from_residual.result (stop_of_text c.in_err-model.field-0.0)
+    (StopsPlay g.K.Sink.held g.K.Sink.faults c.args.out.now c.args.out.now c.args.tally.now c.args.tally.now c.args.input.now) c.from_residual.ensures.1
+    (λ clauses script read found. inl (refl, refl))
+
+pub returns-in_err-commands-clause-stops : goal.returns-in_err-commands-clause-stops
+returns-in_err-commands-clause-stops g c =
+    stops-with c.from_residual-in_err-commands.result (stop_of_script c.in_err-commands.field-0.0)
+    (StopsPlay g.K.Sink.held g.K.Sink.faults c.args.out.now c.args.out.now c.args.tally.now c.args.tally.now c.args.input.now) c.from_residual-in_err-commands.ensures.1
+    (λ clauses script read found. inl (refl, refl))
+
+pub returns-clause-stops : goal.returns-clause-stops
+returns-clause-stops g c =
+    stops-play g.K.Sink.held g.K.Sink.faults c.args.out.now c.play.new.out c.args.tally.now c.play.new.tally c.args.input.now c.play.result c.start.result c.in_ok-commands.commands.items
+    (ap text_read (sym c.model_text.ensures) ∙ c.in_ok-model.ensures ∙ ap (λ clauses. Ok clauses) (sym c.start.ensures)) c.in_ok-commands.ensures.script c.play.ensures.ends

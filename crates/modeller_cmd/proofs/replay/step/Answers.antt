@@ -1,18 +1,19 @@
 -- Each command writes its own parts, and counts their work.
-use Rattle.std.proofs.Common.{[], ◌∷◌, ap, ◌∙◌}
+use Rattle.std.proofs.Common.{◌≡◌, [], ◌∷◌, Err, refl, ap, ◌∙◌}
 use Rattle.std.specs.Prelude.{IfErr, OnOk}
 use Rattle.std.proofs.lemmas.Bool.{false≢true}
 use Rattle.edit_script.specs.declared.command.Command.TheVariants as Command
-use Rattle.edit_session.specs.Work.{frame_work, no_work}
+use Rattle.edit_session.specs.Work.{CountsWork, frame_work, no_work}
 use Rattle.edit_session.specs.WorkLaws.{plain-none, within-exactly, within-none, work-none}
 use Rattle.solid_model.specs.declared.edit.EditFault.TheVariants.{UnknownName}
 use Rattle.modeller_cmd.specs.Frames.{frame_of}
-use Rattle.modeller_cmd.specs.Parts.{heights_part, image_part, mesh_part, text_part}
+use Rattle.modeller_cmd.specs.Parts.{AreExact, work_of_parts, heights_part, image_part, mesh_part, text_part}
 use Rattle.modeller_cmd.specs.Playing.{Played, Stopped}
 use Rattle.modeller_cmd.specs.Replays.{framed, refusal}
 use Rattle.modeller_cmd.specs.declared.frame_kind.FrameKind.TheVariants as kinds
 use Rattle.modeller_cmd.specs.declared.stop.Stop.TheVariants.{WriteFault, NoMemory}
-use Rattle.modeller_cmd.proofs.Plays.{at-command, err-at, ok-at, part-played, part-stopped, part-undrawn, stops-with}
+use Rattle.modeller_cmd.proofs.Plays.{at-command, err-at, ok-at, part-counted, part-played, part-stopped, part-undrawn, stops-with}
+use Rattle.modeller_cmd.proofs.Stops.{edit-work}
 use Rattle.modeller_cmd.proofs.replay.step.Goals as goal
 
 pub returns-in-Stray-clause-stopped : goal.returns-in-Stray-clause-stopped
@@ -125,3 +126,43 @@ returns-in_ok-write_frame-in-Text-clause-played g c =
     c.args.session.now c.args.command Command.Text c.in-Text.is
     (part-played g.K.Sink.held g.K.Sink.faults c.args.out.now c.write_frame-in-Text.new.out c.args.tally.now c.args.tally.now part (frame_of kinds.Text c.deref-in-Text.result.now) (ap (frame_of kinds.Text) (c.deref-in-Text.ensures.value ∙ c.in_ok-text-in-Text.ensures))
     c.in_ok-write_frame-in-Text.ensures.ok c.in_ok-write_frame-in-Text.ensures.no_fault (λ exact. work-none c.args.tally.now) (within-none c.args.tally.now no_work) (plain-none c.args.tally.now 0))
+
+pub returns-in_err-write_frame-in-Render-clause-counted : goal.returns-in_err-write_frame-in-Render-clause-counted
+returns-in_err-write_frame-in-Render-clause-counted g c =
+    let part = framed kinds.Render (image_part c.in-Render.view c.args.session.now) in
+    at-command (λ parts. c.from_residual-in_err-write_frame-in-Render.result ≡ Err WriteFault → AreExact parts → CountsWork c.args.tally.now c.render.new.tally (work_of_parts parts))
+    c.args.session.now c.args.command (Command.Render c.in-Render.view) c.in-Render.is
+    (λ _. part-counted g.K.Sink.held g.K.Sink.faults c.args.out.now c.args.out.now c.args.tally.now c.render.new.tally part part.bytes refl (λ exact. c.in_ok-image-in-Render.ensures.counted))
+
+pub returns-in_err-write_frame-in-Height-clause-counted : goal.returns-in_err-write_frame-in-Height-clause-counted
+returns-in_err-write_frame-in-Height-clause-counted g c =
+    let part = framed kinds.Height (heights_part c.in-Height.view c.args.session.now) in
+    at-command (λ parts. c.from_residual-in_err-write_frame-in-Height.result ≡ Err WriteFault → AreExact parts → CountsWork c.args.tally.now c.height.new.tally (work_of_parts parts))
+    c.args.session.now c.args.command (Command.Height c.in-Height.view) c.in-Height.is
+    (λ _. part-counted g.K.Sink.held g.K.Sink.faults c.args.out.now c.args.out.now c.args.tally.now c.height.new.tally part part.bytes refl (λ exact. absurd (false≢true exact)))
+
+pub returns-in_err-write_frame-in-Mesh-clause-counted : goal.returns-in_err-write_frame-in-Mesh-clause-counted
+returns-in_err-write_frame-in-Mesh-clause-counted g c =
+    let part = framed kinds.Mesh (mesh_part c.in-Mesh.view c.args.session.now) in
+    at-command (λ parts. c.from_residual-in_err-write_frame-in-Mesh.result ≡ Err WriteFault → AreExact parts → CountsWork c.args.tally.now c.mesh.new.tally (work_of_parts parts))
+    c.args.session.now c.args.command (Command.Mesh c.in-Mesh.view) c.in-Mesh.is
+    (λ _. part-counted g.K.Sink.held g.K.Sink.faults c.args.out.now c.args.out.now c.args.tally.now c.mesh.new.tally part part.bytes refl (λ exact. absurd (false≢true exact)))
+
+pub returns-in_err-write_frame-in-Text-clause-counted : goal.returns-in_err-write_frame-in-Text-clause-counted
+returns-in_err-write_frame-in-Text-clause-counted g c =
+    let part = framed kinds.Text (text_part c.args.session.now) in
+    at-command (λ parts. c.from_residual-in_err-write_frame-in-Text.result ≡ Err WriteFault → AreExact parts → CountsWork c.args.tally.now c.args.tally.now (work_of_parts parts))
+    c.args.session.now c.args.command Command.Text c.in-Text.is
+    (λ _. part-counted g.K.Sink.held g.K.Sink.faults c.args.out.now c.args.out.now c.args.tally.now c.args.tally.now part part.bytes refl (λ exact. work-none c.args.tally.now))
+
+pub returns-in-Stray-clause-counted : goal.returns-in-Stray-clause-counted
+returns-in-Stray-clause-counted g c =
+    at-command (λ parts. c.refuse.result ≡ Err WriteFault → AreExact parts → CountsWork c.args.tally.now c.args.tally.now (work_of_parts parts))
+    c.args.session.now c.args.command (Command.Stray c.in-Stray.line) c.in-Stray.is
+    (λ _ exact. work-none c.args.tally.now)
+
+pub returns-in-Edit-clause-counted : goal.returns-in-Edit-clause-counted
+returns-in-Edit-clause-counted g c =
+    at-command (λ parts. c.change.result ≡ Err WriteFault → AreExact parts → CountsWork c.args.tally.now c.args.tally.now (work_of_parts parts))
+    c.args.session.now c.args.command (Command.Edit c.in-Edit.line c.in-Edit.edit) c.in-Edit.is
+    (λ _ exact. edit-work c.args.session.now c.in-Edit.line c.in-Edit.edit c.args.tally.now)

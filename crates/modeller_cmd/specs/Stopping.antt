@@ -1,0 +1,70 @@
+-- Where the commands of a script stop.
+use Rattle.std.specs.Prelude.{◌≡◌, ◌⊎◌, ℕ, List, ◌∷◌, ◌++◌, Option, Ok, IsOk, ⊤}
+use Rattle.clause_reader.specs.Reading.{text_read}
+use Rattle.edit_script.specs.Marks.{before_mark}
+use Rattle.edit_script.specs.Scripts.{script_read}
+use Rattle.edit_script.specs.declared.command.Command.{Command}
+use Rattle.edit_script.specs.declared.command.Command.TheVariants as commands
+use Rattle.edit_session.specs.Work.{CountsWork}
+use Rattle.fixed_ops.specs.Counts.{Counts}
+use Rattle.solid_model.specs.Edits.{edited}
+use Rattle.solid_model.specs.declared.clause.Clause.{Clause}
+use Rattle.view_settings.specs.declared.job.Job.TheVariants.{Replay}
+use Rattle.modeller_cmd.specs.Asking.{asked}
+use Rattle.modeller_cmd.specs.Parts.{AreExact, work_of_parts}
+use Rattle.modeller_cmd.specs.Playing.{Played, Stopped}
+use Rattle.modeller_cmd.specs.Replays.{parts_at, replayed, standing}
+use Rattle.modeller_cmd.specs.Stops.{status_at}
+use Rattle.modeller_cmd.specs.declared.status.Status.{Status}
+use Rattle.modeller_cmd.specs.declared.stop.Stop.{Stop}
+use Rattle.modeller_cmd.specs.declared.stop.Stop.TheVariants.{WriteFault, NoMemory}
+
+-- Memory may be wanted for a command: for an edit only where it is accepted, and never for one that
+-- names no clause anywhere.
+abbrev pub WantsMemory : List Clause → Command → Type 0
+WantsMemory clauses (commands.Edit line edit) = IsOk (edited clauses edit)
+WantsMemory clauses (commands.Stray line) = ⊥
+WantsMemory clauses other = ⊤
+
+-- Something stopped one command. Where memory was refused nothing of it was written, and it may want
+-- memory; under a fault of the sink its work was done.
+pub record StopsIn {K : Type 0} (held : K → Option (List ℕ)) (faults : K → ℕ)
+    (before after : K) (first last : Counts) (clauses : List Clause) (command : Command)
+    (stop : Stop) : Type 0 where
+  pub unwritten : stop ≡ NoMemory → after ≡ before
+  pub wants : stop ≡ NoMemory → WantsMemory clauses command
+  pub counted : stop ≡ WriteFault → AreExact (parts_at clauses command)
+      → CountsWork first last (work_of_parts (parts_at clauses command))
+  pub stopped : Stopped held faults before after first last (parts_at clauses command) stop
+
+-- Something stopped one of these commands: those before it were played whole, and nothing was done
+-- of those after it.
+pub record StopsAt {K : Type 0} (held : K → Option (List ℕ)) (faults : K → ℕ)
+    (before after : K) (first last : Counts) (clauses : List Clause) (commands : List Command)
+    (stop : Stop) : Type 0 where
+  pub earlier : List Command
+  pub command : Command
+  pub later : List Command
+  pub split : commands ≡ earlier ++ command ∷ later
+  pub between : K
+  pub counts : Counts
+  pub played : Played held faults before between first counts (replayed clauses earlier)
+  pub stops : StopsIn held faults between after counts last (standing clauses earlier) command stop
+
+-- What an input has as its solid and its script was stopped by this: before anything was done, or
+-- at one of the commands.
+abbrev pub StopsPlay : {K : Type 0} → (K → Option (List ℕ)) → (K → ℕ) → K → K → Counts → Counts
+    → List ℕ → Stop → Type 0
+StopsPlay held faults before after first last input stop =
+    (clauses : List Clause) (script : List Command) → text_read (before_mark input) ≡ Ok clauses
+    → script_read input ≡ Ok script
+    → ((after ≡ before) × (last ≡ first))
+    ⊎ StopsAt held faults before after first last clauses script stop
+
+-- so it is where the words of a run ask for a script, and the run ends with the status of that
+pub record StopsRun {K : Type 0} (held : K → Option (List ℕ)) (faults : K → ℕ)
+    (before after : K) (first last : Counts) (words : List (List ℕ)) (input : List ℕ)
+    (status : Status) : Type 0 where
+  pub stop : Stop
+  pub is : status ≡ status_at stop
+  pub play : asked words ≡ Ok Replay → StopsPlay held faults before after first last input stop
