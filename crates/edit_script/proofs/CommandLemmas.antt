@@ -1,7 +1,7 @@
 -- How a line is refused.
-use Rattle.std.proofs.Common.{◌≡◌, ℕ, false, List, ◌∷◌, Option, Some, None, Result, Ok, Err, IsOk, refl, ap, sym, subst, ◌∙◌}
+use Rattle.std.proofs.Common.{◌≡◌, ℕ, true, false, List, ◌∷◌, Option, Some, None, Result, Ok, Err, IsOk, refl, ap, sym, subst, ◌∙◌}
 use Rattle.clause_reader.specs.Lines.{begins_comment}
-use Rattle.clause_reader.specs.Reading.{on_result}
+use Rattle.clause_reader.specs.Reading.{is_clause, on_result}
 use Rattle.edit_script.specs.declared.command.Command.{Command}
 use Rattle.edit_script.specs.declared.script_reason.ScriptReason.{ScriptReason}
 use Rattle.edit_script.specs.declared.script_reason.ScriptReason.TheVariants.{UnknownCommand}
@@ -11,6 +11,10 @@ use Rattle.edit_script.specs.Keywords.{keyword_named}
 -- a word that is no keyword
 pub unknown : (line : ℕ) (word : List ℕ) (tokens : List (List ℕ)) → None ≡ keyword_named word → Gives (keyword_read line (keyword_named word) tokens) (Err UnknownCommand)
 unknown line word tokens none = (λ h. ap (λ keyword. keyword_read line keyword tokens) (sym none), λ h. (cc))
+
+-- a line whose first token does not begin with `#`
+pub clause-line : (word : List ℕ) (words tokens : List (List ℕ)) → tokens ≡ word ∷ words → begins_comment word ≡ false → is_clause tokens ≡ true
+clause-line word words tokens is solid = ap is_clause is ∙ rw solid refl
 
 -- a command of a line that says one
 abbrev some : Result Command ScriptReason → Result (Option Command) ScriptReason

@@ -1,5 +1,5 @@
 -- How the lines after the mark are read one after the other.
-use Rattle.std.proofs.Common.{All, ◌≡◌, ◌≢◌, ℕ, zero, suc, ◌+◌, ◌<◌, ◌≤◌, Bool, true, false, List, [], ◌∷◌, ◌++◌, length, map, drop, Option, Some, None, Result, Ok, Err, IsOk, IfErr, refl, ap, sym, subst, ◌∙◌, arith, append_assoc, append-nil}
+use Rattle.std.proofs.Common.{All, ◌≡◌, ◌≢◌, ℕ, zero, suc, ◌+◌, ◌-◌, ◌<◌, ◌≤◌, Bool, true, false, List, [], ◌∷◌, ◌++◌, length, map, drop, slice_index_or, Option, Some, None, Result, Ok, Err, IsOk, IfErr, refl, ap, sym, subst, ◌∙◌, arith, append_assoc, append-nil}
 use Rattle.std.specs.List.{range_with_len, zip, filter}
 use Rattle.std.proofs.lemmas.List.{length-drop}
 use Rattle.clause_reader.specs.Lines.{lines_of, line_of, tokens_of}
@@ -12,7 +12,7 @@ use Rattle.edit_script.specs.declared.script_reason.ScriptReason.{ScriptReason}
 use Rattle.edit_script.specs.declared.script_reason.ScriptReason.TheVariants.{NoMark, NoMemory}
 use Rattle.edit_script.specs.Commands.{command_read, line_read, IsCommand}
 use Rattle.edit_script.specs.Marks.{line_start, mark_place}
-use Rattle.edit_script.specs.Scripts.{all_or_first, command_at, commands_after, pushed, script_read, RefusesScript}
+use Rattle.edit_script.specs.Scripts.{all_or_first, command_at, commands_after, pushed, script_read, IsCommandLine, RefusesScript}
 use Rattle.edit_script.proofs.LineStarts.{lines_of-from_line}
 
 -- lines by their tokens, numbered from this number on
@@ -78,10 +78,53 @@ late (line ∷ lines) number =
     by (Ok found) h = joined-fault (λ fault. number ≤ fault.line) (listed found) (commands_from (number + 1) lines) h
     by (Err reason) h = omega arith
 
+-- the rest of the input are the lines after this many of them, the mark line among these
+pub record Stands (input : List ℕ) (line : ℕ) (rest : List ℕ) : Type 0 where
+  pub mark : ℕ
+  pub marked : mark_place input ≡ Some mark
+  pub after : mark + 1 ≤ line
+  pub lines : drop line (lines_of input) ≡ lines_of rest
+
+-- what is first after some, and what comes then
+drop-first : {A : Type 0} (xs : List A) (n : ℕ) (y : A) (ys : List A) (other : A) → drop n xs ≡ y ∷ ys → slice_index_or xs n other ≡ y
+drop-first [] zero y ys other e = (cc)
+drop-first [] (suc n) y ys other e = (cc)
+drop-first (x ∷ xs) zero y ys other e = (cc)
+drop-first (x ∷ xs) (suc n) y ys other e = drop-first xs n y ys other e
+
+drop-others : {A : Type 0} (xs : List A) (n : ℕ) (y : A) (ys : List A) → drop n xs ≡ y ∷ ys → drop (suc n) xs ≡ ys
+drop-others [] zero y ys e = (cc)
+drop-others [] (suc n) y ys e = (cc)
+drop-others (x ∷ xs) zero y ys e = (cc)
+drop-others (x ∷ xs) (suc n) y ys e = drop-others xs n y ys e
+
+-- the line that is read next
+stands-next : (input : List ℕ) (line : ℕ) (rest : List ℕ) → Stands input line rest → 0 < length rest → Stands input (line + 1) (after_line rest)
+stands-next input line rest stands some = record {
+  mark = stands.mark;
+  marked = stands.marked;
+  after = omega (arith, stands.after);
+  lines = let same : line + 1 ≡ suc line = omega arith in
+      rw same (drop-others (lines_of input) line (line_of rest) (lines_of (after_line rest)) (stands.lines ∙ lines_of-some rest some));
+}
+
 -- the commands of the lines so far, which this number of lines of the input are, and the rest
 pub record Reads (input : List ℕ) (commands : List Command) (line : ℕ) (rest : List ℕ) : Type 0 where
   pub so_far : script_read input ≡ joined commands (commands_from (line + 1) (lines_of rest))
   pub few : line + length rest ≤ length input
+  pub stands : Stands input line rest
+
+-- a line that is not read any more
+pub line-refused : (input : List ℕ) (commands : List Command) (line : ℕ) (rest : List ℕ) → Reads input commands line rest → 0 < length rest
+    → is_clause (line_tokens rest) ≡ true → IsCommandLine input (line + 1)
+line-refused input commands line rest reads some says = record {
+  mark = reads.stands.mark;
+  marked = reads.stands.marked;
+  after = omega (arith, reads.stands.after);
+  says = let same : line + 1 - 1 ≡ line = omega arith in
+      rw same (ap (λ (text : List ℕ). is_clause (tokens_of text))
+      (drop-first (lines_of input) line (line_of rest) (lines_of (after_line rest)) [] (reads.stands.lines ∙ lines_of-some rest some)) ∙ says);
+}
 
 -- the lines after the mark
 pub reads-none : (input : List ℕ) (place end : ℕ) → Some place ≡ mark_place input → end ≡ line_start input (place + 1) → place + 1 ≤ end → end ≤ length input
@@ -96,6 +139,7 @@ reads-none input place end marked is some within =
           ∙ ap (λ (numbers : List (ℕ × List (List ℕ))). all_or_first (map command_at (filter (λ line. is_clause line.1) numbers))) behind
           ∙ joined-none (commands_from (place + 1 + 1) (lines_of (drop end input)));
       few = omega (arith, length-drop end input);
+      stands = record { mark = place; marked = sym marked; after = omega arith; lines = lines };
     }
 
 -- where there is no mark
@@ -114,6 +158,7 @@ pub reads-more : (input : List ℕ) (commands new : List Command) (line : ℕ) (
 reads-more input commands new line rest reads some read = record {
   so_far = reads-next input commands line rest reads some ∙ by (line_read (line + 1) (line_tokens rest)) (commands_from (line + 1 + 1) (lines_of (after_line rest))) read;
   few = omega (arith, reads.few, after_line-shorter rest some);
+  stands = stands-next input line rest reads.stands some;
 }
   where
     by : (first : Result (Option Command) ScriptReason) (later : Result (List Command) ScriptFault) → pushed commands first ≡ Ok new

@@ -1,5 +1,6 @@
 -- What an input says as a script: its commands, or the line on which it is refused and the reason.
-use Rattle.std.specs.Prelude.{◌≡◌, ◌≢◌, ℕ, ◌+◌, ◌<◌, List, [], ◌∷◌, ◌++◌, map, filter, drop, Option, Some, None, Result, Ok, Err, IfErr}
+use Rattle.std.specs.Prelude.{◌≡◌, ◌≢◌, ℕ, ◌+◌, ◌-◌, ◌<◌, true, List, [], ◌∷◌, ◌++◌, map, filter, drop, slice_index_or, Option, Some, None, Result, Ok, Err, IfErr}
+use Rattle.clause_reader.specs.Lines.{lines_of, tokens_of}
 use Rattle.clause_reader.specs.Reading.{is_clause, on_result}
 use Rattle.clause_reader.specs.Says.{numbered_lines}
 use Rattle.edit_script.specs.declared.command.Command.{Command}
@@ -50,3 +51,10 @@ pub record RefusesScript (input : List ℕ) (fault : ScriptFault) : Type 0 where
   pub refused : fault.reason ≢ NoMemory → script_read input ≡ Err fault
   pub no_memory : fault.reason ≡ NoMemory
       → IfErr (script_read input) (λ first. fault.line < first.line)
+
+-- the line of this number stands after the mark line, and is neither blank nor a comment
+pub record IsCommandLine (input : List ℕ) (number : ℕ) : Type 0 where
+  pub mark : ℕ
+  pub marked : mark_place input ≡ Some mark
+  pub after : mark + 1 < number
+  pub says : is_clause (tokens_of (slice_index_or (lines_of input) (number - 1) [])) ≡ true

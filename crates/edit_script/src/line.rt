@@ -1,5 +1,6 @@
 // The command of a line.
-ghost use Rattle.std.specs.Prelude.{IfOk, IfSome};
+ghost use Rattle.std.specs.Prelude.{◌≡◌, true, IfErr, IfOk, IfSome};
+ghost use Rattle.clause_reader.specs.Reading.{is_clause};
 ghost use Rattle.clause_reader.specs.Scan.{line_tokens};
 ghost use Rattle.edit_script.specs.Commands.{after_keyword, keyword_read, line_read, Gives, IsCommand};
 ghost use Rattle.edit_script.specs.Keywords.{keyword_named};
@@ -21,6 +22,9 @@ pub(crate) fn read_line(
 ) -> Result<Option<Command>, ScriptReason>
     ensures gives { Gives (line_read line (line_tokens text.now)) result }
     ensures keeps { IfOk result (λ found. IfSome found IsCommand) }
+    ensures some { IfOk result (λ found. IfSome found
+        (λ command. is_clause (line_tokens text.now) ≡ true)) }
+    ensures says { IfErr result (λ reason. is_clause (line_tokens text.now) ≡ true) }
 {
     let Some((word, rest)) = first_token(text) else {
         return Ok(None);

@@ -1,8 +1,9 @@
 // A script from an input.
-ghost use Rattle.std.specs.Prelude.{◌≡◌, ◌^◌, ◌<◌, Ok, length, All, IfOk, MatchResult, OnOk};
+ghost use Rattle.std.specs.Prelude.{◌≡◌, ◌≢◌, ◌^◌, ◌<◌, true, Ok, length, All, IfErr, IfOk, MatchResult, OnOk};
+ghost use Rattle.clause_reader.specs.Reading.{is_clause};
 ghost use Rattle.clause_reader.specs.Scan.{line_tokens};
 ghost use Rattle.edit_script.specs.Commands.{line_read, IsCommand};
-ghost use Rattle.edit_script.specs.Scripts.{pushed, script_read, RefusesScript};
+ghost use Rattle.edit_script.specs.Scripts.{pushed, script_read, IsCommandLine, RefusesScript};
 ghost use Rattle.solid_model.specs.Refusals.{RefusesAs, WantsMemoryFor};
 
 use crate::line::read_line;
@@ -20,6 +21,8 @@ pub fn read_script(alloc: Global, input: &[u8]) -> Result<Vec<Command>, ScriptFa
     requires { length input.now < 2 ^ 32 }
     ensures script { MatchResult result (λ commands. script_read input.now ≡ Ok commands.items)
         (RefusesScript input.now) }
+    ensures line { IfErr result (λ fault. fault.reason ≢ ScriptReason.NoMark
+        → IsCommandLine input.now fault.line) }
     ensures keeps { IfOk result (λ commands. All IsCommand commands.items) }
 {
     let Some(mark) = find_mark(input) else {
@@ -53,6 +56,7 @@ fn push_line(
         result }
     ensures no_memory { WantsMemoryFor (line_read line (line_tokens text.now))
         ScriptReason.NoMemory result }
+    ensures says { IfErr result (λ reason. is_clause (line_tokens text.now) ≡ true) }
 {
     match read_line(alloc, line, text) {
         Ok(None) => Ok(()),

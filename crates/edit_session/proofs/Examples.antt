@@ -1,6 +1,6 @@
 -- The definitions of frames, computed on models and views that were worked out by hand.
 use Rattle.std.proofs.Common.{◌≡◌, ℕ, pos, negsuc, List, [], ◌∷◌, ◌++◌, Result, Ok, Err, refl}
-use Rattle.std.specs.Prelude.{codes}
+use Rattle.std.specs.Prelude.{codes, replicate, take}
 use Rattle.std.specs.Fmt.{digits}
 use Rattle.box_chains.specs.Chains.{chain_within}
 use Rattle.box_chains.specs.Counts.{points_in, spans_in}
@@ -11,9 +11,9 @@ use Rattle.kuhn_cells.specs.Faces.{all_triangles, faces}
 use Rattle.kuhn_cells.specs.Grids.{vertices}
 use Rattle.solid_model.specs.declared.clause.Clause.{Clause}
 use Rattle.view_settings.specs.Window.{Window}
-use Rattle.edit_session.specs.Heights.{heights_of}
-use Rattle.edit_session.specs.Images.{image_of}
-use Rattle.edit_session.specs.Meshes.{grid_of, mesh_text}
+use Rattle.edit_session.specs.Heights.{heights_of, plain_depths}
+use Rattle.edit_session.specs.Images.{image_of, plain_points}
+use Rattle.edit_session.specs.Meshes.{grid_of, mesh_text, plain_grid}
 use Rattle.edit_session.specs.Work.{frame_work}
 
 -- the clauses of a text that is read
@@ -46,6 +46,28 @@ disc_image : image_of (window 3 3 1) (solid (codes "a var-x\nb var-y\nc mul a a\
 unfolding digits cut_magnitude is_unsigned_numeral nearest_raw unsigned_raw
 disc_image = refl
 
+-- Of two columns and three rows from the top on, the left one of the last row alone lies below 0 along both axes, and of
+-- its two samples the far one along the third axis too.
+corner_image : image_of (window 2 3 1) (solid (codes "x var-x\ny var-y\nm max x y\n"))
+    ≡ codes "P5\n2 3\n255\n" ++ 0 ∷ 0 ∷ 0 ∷ 0 ∷ 255 ∷ 0 ∷ []
+unfolding digits
+corner_image = refl
+
+corner_map : heights_of (window 2 3 2) (solid (codes "x var-x\ny var-y\nz var-z\nm max x y\nk max m z\n"))
+    ≡ codes "P5\n2 3\n2\n" ++ 0 ∷ 0 ∷ 0 ∷ 0 ∷ 1 ∷ 0 ∷ []
+unfolding digits heights_of
+corner_map = refl
+
+-- plain evaluation goes over all pixels, samples or points
+plain_pixels : plain_points (window 2 3 5) 7 ≡ 42
+plain_pixels = refl
+
+plain_samples : plain_depths (window 2 3 5) 7 ≡ 210
+plain_samples = refl
+
+plain_corners : plain_grid (record (window 2 3 5) { n = 3 }) 7 ≡ 448
+plain_corners = refl
+
 -- The left one of two boxes holds five samples, of which the middle one is 0, and so stays undecided.
 undecided_half : frame_work (window 9 1 1) (solid (codes "x var-x\n"))
     ≡ record { points = 5; spans = 3; plain = 9 }
@@ -73,3 +95,23 @@ one_cell : mesh_text (window 1 1 1) (solid (codes "a const -1\n"))
     ≡ codes "ply\nformat ascii 1.0\nelement vertex 0\nproperty double x\nproperty double y\nproperty double z\nelement face 0\nproperty list uchar int vertex_indices\nend_header\n"
 unfolding digits grid_of mesh_text vertices faces all_triangles cut_magnitude is_unsigned_numeral nearest_raw unsigned_raw
 one_cell = refl
+
+-- two cells along each axis have 27 points, by z, then by y, then by x, of which the middle one alone keeps what is below 0
+abbrev two_cells : Window
+two_cells = record (window 1 1 1) { n = 2 }
+
+inner_point : (grid_of two_cells (λ p. negsuc 0)).values ≡ replicate 13 (pos 0) ++ negsuc 0 ∷ replicate 13 (pos 0)
+unfolding grid_of
+inner_point = refl
+
+along_x : take 4 (grid_of two_cells (λ p. p.x)).values ≡ pos 0 ∷ pos 0 ∷ pos 4294967296 ∷ pos 0 ∷ []
+unfolding grid_of
+along_x = refl
+
+along_y : take 7 (grid_of two_cells (λ p. p.y)).values ≡ replicate 6 (pos 0) ++ pos 4294967296 ∷ []
+unfolding grid_of
+along_y = refl
+
+along_z : take 19 (grid_of two_cells (λ p. p.z)).values ≡ replicate 18 (pos 0) ++ pos 4294967296 ∷ []
+unfolding grid_of
+along_z = refl

@@ -177,7 +177,7 @@ half-part b half i is within read =
     subst (λ h. IsPart 8 b h) (sym read) (All-get_or (IsPart 8 b) (halves_of 8 b) i half within (halves-are_parts 8 b (omega arith) is))
 
 -- a column of a part is one of the box
-part-covers : (w p : ℕ) (b part : Indices) → IsPart 8 b part → covers w part p ≡ true → covers w b p ≡ true
+pub part-covers : (w p : ℕ) (b part : Indices) → IsPart 8 b part → covers w part p ≡ true → covers w b p ≡ true
 part-covers w p b part is e =
     let cell = cell-of w p part e in
     let x0 : nat_le b.x0 (p % w) ≡ true = le-leb b.x0 (p % w) (omega (arith, cell.column, is.x.above)) in

@@ -2,7 +2,7 @@
 use Rattle.std.proofs.Common.{◌≡◌, ℕ, pos, negsuc, [], ◌∷◌, List, refl}
 use Rattle.box_chains.specs.Chains.{chain_within}
 use Rattle.box_chains.specs.Counts.{spans_in}
-use Rattle.fixed_ops.specs.declared.operation.Op.TheVariants.{Z, Const}
+use Rattle.fixed_ops.specs.declared.operation.Op.TheVariants.{X, Y, Z, Const}
 use Rattle.live_clauses.specs.declared.step.Step.{Step}
 use Rattle.view_settings.specs.Window.{Window}
 use Rattle.height_map.specs.Bound.{height_points, height_spans, points_where}
@@ -67,3 +67,19 @@ full_points = refl
 -- and what is outside has none
 empty_tops : tops_of (window 2 1 3) (record { op = Const; a = 0; b = 0; value = pos 4294967296 } ∷ []) ≡ 0 ∷ 0 ∷ []
 empty_tops = refl
+
+-- the coordinate x: of three columns the left one alone is inside, in both rows
+abbrev across : List Step
+across = record { op = X; a = 0; b = 0; value = pos 0 } ∷ []
+
+across_tops : tops_of (window 3 2 1) across ≡ 1 ∷ 0 ∷ 0 ∷ 1 ∷ 0 ∷ 0 ∷ []
+across_tops = refl
+
+-- the left column is inside at its nearest sample, and both samples of the other one are outside
+across_points : height_points (window 2 1 2) across ≡ 3
+unfolding points_where chain_within
+across_points = refl
+
+-- the coordinate y: the lower row alone is inside
+down_tops : tops_of (window 3 2 1) (record { op = Y; a = 0; b = 0; value = pos 0 } ∷ []) ≡ 0 ∷ 0 ∷ 0 ∷ 1 ∷ 1 ∷ 1 ∷ []
+down_tops = refl

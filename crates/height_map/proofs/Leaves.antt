@@ -58,7 +58,7 @@ sum-row b j g above =
     row k y = sum_along b.x0 b.x1 (λ x. g (record { i = x; j = y; k = k }))
 
 -- no sample adds anything
-sum-nothing : (b : Indices) (g : Sample → ℕ) → ((s : Sample) → LiesIn b s → g s ≡ 0) → sum_in b g ≡ 0
+pub sum-nothing : (b : Indices) (g : Sample → ℕ) → ((s : Sample) → LiesIn b s → g s ≡ 0) → sum_in b g ≡ 0
 sum-nothing b g none = sum_in-same b g (λ s. 0) none ∙ sum_in-const b 0 ∙ mul-zero (size b)
 
 pub counted-no_columns : (b : Indices) (j end : ℕ) (g : Sample → ℕ) (counts : Counts) → end ≡ b.x0 → RisesBy counts counts (points_of (sum_in (record b { x1 = end; y0 = j; y1 = j + 1 }) g))

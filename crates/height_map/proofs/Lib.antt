@@ -1,6 +1,7 @@
 pub mod Bounds
 pub mod ChangeLaws
 pub mod Drawn
+pub mod Evaluated
 mod Examples
 pub mod Leaves
 pub mod Maps

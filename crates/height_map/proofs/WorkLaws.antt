@@ -59,7 +59,7 @@ points-split test d v some is law e =
     g half s = cond (test s) (cost d (half_visit d v half) s) 0
 
 -- and another those of its samples
-points-end : (test : Sample → Bool) (d : Descent) (v : Visit) → IsBox v.box → is_split d v ≡ false → points_where test d v ≡ sum_in v.box (λ s. cond (test s) (end_cost d v) 0)
+pub points-end : (test : Sample → Bool) (d : Descent) (v : Visit) → IsBox v.box → is_split d v ≡ false → points_where test d v ≡ sum_in v.box (λ s. cond (test s) (end_cost d v) 0)
 unfolding points_where
 points-end test d v is e =
     sum_in-same v.box (λ s. cond (test s) (cost d v s) 0) (λ s. cond (test s) (end_cost d v) 0) (λ s lies. ap (λ end. cond (test s) (end_cost d end) 0) (end-ends d v s is e))
@@ -67,7 +67,7 @@ points-end test d v is e =
 open-split : (d : Descent) (v : Visit) → decision d v ≡ None → is_split d v ≡ is_long d.leaf v.box
 open-split d v e = rw e refl
 
-decided-split : (d : Descent) (v : Visit) (inside : Bool) → decision d v ≡ Some inside → is_split d v ≡ false
+pub decided-split : (d : Descent) (v : Visit) (inside : Bool) → decision d v ≡ Some inside → is_split d v ≡ false
 decided-split d v inside e = rw e refl
 
 -- What an undecided box takes is what lies open below it, and its trace.

@@ -1,9 +1,10 @@
 -- Height maps as boxes of samples, with the work that one takes at most.
-use Rattle.std.specs.Prelude.{ℕ, ◌+◌, nat_le, Bool, List, length, if◌then◌else◌}
+use Rattle.std.specs.Prelude.{◌≡◌, ℕ, ◌+◌, nat_le, Bool, List, length, if◌then◌else◌}
 use Rattle.std.specs.List.{sum_by}
 use Rattle.box_chains.specs.Chains.{Descent, Visit, is_long, visit}
 use Rattle.box_chains.specs.Counts.{cost, root_visit, spans_in}
 use Rattle.box_chains.specs.Sums.{Sample, sum_in}
+use Rattle.fixed_ops.specs.Counts.{Counts, risen}
 use Rattle.live_clauses.specs.declared.step.Step.{Step}
 use Rattle.view_settings.specs.Boxes.{Indices, halves_of}
 use Rattle.view_settings.specs.Window.{Window}
@@ -52,3 +53,7 @@ open_points test d b list =
 
 abbrev pub open_spans : Descent → Indices → List Step → ℕ
 open_spans d b list = if is_long d.leaf b then halves_spans d list (halves_of d.leaf b) else 0
+
+-- a tally's count of evaluations rises by exactly so many
+abbrev pub CountsPoints : ℕ → Counts → Counts → Type 0
+CountsPoints n before after = after.points ≡ risen before.points n

@@ -5,7 +5,7 @@ ghost use Rattle.box_chains.specs.Counts.{spans_in};
 ghost use Rattle.view_settings.specs.Boxes.{halves_of};
 ghost use Rattle.box_chains.specs.Chains.{visit};
 ghost use Rattle.box_chains.specs.Tallied.{CountsAtMost};
-ghost use Rattle.height_map.specs.Bound.{halves_points, halves_spans, layered, open_points, open_spans, points_where};
+ghost use Rattle.height_map.specs.Bound.{CountsPoints, halves_points, halves_spans, layered, open_points, open_spans, points_where};
 ghost use Rattle.height_map.specs.Columns.{Changes, covers, is_open, leaf_top};
 ghost use Rattle.height_map.specs.Desks.{KeepsDesk, MayDraw};
 
@@ -36,6 +36,8 @@ pub fn draw_box(
     ensures tops { OnOk result (Changes (covers desk.old.w b) (leaf_top desk.old.places.view received.now b) tops.old tops.new) }
     ensures at_most { CountsAtMost (points_where (is_open desk.old.places.view received.now b tops.old) (layered desk.old.places.view) (visit b received.now))
         (spans_in (layered desk.old.places.view) (visit b received.now)) tally.old tally.new }
+    ensures points { OnOk result (CountsPoints (points_where (is_open desk.old.places.view received.now b tops.old) (layered desk.old.places.view) (visit b received.now))
+        tally.old tally.new) }
     ensures kept { KeepsDesk desk.old desk.new }
 {
     layers_hold();
@@ -69,6 +71,8 @@ fn draw_undecided(
     ensures tops { OnOk result (Changes (covers desk.old.w b) (leaf_top desk.old.places.view live.now b) tops.old tops.new) }
     ensures at_most { CountsAtMost (open_points (is_open desk.old.places.view live.now b tops.old) (layered desk.old.places.view) b live.now)
         (open_spans (layered desk.old.places.view) b live.now) tally.old tally.new }
+    ensures points { OnOk result (CountsPoints (open_points (is_open desk.old.places.view live.now b tops.old) (layered desk.old.places.view) b live.now)
+        tally.old tally.new) }
     ensures kept { KeepsDesk desk.old desk.new }
 {
     if is_long(b, LEAF) {
@@ -94,6 +98,8 @@ fn draw_halves(
     ensures tops { OnOk result (Changes (covers desk.old.w b) (leaf_top desk.old.places.view live.now b) tops.old tops.new) }
     ensures at_most { CountsAtMost (halves_points (is_open desk.old.places.view live.now b tops.old) (layered desk.old.places.view) live.now (halves_of 8 b))
         (halves_spans (layered desk.old.places.view) live.now (halves_of 8 b)) tally.old tally.new }
+    ensures points { OnOk result (CountsPoints (halves_points (is_open desk.old.places.view live.now b tops.old) (layered desk.old.places.view) live.now (halves_of 8 b))
+        tally.old tally.new) }
     ensures kept { KeepsDesk desk.old desk.new }
 {
     layers_hold();

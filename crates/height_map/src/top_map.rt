@@ -1,9 +1,9 @@
 // The tops of all columns.
-ghost use Rattle.std.specs.Prelude.{◌≡◌, IfOk};
+ghost use Rattle.std.specs.Prelude.{◌≡◌, IfOk, OnOk};
 ghost use Rattle.view_settings.specs.Spans.{root_of};
 ghost use Rattle.view_settings.specs.Window.{FitsHeight};
 ghost use Rattle.box_chains.specs.Tallied.{CountsAtMost};
-ghost use Rattle.height_map.specs.Bound.{height_points, height_spans};
+ghost use Rattle.height_map.specs.Bound.{CountsPoints, height_points, height_spans};
 ghost use Rattle.height_map.specs.Tops.{tops_of};
 
 use crate::desk::Desk;
@@ -38,7 +38,8 @@ impl Model for TopMap {
 
 /// The height map of a list of steps over a view. Each step that is traced over a box is counted, at
 /// most four corners with it, and each step that is evaluated at a sample. No sample behind the
-/// nearest one that is inside is evaluated. AllocError: there is no memory for the map.
+/// nearest one that is inside is evaluated, and each other one of an undecided leaf is, once.
+/// AllocError: there is no memory for the map, and no more work was done than a map takes.
 pub fn heights(
     alloc: Global,
     list: &Tape,
@@ -48,6 +49,7 @@ pub fn heights(
     requires { FitsHeight view.now }
     ensures map { IfOk result (λ map. map ≡ record { w = view.now.w; h = view.now.h; d = view.now.d; tops = tops_of view.now list.now }) }
     ensures at_most { CountsAtMost (height_points view.now list.now) (height_spans view.now list.now) tally.old tally.new }
+    ensures points { OnOk result (CountsPoints (height_points view.now list.now) tally.old tally.new) }
 {
     let mut desk = Desk::new(alloc, view, list.len())?;
     let mut tops = vec![in alloc; 0u16; view.w as usize * view.h as usize]?;

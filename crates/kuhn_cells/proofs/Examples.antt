@@ -1,10 +1,14 @@
 -- The mesh of a grid of two cells along each axis of which the middle point alone is inside, worked out by hand.
-use Rattle.std.proofs.Common.{◌≡◌, ℕ, pos, negsuc, [], ◌∷◌, ◌++◌, refl}
-use Rattle.std.specs.Prelude.{replicate}
+use Rattle.std.proofs.Common.{◌≡◌, ℕ, pos, negsuc, true, false, [], ◌∷◌, ◌++◌, refl}
+use Rattle.std.specs.Prelude.{ℤ, List, map, replicate}
+use Rattle.std.specs.List.{range_with_len}
+use Rattle.kuhn_cells.specs.declared.cell_list.CellValues.{CellValues}
 use Rattle.kuhn_cells.specs.declared.edge_key.EdgeKey.{EdgeKey}
 use Rattle.kuhn_cells.specs.Arrangement.{arranged}
+use Rattle.kuhn_cells.specs.Cells.{cell_at, is_mixed_cell, is_outermost}
 use Rattle.kuhn_cells.specs.Faces.{Face, faces, all_triangles}
-use Rattle.kuhn_cells.specs.Grids.{Grid, vertices}
+use Rattle.kuhn_cells.specs.Grids.{Grid, is_point, over_block, value_at, vertices}
+use Rattle.kuhn_cells.specs.Triangles.{point}
 
 abbrev middle_inside : Grid
 middle_inside = record { x = 2; y = 2; z = 2; values = (replicate 13 (pos 1) ++ negsuc 0 ∷ []) ++ replicate 13 (pos 1) }
@@ -25,3 +29,77 @@ faces_of_middle :
     faces middle_inside ≡ face 0 3 1 ∷ face 0 1 5 ∷ face 0 2 3 ∷ face 0 6 2 ∷ face 0 5 4 ∷ face 0 4 6 ∷ face 1 3 7 ∷ face 1 7 5 ∷ face 2 8 3 ∷ face 2 6 8 ∷ face 3 9 7 ∷ face 3 8 9 ∷ face 4 5 10 ∷ face 4 10 6 ∷ face 5 7 11 ∷ face 5 11 10 ∷ face 6 12 8 ∷ face 6 10 12 ∷ face 7 9 13 ∷ face 7 13 11 ∷ face 8 13 9 ∷ face 8 12 13 ∷ face 10 11 13 ∷ face 10 13 12 ∷ []
 unfolding faces all_triangles vertices arranged
 faces_of_middle = refl
+
+-- ---- other sizes along each axis
+
+-- one cell along x, two along y and three along z, where the value of each point is its place among all
+abbrev uneven : Grid
+uneven = record { x = 1; y = 2; z = 3; values = map (λ k. pos k) (range_with_len 0 24) }
+
+value_of_uneven : value_at uneven (point 1 0 2) ≡ pos 13
+value_of_uneven = refl
+
+last_value_of_uneven : value_at uneven (point 1 2 3) ≡ pos 23
+last_value_of_uneven = refl
+
+last_point_of_uneven : is_point uneven (point 1 2 3) ≡ true
+last_point_of_uneven = refl
+
+beyond_uneven_along_x : is_point uneven (point 2 0 0) ≡ false
+beyond_uneven_along_x = refl
+
+beyond_uneven_along_y : is_point uneven (point 0 3 0) ≡ false
+beyond_uneven_along_y = refl
+
+beyond_uneven_along_z : is_point uneven (point 0 0 4) ≡ false
+beyond_uneven_along_z = refl
+
+abbrev cell : ℕ → ℕ → ℕ → List ℤ → CellValues
+cell x y z values = record { x = x; y = y; z = z; values = values }
+
+-- the corners by their masks: x first, then y, then z
+cell_of_uneven :
+    cell_at uneven (point 0 1 2) ≡ cell 0 1 2 (pos 14 ∷ pos 15 ∷ pos 16 ∷ pos 17 ∷ pos 20 ∷ pos 21 ∷ pos 22 ∷ pos 23 ∷ [])
+cell_of_uneven = refl
+
+places_of_block :
+    over_block 1 2 3 (λ p. p ∷ []) ≡ point 0 0 0 ∷ point 0 1 0 ∷ point 0 0 1 ∷ point 0 1 1 ∷ point 0 0 2 ∷ point 0 1 2 ∷ []
+places_of_block = refl
+
+-- two cells along x, three along y and four along z: one layer of points at each end is outermost
+abbrev wide : Grid
+wide = record { x = 2; y = 3; z = 4; values = [] }
+
+within_wide : is_outermost wide (point 1 2 3) ≡ false
+within_wide = refl
+
+first_of_wide_along_x : is_outermost wide (point 0 1 1) ≡ true
+first_of_wide_along_x = refl
+
+last_of_wide_along_x : is_outermost wide (point 2 1 1) ≡ true
+last_of_wide_along_x = refl
+
+first_of_wide_along_y : is_outermost wide (point 1 0 1) ≡ true
+first_of_wide_along_y = refl
+
+last_of_wide_along_y : is_outermost wide (point 1 3 1) ≡ true
+last_of_wide_along_y = refl
+
+first_of_wide_along_z : is_outermost wide (point 1 1 0) ≡ true
+first_of_wide_along_z = refl
+
+last_of_wide_along_z : is_outermost wide (point 1 1 4) ≡ true
+last_of_wide_along_z = refl
+
+-- a cell is mixed with one inside corner or with one outside, and not with all on one side
+last_inside_is_mixed : is_mixed_cell (cell 0 0 0 (replicate 7 (pos 0) ++ negsuc 0 ∷ [])) ≡ true
+last_inside_is_mixed = refl
+
+last_outside_is_mixed : is_mixed_cell (cell 0 0 0 (replicate 7 (negsuc 0) ++ pos 0 ∷ [])) ≡ true
+last_outside_is_mixed = refl
+
+all_inside_is_not_mixed : is_mixed_cell (cell 0 0 0 (replicate 8 (negsuc 0))) ≡ false
+all_inside_is_not_mixed = refl
+
+all_outside_is_not_mixed : is_mixed_cell (cell 0 0 0 (replicate 8 (pos 0))) ≡ false
+all_outside_is_not_mixed = refl

@@ -1,7 +1,7 @@
 -- What always holds of the arrangement of a tetrahedron and of its triangles.
 use Rattle.std.specs.Prelude.{◌≡◌, ℕ, ◌*◌, ◌<◌, ◌≤◌, pos, negsuc, Bool, IsTrue, All, AllPairs, Contains, ◌↔◌, ◌⊎◌, [], ◌∷◌, flat_map, get_or, length, if◌then◌else◌}
 use Rattle.std.specs.declared.cmp.Ordering.{Ordering}
-use Rattle.std.specs.declared.cmp.Ordering.TheVariants.{Less}
+use Rattle.std.specs.declared.cmp.Ordering.TheVariants.{Equal, Greater, Less}
 use Rattle.kuhn_cells.specs.declared.cell_list.CellValues.{CellValues}
 use Rattle.kuhn_cells.specs.declared.edge_key.EdgeKey.{EdgeKey}
 use Rattle.kuhn_cells.specs.declared.triple.Triple.{Triple}
@@ -65,9 +65,11 @@ abbrev pub IsBefore : EdgeKey → EdgeKey → Type 0
 IsBefore e f = (e.z < f.z) ⊎ ((e.z ≡ f.z) × ((e.y < f.y) ⊎
     ((e.y ≡ f.y) × ((e.x < f.x) ⊎ ((e.x ≡ f.x) × (e.dir < f.dir))))))
 
--- a comparison of keys tells that order
+-- a comparison of keys tells that order: which one is before the other, and otherwise they are equal
 abbrev pub ComparesKeys : (EdgeKey → EdgeKey → Ordering) → Type 0
-ComparesKeys compare = (e f : EdgeKey) → (compare e f ≡ Less) ↔ IsBefore e f
+ComparesKeys compare =
+    (e f : EdgeKey) → ((compare e f ≡ Less) ↔ IsBefore e f) × (((compare e f ≡ Greater) ↔ IsBefore f e)
+    × ((compare e f ≡ Equal) ↔ (e ≡ f)))
 
 -- the vertices stand in the order of their keys, none twice
 abbrev pub VerticesRise : Type 0

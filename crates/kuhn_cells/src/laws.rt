@@ -40,7 +40,8 @@ pub fn triangles_have_vertices()
     ensures numbers { NumbersArePlaces }
 {}
 
-/// Keys are compared by z, then by y, then by x of the lower point, and then by direction.
+/// Keys are compared by z, then by y, then by x of the lower point, and then by direction: of two
+/// that are not equal one is less and the other greater.
 pub fn keys_are_ordered()
     ensures { ComparesKeys ⟦<EdgeKey as Ord>⟧.cmp }
 {}

@@ -2,7 +2,7 @@
 use Rattle.std.proofs.Common.{◌≡◌, pos, [], ◌∷◌, take, drop, refl}
 use Rattle.std.specs.Prelude.{codes, negsuc}
 use Rattle.std.specs.Fmt.{digits}
-use Rattle.fixed_ops.specs.declared.operation.Op.TheVariants.{X, Y, Sub, Square, Neg, Min, Max}
+use Rattle.fixed_ops.specs.declared.operation.Op.TheVariants.{X, Y, Neg, Square, Add, Sub, Min, Max}
 use Rattle.model_forge.specs.Discs.{centre_of, radius_of}
 use Rattle.model_forge.specs.Forged.{constant, forged, of_disc, says}
 use Rattle.model_forge.specs.Stream.{drawn}
@@ -16,13 +16,29 @@ least_centre = refl
 greatest_radius : radius_of 4095 ≡ pos 268435456
 greatest_radius = refl
 
-begins : take 5 (forged 0 1)
+-- the next state of a seed that is not 0
+second_draw_of_seven : drawn 7 1 ≡ 4104526463
+second_draw_of_seven = refl
+
+-- after the greatest radius comes the least
+least_radius : radius_of 4096 ≡ pos 65536
+least_radius = refl
+
+-- a disc alone
+stands_alone : forged 0 1
     ≡ says (codes "x") X [] ∷ says (codes "y") Y []
     ∷ constant (codes "a0") (pos 2071855104)
     ∷ says (codes "b0") Sub (codes "x" ∷ codes "a0" ∷ [])
-    ∷ says (codes "c0") Square (codes "b0" ∷ []) ∷ []
+    ∷ says (codes "c0") Square (codes "b0" ∷ [])
+    ∷ constant (codes "d0") (negsuc 300875775)
+    ∷ says (codes "e0") Sub (codes "y" ∷ codes "d0" ∷ [])
+    ∷ says (codes "f0") Square (codes "e0" ∷ [])
+    ∷ says (codes "g0") Add (codes "c0" ∷ codes "f0" ∷ [])
+    ∷ constant (codes "h0") (pos 136511488)
+    ∷ says (codes "k0") Square (codes "h0" ∷ [])
+    ∷ says (codes "m0") Sub (codes "g0" ∷ codes "k0" ∷ []) ∷ []
 unfolding digits
-begins = refl
+stands_alone = refl
 
 -- the second disc joins the first, and the third is cut out of both
 joins : drop 21 (take 23 (forged 0 3))

@@ -1,10 +1,13 @@
 -- The work of grids, computed on lists that were worked out by hand.
-use Rattle.std.proofs.Common.{◌≡◌, ℕ, pos, negsuc, [], ◌∷◌, List, refl}
-use Rattle.fixed_ops.specs.declared.operation.Op.TheVariants.{X, Const}
+use Rattle.std.proofs.Common.{◌≡◌, ℕ, suc, pos, negsuc, true, false, [], ◌∷◌, List, refl}
+use Rattle.fixed_ops.specs.declared.operation.Op.TheVariants.{X, Y, Z, Add, Const, Neg}
+use Rattle.kuhn_cells.specs.Triangles.{point}
 use Rattle.live_clauses.specs.declared.step.Step.{Step}
+use Rattle.view_settings.specs.Boxes.{Indices}
 use Rattle.view_settings.specs.Window.{Window}
 use Rattle.oct_descent.specs.Bound.{mesh_points, mesh_spans, spans_in}
-use Rattle.oct_descent.specs.Ways.{way_within}
+use Rattle.oct_descent.specs.GridValues.{grid_of, grid_value, is_border}
+use Rattle.oct_descent.specs.Ways.{meets_border, way_within}
 
 -- from -1 to 1
 abbrev window : ℕ → Window
@@ -57,3 +60,93 @@ half_points = refl
 half_spans : mesh_spans (window 2) half ≡ 9
 unfolding spans_in way_within
 half_spans = refl
+
+-- its other side, in two steps: the cells with x up to 0 are decided outside
+abbrev other_half : List Step
+other_half = record { op = X; a = 0; b = 0; value = pos 0 } ∷ record { op = Neg; a = 0; b = 0; value = pos 0 } ∷ []
+
+other_half_points : mesh_points (window 2) other_half ≡ 36
+unfolding mesh_points way_within
+other_half_points = refl
+
+other_half_spans : mesh_spans (window 2) other_half ≡ 18
+unfolding spans_in way_within
+other_half_spans = refl
+
+-- ---- the values of a grid
+
+-- from 1 to 2 along x, from -10 to 20 along y and from 3 to 100 along z, in raw numbers
+abbrev uneven : Window
+uneven = record (window 1) {
+  x0 = pos 1;
+  x1 = pos 2;
+  y0 = negsuc 9;
+  y1 = pos 20;
+  z0 = pos 3;
+  z1 = pos 100;
+}
+
+-- the sum of the coordinates
+abbrev total : List Step
+total = record { op = X; a = 0; b = 0; value = pos 0 } ∷ record { op = Y; a = 0; b = 0; value = pos 0 } ∷ record { op = Add; a = 0; b = 1; value = pos 0 } ∷ record { op = Z; a = 0; b = 0; value = pos 0 } ∷ record { op = Add; a = 2; b = 3; value = pos 0 } ∷ []
+
+-- all points are outermost: -6 and -5 are raised to 0
+values_of_total :
+    (grid_of uneven total).values ≡ pos 0 ∷ pos 0 ∷ pos 24 ∷ pos 25 ∷ pos 91 ∷ pos 92 ∷ pos 121 ∷ pos 122 ∷ []
+unfolding grid_of
+values_of_total = refl
+
+-- the middle point keeps its value
+middle_of_full : grid_value (window 2) full (point 1 1 1) ≡ negsuc 4294967295
+middle_of_full = refl
+
+side_of_full : grid_value (window 2) full (point 2 1 1) ≡ pos 0
+side_of_full = refl
+
+-- ---- the outermost layer, on each side alone
+
+inner_point : is_border 5 (point 1 2 4) ≡ false
+inner_point = refl
+
+first_along_x : is_border 5 (point 0 2 3) ≡ true
+first_along_x = refl
+
+last_along_x : is_border 5 (point 5 2 3) ≡ true
+last_along_x = refl
+
+first_along_y : is_border 5 (point 2 0 3) ≡ true
+first_along_y = refl
+
+last_along_y : is_border 5 (point 2 5 3) ≡ true
+last_along_y = refl
+
+first_along_z : is_border 5 (point 2 3 0) ≡ true
+first_along_z = refl
+
+last_along_z : is_border 5 (point 2 3 5) ≡ true
+last_along_z = refl
+
+-- the cell at a point
+abbrev cell : ℕ → ℕ → ℕ → Indices
+cell x y z = record { x0 = x; x1 = suc x; y0 = y; y1 = suc y; z0 = z; z1 = suc z }
+
+inner_cell : meets_border 5 (cell 1 2 3) ≡ false
+inner_cell = refl
+
+cell_first_along_x : meets_border 5 (cell 0 2 3) ≡ true
+cell_first_along_x = refl
+
+cell_last_along_x : meets_border 5 (cell 4 2 3) ≡ true
+cell_last_along_x = refl
+
+cell_first_along_y : meets_border 5 (cell 2 0 3) ≡ true
+cell_first_along_y = refl
+
+cell_last_along_y : meets_border 5 (cell 2 4 3) ≡ true
+cell_last_along_y = refl
+
+cell_first_along_z : meets_border 5 (cell 2 3 0) ≡ true
+cell_first_along_z = refl
+
+cell_last_along_z : meets_border 5 (cell 2 3 4) ≡ true
+cell_last_along_z = refl

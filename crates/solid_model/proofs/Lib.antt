@@ -1,3 +1,4 @@
+pub mod Examples
 pub mod ModelLemmas
 pub mod NamePlaces
 pub mod NamedLemmas

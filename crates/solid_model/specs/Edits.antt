@@ -1,5 +1,5 @@
 -- What an edit gives: surgery on the list of named clauses, after which names are resolved to places.
-use Rattle.std.specs.Prelude.{ℕ, nat_le, Bool, not, ◌&&◌, List, [], ◌∷◌, ◌++◌, length, set, take, Result, Ok, Err, if◌then◌else◌}
+use Rattle.std.specs.Prelude.{ℕ, nat_le, Bool, not, ◌&&◌, List, [], ◌∷◌, ◌++◌, length, set, take, Result, Ok, Err, if◌then◌else◌, ⊤}
 use Rattle.std.specs.List.{insert, list_all, list_any, position, position_or_len, remove}
 use Rattle.std.specs.Option.{option_map_or}
 use Rattle.std.specs.Str.{bytes_eq}
@@ -85,3 +85,10 @@ IsEdit (Set name form) = IsName name × IsForm form
 IsEdit (Add name form) = IsName name × IsForm form
 IsEdit (Put next name form) = IsName name × IsForm form
 IsEdit (Cut name) = IsName name
+
+-- the edit makes a clause, rather than change one or take one out
+abbrev pub MakesClause : Edit → Type 0
+MakesClause (Set name form) = ⊥
+MakesClause (Add name form) = ⊤
+MakesClause (Put next name form) = ⊤
+MakesClause (Cut name) = ⊥

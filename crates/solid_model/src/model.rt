@@ -1,7 +1,7 @@
 // A solid as a list of clauses.
 ghost use Rattle.std.specs.Prelude.{◌≡◌, ◌≢◌, ◌<◌, [], length, slice_get, IfErr, IfOk, OnErr, OnOk};
 ghost use Rattle.solid_model.specs.Clauses.{place_of, IsClauseAt, IsModel};
-ghost use Rattle.solid_model.specs.Edits.{edited};
+ghost use Rattle.solid_model.specs.Edits.{edited, MakesClause};
 ghost use Rattle.solid_model.specs.declared.edit.Edit.TheVariants.{Add, Cut, Put, Set};
 ghost use Rattle.solid_model.specs.Refusals.{RefusesAs, WantsMemoryFor};
 
@@ -54,11 +54,12 @@ impl Model {
     /// stand already, names no clause. `DoubleName`: the new name stands already. `NotEarlier`: an
     /// argument stands at or after the place of the clause. `InUse`: another clause has this one as
     /// an argument. `LastClause`: the model has one clause. `Full`: the model has 65,535 clauses.
-    /// `NoMemory`: memory was refused, and none of these holds.
+    /// `NoMemory`: memory was refused for a new clause, and none of these holds.
     pub fn apply(&mut self, edit: Edit) -> Result<(), EditFault>
         ensures ok { OnOk result (edited self.old edit ≡ Ok self.new) }
         ensures fault { RefusesAs (edited self.old edit) EditFault.NoMemory result }
         ensures no_memory { WantsMemoryFor (edited self.old edit) EditFault.NoMemory result }
+        ensures makes { IfErr result (λ fault. fault ≡ EditFault.NoMemory → MakesClause edit) }
         ensures err { OnErr result (self.new ≡ self.old) }
     {
         match edit {
@@ -73,6 +74,7 @@ impl Model {
     fn set(&mut self, name: Name, form: Form) -> Result<(), EditFault>
         ensures ok { OnOk result (edited self.old (Set name form) ≡ Ok self.new) }
         ensures fault { IfErr result (λ fault. edited self.old (Set name form) ≡ Err fault) }
+        ensures memory { IfErr result (λ fault. fault ≢ EditFault.NoMemory) }
         ensures err { OnErr result (self.new ≡ self.old) }
     {
         self.table.set(name, form)
@@ -104,6 +106,7 @@ impl Model {
     fn cut(&mut self, name: Name) -> Result<(), EditFault>
         ensures ok { OnOk result (edited self.old (Cut name) ≡ Ok self.new) }
         ensures fault { IfErr result (λ fault. edited self.old (Cut name) ≡ Err fault) }
+        ensures memory { IfErr result (λ fault. fault ≢ EditFault.NoMemory) }
         ensures err { OnErr result (self.new ≡ self.old) }
     {
         self.table.cut(name)

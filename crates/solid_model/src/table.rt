@@ -102,6 +102,7 @@ impl Table {
     pub(crate) fn set(&mut self, name: Name, form: Form) -> Result<(), EditFault>
         ensures ok { OnOk result (formed self.old name form ≡ Ok self.new) }
         ensures fault { IfErr result (λ fault. formed self.old name form ≡ Err fault) }
+        ensures memory { IfErr result (λ fault. fault ≢ EditFault.NoMemory) }
         ensures err { OnErr result (self.new ≡ self.old) }
         ensures name { IsName name }
         ensures form { IsForm form }
@@ -147,6 +148,7 @@ impl Table {
     pub(crate) fn cut(&mut self, name: Name) -> Result<(), EditFault>
         ensures ok { OnOk result (taken_out self.old name ≡ Ok self.new) }
         ensures fault { IfErr result (λ fault. taken_out self.old name ≡ Err fault) }
+        ensures memory { IfErr result (λ fault. fault ≢ EditFault.NoMemory) }
         ensures err { OnErr result (self.new ≡ self.old) }
     {
         let at = self.position(name.bytes()).ok_or(EditFault::UnknownName)?;

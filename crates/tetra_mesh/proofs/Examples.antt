@@ -44,3 +44,41 @@ raw_beside = refl
 raw_rounds_down : vertex_place (record cells { y1 = negsuc 4294967288 }) (from_side 2 65535) Y ≡ negsuc 4294967293
 unfolding cells
 raw_rounds_down = refl
+
+-- three cells along each axis, 100 raw units long along x, 200 along y and 30 along z
+abbrev uneven : Window
+uneven = record {
+  x0 = pos 0;
+  x1 = pos 300;
+  y0 = pos 1000;
+  y1 = pos 1600;
+  z0 = negsuc 29;
+  z1 = pos 60;
+  z = pos 0;
+  w = 1;
+  h = 1;
+  d = 1;
+  n = 3;
+}
+
+-- the vertex a quarter of the way from the point (2, 0, 1) on, along x and z
+abbrev quarter : Vertex
+quarter = record { key = record { x = 2; y = 0; z = 1; dir = 5 }; t = 16384 }
+
+quarter_along_x : lattice_place quarter X ≡ 147456
+quarter_along_x = refl
+
+quarter_beside_y : lattice_place quarter Y ≡ 0
+quarter_beside_y = refl
+
+quarter_along_z : lattice_place quarter Z ≡ 81920
+quarter_along_z = refl
+
+raw_quarter_along_x : vertex_place uneven quarter X ≡ pos 225
+raw_quarter_along_x = refl
+
+raw_quarter_beside_y : vertex_place uneven quarter Y ≡ pos 1000
+raw_quarter_beside_y = refl
+
+raw_quarter_along_z : vertex_place uneven quarter Z ≡ pos 7
+raw_quarter_along_z = refl

@@ -9,6 +9,8 @@ use Rattle.height_map.specs.Bound.{layered}
 use Rattle.height_map.specs.Columns.{Changes, covers, is_open, leaf_top}
 use Rattle.box_chains.specs.TallyLaws.{most-none}
 use Rattle.height_map.proofs.Drawn.{all-drawn, columns-there, decided-counted, drawn_to, half-part, half-visit, halves-bounded, handed, inside-drawn, leaf-counted, looked, next-counted, next-drawn, none-drawn, on_ok-then, outside-drawn, trace-counted, undecided-counted, undecided-drawn}
+use Rattle.height_map.specs.Bound.{CountsPoints, halves_points}
+use Rattle.height_map.proofs.Evaluated.{halves-none, next-points, points-covered, points-decided, points-halves, points-leaf, points-undecided}
 use Rattle.height_map.proofs.drawing.+drawing.Goals as goal
 
 pub draw_box-returns-then-is_covered-clause-at_most : goal.draw_box-returns-then-is_covered-clause-at_most
@@ -77,6 +79,7 @@ draw_halves-loop-n-init t c =
       all = all;
       tops = none-drawn c.args.desk.now.places.view c.args.live.now c.args.b c.len-n.result c.args.tops.now (c.len-n.ensures.value ∙ ap length all);
       counted = most-none c.args.tally.now _ _;
+      points = halves-none c.args.desk.now.places.view c.args.live.now c.args.b c.len-n.result c.args.tops.now c.args.tally.now (c.len-n.ensures.value ∙ ap length all);
     }
 
 pub draw_halves-draw_box-requires : goal.draw_halves-draw_box-requires
@@ -124,6 +127,8 @@ draw_halves-loop-n-preserved t c =
           c.requires.may.visit_is.box within read c.loop-n.invariant.tops c.in_ok-draw_box.ensures.tops;
       counted = next-counted view c.loop-n.desk.places.view live b half c.loop-n.n i c.args.tops.now c.loop-n.tops c.args.tally.now c.loop-n.tally c.draw_box.new.tally same next c.requires.may.visit_is.box
           (columns-there view live b view.w (length c.args.tops.now) c.requires.may.visit_is refl c.requires.may.tops) within read c.loop-n.invariant.tops c.loop-n.invariant.counted c.in_ok-draw_box.ensures.at_most;
+      points = next-points view c.loop-n.desk.places.view live b half c.loop-n.n i c.args.tops.now c.loop-n.tops c.args.tally.now c.loop-n.tally c.draw_box.new.tally same next c.requires.may.visit_is.box
+          (columns-there view live b view.w (length c.args.tops.now) c.requires.may.visit_is refl c.requires.may.tops) within read c.loop-n.invariant.tops c.loop-n.invariant.points c.in_ok-draw_box.ensures.points;
     }
 
 pub draw_halves-returns-in_err-draw_box-clause-at_most : goal.draw_halves-returns-in_err-draw_box-clause-at_most
@@ -155,3 +160,50 @@ draw_halves-returns-clause-tops t c =
 pub draw_undecided-returns-else-is_long-clause-at_most : goal.draw_undecided-returns-else-is_long-clause-at_most
 draw_undecided-returns-else-is_long-clause-at_most t c =
     leaf-counted c.args.desk.now.places.view c.args.live.now c.args.b c.args.tops.now c.args.tally.now c.draw_leaf.new.tally (sym c.is_long.ensures ∙ c.if-is_long.false) c.draw_leaf.ensures.counted
+
+pub draw_box-returns-then-is_covered-clause-points : goal.draw_box-returns-then-is_covered-clause-points
+draw_box-returns-then-is_covered-clause-points t c =
+    let view = c.args.desk.now.places.view in
+    points-covered view c.args.received.now c.args.b c.args.desk.now.w c.args.tops.now c.args.tally.now c.requires.width
+    (columns-there view c.args.received.now c.args.b view.w (length c.args.tops.now) c.requires.visit_is refl c.requires.tops)
+    (λ p h e. c.is_covered.ensures p c.if-is_covered.true h e)
+
+pub draw_box-returns-in-Some-true-clause-points : goal.draw_box-returns-in-Some-true-clause-points
+draw_box-returns-in-Some-true-clause-points t c =
+    let view = c.args.desk.now.places.view in
+    let v = visit c.args.b c.args.received.now in
+    let told = looked view c.args.desk.now.places.lattice c.args.b c.args.received.now c.region.result c.look.result c.requires.lattice c.region.ensures c.look.ensures.decision in
+    points-decided (is_open view c.args.received.now c.args.b c.args.tops.now) (layered view) v c.in-Some-true.field-0 c.args.tally.now c.look.new.tally c.requires.visit_is.box (told ∙ c.in-Some-true.is) c.look.ensures.counted
+
+pub draw_box-returns-in-Some-false-clause-points : goal.draw_box-returns-in-Some-false-clause-points
+draw_box-returns-in-Some-false-clause-points t c =
+    let view = c.args.desk.now.places.view in
+    let v = visit c.args.b c.args.received.now in
+    let told = looked view c.args.desk.now.places.lattice c.args.b c.args.received.now c.region.result c.look.result c.requires.lattice c.region.ensures c.look.ensures.decision in
+    points-decided (is_open view c.args.received.now c.args.b c.args.tops.now) (layered view) v c.in-Some-false.field-0 c.args.tally.now c.look.new.tally c.requires.visit_is.box (told ∙ c.in-Some-false.is) c.look.ensures.counted
+
+pub draw_box-returns-in_ok-live-in-None-clause-points : goal.draw_box-returns-in_ok-live-in-None-clause-points
+draw_box-returns-in_ok-live-in-None-clause-points t c =
+    let view = c.args.desk.now.places.view in
+    let told = looked view c.args.desk.now.places.lattice c.args.b c.args.received.now c.region.result c.look.result c.requires.lattice c.region.ensures c.look.ensures.decision in
+    let same = handed view c.args.desk.now.places.lattice c.args.b c.args.received.now c.in_ok-live-in-None.live c.region.result c.look.new.self c.requires.lattice c.region.ensures c.look.ensures.choices c.in_ok-live-in-None.ensures.list in
+    on_ok-then c.draw_undecided.result _ _
+    (λ below. points-undecided c.layers_hold.ensures view c.args.received.now c.in_ok-live-in-None.live c.args.b c.args.tops.now c.args.tally.now c.look.new.tally c.draw_undecided.new.tally c.requires.visit_is
+    (told ∙ c.in-None.is) same c.look.ensures.counted below)
+    c.draw_undecided.ensures.points
+
+pub draw_undecided-returns-then-is_long-clause-points : goal.draw_undecided-returns-then-is_long-clause-points
+draw_undecided-returns-then-is_long-clause-points t c =
+    on_ok-then c.draw_halves.result _ _
+    (λ h. points-halves c.args.desk.now.places.view c.args.live.now c.args.b c.args.tops.now c.args.tally.now c.draw_halves.new.tally (sym c.is_long.ensures ∙ c.if-is_long.true) h)
+    c.draw_halves.ensures.points
+
+pub draw_undecided-returns-else-is_long-clause-points : goal.draw_undecided-returns-else-is_long-clause-points
+draw_undecided-returns-else-is_long-clause-points t c =
+    points-leaf c.args.desk.now.places.view c.args.live.now c.args.b c.args.tops.now c.args.tally.now c.draw_leaf.new.tally (sym c.is_long.ensures ∙ c.if-is_long.false) c.draw_leaf.ensures.counted
+
+pub draw_halves-returns-clause-points : goal.draw_halves-returns-clause-points
+draw_halves-returns-clause-points t c =
+    let none : c.loop-n.n ≡ 0 = omega (arith, c.loop-n-test.false) in
+    subst (λ n. CountsPoints (halves_points (is_open c.args.desk.now.places.view c.args.live.now c.args.b c.args.tops.now) (layered c.args.desk.now.places.view) c.args.live.now (drop n (halves_of 8 c.args.b))) c.args.tally.now c.loop-n.tally)
+    none c.loop-n.invariant.points

@@ -8,6 +8,8 @@ use Rattle.height_map.specs.Bound.{layered, points_where}
 use Rattle.height_map.specs.Columns.{Changes, covers, is_open, leaf_top}
 use Rattle.box_chains.specs.TallyLaws.{most-none}
 use Rattle.height_map.proofs.Maps.{map-counted, map-drawn, same_maps}
+use Rattle.height_map.specs.Bound.{CountsPoints}
+use Rattle.height_map.proofs.Evaluated.{map-points}
 use Rattle.height_map.proofs.top_map.heights.Goals as goal
 
 pub returns-in_err-desk-clause-at_most : goal.returns-in_err-desk-clause-at_most
@@ -47,3 +49,12 @@ returns-clause-map c =
     let some : 0 < view.w = omega (arith, w, c.view.invariant.w.some) in
     let tops = map-drawn view list c.root.result c.in_ok-desk.desk.w c.deref_mut.result.now c.draw_box.new.tops c.root.ensures c.in_ok-desk.ensures.width some empty changed in
     same_maps _ _ w h d (with_items_is c.in_ok-tops.tops c.draw_box.new.tops (changed.same ∙ ap length c.deref_mut.ensures.value ∙ sym (c.in_ok-tops.tops.ok.0)) ∙ tops)
+
+pub returns-clause-points : goal.returns-clause-points
+returns-clause-points c =
+    let list = c.args.list.now in
+    let same = ap (λ p. p.view) c.in_ok-desk.ensures.places in
+    let empty : c.deref_mut.result.now ≡ replicate (c.view.inside.w * c.view.inside.h) 0 = c.deref_mut.ensures.value ∙ c.in_ok-tops.ensures.items_if_clones_equal (λ y h. h) in
+    map-points c.args.view.now list c.root.result (c.view.inside.w * c.view.inside.h) c.deref_mut.result.now c.args.tally.now c.draw_box.new.tally c.root.ensures empty
+    (subst (λ v. CountsPoints (points_where (is_open v list c.root.result c.deref_mut.result.now) (layered v) (visit c.root.result list)) c.args.tally.now c.draw_box.new.tally)
+    same c.in_ok-draw_box.ensures.points)
