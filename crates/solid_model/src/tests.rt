@@ -220,6 +220,28 @@ fn edits_move_the_operands(rt: HostRuntime) -> Result<(), Fail> {
 }
 
 #[test]
+fn finds_names_of_each_length(rt: HostRuntime) -> Result<(), Fail> {
+    let alloc = rt.alloc();
+    let mut model = disc(alloc)?;
+    let cases: [(&[u8], u32); 4] = [
+        (b"fifteen-bytes-1", 7),
+        (b"sixteen-bytes-16", 8),
+        (b"seventeen-bytes-1", 9),
+        (b"seventeen-bytes-2", 10),
+    ];
+    for (name, _) in cases {
+        add(alloc, &mut model, name, pair(alloc, Op::Add, b"a", b"b")?)?;
+    }
+    for (name, place) in cases {
+        assert_eq!(rt; model.position(name), Some(place));
+        let again = Edit::Add(Name::new(alloc, name)?, pair(alloc, Op::Add, b"a", b"b")?);
+        assert_eq!(rt; model.apply(again), Err(EditFault::DoubleName));
+    }
+    assert_eq!(rt; model.position(b"seventeen-bytes-3"), None);
+    Ok(())
+}
+
+#[test]
 fn the_first_clause_has_no_argument(rt: HostRuntime) -> Result<(), Fail> {
     let alloc = rt.alloc();
     let form = pair(alloc, Op::Add, b"a", b"a")?;
