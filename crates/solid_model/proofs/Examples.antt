@@ -1,11 +1,13 @@
 -- Edits and values of a few clauses, worked out by hand.
-use Rattle.std.proofs.Common.{◌≡◌, pos, negsuc, [], ◌∷◌, List, Ok, Err, refl}
+use Rattle.std.proofs.Common.{◌≡◌, nat_le, pos, negsuc, [], ◌∷◌, ◌++◌, List, length, Ok, Err, true, false, refl}
 use Rattle.fixed_ops.specs.declared.operation.Op.TheVariants as ops
 use Rattle.fixed_ops.specs.Points.{Point}
 use Rattle.solid_model.specs.declared.clause.Clause.{Clause}
-use Rattle.solid_model.specs.declared.edit.Edit.TheVariants.{Set, Put, Cut}
-use Rattle.solid_model.specs.declared.edit.EditFault.TheVariants.{UnknownName, DoubleName, NotEarlier, InUse, LastClause}
-use Rattle.solid_model.specs.Edits.{edited}
+use Rattle.solid_model.specs.declared.edit.Edit.TheVariants.{Set, Add, Put, Cut}
+use Rattle.solid_model.specs.declared.edit.EditFault.TheVariants.{UnknownName, DoubleName, NotEarlier, InUse, LastClause, Full}
+use Rattle.solid_model.specs.Edits.{before, edited, is_named, MakesClause}
+use Rattle.solid_model.specs.Named.{named_of, placed}
+use Rattle.solid_model.specs.Parts.{Parts}
 use Rattle.solid_model.specs.Values.{values, solid_value}
 
 -- x, 0.5, and their difference, named by the bytes 120, 99 and 102
@@ -60,3 +62,39 @@ put_refused = refl
 
 put_unknown : edited model (Put (99 ∷ []) (120 ∷ []) (record { op = ops.Neg; args = (103 ∷ []) ∷ []; value = pos 0 })) ≡ Err UnknownName
 put_unknown = refl
+
+-- of several users the first is told
+cut_of_two_users : edited (x ∷ record { name = 103 ∷ []; op = ops.Neg; a = 0; b = 0; value = pos 0 } ∷ record { name = 102 ∷ []; op = ops.Sub; a = 1; b = 0; value = pos 0 } ∷ []) (Cut (120 ∷ [])) ≡ Err (InUse 1)
+cut_of_two_users = refl
+
+-- at the limit a clause of a new name is one too many, and below it there is room
+abbrev leaf : Parts
+leaf = record { op = ops.Y; args = []; value = pos 0 }
+
+add_full : (clauses : List Clause) → is_named (named_of clauses) (113 ∷ []) ≡ false → nat_le 65535 (length (named_of clauses)) ≡ true
+    → edited clauses (Add (113 ∷ []) leaf) ≡ Err Full
+add_full clauses new full = rw (new, full) refl
+
+add_room : (clauses : List Clause) → is_named (named_of clauses) (113 ∷ []) ≡ false → nat_le 65535 (length (named_of clauses)) ≡ false
+    → edited clauses (Add (113 ∷ []) leaf) ≡ Ok (placed (named_of clauses ++ record { name = 113 ∷ []; form = leaf } ∷ []))
+add_room clauses new room = rw (new, room) refl
+
+put_full : (clauses : List Clause) → is_named (named_of clauses) (99 ∷ []) ≡ true → is_named (named_of clauses) (113 ∷ []) ≡ false
+    → nat_le 65535 (length (named_of clauses)) ≡ true → edited clauses (Put (99 ∷ []) (113 ∷ []) leaf) ≡ Err Full
+put_full clauses there new full = rw (there, new, full) refl
+
+-- what is wrong with the names is told before that, however many clauses there are
+add_double : (clauses : List Clause) → is_named (named_of clauses) (113 ∷ []) ≡ true → edited clauses (Add (113 ∷ []) leaf) ≡ Err DoubleName
+add_double clauses stands = rw stands refl
+
+put_late : (clauses : List Clause) → is_named (named_of clauses) (99 ∷ []) ≡ true → is_named (named_of clauses) (113 ∷ []) ≡ false
+    → is_named (named_of clauses) (120 ∷ []) ≡ true → is_named (before (named_of clauses) (99 ∷ [])) (120 ∷ []) ≡ false
+    → edited clauses (Put (99 ∷ []) (113 ∷ []) (record { op = ops.Neg; args = (120 ∷ []) ∷ []; value = pos 0 })) ≡ Err NotEarlier
+put_late clauses there new argument late = rw (there, new, argument, late) refl
+
+-- a change of a clause and the way out of one make none
+set_makes_none : MakesClause (Set (120 ∷ []) leaf) → ⊥
+set_makes_none makes = makes
+
+cut_makes_none : MakesClause (Cut (120 ∷ [])) → ⊥
+cut_makes_none makes = makes
