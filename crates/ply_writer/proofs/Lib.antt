@@ -1,3 +1,4 @@
 pub mod DigitLaws
 pub mod LineLaws
 pub mod PairLaws
+pub mod PieceLaws

@@ -32,6 +32,18 @@ pub(crate) fn byte_before(byte: u8, line: &mut [u8], end: usize) -> usize
     end - 1
 }
 
+/// Writes bytes before `end`, and returns where they start.
+pub(crate) fn bytes_before(bytes: &[u8], line: &mut [u8], end: usize) -> usize
+    requires room { length bytes.now ≤ end }
+    requires within { end ≤ length line.old }
+    ensures start { result + length bytes.now ≡ end }
+    ensures written { drop result line.new ≡ bytes.now ++ drop end line.old }
+{
+    let start = end - bytes.len();
+    line[start..end].copy_from_slice(bytes);
+    start
+}
+
 /// Writes the digits of a count before `end`, and returns where they start.
 #[inline(always)]
 #[tactic(auto, using(crate::proofs::DigitLaws::count_short))]

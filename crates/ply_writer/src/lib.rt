@@ -2,10 +2,13 @@
 #![tactic(auto)]
 
 mod digits;
+mod header;
 mod line;
+mod pieces;
 mod ply;
 mod room;
 
+pub use pieces::PlyPieces;
 pub use ply::ply_text;
 
 #[cfg(test)]

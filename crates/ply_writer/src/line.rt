@@ -8,26 +8,26 @@ use crate::digits::{byte_before, count_before, number_before};
 use tetra_mesh::{Face, GridPlaces, Vertex};
 use view_settings::Axis;
 
-/// How many lines a block has room for.
-pub(crate) const LINES: usize = 64;
-
-/// The longest line of a vertex: three numbers, two spaces and a line feed.
+// The longest line of a vertex: three numbers, two spaces and a line feed.
 const VERTEX: usize = 69;
 
-/// The longest line of a face: 3, three counts, three spaces and a line feed.
+// The longest line of a face: 3, three counts, three spaces and a line feed.
 const FACE: usize = 35;
 
-/// The room of a block.
-pub(crate) const BLOCK: usize = LINES * VERTEX;
+/// How many vertices a block has room for.
+pub(crate) const VERTICES: usize = 949;
+
+/// How many faces a block has room for.
+pub(crate) const FACES: usize = 1870;
+
+/// The length of a block, just below 64 KiB.
+pub(crate) const BLOCK: usize = VERTICES * VERTEX;
 
 /// Writes the lines of vertices at the end of a block, and returns where they start.
-pub(crate) fn vertex_lines(
-    places: &GridPlaces,
-    vertices: &[Vertex],
-    block: &mut [u8; BLOCK],
-) -> usize
+pub(crate) fn vertex_lines(places: &GridPlaces, vertices: &[Vertex], block: &mut [u8]) -> usize
     requires placed { All (IsPlaced places.now) vertices.now }
-    requires few { length vertices.now ≤ LINES }
+    requires few { length vertices.now ≤ VERTICES }
+    requires block { length block.old ≡ BLOCK }
     ensures within { result ≤ BLOCK }
     ensures lines { drop result block.new ≡ flat_map (vertex_line_of places.now) vertices.now }
 {
@@ -39,8 +39,9 @@ pub(crate) fn vertex_lines(
 }
 
 /// Writes the lines of faces at the end of a block, and returns where they start.
-pub(crate) fn face_lines(faces: &[Face], block: &mut [u8; BLOCK]) -> usize
-    requires { length faces.now ≤ LINES }
+pub(crate) fn face_lines(faces: &[Face], block: &mut [u8]) -> usize
+    requires few { length faces.now ≤ FACES }
+    requires block { length block.old ≡ BLOCK }
     ensures within { result ≤ BLOCK }
     ensures lines { drop result block.new ≡ flat_map face_line_of faces.now }
 {

@@ -2,14 +2,12 @@
 ghost use Rattle.std.specs.Prelude.{◌≤◌, ◌<◌, ◌^◌, length};
 ghost use Rattle.fixed_ops.specs.Raw.{IsRaw};
 
+use crate::header::HEADER;
 use arrayvec::ArrayVec;
 use fixed_ops::write_raw;
 use itoa::Buffer;
 use tetra_mesh::Mesh;
 use view_settings::View;
-
-// The header: 155 bytes and two counts of at most ten digits.
-const HEADER: usize = 175;
 
 /// A bound on the bytes of the text of a mesh, near to them: no number is longer than the longer
 /// end of its axis, and none of a vertex longer than the count of vertices.

@@ -8,5 +8,5 @@ loop-i-init c = record {
   room = omega arith;
   within = omega arith;
   full = omega arith;
-  lines = rw (drop_all 4416 c.args.block.now (omega arith), drop_all (length c.args.faces.now) c.args.faces.now (omega arith)) refl;
+  lines = rw (drop_all 65481 c.args.block.now (omega arith), drop_all (length c.args.faces.now) c.args.faces.now (omega arith)) refl;
 }

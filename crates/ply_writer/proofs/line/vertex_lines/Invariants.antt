@@ -6,7 +6,7 @@ use Rattle.ply_writer.proofs.line.vertex_lines.Given as goal
 abbrev pub invariant-loop-i : goal.invariant-loop-i
 invariant-loop-i l = record {
   room : l.i * 69 ≤ l.start;
-  within : l.start ≤ 4416;
-  full : length l.block ≡ 4416;
+  within : l.start ≤ 65481;
+  full : length l.block ≡ 65481;
   lines : drop l.start l.block ≡ flat_map (vertex_line l.places) (drop l.i l.vertices);
 }
