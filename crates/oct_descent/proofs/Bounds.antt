@@ -1,19 +1,23 @@
 -- The work of a grid is bounded by the length of its list.
-use Rattle.std.proofs.Common.{◌≡◌, ℕ, ◌+◌, ◌-◌, ◌*◌, ◌<◌, ◌≤◌, Bool, true, false, cond, List, [], ◌∷◌, length, refl, ap, subst, ◌∙◌, arith}
-use Rattle.std.specs.Prelude.{max, nat_le}
-use Rattle.std.proofs.lemmas.Bool.{and_from, le-leb}
+use Rattle.std.proofs.Common.{◌≡◌, ℕ, ◌+◌, ◌-◌, ◌*◌, ◌<◌, ◌≤◌, Bool, true, false, cond, List, [], ◌∷◌, length, refl, sym, ap, subst, ◌∙◌, inl, inr, arith}
+use Rattle.std.specs.Prelude.{◌&&◌, ◌⊎◌, max, min, nat_le, Contains, All}
+use Rattle.std.proofs.lemmas.Bool.{and_from, and_parts, false≢true, le-leb, leb-true}
+use Rattle.std.proofs.lemmas.List.Elements.{All-head, All-nil}
+use Rattle.box_chains.specs.Chains.{Descent, Visit}
 use Rattle.box_chains.specs.SumLaws.{size, sum_in-const, sum_in-plus, sum_in-same}
 use Rattle.box_chains.specs.Sums.{LiesIn, Sample, sum_in}
 use Rattle.box_chains.specs.ValueLaws.{IsVisit, Lawful}
+use Rattle.kuhn_cells.specs.FaceLaws.{all_in_block}
 use Rattle.kuhn_cells.specs.Triangles.{GridPoint, point}
+use Rattle.kuhn_cells.specs.VertexLaws.{head_or_tail, in_block, in_head, not_in_none}
 use Rattle.live_clauses.specs.Steps.{IsTape}
 use Rattle.live_clauses.specs.declared.step.Step.{Step}
 use Rattle.view_settings.specs.Boxes.{Indices}
 use Rattle.view_settings.specs.Window.{Window, IsWindow}
-use Rattle.oct_descent.specs.Bound.{greatest, has_corner, lengths_at, mesh_points, mesh_spans, points_of_grid, sample_of, working_length}
+use Rattle.oct_descent.specs.Bound.{greatest, has_corner, least, lengths_at, mesh_points, mesh_spans, points_of_grid, sample_of, working_length, working_lengths}
 use Rattle.oct_descent.specs.Laws.{MeshPointsAreBounded, MeshSpansAreBounded}
-use Rattle.oct_descent.specs.Tables.{IsEnough}
-use Rattle.oct_descent.specs.Ways.{gridded, is_working, way_end, whole}
+use Rattle.oct_descent.specs.Tables.{AreWorked, IsDue, IsEnough, PointValues, is_known, known_at}
+use Rattle.oct_descent.specs.Ways.{Covers, cell_box, gridded, is_working, way_end, whole}
 use Rattle.oct_descent.proofs.Blocks.{greatest-block, greatest-block_most}
 use Rattle.oct_descent.proofs.WayLaws.{end-below, spans-below}
 
@@ -62,6 +66,85 @@ pub spans_bounded : Lawful → MeshSpansAreBounded
 spans_bounded laws view list window tape =
     let side : view.n - 0 ≡ view.n = omega arith in
     subst (λ (n : ℕ). mesh_spans view list ≤ n * (n * n) * ((n + n + n) * length list)) side (spans-below laws (gridded view) (whole view list) (omega arith) (whole-visit view list window tape))
+
+-- ---- what is due
+
+-- the least number is at most each
+least-of : (ns : List ℕ) (n : ℕ) → Contains ns n → least ns ≤ n
+least-of [] n h = absurd (not_in_none n h)
+least-of (k ∷ []) n h = by (head_or_tail k [] n h)
+  where
+    by : (k ≡ n) ⊎ Contains [] n → k ≤ n
+    by (inl same) = omega (arith, same)
+    by (inr later) = absurd (not_in_none n later)
+least-of (k ∷ m ∷ ns) n h = by (head_or_tail k (m ∷ ns) n h) (λ later. least-of (m ∷ ns) n later)
+  where
+    by : (k ≡ n) ⊎ Contains (m ∷ ns) n → (Contains (m ∷ ns) n → least (m ∷ ns) ≤ n) → min k (least (m ∷ ns)) ≤ n
+    by (inl same) rest = omega (arith, same)
+    by (inr later) rest = omega (arith, rest later)
+
+-- where there is none it is 0
+least-none : (ns : List ℕ) → All (λ n. ⊥) ns → least ns ≡ 0
+least-none [] h = refl
+least-none (n ∷ ns) h = absurd (All-head (λ n. ⊥) n ns h)
+
+has_corner-covers : (cell p : GridPoint) → has_corner cell p ≡ true → Covers (cell_box (sample_of cell)) p
+has_corner-covers cell p e =
+    let a = and_parts _ _ e in
+    let b = and_parts _ _ a.1 in
+    let c = and_parts _ _ b.1 in
+    let d = and_parts _ _ c.1 in
+    let f = and_parts _ _ d.1 in
+    record {
+      x = (leb-true cell.x p.x a.0, leb-true p.x (cell.x + 1) b.0);
+      y = (leb-true cell.y p.y c.0, leb-true p.y (cell.y + 1) d.0);
+      z = (leb-true cell.z p.z f.0, leb-true p.z (cell.z + 1) f.1);
+    }
+
+covers-has_corner : (s : Sample) (p : GridPoint) → Covers (cell_box s) p → has_corner (point s.i s.j s.k) p ≡ true
+covers-has_corner s p covers =
+    and_from (nat_le s.i p.x) _ (le-leb s.i p.x covers.x.0) (and_from (nat_le p.x (s.i + 1)) _ (le-leb p.x (s.i + 1) covers.x.1)
+    (and_from (nat_le s.j p.y) _ (le-leb s.j p.y covers.y.0) (and_from (nat_le p.y (s.j + 1)) _ (le-leb p.y (s.j + 1) covers.y.1)
+    (and_from (nat_le s.k p.z) _ (le-leb s.k p.z covers.z.0) (le-leb p.z (s.k + 1) covers.z.1)))))
+
+-- what a grid's points take at least is due for the box of all cells
+pub points_due : (view : Window) (list : List Step) → IsDue (λ p. least (working_lengths view list p)) (gridded view) (whole view list)
+points_due view list s lies works p covers =
+    least-of (working_lengths view list p) (length (way_end d w s).list)
+    (in_block view.n view.n view.n at (point s.i s.j s.k) (length (way_end d w s).list) lies.x.1 lies.y.1 lies.z.1 (subst (λ (ns : List ℕ). Contains ns (length (way_end d w s).list)) (sym here) (in_head [] (length (way_end d w s).list))))
+  where
+    d : Descent
+    d = gridded view
+
+    w : Visit
+    w = whole view list
+
+    at : GridPoint → List ℕ
+    at cell = cond (has_corner cell p && is_working d w (sample_of cell)) (length (way_end d w (sample_of cell)).list ∷ []) []
+
+    here : at (point s.i s.j s.k) ≡ length (way_end d w s).list ∷ []
+    here = ap (λ t. cond t (length (way_end d w s).list ∷ []) []) (and_from (has_corner (point s.i s.j s.k) p) _ (covers-has_corner s p covers) works)
+
+-- and a point takes nothing that is not known once all working cells are
+pub none_due : (view : Window) (list : List Step) (t : PointValues) (p : GridPoint) → AreWorked (gridded view) (whole view list) t → is_known (known_at t p) ≡ false → least (working_lengths view list p) ≡ 0
+none_due view list t p worked unknown =
+    least-none (working_lengths view list p) (all_in_block (λ n. ⊥) view.n view.n view.n at (λ cell x y z. by cell x y z (has_corner cell p && is_working d w (sample_of cell)) refl))
+  where
+    d : Descent
+    d = gridded view
+
+    w : Visit
+    w = whole view list
+
+    at : GridPoint → List ℕ
+    at cell = cond (has_corner cell p && is_working d w (sample_of cell)) (length (way_end d w (sample_of cell)).list ∷ []) []
+
+    by : (cell : GridPoint) → cell.x < view.n → cell.y < view.n → cell.z < view.n → (b : Bool) → (has_corner cell p && is_working d w (sample_of cell)) ≡ b → All (λ n. ⊥) (cond b (length (way_end d w (sample_of cell)).list ∷ []) [])
+    by cell x y z true e =
+        let parts = and_parts (has_corner cell p) _ e in
+        let lies : LiesIn w.box (sample_of cell) = record { x = (omega arith, x); y = (omega arith, y); z = (omega arith, z) } in
+        absurd (false≢true (sym unknown ∙ worked (sample_of cell) lies parts.1 p (has_corner-covers cell p parts.0)))
+    by cell x y z false e = All-nil (λ n. ⊥)
 
 -- what a grid's points take is enough for the box of all cells
 pub points_suffice : (view : Window) (list : List Step) → IsEnough (λ p. greatest (lengths_at view list p)) (gridded view) (whole view list)

@@ -1,13 +1,15 @@
 -- The work of grids, computed on lists that were worked out by hand.
 use Rattle.std.proofs.Common.{◌≡◌, ℕ, suc, pos, negsuc, true, false, [], ◌∷◌, List, refl}
-use Rattle.fixed_ops.specs.declared.operation.Op.TheVariants.{X, Y, Z, Add, Const, Neg}
+use Rattle.std.specs.Prelude.{Some}
+use Rattle.fixed_ops.specs.declared.operation.Op.{Op}
+use Rattle.fixed_ops.specs.declared.operation.Op.TheVariants.{X, Y, Z, Add, Const, Max, Neg}
 use Rattle.kuhn_cells.specs.Triangles.{point}
 use Rattle.live_clauses.specs.declared.step.Step.{Step}
 use Rattle.view_settings.specs.Boxes.{Indices}
 use Rattle.view_settings.specs.Window.{Window}
-use Rattle.oct_descent.specs.Bound.{mesh_points, mesh_spans, spans_in}
+use Rattle.oct_descent.specs.Bound.{greatest, least, mesh_least, mesh_points, mesh_spans, spans_in}
 use Rattle.oct_descent.specs.GridValues.{grid_of, grid_value, is_border}
-use Rattle.oct_descent.specs.Ways.{meets_border, way_within}
+use Rattle.oct_descent.specs.Ways.{is_open_by, meets_border, way_within}
 
 -- from -1 to 1
 abbrev window : ℕ → Window
@@ -25,6 +27,9 @@ window n = record {
   n = n;
 }
 
+abbrev step : Op → ℕ → ℕ → Step
+step op a b = record { op = op; a = a; b = b; value = pos 0 }
+
 -- what is inside everywhere: all eight cells have points of the outermost layer
 abbrev full : List Step
 full = record { op = Const; a = 0; b = 0; value = negsuc 4294967295 } ∷ []
@@ -32,6 +37,10 @@ full = record { op = Const; a = 0; b = 0; value = negsuc 4294967295 } ∷ []
 full_points : mesh_points (window 2) full ≡ 27
 unfolding mesh_points way_within
 full_points = refl
+
+full_least : mesh_least (window 2) full ≡ 27
+unfolding mesh_least way_within
+full_least = refl
 
 full_spans : mesh_spans (window 2) full ≡ 9
 unfolding spans_in way_within
@@ -72,6 +81,50 @@ other_half_points = refl
 other_half_spans : mesh_spans (window 2) other_half ≡ 18
 unfolding spans_in way_within
 other_half_spans = refl
+
+-- the greatest of x, -y and z, which is undecided in the one cell with x and z up to 0 and y from 0 on: all other cells are
+-- decided outside
+abbrev one_cell : List Step
+one_cell = step X 0 0 ∷ step Y 0 0 ∷ step Neg 1 0 ∷ step Max 0 2 ∷ step Z 0 0 ∷ step Max 3 4 ∷ []
+
+one_cell_points : mesh_points (window 2) one_cell ≡ 48
+unfolding mesh_points way_within
+one_cell_points = refl
+
+one_cell_least : mesh_least (window 2) one_cell ≡ 48
+unfolding mesh_least way_within
+one_cell_least = refl
+
+one_cell_spans : mesh_spans (window 2) one_cell ≡ 54
+unfolding spans_in way_within
+one_cell_spans = refl
+
+-- and the cell opposite, by the greatest of -x, y and -z
+abbrev cell_opposite : List Step
+cell_opposite = step X 0 0 ∷ step Neg 0 0 ∷ step Y 0 0 ∷ step Max 1 2 ∷ step Z 0 0 ∷ step Neg 4 0 ∷ step Max 3 5 ∷ []
+
+cell_opposite_points : mesh_points (window 2) cell_opposite ≡ 56
+unfolding mesh_points way_within
+cell_opposite_points = refl
+
+cell_opposite_least : mesh_least (window 2) cell_opposite ≡ 56
+unfolding mesh_least way_within
+cell_opposite_least = refl
+
+-- three cells along each axis: 8 boxes, of which 7 are split into 26 cells
+uneven_spans : mesh_spans (window 3) full ≡ 35
+unfolding spans_in way_within
+uneven_spans = refl
+
+-- the least of some numbers, wherever it stands
+least_first : least (2 ∷ 7 ∷ 5 ∷ []) ≡ 2
+least_first = refl
+
+least_last : least (7 ∷ 5 ∷ 2 ∷ []) ≡ 2
+least_last = refl
+
+greatest_within : greatest (2 ∷ 7 ∷ 5 ∷ []) ≡ 7
+greatest_within = refl
 
 -- ---- the values of a grid
 
@@ -150,3 +203,13 @@ cell_first_along_z = refl
 
 cell_last_along_z : meets_border 5 (cell 2 3 4) ≡ true
 cell_last_along_z = refl
+
+-- a box that is decided inside stays open there alone
+inner_box_is_closed : is_open_by 5 (cell 1 2 3) (Some true) ≡ false
+inner_box_is_closed = refl
+
+border_box_stays_open : is_open_by 5 (cell 2 4 3) (Some true) ≡ true
+border_box_stays_open = refl
+
+box_outside_is_closed : is_open_by 5 (cell 2 4 3) (Some false) ≡ false
+box_outside_is_closed = refl

@@ -6,11 +6,12 @@ use Rattle.std.proofs.lemmas.Bool.{false≢true}
 use Rattle.std.proofs.lemmas.List.{take_more}
 use Rattle.std.proofs.lemmas.List.Elements.{All-append, All-cons, All-contains, All-contains_itself, All-get_or, All-nil, All-weaker}
 use Rattle.std.proofs.lemmas.List.Sums.{sum_by-append, sum_by-cons, sum_by-take-le}
-use Rattle.box_chains.specs.Chains.{Descent, Visit, decision, handed_on, is_long, sides, visit}
+use Rattle.box_chains.specs.Chains.{Descent, Visit, decision, half_with, handed_on, is_long, sides, visit}
 use Rattle.box_chains.specs.HalfLaws.{IsPart, half_with-among, halves-are_parts, part-is_box, part-is_shorter, part-lies}
 use Rattle.box_chains.specs.Sums.{LiesIn, Sample}
 use Rattle.box_chains.specs.ValueLaws.{IsVisit, Lawful}
 use Rattle.box_chains.specs.Tallied.{CountsAtMost}
+use Rattle.box_chains.specs.TallyLaws.{most-hulls}
 use Rattle.choice_trace.specs.Hulls.{choices_over, tape_hull}
 use Rattle.fixed_ops.specs.Counts.{Counts}
 use Rattle.interval_ops.specs.Decided.{decided_of}
@@ -29,15 +30,15 @@ use Rattle.view_settings.specs.declared.lattice.Lattice.{Lattice}
 use Rattle.view_settings.specs.declared.lattice.Lattice.TheVariants as lattices
 use Rattle.oct_descent.specs.Bound.{spans_in}
 use Rattle.oct_descent.specs.Corners.{ShowsCorner}
-use Rattle.oct_descent.specs.Desks.{ChargesHalves, KeepsDesk, MayLook, halves_spans}
-use Rattle.oct_descent.specs.Fills.{ChargesCorners}
+use Rattle.oct_descent.specs.Desks.{ChargesHalves, KeepsDesk, MayLook, PaysHalves, halves_spans}
+use Rattle.oct_descent.specs.Fills.{ChargesCorners, PaysCorners}
 use Rattle.oct_descent.specs.GridValues.{grid_value}
-use Rattle.oct_descent.specs.Tables.{AllKnown, AreRight, AreSettled, Charges, ChargesBox, Grows, IsEnough, IsUniform, PointValues, is_known}
+use Rattle.oct_descent.specs.Tables.{AllKnown, AreRight, AreSettled, AreWorked, Charges, ChargesBox, Grows, IsDue, IsEnough, IsUniform, PaysBox, PointValues, is_known}
 use Rattle.oct_descent.specs.Ways.{Covers, cell_box, gridded, is_cut, is_open, is_open_by, is_working, way_end}
 use Rattle.oct_descent.specs.declared.desk.Desk.{Desk}
 use Rattle.oct_descent.proofs.Corners.{IsOne, mask-covered, short-one}
 use Rattle.oct_descent.proofs.Covered.{corner-covered, handed-grid_value, inside-uniform, outside-uniform}
-use Rattle.oct_descent.proofs.TableLaws.{charges-hulls, charges-more, charges-most, charges-then, grows-wider, right-same, settled-same, settled-stays}
+use Rattle.oct_descent.proofs.TableLaws.{charges-hulls, charges-more, charges-most, charges-then, grows-wider, pays-most, pays-then, right-same, settled-same, settled-stays, worked-stays}
 use Rattle.oct_descent.proofs.WayLaws.{end-ends, end-of_half, spans-end, spans-some, spans-split}
 
 pub on_ok-then : {T E : Type 0} (r : Result T E) (P Q : Type 0) → (P → Q) → OnOk r P → OnOk r Q
@@ -74,6 +75,19 @@ closed-uniform laws view v s is e lies = by (decision (gridded view) v) refl
 pub closed-settled : (laws : Lawful) (view : Window) (v : Visit) (t : PointValues) → IsVisit (gridded view) v → is_open (gridded view) v ≡ false → AreSettled (grid_value view v.list) v.box t
 closed-settled laws view v t is e s lies = inr (closed-uniform laws view v s is e lies)
 
+-- and no working one
+pub closed-worked : (view : Window) (v : Visit) (t : PointValues) → IsVisit (gridded view) v → is_open (gridded view) v ≡ false → AreWorked (gridded view) v t
+closed-worked view v t is e s lies works = absurd (false≢true (sym idle ∙ works))
+  where
+    d : Descent
+    d = gridded view
+
+    uncut : is_cut d v ≡ false
+    uncut = rw e refl
+
+    idle : is_working d v s ≡ false
+    idle = ap (λ w. is_open d w && not (is_long 1 w.box)) (end-ends d v s is.box uncut) ∙ (rw e refl)
+
 -- a box takes at least its own trace
 pub trace-charged : (d : Descent) (v : Visit) (t : PointValues) (told now : Counts) → 0 < d.leaf → IsBox v.box → HalvesPart → CountsHulls (length v.list) told now → ChargesBox d v t t told now
 trace-charged d v t told now some is law h f enough =
@@ -83,6 +97,10 @@ trace-charged d v t told now some is law h f enough =
 pub look-charged : (d : Descent) (v : Visit) (t : PointValues) (told now : Counts) → 0 < d.leaf → IsBox v.box → HalvesPart → CountsAtMost 0 (length v.list) told now → ChargesBox d v t t told now
 look-charged d v t told now some is law h f enough =
     charges-more f (length v.list) (spans_in d v) t t told now (spans-some d v some is law) (charges-most f (length v.list) t told now h)
+
+-- nothing is due for a box that is not looked into
+pub look-paid : (d : Descent) (v : Visit) (t : PointValues) (told now : Counts) → CountsAtMost 0 (length v.list) told now → PaysBox d v t t told now
+look-paid d v t told now h f due = pays-most f 0 (length v.list) t told now h
 
 -- what is kept may be looked at again
 pub may-kept : (before after : Desk) (b : Indices) (list : List Step) (t : PointValues) → KeepsDesk before after → MayLook before b list t → MayLook after b list t
@@ -165,6 +183,42 @@ cell-charged laws view v before after told since now is open' short hulls corner
         } in
         subst (λ w. length w.list ≤ f p) end (enough s lies works p corner)
 
+-- and what it takes is paid
+pub cell-paid : (view : Window) (v : Visit) (before after : PointValues) (told since now : Counts) → IsVisit (gridded view) v → is_open (gridded view) v ≡ true → is_long 1 v.box ≡ false
+    → CountsAtMost 0 (length v.list) told since → PaysCorners v.box (length v.list) before after since now → PaysBox (gridded view) v before after told now
+cell-paid view v before after told since now is open' short hulls corners f due =
+    pays-then f before before after told since now (pays-most f 0 (length v.list) before told since hulls) (corners f each)
+  where
+    d : Descent
+    d = gridded view
+
+    one : IsOne v.box
+    one = short-one v.box is.box short
+
+    uncut : is_cut d v ≡ false
+    uncut = rw (open', short) refl
+
+    s : Sample
+    s = record { i = v.box.x0; j = v.box.y0; k = v.box.z0 }
+
+    lies : LiesIn v.box s
+    lies = record { x = (omega arith, omega (arith, one.x)); y = (omega arith, omega (arith, one.y)); z = (omega arith, omega (arith, one.z)) }
+
+    end : way_end d v s ≡ v
+    end = end-ends d v s is.box uncut
+
+    works : is_working d v s ≡ true
+    works = ap (λ w. is_open d w && not (is_long 1 w.box)) end ∙ (rw (open', short) refl)
+
+    each : (p : GridPoint) → Covers v.box p → f p ≤ length v.list
+    each p covers =
+        let corner : Covers (cell_box s) p = record {
+          x = (covers.x.0, omega (arith, covers.x.1, one.x));
+          y = (covers.y.0, omega (arith, covers.y.1, one.y));
+          z = (covers.z.0, omega (arith, covers.z.1, one.z));
+        } in
+        subst (λ w. f p ≤ length w.list) end (due s lies works p corner)
+
 -- the corners of a cell of a box are known where all points that the box covers are
 pub known-settled : (g : GridPoint → ℤ) (b : Indices) (t : PointValues) → AllKnown t b → AreSettled g b t
 known-settled g b t known s lies = inl (λ p covers. known p (corner-covered b s p lies covers))
@@ -186,6 +240,27 @@ pub handed-settled : (laws : Lawful) (view : Window) (v : Visit) (live : List St
 handed-settled laws view v live t is same settled =
     settled-same (grid_value view live) (grid_value view v.list) v.box t
     (λ s p lies covers. ap (λ l. grid_value view l p) same ∙ handed-grid_value laws view v p is (corner-covered v.box s p lies covers)) settled
+
+-- a cell of a half of a box that is split is a working one of the half exactly if it is one of the box
+half-works : (laws : Lawful) (view : Window) (v : Visit) (live : List Step) (half : Indices) (s : Sample) → IsVisit (gridded view) v → is_cut (gridded view) v ≡ true → live ≡ handed_on (gridded view) v
+    → Contains (halves_of 1 v.box) half → LiesIn half s → way_end (gridded view) v s ≡ way_end (gridded view) (visit half live) s
+half-works laws view v live half s is cut same among lies =
+    end-of_half (gridded view) v half s (omega arith) is.box laws.halves cut among lies ∙ ap (λ l. way_end (gridded view) (visit half l) s) (sym same)
+
+-- what is due for a box is due for its halves
+halves-due : (laws : Lawful) (view : Window) (v : Visit) (live : List Step) (f : GridPoint → ℕ) → IsVisit (gridded view) v → is_cut (gridded view) v ≡ true → live ≡ handed_on (gridded view) v
+    → IsDue f (gridded view) v → All (λ half. IsDue f (gridded view) (visit half live)) (halves_of 1 v.box)
+halves-due laws view v live f is cut same due =
+    All-weaker (Contains (halves_of 1 v.box)) (λ half. IsDue f d (visit half live))
+    (λ half among s lies works p covers.
+    let part = All-contains (IsPart 1 v.box) (halves_of 1 v.box) half (halves-are_parts 1 v.box (omega arith) is.box) among in
+    let end = half-works laws view v live half s is cut same among lies in
+    let worked : is_working d v s ≡ true = ap (λ w. is_open d w && not (is_long 1 w.box)) end ∙ works in
+    subst (λ w. f p ≤ length w.list) end (due s (part-lies 1 v.box half s part lies) worked p covers))
+    (halves_of 1 v.box) (All-contains_itself (halves_of 1 v.box))
+  where
+    d : Descent
+    d = gridded view
 
 -- what is enough for a box is enough for its halves
 halves-enough : (laws : Lawful) (view : Window) (v : Visit) (live : List Step) (f : GridPoint → ℕ) → IsVisit (gridded view) v → is_cut (gridded view) v ≡ true → live ≡ handed_on (gridded view) v
@@ -210,6 +285,31 @@ halves-charged laws view v live before after told since now is open' long same h
     charges-then f (length v.list) (halves_spans d live (halves_of 1 v.box)) (spans_in d v) before before after told since now
     (omega (arith, spans-split d v (omega arith) is.box laws.halves cut, ap (λ l. halves_spans d l (halves_of 1 v.box)) same))
     (charges-hulls f (length v.list) before told since hulls) (halves f (halves-enough laws view v live f is cut same enough))
+  where
+    d : Descent
+    d = gridded view
+
+    cut : is_cut d v ≡ true
+    cut = rw (open', long) refl
+
+-- and pays what its halves pay
+pub halves-paid : (laws : Lawful) (view : Window) (v : Visit) (live : List Step) (before after : PointValues) (told since now : Counts) → IsVisit (gridded view) v → is_open (gridded view) v ≡ true
+    → is_long 1 v.box ≡ true → live ≡ handed_on (gridded view) v → CountsHulls (length v.list) told since → PaysHalves (gridded view) live (halves_of 1 v.box) before after since now
+    → PaysBox (gridded view) v before after told now
+halves-paid laws view v live before after told since now is open' long same hulls halves f due =
+    pays-then f before before after told since now (pays-most f 0 (length v.list) before told since (most-hulls told since (length v.list) hulls))
+    (halves f (halves-due laws view v live f is cut same due))
+  where
+    cut : is_cut (gridded view) v ≡ true
+    cut = rw (open', long) refl
+
+-- its working cells are those of its halves
+pub halves-worked : (laws : Lawful) (view : Window) (v : Visit) (live : List Step) (t : PointValues) → IsVisit (gridded view) v → is_open (gridded view) v ≡ true
+    → is_long 1 v.box ≡ true → live ≡ handed_on (gridded view) v → All (λ half. AreWorked (gridded view) (visit half live) t) (halves_of 1 v.box) → AreWorked (gridded view) v t
+halves-worked laws view v live t is open' long same each s lies works =
+    let half = half_with-among laws.halves 1 v.box s lies in
+    let end = half-works laws view v live (half_with 1 v.box s) s is cut same half.0 half.1 in
+    All-contains (λ h. AreWorked d (visit h live) t) (halves_of 1 v.box) (half_with 1 v.box s) each half.0 s half.1 (ap (λ w. is_open d w && not (is_long 1 w.box)) (sym end) ∙ works)
   where
     d : Descent
     d = gridded view
@@ -264,6 +364,27 @@ next-settled view other list b half halves i before after same within read grows
 
     P : Indices → Type 0
     P h = AreSettled g h after
+
+-- and worked
+pub next-worked : (view other : Window) (list : List Step) (b half : Indices) (halves : List Indices) (i : ℕ) (before after : PointValues) → other ≡ view → i < length halves → half ≡ get_or halves i half
+    → Grows (grid_value view list) b before after → AreWorked (gridded other) (visit half list) after → All (λ h. AreWorked (gridded view) (visit h list) before) (take i halves)
+    → All (λ h. AreWorked (gridded view) (visit h list) after) (take (i + 1) halves)
+next-worked view other list b half halves i before after same within read grows here earlier =
+    subst (λ hs. All P hs) (sym (take_more halves i half within ∙ ap (λ h. take i halves ++ h ∷ []) (sym read)))
+    (All-append P (take i halves) (half ∷ [])
+    (All-weaker (λ h. AreWorked (gridded view) (visit h list) before) P (λ h worked. worked-stays (grid_value view list) (gridded view) (visit h list) b before after grows worked) (take i halves) earlier)
+    (All-cons P half [] (subst (λ v. AreWorked (gridded v) (visit half list) after) same here) (All-nil P)))
+  where
+    P : Indices → Type 0
+    P h = AreWorked (gridded view) (visit h list) after
+
+-- and paid
+pub next-paid : (view other : Window) (list : List Step) (half : Indices) (halves : List Indices) (i : ℕ) (before mid after : PointValues) (told since now : Counts) → other ≡ view → i < length halves → half ≡ get_or halves i half
+    → PaysHalves (gridded view) list halves before mid told since → PaysBox (gridded other) (visit half list) mid after since now → PaysHalves (gridded view) list halves before after told now
+next-paid view other list half halves i before mid after told since now same within read earlier here f due =
+    pays-then f before mid after told since now (earlier f due)
+    (subst (λ v. PaysBox (gridded v) (visit half list) mid after since now) same here f
+    (subst (λ h. IsDue f (gridded view) (visit h list)) (sym read) (All-get_or (λ h. IsDue f (gridded view) (visit h list)) halves i half within due)))
 
 -- and charged
 pub next-charged : (view other : Window) (list : List Step) (half : Indices) (halves : List Indices) (i : ℕ) (before mid after : PointValues) (told since now : Counts) → other ≡ view → i < length halves → half ≡ get_or halves i half

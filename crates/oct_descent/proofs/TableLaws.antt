@@ -1,20 +1,23 @@
 -- How known values become more, and what that takes.
 use Rattle.std.proofs.Common.{◌≡◌, ℕ, ◌+◌, ◌-◌, ◌*◌, ◌<◌, ◌≤◌, ℤ, Bool, true, false, cond, refl, sym, ap, ◌∙◌, ◌⊎◌, inl, inr, arith}
 use Rattle.std.specs.Prelude.{Some, None, ◌==◌, ◌&&◌}
+use Rattle.box_chains.specs.Chains.{Descent, Visit}
 use Rattle.box_chains.specs.SumLaws.{along-parts, along-same, sum_in-plus, sum_in-same, upto-const}
 use Rattle.box_chains.specs.Sums.{LiesIn, Sample, sum_along, sum_in}
 use Rattle.box_chains.specs.Tallied.{CountsAtMost}
 use Rattle.box_chains.specs.TallyLaws.{most-hulls, most-more, most-none, most-points, most-then}
-use Rattle.fixed_ops.specs.Counts.{Counts, RisesBy, points_of}
+use Rattle.fixed_ops.specs.Counts.{Counts, RisesBy, plus, points_of}
+use Rattle.fixed_ops.specs.CountLaws.{RisesBy-then}
 use Rattle.fixed_ops.specs.Raw.{is_inside}
 use Rattle.interval_ops.specs.HullCounts.{CountsHulls}
 use Rattle.kuhn_cells.specs.Triangles.{GridPoint, point}
 use Rattle.std.proofs.lemmas.Bool.{false≢true, and_parts, cond-false, cond-true, eq-eqb, eqb-true, ne_eqb}
 use Rattle.view_settings.specs.Boxes.{Indices}
-use Rattle.oct_descent.specs.Bound.{points_of_grid}
+use Rattle.oct_descent.specs.Bound.{CountsAtLeast, points_of_grid}
 use Rattle.oct_descent.specs.Fills.{point_box}
-use Rattle.oct_descent.specs.Tables.{AllKnown, AreRight, AreSettled, Charges, Grows, IsNew, IsSame, IsUniform, PointValues, Sets, is_known, known_at, left, same_point}
+use Rattle.oct_descent.specs.Tables.{AllKnown, AreRight, AreSettled, AreWorked, Charges, Grows, IsNew, IsSame, IsUniform, Pays, PointValues, Sets, is_known, known_at, left, same_point}
 use Rattle.oct_descent.specs.Ways.{Covers, cell_box}
+use Rattle.oct_descent.proofs.Covered.{corner-covered}
 
 -- ---- growth
 
@@ -133,7 +136,7 @@ same-self p = rw (eq-eqb p.x p.x refl, eq-eqb p.y p.y refl, eq-eqb p.z p.z refl)
 
 -- a point that becomes known is no longer left
 left-set : (f : GridPoint → ℕ) (p : GridPoint) (v : ℤ) (before after : PointValues) → p.x ≤ before.n → p.y ≤ before.n → p.z ≤ before.n → known_at before p ≡ None → Sets p v before after
-    → f p + left f after ≤ left f before
+    → f p + left f after ≡ left f before
 left-set f p v before after x y z unknown sets =
     let b = points_of_grid before.n in
     let lies : LiesIn b (record { i = p.x; j = p.y; k = p.z }) = record { x = (omega arith, omega (arith, x)); y = (omega arith, omega (arith, y)); z = (omega arith, omega (arith, z)) } in
@@ -226,16 +229,63 @@ same-sets p v before mid after same sets = record {
   each = λ q. sets.each q ∙ ap (λ o. cond (same_point p q) (Some v) o) (same.each q);
 }
 
+same-left : (f : GridPoint → ℕ) (before after : PointValues) → IsSame before after → left f after ≡ left f before
+same-left f before after same =
+    ap (λ n. sum_in (points_of_grid n) (λ s. cond (is_known (known_at after (point s.i s.j s.k))) 0 (f (point s.i s.j s.k)))) same.n
+    ∙ sum_in-same (points_of_grid before.n) (λ s. cond (is_known (known_at after (point s.i s.j s.k))) 0 (f (point s.i s.j s.k)))
+    (λ s. cond (is_known (known_at before (point s.i s.j s.k))) 0 (f (point s.i s.j s.k)))
+    (λ s lies. ap (λ o. cond (is_known o) 0 (f (point s.i s.j s.k))) (same.each (point s.i s.j s.k)))
+
 pub same-charges : (f : GridPoint → ℕ) (before after : PointValues) (now : Counts) → IsSame before after → Charges f 0 before after now now
 same-charges f before after now same = record {
   points = 0;
-  enough = omega (arith, still);
+  enough = omega (arith, same-left f before after same);
   counts = most-none now 0 0;
 }
-  where
-    still : left f after ≡ left f before
-    still =
-        ap (λ n. sum_in (points_of_grid n) (λ s. cond (is_known (known_at after (point s.i s.j s.k))) 0 (f (point s.i s.j s.k)))) same.n
-        ∙ sum_in-same (points_of_grid before.n) (λ s. cond (is_known (known_at after (point s.i s.j s.k))) 0 (f (point s.i s.j s.k)))
-        (λ s. cond (is_known (known_at before (point s.i s.j s.k))) 0 (f (point s.i s.j s.k)))
-        (λ s lies. ap (λ o. cond (is_known o) 0 (f (point s.i s.j s.k))) (same.each (point s.i s.j s.k)))
+
+-- ---- what is paid
+
+-- a tally that rises at all rises by nothing at least
+least-most : (told now : Counts) (p s : ℕ) → CountsAtMost p s told now → CountsAtLeast 0 told now
+least-most told now p s h = record { by = h.by; many = omega arith; rises = h.rises }
+
+pub pays-none : (f : GridPoint → ℕ) (t : PointValues) (now : Counts) → Pays f t t now now
+pays-none f t now = record { points = 0; due = omega arith; counts = least-most now now 0 0 (most-none now 0 0) }
+
+pub pays-most : (f : GridPoint → ℕ) (p s : ℕ) (t : PointValues) (told now : Counts) → CountsAtMost p s told now → Pays f t t told now
+pays-most f p s t told now h = record { points = 0; due = omega arith; counts = least-most told now p s h }
+
+pub pays-then : (f : GridPoint → ℕ) (before mid after : PointValues) (told since now : Counts) → Pays f before mid told since → Pays f mid after since now → Pays f before after told now
+pays-then f before mid after told since now first second = record {
+  points = first.points + second.points;
+  due = omega (arith, first.due, second.due);
+  counts = record {
+    by = plus first.counts.by second.counts.by;
+    many = omega (arith, first.counts.many, second.counts.many);
+    rises = RisesBy-then told since now first.counts.by second.counts.by first.counts.rises second.counts.rises;
+  };
+}
+
+pub pays-set : (f : GridPoint → ℕ) (p : GridPoint) (v : ℤ) (len : ℕ) (before after : PointValues) (told now : Counts) → p.x ≤ before.n → p.y ≤ before.n → p.z ≤ before.n
+    → known_at before p ≡ None → Sets p v before after → f p ≤ len → RisesBy told now (points_of len) → Pays f before after told now
+pays-set f p v len before after told now x y z unknown sets few rises = record {
+  points = len;
+  due = omega (arith, few, left-set f p v before after x y z unknown sets);
+  counts = record { by = points_of len; many = omega arith; rises = rises };
+}
+
+pub same-pays : (f : GridPoint → ℕ) (before after : PointValues) (now : Counts) → IsSame before after → Pays f before after now now
+same-pays f before after now same = record {
+  points = 0;
+  due = omega (arith, same-left f before after same);
+  counts = least-most now now 0 0 (most-none now 0 0);
+}
+
+-- ---- working cells
+
+-- all corners of a box are those of its working cells too
+pub known-worked : (d : Descent) (v : Visit) (t : PointValues) → AllKnown t v.box → AreWorked d v t
+known-worked d v t known s lies works p covers = known p (corner-covered v.box s p lies covers)
+
+pub worked-stays : (g : GridPoint → ℤ) (d : Descent) (v : Visit) (b : Indices) (before after : PointValues) → Grows g b before after → AreWorked d v before → AreWorked d v after
+worked-stays g d v b before after grows worked s lies works p covers = stays-known g b before after p grows (worked s lies works p covers)

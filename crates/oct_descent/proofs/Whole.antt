@@ -1,9 +1,9 @@
 -- What looking into the box of all cells leaves.
-use Rattle.std.proofs.Common.{◌≡◌, ℕ, ◌≤◌, true, cond, List, sym, ap, subst, ◌∙◌, ◌⊎◌, inl, inr, arith}
+use Rattle.std.proofs.Common.{◌≡◌, ℕ, ◌≤◌, Bool, true, false, cond, List, refl, sym, ap, subst, ◌∙◌, ◌⊎◌, inl, inr, arith}
 use Rattle.std.specs.Prelude.{Some, None}
 use Rattle.std.proofs.lemmas.Bool.{false≢true}
 use Rattle.box_chains.specs.Chains.{visit}
-use Rattle.box_chains.specs.SumLaws.{sum_in-same}
+use Rattle.box_chains.specs.SumLaws.{sum_in-const, sum_in-same}
 use Rattle.box_chains.specs.Sums.{sum_in}
 use Rattle.box_chains.specs.Tallied.{CountsAtMost}
 use Rattle.box_chains.specs.TallyLaws.{most-more}
@@ -14,12 +14,12 @@ use Rattle.view_settings.specs.Boxes.{Indices}
 use Rattle.view_settings.specs.Spans.{root_of}
 use Rattle.view_settings.specs.Window.{Window}
 use Rattle.view_settings.specs.declared.lattice.Lattice.TheVariants as lattices
-use Rattle.oct_descent.specs.Bound.{greatest, lengths_at, mesh_points, mesh_spans, points_of_grid}
+use Rattle.oct_descent.specs.Bound.{CountsAtLeast, greatest, least, lengths_at, mesh_least, mesh_points, mesh_spans, points_of_grid, working_lengths}
 use Rattle.oct_descent.specs.GridValues.{grid_value}
-use Rattle.oct_descent.specs.Tables.{AreSettled, ChargesBox, Grows, IsNew, PointValues, is_known, known_at, left}
+use Rattle.oct_descent.specs.Tables.{AreSettled, AreWorked, ChargesBox, Grows, IsNew, PaysBox, PointValues, is_known, known_at, left}
 use Rattle.oct_descent.specs.Trees.{IsTold}
-use Rattle.oct_descent.specs.Ways.{gridded}
-use Rattle.oct_descent.proofs.Bounds.{points_suffice}
+use Rattle.oct_descent.specs.Ways.{gridded, whole}
+use Rattle.oct_descent.proofs.Bounds.{none_due, points_due, points_suffice}
 
 -- while nothing is known, all points are left
 left-all : (f : GridPoint → ℕ) (t : PointValues) → ((p : GridPoint) → known_at t p ≡ None) → left f t ≡ sum_in (points_of_grid t.n) (λ s. f (point s.i s.j s.k))
@@ -40,6 +40,32 @@ whole-counted view other list b before after told now same root n none charges =
     let here = subst (λ v. ChargesBox (gridded v) (visit (root_of view lattices.Grid) list) before after told now) same (subst (λ c. ChargesBox (gridded other) (visit c list) before after told now) root charges) in
     let h = here f (points_suffice view list) in
     most-more told now h.points (mesh_spans view list) (mesh_points view list) (mesh_spans view list) (omega (arith, h.enough, mesh-left view list before n none)) (omega arith) h.counts
+
+mesh-due : (view : Window) (list : List Step) (t : PointValues) → t.n ≡ view.n → ((p : GridPoint) → known_at t p ≡ None) → left (λ p. least (working_lengths view list p)) t ≡ mesh_least view list
+unfolding mesh_least
+mesh-due view list t same none =
+    left-all (λ p. least (working_lengths view list p)) t none ∙ ap (λ n. sum_in (points_of_grid n) (λ s. least (working_lengths view list (point s.i s.j s.k)))) same
+
+-- once all working cells are known, nothing is left that is due
+none-left : (view : Window) (list : List Step) (t : PointValues) → AreWorked (gridded view) (whole view list) t → left (λ p. least (working_lengths view list p)) t ≡ 0
+none-left view list t worked =
+    sum_in-same (points_of_grid t.n) (λ s. cond (is_known (known_at t (point s.i s.j s.k))) 0 (least (working_lengths view list (point s.i s.j s.k)))) (λ s. 0)
+    (λ s lies. by (point s.i s.j s.k) (is_known (known_at t (point s.i s.j s.k))) refl)
+    ∙ sum_in-const (points_of_grid t.n) 0 ∙ omega arith
+  where
+    by : (p : GridPoint) (b : Bool) → is_known (known_at t p) ≡ b → cond b 0 (least (working_lengths view list p)) ≡ 0
+    by p true e = refl
+    by p false e = none_due view list t p worked e
+
+-- and no less work is counted than what is due
+pub whole-paid : (view other : Window) (list : List Step) (b : Indices) (before after : PointValues) (told now : Counts) → other ≡ view → b ≡ root_of view lattices.Grid → before.n ≡ view.n
+    → ((p : GridPoint) → known_at before p ≡ None) → AreWorked (gridded other) (visit b list) after → PaysBox (gridded other) (visit b list) before after told now → CountsAtLeast (mesh_least view list) told now
+whole-paid view other list b before after told now same root n none worked pays =
+    let f : GridPoint → ℕ = λ p. least (working_lengths view list p) in
+    let here = subst (λ v. PaysBox (gridded v) (visit (root_of view lattices.Grid) list) before after told now) same (subst (λ c. PaysBox (gridded other) (visit c list) before after told now) root pays) in
+    let there = subst (λ v. AreWorked (gridded v) (visit (root_of view lattices.Grid) list) after) same (subst (λ c. AreWorked (gridded other) (visit c list) after) root worked) in
+    let h = here f (points_due view list) in
+    record { by = h.counts.by; many = omega (arith, h.due, h.counts.many, mesh-due view list before n none, none-left view list after there); rises = h.counts.rises }
 
 -- and what it leaves tells the grid
 pub whole-told : (view other : Window) (list : List Step) (b : Indices) (before after : PointValues) → other ≡ view → b ≡ root_of view lattices.Grid → before.n ≡ view.n → view.n ≤ 256

@@ -1,8 +1,9 @@
 -- The work that the cells of a grid take at most.
-use Rattle.std.specs.Prelude.{ℕ, ◌+◌, Bool, ◌&&◌, nat_le, List, [], ◌∷◌, length, max, if◌then◌else◌}
+use Rattle.std.specs.Prelude.{ℕ, ◌+◌, ◌≤◌, Bool, ◌&&◌, nat_le, List, [], ◌∷◌, length, max, min, if◌then◌else◌}
 use Rattle.box_chains.specs.Chains.{Descent, Visit}
 use Rattle.box_chains.specs.Counts.{first_lengths}
 use Rattle.box_chains.specs.Sums.{Sample, sum_in}
+use Rattle.fixed_ops.specs.Counts.{Counts, RisesBy}
 use Rattle.kuhn_cells.specs.Grids.{over_block}
 use Rattle.kuhn_cells.specs.Triangles.{GridPoint, point}
 use Rattle.live_clauses.specs.declared.step.Step.{Step}
@@ -54,3 +55,26 @@ points_of_grid n = record { x0 = 0; x1 = n + 1; y0 = 0; y1 = n + 1; z0 = 0; z1 =
 unfoldable pub mesh_points : Window → List Step → ℕ
 mesh_points view list =
     sum_in (points_of_grid view.n) (λ s. greatest (lengths_at view list (point s.i s.j s.k)))
+
+-- the least of some numbers, 0 where there is none
+abbrev pub least : List ℕ → ℕ
+least [] = 0
+least (n ∷ []) = n
+least (n ∷ m ∷ ns) = min n (least (m ∷ ns))
+
+-- the same lengths, of the working cells alone
+abbrev pub working_lengths : Window → List Step → GridPoint → List ℕ
+working_lengths view list p =
+    over_block view.n view.n view.n (λ cell. if has_corner cell p && is_working (gridded view) (whole view list) (sample_of cell) then length (way_end (gridded view) (whole view list) (sample_of cell)).list ∷ [] else [])
+
+-- What the points of a grid take at least: each corner of a working cell the length of the shortest list that a
+-- working cell receives that has it as a corner.
+unfoldable pub mesh_least : Window → List Step → ℕ
+mesh_least view list =
+    sum_in (points_of_grid view.n) (λ s. least (working_lengths view list (point s.i s.j s.k)))
+
+-- a tally rises by at least so many evaluations
+pub record CountsAtLeast (points : ℕ) (before after : Counts) : Type 0 where
+  pub by : Counts
+  pub many : points ≤ by.points
+  pub rises : RisesBy before after by

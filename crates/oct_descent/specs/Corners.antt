@@ -40,11 +40,18 @@ pub record ShowsCorner (t : PointValues) (p : GridPoint) (inside : Bool) : Type 
   pub known : known_at t (further p corner) ≡ Some value
   pub side : is_inside value ≡ inside
 
--- what the known corners of a cell show
+-- those of the first corners of a cell that are known are all inside, or all outside
+abbrev pub AllShow : PointValues → GridPoint → ℕ → Bool → Type 0
+AllShow t p count inside = (c : ℕ) (v : ℤ) → c < count → known_at t (further p c) ≡ Some v → is_inside v ≡ inside
+
+-- What the known corners of a cell show: whether all are known, and whether some known one is inside, and some outside.
 pub record IsSeen (t : PointValues) (p : GridPoint) (seen : Seen) : Type 0 where
   pub all : seen.all ≡ true → (c : ℕ) → c < 8 → is_known (known_at t (further p c)) ≡ true
+  pub lacks : seen.all ≡ false → LacksCorner t p
   pub inside : seen.inside ≡ true → ShowsCorner t p true
+  pub none_inside : seen.inside ≡ false → AllShow t p 8 false
   pub outside : seen.outside ≡ true → ShowsCorner t p false
+  pub none_outside : seen.outside ≡ false → AllShow t p 8 true
 
 -- what is seen with one more corner
 abbrev pub side_seen : Seen → Option ℤ → Seen

@@ -11,7 +11,7 @@ use Rattle.view_settings.specs.Window.{Window}
 use Rattle.view_settings.specs.declared.lattice.Lattice.TheVariants as lattices
 use Rattle.oct_descent.specs.Bound.{spans_in}
 use Rattle.oct_descent.specs.GridValues.{grid_value}
-use Rattle.oct_descent.specs.Tables.{AreRight, Charges, IsEnough, PointValues}
+use Rattle.oct_descent.specs.Tables.{AreRight, Charges, IsDue, IsEnough, Pays, PointValues}
 use Rattle.oct_descent.specs.Ways.{gridded}
 use Rattle.oct_descent.specs.declared.desk.Desk.{Desk}
 
@@ -47,3 +47,9 @@ abbrev pub ChargesHalves : Descent → List Step → List Indices → PointValue
 ChargesHalves d list halves before after told now =
     (f : GridPoint → ℕ) → All (λ half. IsEnough f d (visit half list)) halves
     → Charges f (halves_spans d list halves) before after told now
+
+-- whatever points take, if the working cells of each half of a box take as much, no less is counted
+abbrev pub PaysHalves : Descent → List Step → List Indices → PointValues → PointValues → Counts
+    → Counts → Type 0
+PaysHalves d list halves before after told now = (f : GridPoint → ℕ)
+    → All (λ half. IsDue f d (visit half list)) halves → Pays f before after told now

@@ -3,7 +3,7 @@ use Rattle.std.specs.Prelude.{ℕ, ◌≤◌}
 use Rattle.fixed_ops.specs.Counts.{Counts}
 use Rattle.kuhn_cells.specs.Triangles.{GridPoint}
 use Rattle.view_settings.specs.Boxes.{Indices}
-use Rattle.oct_descent.specs.Tables.{Charges, PointValues}
+use Rattle.oct_descent.specs.Tables.{Charges, Pays, PointValues}
 use Rattle.oct_descent.specs.Ways.{Covers}
 
 -- the box that covers a point alone
@@ -14,3 +14,8 @@ point_box p = record { x0 = p.x; x1 = p.x; y0 = p.y; y1 = p.y; z0 = p.z; z1 = p.
 abbrev pub ChargesCorners : Indices → ℕ → PointValues → PointValues → Counts → Counts → Type 0
 ChargesCorners b len before after told now = (f : GridPoint → ℕ)
     → ((p : GridPoint) → Covers b p → len ≤ f p) → Charges f 0 before after told now
+
+-- where each point that a box covers takes at most so many evaluations, no fewer are counted
+abbrev pub PaysCorners : Indices → ℕ → PointValues → PointValues → Counts → Counts → Type 0
+PaysCorners b len before after told now = (f : GridPoint → ℕ)
+    → ((p : GridPoint) → Covers b p → f p ≤ len) → Pays f before after told now

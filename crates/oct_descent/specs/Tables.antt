@@ -7,7 +7,7 @@ use Rattle.fixed_ops.specs.Counts.{Counts}
 use Rattle.fixed_ops.specs.Raw.{is_inside}
 use Rattle.kuhn_cells.specs.Triangles.{GridPoint, point}
 use Rattle.view_settings.specs.Boxes.{Indices}
-use Rattle.oct_descent.specs.Bound.{points_of_grid, spans_in}
+use Rattle.oct_descent.specs.Bound.{CountsAtLeast, points_of_grid, spans_in}
 use Rattle.oct_descent.specs.Ways.{Covers, cell_box, is_working, way_end}
 
 -- the values that are known of some points: a mark and a value for each place, where a value counts where its mark is
@@ -138,3 +138,25 @@ IsEnough f d v = (s : Sample) → LiesIn v.box s → is_working d v s ≡ true �
 abbrev pub ChargesBox : Descent → Visit → PointValues → PointValues → Counts → Counts → Type 0
 ChargesBox d v before after told now =
     (f : GridPoint → ℕ) → IsEnough f d v → Charges f (spans_in d v) before after told now
+
+-- no fewer evaluations are counted than the points take that become known
+pub record Pays (f : GridPoint
+    → ℕ) (before after : PointValues) (told now : Counts) : Type 0 where
+  pub points : ℕ
+  pub due : left f before ≤ points + left f after
+  pub counts : CountsAtLeast points told now
+
+-- each corner of a working cell of a box takes no more than the length of the list that the cell receives
+abbrev pub IsDue : (GridPoint → ℕ) → Descent → Visit → Type 0
+IsDue f d v = (s : Sample) → LiesIn v.box s → is_working d v s ≡ true → (p : GridPoint)
+    → Covers (cell_box s) p → f p ≤ length (way_end d v s).list
+
+-- whatever points take, if each working cell of a box takes as much, no less is counted
+abbrev pub PaysBox : Descent → Visit → PointValues → PointValues → Counts → Counts → Type 0
+PaysBox d v before after told now =
+    (f : GridPoint → ℕ) → IsDue f d v → Pays f before after told now
+
+-- all corners of the working cells of a box are known
+abbrev pub AreWorked : Descent → Visit → PointValues → Type 0
+AreWorked d v t =
+    (s : Sample) → LiesIn v.box s → is_working d v s ≡ true → AllKnown t (cell_box s)

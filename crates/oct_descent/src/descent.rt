@@ -6,9 +6,9 @@ ghost use Rattle.box_chains.specs.Tallied.{CountsAtMost};
 ghost use Rattle.kuhn_cells.specs.Triangles.{GridPoint, point};
 ghost use Rattle.view_settings.specs.Boxes.{halves_of};
 ghost use Rattle.oct_descent.specs.Corners.{IsSeen};
-ghost use Rattle.oct_descent.specs.Desks.{ChargesHalves, KeepsDesk, MayLook};
+ghost use Rattle.oct_descent.specs.Desks.{ChargesHalves, KeepsDesk, MayLook, PaysHalves};
 ghost use Rattle.oct_descent.specs.GridValues.{grid_value};
-ghost use Rattle.oct_descent.specs.Tables.{AreSettled, ChargesBox, Grows, PointValues};
+ghost use Rattle.oct_descent.specs.Tables.{AreSettled, AreWorked, ChargesBox, Grows, PaysBox, PointValues};
 ghost use Rattle.oct_descent.specs.Ways.{gridded, is_open as is_open_for, is_open_by, meets_border as meets_border_of};
 
 use crate::corner_values::seen;
@@ -38,8 +38,10 @@ pub fn look_into(
 ) -> Result<(), AllocError>
     requires { MayLook desk.old b received.now values.old }
     ensures settled { OnOk result (AreSettled (grid_value desk.old.places.view received.now) b values.new) }
+    ensures worked { OnOk result (AreWorked (gridded desk.old.places.view) (visit b received.now) values.new) }
     ensures grows { Grows (grid_value desk.old.places.view received.now) b values.old values.new }
     ensures counted { ChargesBox (gridded desk.old.places.view) (visit b received.now) values.old values.new tally.old tally.new }
+    ensures paid { PaysBox (gridded desk.old.places.view) (visit b received.now) values.old values.new tally.old tally.new }
     ensures kept { KeepsDesk desk.old desk.new }
 {
     layers_hold();
@@ -67,8 +69,10 @@ fn look_into_halves(
     requires may { MayLook desk.old b live.now values.old }
     requires long { IsTrue (is_long_for 1 b) }
     ensures settled { OnOk result (AreSettled (grid_value desk.old.places.view live.now) b values.new) }
+    ensures worked { OnOk result (All (λ half. AreWorked (gridded desk.old.places.view) (visit half live.now) values.new) (halves_of 1 b)) }
     ensures grows { Grows (grid_value desk.old.places.view live.now) b values.old values.new }
     ensures counted { ChargesHalves (gridded desk.old.places.view) live.now (halves_of 1 b) values.old values.new tally.old tally.new }
+    ensures paid { PaysHalves (gridded desk.old.places.view) live.now (halves_of 1 b) values.old values.new tally.old tally.new }
     ensures kept { KeepsDesk desk.old desk.new }
 {
     layers_hold();
@@ -90,8 +94,10 @@ fn look_into_cell(
     requires may { MayLook desk.old b received.now values.old }
     requires one { is_long_for 1 b ≡ false }
     ensures settled { OnOk result (AreSettled (grid_value desk.old.places.view received.now) b values.new) }
+    ensures worked { OnOk result (AreWorked (gridded desk.old.places.view) (visit b received.now) values.new) }
     ensures grows { Grows (grid_value desk.old.places.view received.now) b values.old values.new }
     ensures counted { ChargesBox (gridded desk.old.places.view) (visit b received.now) values.old values.new tally.old tally.new }
+    ensures paid { PaysBox (gridded desk.old.places.view) (visit b received.now) values.old values.new tally.old tally.new }
     ensures kept { KeepsDesk desk.old desk.new }
 {
     layers_hold();

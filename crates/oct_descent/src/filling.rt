@@ -6,7 +6,7 @@ ghost use Rattle.kuhn_cells.specs.Triangles.{further, point};
 ghost use Rattle.view_settings.specs.declared.lattice.Lattice.TheVariants as lattices;
 ghost use Rattle.oct_descent.specs.Corners.{AreTogether};
 ghost use Rattle.oct_descent.specs.Desks.{KeepsDesk, MayLook};
-ghost use Rattle.oct_descent.specs.Fills.{ChargesCorners, point_box};
+ghost use Rattle.oct_descent.specs.Fills.{ChargesCorners, PaysCorners, point_box};
 ghost use Rattle.oct_descent.specs.GridValues.{bordered, grid_value, value_on};
 ghost use Rattle.oct_descent.specs.Tables.{AllKnown, Grows, KeepsPlaces, is_known, known_at};
 
@@ -32,6 +32,7 @@ pub fn fill_cell(
     ensures known { OnOk result (AllKnown values.new b) }
     ensures grows { Grows (grid_value desk.old.places.view list.now) b values.old values.new }
     ensures counted { ChargesCorners b (length list.now) values.old values.new tally.old tally.new }
+    ensures paid { PaysCorners b (length list.now) values.old values.new tally.old tally.new }
     ensures kept { KeepsDesk desk.old desk.new }
 {
     let (x, y, z) = (b.x0, b.y0, b.z0);
@@ -68,6 +69,7 @@ fn fill_corner(
     ensures known { OnOk result (is_known (known_at values.new (further (point x y z) c)) ≡ true) }
     ensures grows { Grows (grid_value desk.old.places.view list.now) (point_box (further (point x y z) c)) values.old values.new }
     ensures counted { ChargesCorners (point_box (further (point x y z) c)) (length list.now) values.old values.new tally.old tally.new }
+    ensures paid { PaysCorners (point_box (further (point x y z) c)) (length list.now) values.old values.new tally.old tally.new }
     ensures keeps { OnOk result (KeepsPlaces values.old values.new) }
     ensures kept { KeepsDesk desk.old desk.new }
 {

@@ -1,9 +1,9 @@
 // Grids whose boxes are looked into.
-ghost use Rattle.std.specs.Prelude.{◌≡◌, IfOk};
+ghost use Rattle.std.specs.Prelude.{◌≡◌, IfOk, OnOk};
 ghost use Rattle.view_settings.specs.Spans.{root_of};
 ghost use Rattle.view_settings.specs.Window.{FitsMesh};
 ghost use Rattle.box_chains.specs.Tallied.{CountsAtMost};
-ghost use Rattle.oct_descent.specs.Bound.{mesh_points, mesh_spans};
+ghost use Rattle.oct_descent.specs.Bound.{CountsAtLeast, mesh_least, mesh_points, mesh_spans};
 
 use crate::descent::look_into;
 use crate::desk::Desk;
@@ -34,9 +34,9 @@ impl Model for OctTree {
 }
 
 /// Looks into the boxes of the grid of a list of steps over a view. Each step that is traced over a
-/// box is counted, at most four corners with it, and each step that is evaluated at a point: no point
-/// is evaluated twice, and none that is no corner of a working cell. AllocError: there is no memory
-/// for the values.
+/// box is counted, at most four corners with it, and each step that is evaluated at a point: each
+/// corner of a working cell is evaluated, none twice, and no other point. AllocError: there is no
+/// memory for the values.
 pub fn cells(
     alloc: Global,
     list: &Tape,
@@ -46,6 +46,7 @@ pub fn cells(
     requires { FitsMesh view.now }
     ensures tree { IfOk result (λ tree. tree ≡ record { view = view.now; list = list.now }) }
     ensures at_most { CountsAtMost (mesh_points view.now list.now) (mesh_spans view.now list.now) tally.old tally.new }
+    ensures at_least { OnOk result (CountsAtLeast (mesh_least view.now list.now) tally.old tally.new) }
 {
     let mut desk = Desk::new(alloc, view, list.len())?;
     let mut values = GridValues::new(alloc, view.n)?;

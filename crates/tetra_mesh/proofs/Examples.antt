@@ -1,7 +1,9 @@
 -- Places, computed on vertices that were worked out by hand.
 use Rattle.std.proofs.Common.{◌≡◌, ℕ, pos, negsuc, refl}
 use Rattle.tetra_mesh.specs.declared.vertex.Vertex.{Vertex}
+use Rattle.tetra_mesh.specs.Cuts.{way_up}
 use Rattle.tetra_mesh.specs.Places.{lattice_place, vertex_place}
+use Rattle.tetra_mesh.specs.Sound.{lattice_of, raw_of}
 use Rattle.view_settings.specs.declared.lattice.Axis.TheVariants.{X, Y, Z}
 use Rattle.view_settings.specs.Window.{Window}
 
@@ -82,3 +84,34 @@ raw_quarter_beside_y = refl
 
 raw_quarter_along_z : vertex_place uneven quarter Z ≡ pos 7
 raw_quarter_along_z = refl
+
+-- ---- where an edge is cut
+
+-- a third of the way from the inside end, wherever that is
+cut_above : way_up (negsuc 0) (pos 2) ≡ 21845
+cut_above = refl
+
+cut_below : way_up (pos 2) (negsuc 0) ≡ 43691
+cut_below = refl
+
+-- a point at 0 is outside, and no vertex lies on it
+cut_below_zero : way_up (negsuc 0) (pos 0) ≡ 65535
+cut_below_zero = refl
+
+cut_above_zero : way_up (pos 0) (negsuc 0) ≡ 1
+cut_above_zero = refl
+
+-- nor on an inside point
+cut_above_inside : way_up (negsuc 0) (pos 4294967296) ≡ 1
+cut_above_inside = refl
+
+cut_below_inside : way_up (pos 4294967296) (negsuc 0) ≡ 65535
+cut_below_inside = refl
+
+-- ---- all three axes at once
+
+lattice_of_quarter : lattice_of quarter ≡ record { x = pos 147456; y = pos 0; z = pos 81920 }
+lattice_of_quarter = refl
+
+raw_of_quarter : raw_of uneven quarter ≡ record { x = pos 225; y = pos 1000; z = pos 7 }
+raw_of_quarter = refl

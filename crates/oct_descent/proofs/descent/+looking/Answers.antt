@@ -5,14 +5,15 @@ use Rattle.std.proofs.lemmas.List.Elements.{All-nil}
 use Rattle.box_chains.specs.Chains.{visit}
 use Rattle.live_clauses.specs.Choices.{AreChoices}
 use Rattle.live_clauses.specs.Steps.{IsTape}
+use Rattle.box_chains.specs.TallyLaws.{most-hulls}
 use Rattle.box_chains.specs.ValueLaws.{IsVisit}
 use Rattle.oct_descent.specs.GridValues.{grid_value}
-use Rattle.oct_descent.specs.Desks.{halves_spans}
+use Rattle.oct_descent.specs.Desks.{PaysHalves, halves_spans}
 use Rattle.kuhn_cells.specs.Triangles.{GridPoint}
-use Rattle.oct_descent.specs.Tables.{AreRight, AreSettled, Charges, IsEnough}
+use Rattle.oct_descent.specs.Tables.{AreRight, AreSettled, AreWorked, Charges, IsEnough}
 use Rattle.oct_descent.specs.Ways.{gridded}
-use Rattle.oct_descent.proofs.Looks.{handed-right, all-settled, closed-settled, half-grows, half-part, half-shorter, half-visit, halves-charged, handed, handed-grows, handed-settled, looked, next-charged, next-settled, on_ok-then, opened, part-covers, some-charged, trace-charged}
-use Rattle.oct_descent.proofs.TableLaws.{charges-none, grows-none, grows-then, right-grows}
+use Rattle.oct_descent.proofs.Looks.{handed-right, all-settled, closed-settled, closed-worked, half-grows, half-part, half-shorter, half-visit, halves-charged, halves-paid, halves-worked, handed, handed-grows, handed-settled, look-paid, looked, next-charged, next-paid, next-settled, next-worked, on_ok-then, opened, part-covers, some-charged, trace-charged}
+use Rattle.oct_descent.proofs.TableLaws.{charges-none, grows-none, grows-then, pays-none, right-grows}
 use Rattle.oct_descent.proofs.descent.+looking.Goals as goal
 
 pub look_into-returns-then-not-is_open-clause-settled : goal.look_into-returns-then-not-is_open-clause-settled
@@ -91,6 +92,8 @@ look_into_halves-loop-half-init t c =
       settled = All-nil (λ h. AreSettled g h c.args.values.now);
       grows = grows-none g c.args.b c.args.values.now;
       counted = λ f enough. charges-none f 0 c.args.values.now c.args.tally.now;
+      worked = All-nil (λ h. AreWorked (gridded c.args.desk.now.places.view) (visit h c.args.live.now) c.args.values.now);
+      paid = λ f due. pays-none f c.args.values.now c.args.tally.now;
     }
 
 pub look_into_halves-look_into-requires : goal.look_into_halves-look_into-requires
@@ -152,6 +155,9 @@ look_into_halves-loop-half-preserved t c =
       grows = grows-then g c.args.b c.args.values.now c.loop-half.values c.look_into.new.values before.grows grown;
       counted = next-charged view c.loop-half.desk.places.view live half halves c.loop-half.half-index c.args.values.now c.loop-half.values c.look_into.new.values c.args.tally.now c.loop-half.tally c.look_into.new.tally
           same c.loop-half-test.true c.half-item.is before.counted after.counted;
+      worked = next-worked view c.loop-half.desk.places.view live c.args.b half halves c.loop-half.half-index c.loop-half.values c.look_into.new.values same c.loop-half-test.true c.half-item.is grown after.worked before.worked;
+      paid = next-paid view c.loop-half.desk.places.view live half halves c.loop-half.half-index c.args.values.now c.loop-half.values c.look_into.new.values c.args.tally.now c.loop-half.tally c.look_into.new.tally
+          same c.loop-half-test.true c.half-item.is before.paid after.paid;
     }
 
 pub look_into_halves-returns-clause-settled : goal.look_into_halves-returns-clause-settled
@@ -169,3 +175,69 @@ look_into_halves-returns-clause-counted t c =
     let halves = c.as_slice-half-items.result.now in
     subst (λ hs. (f : GridPoint → ℕ) → All (λ h. IsEnough f (gridded view) (visit h c.args.live.now)) hs → Charges f (halves_spans (gridded view) c.args.live.now hs) c.args.values.now c.loop-half.values c.args.tally.now c.loop-half.tally) all
     (some-charged (gridded view) c.args.live.now halves c.loop-half.half-index c.args.values.now c.loop-half.values c.args.tally.now c.loop-half.tally c.loop-half.invariant.counted)
+
+-- ---- what is worked and paid
+
+pub look_into-returns-then-not-is_open-clause-worked : goal.look_into-returns-then-not-is_open-clause-worked
+look_into-returns-then-not-is_open-clause-worked t c =
+    let view = c.args.desk.now.places.view in
+    let b = c.args.b in
+    let list = c.args.received.now in
+    let told = looked view c.args.desk.now.places.lattice b list c.region.result c.look_apart-told.result c.requires.lattice c.region.ensures c.look_apart-told.ensures.decision in
+    let open' = opened view b list c.n.result c.look_apart-told.result c.is_open.result (c.n.ensures ∙ c.requires.n) told c.is_open.ensures in
+    closed-worked view (visit b list) c.args.values.now c.requires.visit_is (open' ∙ c.if-not-is_open.true)
+
+pub look_into-returns-then-not-is_open-clause-paid : goal.look_into-returns-then-not-is_open-clause-paid
+look_into-returns-then-not-is_open-clause-paid t c =
+    look-paid (gridded c.args.desk.now.places.view) (visit c.args.b c.args.received.now) c.args.values.now c.args.tally.now c.look_apart-told.new.tally
+    (most-hulls c.args.tally.now c.look_apart-told.new.tally _ c.look_apart-told.ensures.counted)
+
+pub look_into-returns-in_err-live-clause-paid : goal.look_into-returns-in_err-live-clause-paid
+look_into-returns-in_err-live-clause-paid t c =
+    look-paid (gridded c.args.desk.now.places.view) (visit c.args.b c.args.received.now) c.args.values.now c.args.tally.now c.look_apart-told.new.tally
+    (most-hulls c.args.tally.now c.look_apart-told.new.tally _ c.look_apart-told.ensures.counted)
+
+pub look_into-returns-clause-worked : goal.look_into-returns-clause-worked
+look_into-returns-clause-worked t c =
+    let view = c.args.desk.now.places.view in
+    let b = c.args.b in
+    let list = c.args.received.now in
+    let told = looked view c.args.desk.now.places.lattice b list c.region.result c.look_apart-told.result c.requires.lattice c.region.ensures c.look_apart-told.ensures.decision in
+    let open' = opened view b list c.n.result c.look_apart-told.result c.is_open.result (c.n.ensures ∙ c.requires.n) told c.is_open.ensures in
+    let same = handed view c.args.desk.now.places.lattice b list c.in_ok-live.live c.region.result c.look_apart-told.new.self c.requires.lattice c.region.ensures c.look_apart-told.ensures.choices c.in_ok-live.ensures.list in
+    on_ok-then c.look_into_halves.result _ _
+    (halves-worked c.layers_hold.ensures view (visit b list) c.in_ok-live.live c.look_into_halves.new.values c.requires.visit_is (open' ∙ c.if-not-is_open.false) (sym c.is_long.ensures ∙ c.if-not-is_long.false) same)
+    c.look_into_halves.ensures.worked
+
+pub look_into-returns-clause-paid : goal.look_into-returns-clause-paid
+look_into-returns-clause-paid t c =
+    let view = c.args.desk.now.places.view in
+    let b = c.args.b in
+    let list = c.args.received.now in
+    let told = looked view c.args.desk.now.places.lattice b list c.region.result c.look_apart-told.result c.requires.lattice c.region.ensures c.look_apart-told.ensures.decision in
+    let open' = opened view b list c.n.result c.look_apart-told.result c.is_open.result (c.n.ensures ∙ c.requires.n) told c.is_open.ensures in
+    let same = handed view c.args.desk.now.places.lattice b list c.in_ok-live.live c.region.result c.look_apart-told.new.self c.requires.lattice c.region.ensures c.look_apart-told.ensures.choices c.in_ok-live.ensures.list in
+    halves-paid c.layers_hold.ensures view (visit b list) c.in_ok-live.live c.args.values.now c.look_into_halves.new.values c.args.tally.now c.look_apart-told.new.tally c.look_into_halves.new.tally c.requires.visit_is
+    (open' ∙ c.if-not-is_open.false) (sym c.is_long.ensures ∙ c.if-not-is_long.false) same c.look_apart-told.ensures.counted c.look_into_halves.ensures.paid
+
+pub look_into_halves-returns-in_err-look_into-clause-paid : goal.look_into_halves-returns-in_err-look_into-clause-paid
+look_into_halves-returns-in_err-look_into-clause-paid t c =
+    let view = c.args.desk.now.places.view in
+    let live = c.args.live.now in
+    let all = c.as_slice-half-items.ensures.value ∙ c.split-halves.ensures in
+    let halves = c.as_slice-half-items.result.now in
+    let same = ap (λ p. p.view) c.loop-half.invariant.kept.places in
+    subst (λ hs. PaysHalves (gridded view) live hs c.args.values.now c.look_into.new.values c.args.tally.now c.look_into.new.tally) all
+    (next-paid view c.loop-half.desk.places.view live c.half-item.result halves c.loop-half.half-index c.args.values.now c.loop-half.values c.look_into.new.values c.args.tally.now c.loop-half.tally c.look_into.new.tally
+    same c.loop-half-test.true c.half-item.is c.loop-half.invariant.paid c.in_err-look_into.ensures.paid)
+
+pub look_into_halves-returns-clause-worked : goal.look_into_halves-returns-clause-worked
+look_into_halves-returns-clause-worked t c =
+    let all = c.as_slice-half-items.ensures.value ∙ c.split-halves.ensures in
+    let halves = c.as_slice-half-items.result.now in
+    subst (λ hs. All (λ h. AreWorked (gridded c.args.desk.now.places.view) (visit h c.args.live.now) c.loop-half.values) hs) (take_all c.loop-half.half-index halves (omega (arith, c.loop-half-test.false)) ∙ all) c.loop-half.invariant.worked
+
+pub look_into_halves-returns-clause-paid : goal.look_into_halves-returns-clause-paid
+look_into_halves-returns-clause-paid t c =
+    let all = c.as_slice-half-items.ensures.value ∙ c.split-halves.ensures in
+    subst (λ hs. PaysHalves (gridded c.args.desk.now.places.view) c.args.live.now hs c.args.values.now c.loop-half.values c.args.tally.now c.loop-half.tally) all c.loop-half.invariant.paid

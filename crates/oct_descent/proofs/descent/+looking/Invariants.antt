@@ -2,9 +2,9 @@ use Rattle.std.proofs.Common.{◌+◌, ◌*◌, ℕ, take}
 use Rattle.std.specs.List.{All}
 use Rattle.box_chains.specs.Chains.{sides, visit}
 use Rattle.kuhn_cells.specs.Triangles.{GridPoint}
-use Rattle.oct_descent.specs.Desks.{KeepsDesk, halves_spans}
+use Rattle.oct_descent.specs.Desks.{KeepsDesk, PaysHalves, halves_spans}
 use Rattle.oct_descent.specs.GridValues.{grid_value}
-use Rattle.oct_descent.specs.Tables.{AreSettled, Charges, Grows, IsEnough}
+use Rattle.oct_descent.specs.Tables.{AreSettled, AreWorked, Charges, Grows, IsEnough}
 use Rattle.oct_descent.specs.Ways.{gridded}
 use Rattle.oct_descent.proofs.descent.+looking.Given as goal
 
@@ -22,4 +22,6 @@ invariant-look_into_halves-loop-half l = record {
   grows : Grows (grid_value l.fn.desk.places.view l.live) l.fn.b l.fn.values l.values;
   counted : (f : GridPoint → ℕ) → All (λ h. IsEnough f (gridded l.fn.desk.places.view) (visit h l.live)) l.half-items
       → Charges f (halves_spans (gridded l.fn.desk.places.view) l.live (take l.half-index l.half-items)) l.fn.values l.values l.fn.tally l.tally;
+  worked : All (λ h. AreWorked (gridded l.fn.desk.places.view) (visit h l.live) l.values) (take l.half-index l.half-items);
+  paid : PaysHalves (gridded l.fn.desk.places.view) l.live l.half-items l.fn.values l.values l.fn.tally l.tally;
 }

@@ -5,8 +5,8 @@ use Rattle.oct_descent.specs.GridValues.{grid_value}
 use Rattle.oct_descent.specs.Tables.{is_known, known_at}
 use Rattle.oct_descent.specs.Ways.{gridded}
 use Rattle.oct_descent.proofs.Corners.{all-known, short-one}
-use Rattle.oct_descent.proofs.Looks.{cell-charged, closed-settled, known-settled, look-charged}
-use Rattle.oct_descent.proofs.TableLaws.{charges-none}
+use Rattle.oct_descent.proofs.Looks.{cell-charged, cell-paid, closed-settled, closed-worked, known-settled, look-charged, look-paid, on_ok-then}
+use Rattle.oct_descent.proofs.TableLaws.{charges-none, known-worked, pays-none}
 use Rattle.oct_descent.proofs.descent.look_into_cell.Goals as goal
 
 pub returns-then-seen-clause-settled : goal.returns-then-seen-clause-settled
@@ -32,3 +32,30 @@ pub returns-clause-counted : goal.returns-clause-counted
 returns-clause-counted c =
     cell-charged c.layers_hold.ensures c.args.desk.now.places.view (visit c.args.b c.args.received.now) c.args.values.now c.fill_cell.new.values c.args.tally.now c.is_working.new.tally c.fill_cell.new.tally c.requires.may.visit_is
     (sym c.is_working.ensures.open ∙ c.if-not-is_working.false) c.requires.one c.is_working.ensures.counted c.fill_cell.ensures.counted
+
+pub returns-then-seen-clause-worked : goal.returns-then-seen-clause-worked
+returns-then-seen-clause-worked c =
+    let b = c.args.b in
+    known-worked (gridded c.args.desk.now.places.view) (visit b c.args.received.now) c.args.values.now
+    (all-known b c.args.values.now (short-one b c.requires.may.visit_is.box c.requires.one)
+    (λ k less. ap (λ i. is_known (known_at c.args.values.now (further (point i.x0 i.y0 i.z0) k))) (sym c.b.view_is) ∙ c.seen-seen.ensures.all c.if-seen.true k less))
+
+pub returns-then-seen-clause-paid : goal.returns-then-seen-clause-paid
+returns-then-seen-clause-paid c f due = pays-none f c.args.values.now c.args.tally.now
+
+pub returns-then-not-is_working-clause-worked : goal.returns-then-not-is_working-clause-worked
+returns-then-not-is_working-clause-worked c =
+    closed-worked c.args.desk.now.places.view (visit c.args.b c.args.received.now) c.args.values.now c.requires.may.visit_is (sym c.is_working.ensures.open ∙ c.if-not-is_working.true)
+
+pub returns-then-not-is_working-clause-paid : goal.returns-then-not-is_working-clause-paid
+returns-then-not-is_working-clause-paid c =
+    look-paid (gridded c.args.desk.now.places.view) (visit c.args.b c.args.received.now) c.args.values.now c.args.tally.now c.is_working.new.tally c.is_working.ensures.counted
+
+pub returns-clause-worked : goal.returns-clause-worked
+returns-clause-worked c =
+    on_ok-then c.fill_cell.result _ _ (known-worked (gridded c.args.desk.now.places.view) (visit c.args.b c.args.received.now) c.fill_cell.new.values) c.fill_cell.ensures.known
+
+pub returns-clause-paid : goal.returns-clause-paid
+returns-clause-paid c =
+    cell-paid c.args.desk.now.places.view (visit c.args.b c.args.received.now) c.args.values.now c.fill_cell.new.values c.args.tally.now c.is_working.new.tally c.fill_cell.new.tally c.requires.may.visit_is
+    (sym c.is_working.ensures.open ∙ c.if-not-is_working.false) c.requires.one c.is_working.ensures.counted c.fill_cell.ensures.paid

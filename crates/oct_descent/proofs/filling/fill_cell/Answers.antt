@@ -5,7 +5,7 @@ use Rattle.oct_descent.specs.GridValues.{grid_value}
 use Rattle.oct_descent.specs.Ways.{Covers}
 use Rattle.oct_descent.proofs.Bricks.{together-stays}
 use Rattle.oct_descent.proofs.Corners.{all-known, corner-wider, one-more_known, short-one}
-use Rattle.oct_descent.proofs.TableLaws.{charges-none, charges-then, grows-none, grows-then, grows-wider, stays-known}
+use Rattle.oct_descent.proofs.TableLaws.{charges-none, charges-then, grows-none, grows-then, grows-wider, pays-none, pays-then, stays-known}
 use Rattle.oct_descent.proofs.filling.fill_cell.Goals as goal
 
 pub loop-c-init : goal.loop-c-init
@@ -14,6 +14,7 @@ loop-c-init c = record {
   known = λ k less. absurd (omega (arith, less));
   grows = grows-none (grid_value c.args.desk.now.places.view c.args.list.now) c.args.b c.args.values.now;
   counted = λ f enough. charges-none f 0 c.args.values.now c.args.tally.now;
+  paid = λ f due. pays-none f c.args.values.now c.args.tally.now;
   together = c.together-first.ensures;
 }
 
@@ -39,6 +40,9 @@ loop-c-preserved c =
       counted = λ f enough.
           charges-then f 0 0 0 c.args.values.now c.loop-c.values c.fill_corner.new.values c.args.tally.now c.loop-c.tally c.fill_corner.new.tally (omega arith) (before.counted f enough)
           (after.counted f (λ q covers. enough q (wider q covers)));
+      paid = λ f due.
+          pays-then f c.args.values.now c.loop-c.values c.fill_corner.new.values c.args.tally.now c.loop-c.tally c.fill_corner.new.tally (before.paid f due)
+          (after.paid f (λ q covers. due q (wider q covers)));
       together = together-stays c.loop-c.values c.fill_corner.new.values (point i.x0 i.y0 i.z0) c.together-first.result c.in_ok-fill_corner.ensures.keeps before.together;
     }
 
@@ -57,6 +61,17 @@ returns-in_err-fill_corner-clause-counted c f enough =
     let one = short-one b c.requires.may.visit_is.box c.requires.one in
     charges-then f 0 0 0 c.args.values.now c.loop-c.values c.fill_corner.new.values c.args.tally.now c.loop-c.tally c.fill_corner.new.tally (omega arith) (c.loop-c.invariant.counted f enough)
     (c.in_err-fill_corner.ensures.counted f (λ q covers. enough q (corner-wider b n p q one at covers)))
+
+pub returns-in_err-fill_corner-clause-paid : goal.returns-in_err-fill_corner-clause-paid
+returns-in_err-fill_corner-clause-paid c f due =
+    let b = c.args.b in
+    let n = c.loop-c.c in
+    let i = c.b.inside in
+    let p = point (i.x0 + n % 2) (i.y0 + n / 2 % 2) (i.z0 + n / 4 % 2) in
+    let at : p ≡ further (point b.x0 b.y0 b.z0) n = ap (λ a. further (point a.x0 a.y0 a.z0) n) c.b.view_is in
+    let one = short-one b c.requires.may.visit_is.box c.requires.one in
+    pays-then f c.args.values.now c.loop-c.values c.fill_corner.new.values c.args.tally.now c.loop-c.tally c.fill_corner.new.tally (c.loop-c.invariant.paid f due)
+    (c.in_err-fill_corner.ensures.paid f (λ q covers. due q (corner-wider b n p q one at covers)))
 
 pub returns-in_err-fill_corner-clause-grows : goal.returns-in_err-fill_corner-clause-grows
 returns-in_err-fill_corner-clause-grows c =

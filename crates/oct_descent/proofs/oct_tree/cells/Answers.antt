@@ -1,7 +1,7 @@
 use Rattle.std.proofs.Common.{◌≤◌, ap, arith, subst, sym, ◌∙◌}
 use Rattle.box_chains.specs.TallyLaws.{most-none}
 use Rattle.oct_descent.specs.Trees.{IsTold}
-use Rattle.oct_descent.proofs.Whole.{whole-counted, whole-told}
+use Rattle.oct_descent.proofs.Whole.{whole-counted, whole-paid, whole-told}
 use Rattle.oct_descent.proofs.oct_tree.cells.Goals as goal
 
 pub returns-in_err-desk-clause-at_most : goal.returns-in_err-desk-clause-at_most
@@ -30,6 +30,13 @@ returns-clause-at_most c =
     let n = c.in_ok-values.ensures.n ∙ ap (λ v. v.n) c.view.view_is in
     whole-counted c.args.view.now c.in_ok-desk.desk.places.view c.args.list.now c.root.result c.in_ok-values.values c.look_into.new.values c.args.tally.now c.look_into.new.tally view c.root.ensures n c.in_ok-values.ensures.none
     c.in_ok-look_into.ensures.counted
+
+pub returns-clause-at_least : goal.returns-clause-at_least
+returns-clause-at_least c =
+    let view = ap (λ p. p.view) c.in_ok-desk.ensures.places in
+    let n = c.in_ok-values.ensures.n ∙ ap (λ v. v.n) c.view.view_is in
+    whole-paid c.args.view.now c.in_ok-desk.desk.places.view c.args.list.now c.root.result c.in_ok-values.values c.look_into.new.values c.args.tally.now c.look_into.new.tally view c.root.ensures n c.in_ok-values.ensures.none
+    c.in_ok-look_into.ensures.worked c.in_ok-look_into.ensures.paid
 
 pub invariant_of-result-2 : goal.invariant_of-result-2
 invariant_of-result-2 c =
