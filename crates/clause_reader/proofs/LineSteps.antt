@@ -1,13 +1,13 @@
 -- How the lines of a text are read one after the other.
-use Rattle.std.proofs.Common.{◌≡◌, ◌≢◌, ℕ, zero, suc, ◌+◌, List, [], ◌∷◌, ◌++◌, length, take, drop, Option, None, Some, Result, Ok, Err, IsOk, refl, ap, sym, subst, ◌∙◌, arith, append-nil}
+use Rattle.std.proofs.Common.{◌≡◌, ◌≢◌, ℕ, zero, suc, ◌+◌, ◌-◌, true, List, [], ◌∷◌, ◌++◌, length, take, drop, slice_index_or, Option, None, Some, Result, Ok, Err, IsOk, refl, ap, sym, subst, ◌∙◌, arith, append-nil}
 use Rattle.std.specs.Prelude.{MatchOption}
 use Rattle.std.specs.Option.{ok_or}
 use Rattle.std.proofs.lemmas.List.{take-append-drop}
 use Rattle.solid_model.specs.declared.clause.Clause.{Clause}
 use Rattle.clause_reader.specs.declared.text_reason.TextReason.{TextReason}
 use Rattle.clause_reader.specs.declared.text_reason.TextReason.TheVariants.{Empty, NoMemory}
-use Rattle.clause_reader.specs.Lines.{lines_of}
-use Rattle.clause_reader.specs.Reading.{on_result, line_read, lines_read, unless_empty, IsGoodUpTo, GivesModel}
+use Rattle.clause_reader.specs.Lines.{lines_of, tokens_of}
+use Rattle.clause_reader.specs.Reading.{is_clause, on_result, line_read, lines_read, unless_empty, IsGoodUpTo, GivesModel}
 
 -- lines are read one after the other
 lines_read-append : (xs ys : List (List ℕ)) (clauses : List Clause) (number : ℕ)
@@ -58,13 +58,26 @@ refused-line lines n line rest clauses reason e front read =
     let front_read : lines_read [] 1 (take (n + 1) lines) ≡ Err (record { line = n + 1; reason = reason }) = after-line lines n line rest clauses e front ∙ rw read refl in
     ap (lines_read [] 1) (sym (take-append-drop (n + 1) lines)) ∙ lines_read-append (take (n + 1) lines) (drop (n + 1) lines) [] 1 ∙ rw front_read refl
 
+-- what is first after some
+drop-first : {A : Type 0} (xs : List A) (n : ℕ) (y : A) (ys : List A) (other : A) → drop n xs ≡ y ∷ ys → slice_index_or xs n other ≡ y
+drop-first [] zero y ys other e = (cc)
+drop-first [] (suc n) y ys other e = (cc)
+drop-first (x ∷ xs) zero y ys other e = (cc)
+drop-first (x ∷ xs) (suc n) y ys other e = drop-first xs n y ys other e
+
 pub stop : (text : List ℕ) (n : ℕ) (line : List ℕ) (rest : List (List ℕ)) (clauses : List Clause) (reason : TextReason) → drop n (lines_of text) ≡ line ∷ rest
     → lines_read [] 1 (take n (lines_of text)) ≡ Ok clauses
     → (reason ≢ NoMemory → line_read clauses line ≡ Err reason) → (reason ≡ NoMemory → IsOk (line_read clauses line))
+    → is_clause (tokens_of line) ≡ true
     → GivesModel text (Err (record { line = n + 1; reason = reason }))
-stop text n line rest clauses reason e front refused no_memory = (
+stop text n line rest clauses reason e front refused no_memory says = (
   λ h. ap unless_empty (refused-line (lines_of text) n line rest clauses reason e front (refused h)),
-  λ h. good (line_read clauses line) (no_memory h) (after-line (lines_of text) n line rest clauses e front),
+  λ h. record {
+    numbered = omega arith;
+    says = let same : n + 1 - 1 ≡ n = omega arith in
+        rw same (ap (λ (found : List ℕ). is_clause (tokens_of found)) (drop-first (lines_of text) n line rest [] e) ∙ says);
+    good = good (line_read clauses line) (no_memory h) (after-line (lines_of text) n line rest clauses e front);
+  },
 )
   where
     good : (r : Result (List Clause) TextReason) → IsOk r

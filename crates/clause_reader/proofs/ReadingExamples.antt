@@ -1,5 +1,5 @@
 -- The definitions of reading, computed on texts that were worked out by hand: each reason once, and what is read.
-use Rattle.std.proofs.Common.{◌≡◌, pos, nat_le, List, [], ◌∷◌, ◌++◌, length, None, Ok, Err, true, false, refl}
+use Rattle.std.proofs.Common.{◌≡◌, ℕ, pos, nat_le, List, [], ◌∷◌, ◌++◌, length, None, Some, Ok, Err, true, false, refl, arith}
 use Rattle.std.specs.Prelude.{codes, negsuc}
 use Rattle.fixed_ops.specs.declared.operation.Op.TheVariants.{X, Const, Neg, Sub}
 use Rattle.fixed_ops.specs.Numerals.{is_unsigned_numeral, unsigned_raw, nearest_raw, cut_magnitude}
@@ -9,7 +9,7 @@ use Rattle.clause_reader.specs.declared.form_fault.FormFault.TheVariants.{BadNam
 use Rattle.clause_reader.specs.declared.text_reason.TextReason.TheVariants.{NoOperation, UnknownOperation, WrongArity, BadNumeral, UnknownName, DoubleName, TooMany, Empty}
 use Rattle.clause_reader.specs.Forms.{form_read}
 use Rattle.clause_reader.specs.Lines.{lines_of, tokens_of, line_of}
-use Rattle.clause_reader.specs.Reading.{clauses_with, clause_of, text_read}
+use Rattle.clause_reader.specs.Reading.{clauses_with, clause_of, text_read, MayWantMemory}
 
 -- blank lines and comments say nothing, names become places, and the last line may lack its line feed
 three_clauses : text_read (codes "# c\n\nx var-x\n r\tconst -1 \nd sub r x")
@@ -55,10 +55,32 @@ too_many : (clauses : List Clause) → place_of clauses (codes "q") ≡ None →
     → clauses_with clauses (codes "q" ∷ codes "var-x" ∷ []) ≡ Err TooMany
 too_many clauses new full = rw (new, full) refl
 
+-- a name that stands is told before that
+double_name_at_the_limit : (clauses : List Clause) → place_of clauses (codes "q") ≡ Some 3
+    → clauses_with clauses (codes "q" ∷ codes "var-x" ∷ []) ≡ Err DoubleName
+double_name_at_the_limit clauses stands = rw stands refl
+
 -- and below it such a line is read
 room_left : (clauses : List Clause) → place_of clauses (codes "q") ≡ None → nat_le 65535 (length clauses) ≡ false
     → clauses_with clauses (codes "q" ∷ codes "var-x" ∷ []) ≡ Ok (clauses ++ clause_of clauses (codes "q") X [] ∷ [])
 room_left clauses new room = rw (new, room) refl
+
+-- memory may be wanted on the line of a clause, and neither on a comment nor on line 0
+abbrev clause_after_a_comment : List ℕ
+clause_after_a_comment = codes "# c\nx var-x\ny var-x x\n"
+
+memory_on_a_clause : MayWantMemory clause_after_a_comment 2
+memory_on_a_clause = record { numbered = omega arith; says = refl; good = refl }
+
+no_memory_on_a_comment : MayWantMemory clause_after_a_comment 1 → ⊥
+no_memory_on_a_comment wants = let says : false ≡ true = wants.says in (cc)
+
+no_memory_on_line_0 : MayWantMemory (codes "x var-x\n") 0 → ⊥
+no_memory_on_line_0 wants = absurd (omega (arith, wants.numbered))
+
+-- nor on a line that is refused
+no_memory_on_a_refused_line : MayWantMemory clause_after_a_comment 3 → ⊥
+no_memory_on_a_refused_line wants = let good : false ≡ true = wants.good in (cc)
 
 bad_name : form_read (codes "neg" ∷ codes "#x" ∷ []) ≡ Err BadName
 bad_name = refl

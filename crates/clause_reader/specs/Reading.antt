@@ -1,5 +1,5 @@
 -- What a text says: a list of clauses, or the line on which it is refused and the reason.
-use Rattle.std.specs.Prelude.{◌≡◌, ◌≢◌, ℕ, ◌+◌, ◌==◌, Bool, false, not, nat_le, List, [], ◌∷◌, ◌++◌, length, take, Option, Some, None, is_some, is_none, slice_get, Result, Ok, Err, IsOk, if◌then◌else◌}
+use Rattle.std.specs.Prelude.{◌≡◌, ◌≢◌, ℕ, ◌+◌, ◌-◌, ◌<◌, ◌==◌, Bool, true, false, not, nat_le, List, [], ◌∷◌, ◌++◌, length, take, Option, Some, None, is_some, is_none, slice_get, slice_index_or, Result, Ok, Err, IsOk, if◌then◌else◌}
 use Rattle.std.specs.List.{list_any}
 use Rattle.std.specs.Option.{option_map_or}
 use Rattle.fixed_ops.specs.declared.operation.Op.{Op}
@@ -83,10 +83,16 @@ text_read text = unless_empty (lines_read [] 1 (lines_of text))
 abbrev pub IsGoodUpTo : List ℕ → ℕ → Type 0
 IsGoodUpTo text line = IsOk (lines_read [] 1 (take line (lines_of text)))
 
+-- memory may be wanted on the line of this number: it says a clause, and no line up to it is refused
+pub record MayWantMemory (text : List ℕ) (line : ℕ) : Type 0 where
+  pub numbered : 0 < line
+  pub says : is_clause (tokens_of (slice_index_or (lines_of text) (line - 1) [])) ≡ true
+  pub good : IsGoodUpTo text line
+
 -- what reading a text gives: the model that it says, or the very line and reason for which it is refused, or want of
--- memory on a line up to which no line is refused
+-- memory on a line that says a clause, up to which no line is refused
 abbrev pub GivesModel : List ℕ → Result (List Clause) TextFault → Type 0
 GivesModel text (Ok model) = text_read text ≡ Ok model
 GivesModel text (Err fault) =
     (fault.reason ≢ NoMemory → text_read text ≡ Err fault)
-    × (fault.reason ≡ NoMemory → IsGoodUpTo text fault.line)
+    × (fault.reason ≡ NoMemory → MayWantMemory text fault.line)

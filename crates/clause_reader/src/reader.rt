@@ -1,8 +1,8 @@
 // A model from a text.
-ghost use Rattle.std.specs.Prelude.{◌≡◌, ◌^◌, ◌<◌, ◌∷◌, Ok, is_none, length, IfOk, IfSome, OnOk};
+ghost use Rattle.std.specs.Prelude.{◌≡◌, ◌^◌, ◌<◌, ◌∷◌, Ok, true, is_none, length, IfErr, IfOk, IfSome, OnOk};
 ghost use Rattle.solid_model.specs.Names.{IsName};
 ghost use Rattle.clause_reader.specs.Lines.{line_of};
-ghost use Rattle.clause_reader.specs.Reading.{clauses_with, has_unknown, line_read, place_or_zero, GivesModel};
+ghost use Rattle.clause_reader.specs.Reading.{clauses_with, has_unknown, is_clause, line_read, place_or_zero, GivesModel};
 ghost use Rattle.clause_reader.specs.Scan.{after_line, line_tokens};
 ghost use Rattle.clause_reader.specs.Written.{extended, names_in, parts_in};
 ghost use Rattle.solid_model.specs.Parts.{IsForm};
@@ -20,7 +20,7 @@ use std::alloc::Global;
 /// line is a name, an operation and its arguments.
 ///
 /// An `Err` tells the first line that is refused and the first reason that holds in it, or
-/// `NoMemory` on a line up to which none is refused.
+/// `NoMemory` on a line that says a clause, up to which none is refused.
 pub fn read_model(alloc: Global, text: &[u8]) -> Result<Model, TextFault>
     requires { length text.now < 2 ^ 32 }
     ensures { GivesModel text.now result }
@@ -53,6 +53,7 @@ fn read_line<'t>(builder: &mut ModelBuilder, text: &'t [u8]) -> Result<&'t [u8],
     ensures rest { IfOk result (λ after. after.now ≡ after_line text.now) }
     ensures refused { RefusesAs (line_read builder.old (line_of text.now)) TextReason.NoMemory result }
     ensures no_memory { WantsMemoryFor (line_read builder.old (line_of text.now)) TextReason.NoMemory result }
+    ensures says { IfErr result (λ reason. is_clause (line_tokens text.now) ≡ true) }
 {
     match split_token(text) {
         None => Ok(after_line(text)),

@@ -26,6 +26,7 @@ returns-in-Err c =
     let some : 0 < length rest = omega (arith, eqb-false (length rest) 0 (sym c.is_empty.ensures ∙ c.loop-rest-test.true)) in
     stop c.args.text.now c.loop-rest.number (line_of rest) (lines_of (after_line rest)) c.loop-rest.builder c.in-Err.reason
     (c.loop-rest.invariant.behind ∙ lines_of-some rest some) c.loop-rest.invariant.front c.in-Err.ensures.refused c.in-Err.ensures.no_memory
+    c.in-Err.ensures.says
 
 pub returns : goal.returns
 returns c =
