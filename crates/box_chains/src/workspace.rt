@@ -1,5 +1,5 @@
 // Memory that looking at boxes needs.
-ghost use Rattle.std.specs.Prelude.{◌≡◌, ◌≤◌, length, take, IfOk};
+ghost use Rattle.std.specs.Prelude.{◌≡◌, ◌≤◌, drop, length, take, IfOk};
 ghost use Rattle.choice_trace.specs.Hulls.{choices_over, tape_hull};
 ghost use Rattle.interval_ops.specs.Decided.{decided_of};
 ghost use Rattle.interval_ops.specs.HullCounts.{CountsHulls};
@@ -58,6 +58,7 @@ impl Workspace {
         requires { length tape.now ≤ length self.old }
         ensures decision { result ≡ decided_of (tape_hull region tape.now) }
         ensures choices { take (length tape.now) self.new ≡ choices_over region tape.now }
+        ensures rest { drop (length tape.now) self.new ≡ drop (length tape.now) self.old }
         ensures room { length self.new ≡ length self.old }
         ensures counted { CountsHulls (length tape.now) tally.old tally.new }
     {
@@ -71,6 +72,7 @@ impl Workspace {
         requires { length tape.now ≤ length self.old }
         ensures decision { result ≡ decided_of (tape_hull region tape.now) }
         ensures choices { take (length tape.now) self.new ≡ choices_over region tape.now }
+        ensures rest { drop (length tape.now) self.new ≡ drop (length tape.now) self.old }
         ensures room { length self.new ≡ length self.old }
         ensures counted { CountsHulls (length tape.now) tally.old tally.new }
     {

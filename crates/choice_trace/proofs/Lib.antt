@@ -1,4 +1,5 @@
 mod Elements
+mod Examples
 mod HullLists
 mod StepHulls
 mod Traces

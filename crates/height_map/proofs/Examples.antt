@@ -2,7 +2,7 @@
 use Rattle.std.proofs.Common.{◌≡◌, ℕ, pos, negsuc, [], ◌∷◌, List, refl}
 use Rattle.box_chains.specs.Chains.{chain_within}
 use Rattle.box_chains.specs.Counts.{spans_in}
-use Rattle.fixed_ops.specs.declared.operation.Op.TheVariants.{X, Y, Z, Const}
+use Rattle.fixed_ops.specs.declared.operation.Op.TheVariants.{X, Y, Z, Const, Neg, Sub, Max}
 use Rattle.live_clauses.specs.declared.step.Step.{Step}
 use Rattle.view_settings.specs.Window.{Window}
 use Rattle.height_map.specs.Bound.{height_points, height_spans, points_where}
@@ -83,3 +83,29 @@ across_points = refl
 -- the coordinate y: the lower row alone is inside
 down_tops : tops_of (window 3 2 1) (record { op = Y; a = 0; b = 0; value = pos 0 } ∷ []) ≡ 0 ∷ 0 ∷ 0 ∷ 1 ∷ 1 ∷ 1 ∷ []
 down_tops = refl
+
+-- the greater of z and its opposite, less a half, but no less than -3: seven steps
+abbrev slab : List Step
+slab =
+    record { op = Z; a = 0; b = 0; value = pos 0 }
+    ∷ record { op = Neg; a = 0; b = 0; value = pos 0 }
+    ∷ record { op = Max; a = 0; b = 1; value = pos 0 }
+    ∷ record { op = Const; a = 0; b = 0; value = pos 2147483648 }
+    ∷ record { op = Sub; a = 2; b = 3; value = pos 0 }
+    ∷ record { op = Const; a = 0; b = 0; value = negsuc 12884901887 }
+    ∷ record { op = Max; a = 4; b = 5; value = pos 0 }
+    ∷ []
+
+-- sample 11 is the nearest one that is inside
+slab_tops : tops_of (window 1 1 16) slab ≡ 12 ∷ []
+slab_tops = refl
+
+-- five samples do not lie behind it, in the near half, where three steps are live
+slab_points : height_points (window 1 1 16) slab ≡ 15
+unfolding points_where chain_within
+slab_points = refl
+
+-- all boxes are the root, which receives the whole list, and its halves, which receive five steps
+slab_spans : height_spans (window 1 1 16) slab ≡ 17
+unfolding spans_in chain_within
+slab_spans = refl

@@ -1,0 +1,61 @@
+-- Hulls and choices, computed over regions that were worked out by hand.
+use Rattle.std.proofs.Common.{◌≡◌, ℤ, pos, negsuc, [], ◌∷◌, List, refl}
+use Rattle.fixed_ops.specs.declared.operation.Op.{Op}
+use Rattle.fixed_ops.specs.declared.operation.Op.TheVariants.{X, Y, Z, Const, Neg, Sub, Min, Max}
+use Rattle.interval_ops.specs.Hulls.{between}
+use Rattle.interval_ops.specs.declared.choice.Choice.TheVariants.{Left, Right, Both}
+use Rattle.interval_ops.specs.declared.region.Region.{Region}
+use Rattle.live_clauses.specs.declared.step.Step.{Step}
+use Rattle.choice_trace.specs.Hulls.{choices_over, tape_hull}
+
+-- x from one number to another, y from 2 to 3, and z from 5 to 7
+abbrev region : ℤ → ℤ → Region
+region low high = record {
+  x = between low high;
+  y = between (pos 8589934592) (pos 12884901888);
+  z = between (pos 21474836480) (pos 30064771072);
+}
+
+-- the greater of x and its opposite, less a half, but no less than -3
+abbrev slab : List Step
+slab =
+    record { op = X; a = 0; b = 0; value = pos 0 }
+    ∷ record { op = Neg; a = 0; b = 0; value = pos 0 }
+    ∷ record { op = Max; a = 0; b = 1; value = pos 0 }
+    ∷ record { op = Const; a = 0; b = 0; value = pos 2147483648 }
+    ∷ record { op = Sub; a = 2; b = 3; value = pos 0 }
+    ∷ record { op = Const; a = 0; b = 0; value = negsuc 12884901887 }
+    ∷ record { op = Max; a = 4; b = 5; value = pos 0 }
+    ∷ []
+
+-- from -1 to 1 only the last maximum is decided
+wide_choices : choices_over (region (negsuc 4294967295) (pos 4294967296)) slab ≡ Both ∷ Both ∷ Both ∷ Both ∷ Both ∷ Both ∷ Left ∷ []
+wide_choices = refl
+
+wide_hull : tape_hull (region (negsuc 4294967295) (pos 4294967296)) slab ≡ between (negsuc 6442450943) (pos 2147483648)
+wide_hull = refl
+
+-- from -1 to -1/4 the opposite of x is the greater
+left_choices : choices_over (region (negsuc 4294967295) (negsuc 1073741823)) slab ≡ Both ∷ Both ∷ Right ∷ Both ∷ Both ∷ Both ∷ Left ∷ []
+left_choices = refl
+
+left_hull : tape_hull (region (negsuc 4294967295) (negsuc 1073741823)) slab ≡ between (negsuc 1073741823) (pos 2147483648)
+left_hull = refl
+
+-- from 0 to 1 it is x, also where both are 0
+tie_choices : choices_over (region (pos 0) (pos 4294967296)) slab ≡ Both ∷ Both ∷ Left ∷ Both ∷ Both ∷ Both ∷ Left ∷ []
+tie_choices = refl
+
+-- the lesser of z and y is y
+abbrev lesser : List Step
+lesser =
+    record { op = Z; a = 0; b = 0; value = pos 0 }
+    ∷ record { op = Y; a = 0; b = 0; value = pos 0 }
+    ∷ record { op = Min; a = 0; b = 1; value = pos 0 }
+    ∷ []
+
+lesser_choices : choices_over (region (pos 0) (pos 1)) lesser ≡ Both ∷ Both ∷ Right ∷ []
+lesser_choices = refl
+
+lesser_hull : tape_hull (region (pos 0) (pos 1)) lesser ≡ between (pos 8589934592) (pos 12884901888)
+lesser_hull = refl
