@@ -1,5 +1,5 @@
 // Whole images.
-ghost use Rattle.std.specs.Prelude.{◌≡◌, ◌++◌, if◌then◌else◌, is_ok, IfOk};
+ghost use Rattle.std.specs.Prelude.{◌≡◌, ◌++◌, IfOk, OnErr, OnOk};
 ghost use Rattle.quad_descent.specs.Pixels.{pixels_of};
 
 use crate::{QuadTree, rows};
@@ -23,7 +23,8 @@ pub fn image(alloc: Global, tree: &QuadTree) -> Result<PixelGrid, AllocError>
 /// Puts the pixels of an image behind bytes that stand there already, as its header: there is no
 /// second copy of them. AllocError: there is no memory for them, and the bytes are as they were.
 pub fn push_pixels(tree: &QuadTree, bytes: &mut Vec<u8>) -> Result<(), AllocError>
-    ensures { bytes.new.items ≡ (if is_ok result then bytes.old.items ++ pixels_of tree.now.view tree.now.list else bytes.old.items) }
+    ensures ok { OnOk result (bytes.new.items ≡ bytes.old.items ++ pixels_of tree.now.view tree.now.list) }
+    ensures err { OnErr result (bytes.new.items ≡ bytes.old.items) }
 {
     let start = bytes.len();
     let count = tree.view.w as usize * tree.view.h as usize;
