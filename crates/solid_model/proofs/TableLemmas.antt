@@ -9,6 +9,7 @@ use Rattle.std.proofs.lemmas.List.Sums.{prefix_len-le-length}
 use Rattle.std.proofs.lemmas.Option.{slice_get_within}
 use Rattle.std.proofs.Math.Seq.{take-append_seam}
 use Rattle.std.specs.Str.{bytes_eq}
+use Rattle.std.specs.Global.{Vec}
 use Rattle.indexmap.specs.IndexMap.{move_index}
 use Rattle.fixed_ops.specs.Arity.{arity_of}
 use Rattle.solid_model.specs.declared.clause.Clause.{Clause}
@@ -23,16 +24,16 @@ use Rattle.solid_model.proofs.SurgeryLemmas.{name_there}
 use Rattle.solid_model.proofs.SurgeryModels.{names-moved}
 
 -- a name that the set lacks stands nowhere among the clauses
-pub absent : (clauses : List Clause) (names : List (List ℕ)) (key : List ℕ) → IsTable clauses names
-    → list_any (bytes_eq key) names ≡ false → place_of clauses key ≡ None
+pub absent : (clauses : List Clause) (names : List (Vec ℕ)) (key : List ℕ) → IsTable clauses names
+    → list_any (λ n. bytes_eq key n.items) names ≡ false → place_of clauses key ≡ None
 absent clauses names key table none =
-    sym (place_of-names clauses names key table.same) ∙ position-any _ names ∙ ap (λ b. cond b (Some (position_or_len (bytes_eq key) names)) None) none
+    sym (place_of-names clauses names key table.same) ∙ position-any _ names ∙ ap (λ b. cond b (Some (position_or_len (λ n. bytes_eq key n.items) names)) None) none
 
 -- and one that it has stands somewhere
-pub present : (clauses : List Clause) (names : List (List ℕ)) (key : List ℕ) → IsTable clauses names
-    → list_any (bytes_eq key) names ≡ true → is_some (place_of clauses key) ≡ true
+pub present : (clauses : List Clause) (names : List (Vec ℕ)) (key : List ℕ) → IsTable clauses names
+    → list_any (λ n. bytes_eq key n.items) names ≡ true → is_some (place_of clauses key) ≡ true
 present clauses names key table some =
-    ap is_some (sym (place_of-names clauses names key table.same) ∙ position-any _ names ∙ ap (λ b. cond b (Some (position_or_len (bytes_eq key) names)) None) some)
+    ap is_some (sym (place_of-names clauses names key table.same) ∙ position-any _ names ∙ ap (λ b. cond b (Some (position_or_len (λ n. bytes_eq key n.items) names)) None) some)
 
 pub no_push_fault : (clauses : List Clause) (name : List ℕ) → place_of clauses name ≡ None → length clauses < 65535 → push_fault clauses name ≡ None
 no_push_fault clauses name new room = let free : nat_le 65535 (length clauses) ≡ false = grind (arith, nat_tests) in rw (new, free) refl
@@ -88,10 +89,10 @@ pub moved-last : {A : Type 0} (xs : List A) (x : A) (at : ℕ) → move_index (x
 moved-last xs x at = rw (last-there xs x, removed-last xs x) refl
 
 -- a name that stands nowhere among the clauses is not in the set
-pub not_in_set : (clauses : List Clause) (names : List (List ℕ)) (key : List ℕ) → IsTable clauses names → place_of clauses key ≡ None
-    → list_any (bytes_eq key) names ≡ false
+pub not_in_set : (clauses : List Clause) (names : List (Vec ℕ)) (key : List ℕ) → IsTable clauses names → place_of clauses key ≡ None
+    → list_any (λ n. bytes_eq key n.items) names ≡ false
 not_in_set clauses names key table none =
-    list_any-no_position (bytes_eq key) names (place_of-names clauses names key table.same ∙ none)
+    list_any-no_position (λ (n : Vec ℕ). bytes_eq key n.items) names (place_of-names clauses names key table.same ∙ none)
 
 -- a test that passes nowhere has the length as its place
 pub place-nowhere : {A : Type 0} (p : A → Bool) (xs : List A) → list_any p xs ≡ false → position_or_len p xs ≡ length xs
@@ -101,12 +102,14 @@ place-nowhere p xs none =
     grind (arith, nat_tests)
 
 -- the clauses and the names with one more of each at a place
-pub IsTable-insert : (to : ℕ → ℕ) (clauses : List Clause) (names : List (List ℕ)) (at : ℕ) (clause : Clause) → IsTable clauses names
-    → at ≤ length clauses → length clauses < 65535 → IsTable (insert (map (moved to) clauses) at clause) (insert names at clause.name)
-IsTable-insert to clauses names at clause table within room = record {
+pub IsTable-insert : (to : ℕ → ℕ) (clauses : List Clause) (names : List (Vec ℕ)) (at : ℕ) (clause : Clause) (key : Vec ℕ) → IsTable clauses names
+    → at ≤ length clauses → length clauses < 65535 → key.items ≡ clause.name → IsTable (insert (map (moved to) clauses) at clause) (insert names at key)
+IsTable-insert to clauses names at clause key table within room named = record {
   few = omega (arith, room, length-insert (map (moved to) clauses) at clause (omega (arith, within, long)), long);
   same =
-      ap (λ ns. insert ns at clause.name) table.same
+      map-put (λ n. n.items) names at key
+      ∙ ap (λ ns. insert ns at key.items) table.same
+      ∙ ap (λ (n : List ℕ). insert (names_of clauses) at n) named
       ∙ sym (map-put (λ c. c.name) (map (moved to) clauses) at clause ∙ ap (λ ns. insert ns at clause.name) (names-moved to clauses));
 }
   where
@@ -114,12 +117,13 @@ IsTable-insert to clauses names at clause table within room = record {
     long = length-map clauses (moved to)
 
 -- and with one less
-pub IsTable-remove : (to : ℕ → ℕ) (clauses : List Clause) (names : List (List ℕ)) (at : ℕ) → IsTable clauses names → at < length clauses
+pub IsTable-remove : (to : ℕ → ℕ) (clauses : List Clause) (names : List (Vec ℕ)) (at : ℕ) → IsTable clauses names → at < length clauses
     → IsTable (remove (map (moved to) clauses) at) (remove names at)
 IsTable-remove to clauses names at table within = record {
   few = omega (arith, table.few, length-remove (map (moved to) clauses) at (omega (arith, within, long)), long);
   same =
-      ap (λ ns. remove ns at) table.same
+      map-cut (λ n. n.items) names at
+      ∙ ap (λ ns. remove ns at) table.same
       ∙ sym (map-cut (λ c. c.name) (map (moved to) clauses) at ∙ ap (λ ns. remove ns at) (names-moved to clauses));
 }
   where
@@ -127,7 +131,7 @@ IsTable-remove to clauses names at table within = record {
     long = length-map clauses (moved to)
 
 -- and with another clause of one name
-pub IsTable-set : (clauses : List Clause) (names : List (List ℕ)) (at : ℕ) (clause : Clause) → IsTable clauses names → place_of clauses clause.name ≡ Some at
+pub IsTable-set : (clauses : List Clause) (names : List (Vec ℕ)) (at : ℕ) (clause : Clause) → IsTable clauses names → place_of clauses clause.name ≡ Some at
     → IsTable (set clauses at clause) names
 IsTable-set clauses names at clause table there = record {
   few = omega (arith, table.few, length-set clauses at clause);

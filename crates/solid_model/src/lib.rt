@@ -8,7 +8,6 @@ mod laws;
 mod model;
 mod model_builder;
 mod name;
-mod name_key;
 mod push_fault;
 mod table;
 

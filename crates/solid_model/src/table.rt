@@ -23,7 +23,7 @@ const MOST: usize = 65_535;
 pub(crate) struct Table {
     alloc: Global,
     clauses: Vec<Clause>,
-    names: IndexSet<Name>,
+    names: IndexSet<Vec<u8>>,
 }
 
 impl Model for Table {
@@ -208,7 +208,7 @@ impl Table {
         if self.clauses.len() >= MOST {
             return Err(self.refusal(name));
         }
-        let Ok(key) = Name::copied(self.alloc, name) else {
+        let Ok(key) = Vec::from_slice(self.alloc, name) else {
             return Err(self.refusal(name));
         };
         if self.clauses.reserve(1).is_err() {
@@ -247,7 +247,7 @@ impl Table {
         ensures ok { OnOk result (self.new ≡ insert (map (moved (up at)) self.old) at clause) }
         ensures err { OnErr result (self.new ≡ self.old) }
     {
-        let key = Name::copied(self.alloc, clause.name.bytes())?;
+        let key = Vec::from_slice(self.alloc, clause.name.bytes())?;
         self.clauses.reserve(1)?;
         self.names.shift_insert(at as usize, key)?;
         raise(&mut self.clauses, at);

@@ -28,17 +28,17 @@ pub invariant_of-self-2 : goal.invariant_of-self-2
 invariant_of-self-2 c =
     let clauses = c.self.inside.clauses.items in
     let names = c.self.inside.names.keys in
-    let name = c.args.clause.name in
-    let named : c.in_ok-key.key ≡ name = grind (arith, common_steps) in
-    let new : place_of clauses name ≡ None = rw c.self.view_is c.requires.new in
-    let absent = not_in_set clauses names name c.self.invariant new in
-    let last = place-nowhere (bytes_eq name) names absent in
-    let keys : c.shift_insert.new.self.keys ≡ move_index (insert_key bytes_eq names name) (position_or_len (bytes_eq name) names) c.args.at = grind (arith, common_steps) in
-    let at_end : c.shift_insert.new.self.keys ≡ move_index (names ++ name ∷ []) (length names) c.args.at = rw (absent, last) at keys in
+    let key = c.in_ok-key.key in
+    let named : key.items ≡ c.args.clause.name = grind (arith, common_steps) in
+    let new : place_of clauses key.items ≡ None = rw (named, c.self.view_is) c.requires.new in
+    let absent = not_in_set clauses names key.items c.self.invariant new in
+    let last = place-nowhere (λ n. bytes_eq key.items n.items) names absent in
+    let keys : c.shift_insert.new.self.keys ≡ move_index (insert_key (λ a b. bytes_eq a.items b.items) names key) (position_or_len (λ n. bytes_eq key.items n.items) names) c.args.at = grind (arith, common_steps) in
+    let at_end : c.shift_insert.new.self.keys ≡ move_index (names ++ key ∷ []) (length names) c.args.at = rw (absent, last) at keys in
     let within : c.args.at < length clauses = rw c.self.view_is c.requires.within in
     let room : length clauses < 65535 = rw c.self.view_is c.requires.room in
-    rw (the_clauses c, at_end, moved-last names name c.args.at)
-    (IsTable-insert (up c.args.at) clauses names c.args.at c.args.clause c.self.invariant (omega (arith, within)) room)
+    rw (the_clauses c, at_end, moved-last names key c.args.at)
+    (IsTable-insert (up c.args.at) clauses names c.args.at c.args.clause key c.self.invariant (omega (arith, within)) room named)
 
 pub returns-clause-ok : goal.returns-clause-ok
 returns-clause-ok c = the_clauses c ∙ ap (λ cs. insert (map (moved (up c.args.at)) cs) c.args.at c.args.clause) c.self.view_is

@@ -6,10 +6,10 @@ use Rattle.solid_model.proofs.table.Table.position.Goals as goal
 
 pub returns-in_err-at : goal.returns-in_err-at
 returns-in_err-at c =
-    let same_place = place_of-names c.self.inside.clauses.items c.self.inside.names.keys c.args.name.now c.self.invariant.same in
+    let same_place = place_of-names _ _ c.args.name.now c.self.invariant.same in
     rw (← c.self.view_is, ← same_place) (search (rules))
 
 pub returns : goal.returns
 returns c =
-    let same_place = place_of-names c.self.inside.clauses.items c.self.inside.names.keys c.args.name.now c.self.invariant.same in
+    let same_place = place_of-names _ _ c.args.name.now c.self.invariant.same in
     grind (arith, common_steps, same_place, c.self.view_is)
