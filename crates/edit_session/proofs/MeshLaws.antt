@@ -1,5 +1,5 @@
 -- The mesh of a grid may be written, and that of a solid is the one of its root list.
-use Rattle.std.proofs.Common.{◌≡◌, ℕ, zero, suc, ◌+◌, ◌-◌, ◌*◌, ◌/◌, ◌^◌, ◌<◌, ◌≤◌, Bool, true, false, List, [], ◌∷◌, length, get_or, map, refl, subst, arith, mul-le-mul, if◌then◌else◌}
+use Rattle.std.proofs.Common.{◌≡◌, ℕ, zero, suc, Ok, Err, sym, ◌+◌, ◌-◌, ◌*◌, ◌/◌, ◌^◌, ◌<◌, ◌≤◌, Bool, true, false, List, [], ◌∷◌, length, get_or, map, refl, subst, arith, mul-le-mul, if◌then◌else◌}
 use Rattle.std.specs.Prelude.{ℤ, ◌==◌, ◌&&◌, nat_le, unsigned_abs, All, IfOk, Result, cond, filter, flat_map, max, min}
 use Rattle.std.specs.List.{range_with_len}
 use Rattle.std.proofs.lemmas.Bool.{and_parts, leb-true}
@@ -157,12 +157,17 @@ pub mesh_same : {E : Type 0} (r : Result Triangulation E) (view : Window) (claus
     → IfOk r (λ mesh. mesh ≡ mesh_of (grid_of view (λ p. solid_value p clauses)))
 mesh_same r view clauses list same = subst (λ g. IfOk r (λ mesh. mesh ≡ mesh_of g)) (grid_same view clauses list same)
 
--- and so are the bytes of such a mesh
-pub text_same : {T E : Type 0} (r : Result T E) (items : T → List ℕ) (view : Window) (clauses : List Clause) (mesh : Triangulation)
-    → mesh ≡ mesh_of (grid_of view (λ p. solid_value p clauses)) → IfOk r (λ text. items text ≡ ply_of view mesh.vertices mesh.faces)
-    → IfOk r (λ text. items text ≡ mesh_text view clauses)
+-- what holds of a mesh holds of each one that is the same
+pub of_mesh : {E : Type 0} (r : Result Triangulation E) (whole : Triangulation) (P : Triangulation → Type 0)
+    → IfOk r (λ mesh. mesh ≡ whole) → P whole → IfOk r P
+of_mesh (Ok mesh) whole P same holds = subst P (sym same) holds
+of_mesh (Err why) whole P same holds = same
+
+-- the text of the mesh of a solid is that which is asked for
+pub solid_text : (view : Window) (clauses : List Clause)
+    → let mesh = mesh_of (grid_of view (λ p. solid_value p clauses)) in ply_of view mesh.vertices mesh.faces ≡ mesh_text view clauses
 unfolding mesh_text
-text_same r items view clauses mesh same = subst (λ m. IfOk r (λ text. items text ≡ ply_of view m.vertices m.faces)) same
+solid_text view clauses = refl
 
 -- the mesh of a view's grid may be written
 pub solid_placed : (view : Window) (value : Point → ℤ) → VerticesAreMixedEdges → All (IsPlaced view) (mesh_of (grid_of view value)).vertices

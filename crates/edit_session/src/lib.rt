@@ -7,7 +7,7 @@ mod mesh;
 mod session;
 
 pub use draw::draw_tree;
-pub use mesh::mesh_texts_are_sound;
+pub use mesh::{mesh_texts_are_sound, solid_mesh};
 pub use session::Session;
 
 #[cfg(test)]

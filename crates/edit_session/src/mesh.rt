@@ -1,11 +1,13 @@
 // The mesh of a solid over a view.
-ghost use Rattle.std.specs.Prelude.{◌≡◌, length, IfOk};
+ghost use Rattle.std.specs.Prelude.{◌≡◌, ◌<◌, ◌^◌, length, All, IfOk};
 ghost use Rattle.box_chains.specs.Tallied.{CountsAtMost};
 ghost use Rattle.kuhn_cells.specs.Lists.{ListsCells};
 ghost use Rattle.live_clauses.specs.Steps.{tape_value};
 ghost use Rattle.oct_descent.specs.Bound.{mesh_points, mesh_spans};
+ghost use Rattle.ply_writer.specs.Ply.{ply_of};
 ghost use Rattle.solid_model.specs.Values.{solid_value};
 ghost use Rattle.tetra_mesh.specs.Cuts.{mesh_of};
+ghost use Rattle.tetra_mesh.specs.Places.{IsPlaced};
 ghost use Rattle.view_settings.specs.Window.{FitsMesh};
 ghost use Rattle.edit_session.specs.Meshes.{grid_of, mesh_text, plain_grid};
 ghost use Rattle.edit_session.specs.SoundTexts.{MeshTextsAreSound};
@@ -35,14 +37,14 @@ pub(crate) fn mesh(
     ensures at_most { CountsWithin tally.old tally.new (mesh_work view.now model.now) }
     ensures plain { PointsRiseAtMost tally.old tally.new (plain_grid view.now (length model.now)) }
 {
-    vertices_are_mixed_edges();
-    window_holds(view);
     let mesh = solid_mesh(alloc, model, view, tally)?;
     ply_text(alloc, &mesh, view)
 }
 
-// The mesh of a model over a view. The list of its cells is given up before it is handed on.
-fn solid_mesh(
+/// The mesh of a model over a view, whose text is the one that a session gives. No more work is
+/// counted than that of the boxes that are looked into and of the corners of working cells.
+/// AllocError: memory was refused, after some of that work perhaps.
+pub fn solid_mesh(
     alloc: Global,
     model: &Model,
     view: &View,
@@ -51,13 +53,20 @@ fn solid_mesh(
     requires { FitsMesh view.now }
     ensures mesh { IfOk result (λ mesh.
         mesh ≡ mesh_of (grid_of view.now (λ p. solid_value p model.now))) }
+    ensures text { IfOk result (λ mesh.
+        ply_of view.now mesh.vertices mesh.faces ≡ mesh_text view.now model.now) }
+    ensures placed { IfOk result (λ mesh. All (IsPlaced view.now) mesh.vertices) }
+    ensures vertices { IfOk result (λ mesh. length mesh.vertices < 2 ^ 31) }
+    ensures faces { IfOk result (λ mesh. length mesh.faces < 2 ^ 31) }
     ensures at_most { CountsWithin tally.old tally.new (mesh_work view.now model.now) }
     ensures plain { PointsRiseAtMost tally.old tally.new (plain_grid view.now (length model.now)) }
 {
     grid_work_is_bounded();
+    vertices_are_mixed_edges();
     window_holds(view);
     let list = root_tape(alloc, model)?;
     let cells = mixed_cells(alloc, &list, view, tally)?;
+    // The list of cells is given up before the mesh is handed on.
     build(alloc, &cells, view)
 }
 

@@ -15,7 +15,8 @@ asked words = by (job_of words)
     by (Ok job) = Ok job
     by (Err fault) = Err (Words fault)
 
--- the words ask for no script, of which each part is written as it is made
+-- the words ask for no script, of which each part is written before the next one is made: all work
+-- is done, and all memory is taken, before the first byte is written
 abbrev pub WritesAtOnce : List (List ℕ) → Type 0
 WritesAtOnce words = asked words ≢ Ok Replay
 

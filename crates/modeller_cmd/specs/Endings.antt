@@ -46,8 +46,8 @@ IsRefusal WriteFault = ⊥
 IsRefusal NoMemory = ⊥
 IsRefusal status = ⊤
 
--- The statuses under which nothing was written. Want of memory is one of them where all the bytes
--- were made before the first was written.
+-- The statuses under which nothing was written. Want of memory is one of them where all memory is
+-- taken before the first byte is written.
 abbrev pub IsUnwritten : List (List ℕ) → Status → Type 0
 IsUnwritten words Done = ⊥
 IsUnwritten words WriteFault = ⊥

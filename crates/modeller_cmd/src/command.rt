@@ -6,6 +6,7 @@ ghost use Rattle.modeller_io.specs.Count.{last_count, RoseBy, Stands};
 ghost use Rattle.modeller_io.specs.Held.{Gains, GainsPrefix, Grew};
 ghost use Rattle.modeller_io.specs.Took.{LosesAtMost};
 ghost use Rattle.view_settings.specs.Settings.{IsJob};
+ghost use Rattle.view_settings.specs.Window.{Window};
 ghost use Rattle.view_settings.specs.Words.{bytes_of};
 ghost use Rattle.modeller_cmd.specs.Endings.{CountsForSome, Ends, GainsParts, IsAnswer, IsRead, IsRefusal, IsServeStop, IsTold, IsUnwritten, IsWorkStop, IsWorked, Makes, NoFault, ReadsWhole, TakesLine, Tells, status_after};
 ghost use Rattle.modeller_cmd.specs.Notes.{line_of};
@@ -21,6 +22,7 @@ use crate::Status;
 use crate::asking::read_job;
 use crate::count::count;
 use crate::forge::forge;
+use crate::mesh::serve_mesh;
 use crate::note::note_of;
 use crate::replay::replay;
 use crate::stop::Stop;
@@ -240,8 +242,8 @@ fn read_input<S: Source>(alloc: Global, job: &Job, source: &mut S) -> Result<Vec
     }
 }
 
-// Does a job on an input, and writes what it makes: of a script as soon as it is made, and else
-// when all of it is.
+// Does a job on an input, and writes what it makes: of a script each part as soon as it is made, of
+// a mesh its text piece by piece, and else all bytes when the last is made.
 fn serve<K: Sink>(
     alloc: Global,
     job: &Job,
@@ -272,6 +274,7 @@ fn serve<K: Sink>(
 {
     match job {
         Job::Replay => replay(alloc, input, out, tally),
+        Job::Mesh(view) => serve_mesh(alloc, view, input, out, tally),
         _ => serve_at_once(alloc, job, input, out, tally),
     }
 }
@@ -285,6 +288,7 @@ fn serve_at_once<K: Sink>(
     tally: &mut Tally,
 ) -> Result<(), Stop>
     requires at_once { job.now ≢ Job.Replay }
+    requires whole { (view : Window) → job.now ≢ Job.Mesh view }
     requires keeps { IsJob job.now }
     requires limit { length input.now ≤ input_limit }
     ensures ends { Ends (made job.now input.now) result }
@@ -306,9 +310,10 @@ fn serve_at_once<K: Sink>(
     Ok(write_all(out, &bytes)?)
 }
 
-// What a job makes, of an input where it reads one.
+// What a job makes whole before any of it is written, of an input where it reads one.
 fn work(alloc: Global, job: &Job, input: &[u8], tally: &mut Tally) -> Result<Vec<u8>, Stop>
     requires at_once { job.now ≢ Job.Replay }
+    requires whole { (view : Window) → job.now ≢ Job.Mesh view }
     requires keeps { IsJob job.now }
     requires limit { length input.now ≤ input_limit }
     ensures bytes { IfOk result (λ bytes.
@@ -334,6 +339,7 @@ fn work(alloc: Global, job: &Job, input: &[u8], tally: &mut Tally) -> Result<Vec
 // What a job makes of the model that it reads: the table of the verbs that read one.
 fn work_on_input(alloc: Global, job: &Job, input: &[u8], tally: &mut Tally) -> Result<Vec<u8>, Stop>
     requires at_once { job.now ≢ Job.Replay }
+    requires whole { (view : Window) → job.now ≢ Job.Mesh view }
     requires reads { reads_nothing job.now ≡ false }
     requires keeps { IsJob job.now }
     requires limit { length input.now ≤ input_limit }
@@ -355,9 +361,8 @@ fn work_on_input(alloc: Global, job: &Job, input: &[u8], tally: &mut Tally) -> R
     match job {
         Job::Render(view) => Ok(Session::start(alloc, model).render(view, tally)?),
         Job::Height(view) => Ok(Session::start(alloc, model).height(view, tally)?),
-        Job::Mesh(view) => Ok(Session::start(alloc, model).mesh(view, tally)?),
         Job::Count(view) => Ok(count(alloc, &model, view, tally)?),
         Job::Text => Ok(write_model(alloc, &model)?),
-        Job::Replay | Job::Forge(_) => unreachable!(),
+        Job::Mesh(_) | Job::Replay | Job::Forge(_) => unreachable!(),
     }
 }

@@ -1,7 +1,7 @@
 use Rattle.std.proofs.Common.{subst, sym}
 use Rattle.edit_session.specs.Work.{CountsWithin, CountsWork, PointsRiseAtMost, frame_work}
 use Rattle.edit_session.specs.WorkLaws.{within-exactly, within-none, work-none}
-use Rattle.modeller_cmd.proofs.Outcomes.{count_work, height_bounded, height_bytes, height_work_of, image_bytes, mesh_bounded, mesh_bytes, mesh_work_of, render_work, text_work}
+use Rattle.modeller_cmd.proofs.Outcomes.{count_work, height_bounded, height_bytes, height_work_of, image_bytes, render_work, text_work}
 use Rattle.modeller_cmd.proofs.command.work_on_input.Goals as goal
 
 pub returns-in_err-model-clause-at_most : goal.returns-in_err-model-clause-at_most
@@ -74,39 +74,6 @@ returns-in_err-height-in-Height-clause-plain c =
     subst (λ w. PointsRiseAtMost c.args.tally.now c.height.new.tally w.plain)
     (sym (height_work_of c.args.job.now c.in-Height.view c.args.input.now c.in_ok-model.model c.start-in-Height.result c.in-Height.is c.requires.limit c.in_ok-model.ensures c.start-in-Height.ensures))
     c.in_err-height-in-Height.ensures.plain
-
-pub returns-in_ok-mesh-in-Mesh-clause-bytes : goal.returns-in_ok-mesh-in-Mesh-clause-bytes
-returns-in_ok-mesh-in-Mesh-clause-bytes c =
-    mesh_bytes c.args.job.now c.in-Mesh.view c.args.input.now c.in_ok-model.model c.start-in-Mesh.result c.in_ok-mesh-in-Mesh.field-0.items c.in-Mesh.is
-    c.requires.limit c.in_ok-model.ensures c.start-in-Mesh.ensures c.in_ok-mesh-in-Mesh.ensures.mesh
-
-pub returns-in_ok-mesh-in-Mesh-clause-counted : goal.returns-in_ok-mesh-in-Mesh-clause-counted
-returns-in_ok-mesh-in-Mesh-clause-counted c = λ exact.
-    absurd (mesh_bounded c.args.job.now c.in-Mesh.view c.args.input.now c.in_ok-model.model c.in-Mesh.is c.requires.limit c.in_ok-model.ensures exact)
-
-pub returns-in_ok-mesh-in-Mesh-clause-at_most : goal.returns-in_ok-mesh-in-Mesh-clause-at_most
-returns-in_ok-mesh-in-Mesh-clause-at_most c =
-    subst (CountsWithin c.args.tally.now c.mesh.new.tally)
-    (sym (mesh_work_of c.args.job.now c.in-Mesh.view c.args.input.now c.in_ok-model.model c.start-in-Mesh.result c.in-Mesh.is c.requires.limit c.in_ok-model.ensures c.start-in-Mesh.ensures))
-    c.in_ok-mesh-in-Mesh.ensures.at_most
-
-pub returns-in_ok-mesh-in-Mesh-clause-plain : goal.returns-in_ok-mesh-in-Mesh-clause-plain
-returns-in_ok-mesh-in-Mesh-clause-plain c =
-    subst (λ w. PointsRiseAtMost c.args.tally.now c.mesh.new.tally w.plain)
-    (sym (mesh_work_of c.args.job.now c.in-Mesh.view c.args.input.now c.in_ok-model.model c.start-in-Mesh.result c.in-Mesh.is c.requires.limit c.in_ok-model.ensures c.start-in-Mesh.ensures))
-    c.in_ok-mesh-in-Mesh.ensures.plain
-
-pub returns-in_err-mesh-in-Mesh-clause-at_most : goal.returns-in_err-mesh-in-Mesh-clause-at_most
-returns-in_err-mesh-in-Mesh-clause-at_most c =
-    subst (CountsWithin c.args.tally.now c.mesh.new.tally)
-    (sym (mesh_work_of c.args.job.now c.in-Mesh.view c.args.input.now c.in_ok-model.model c.start-in-Mesh.result c.in-Mesh.is c.requires.limit c.in_ok-model.ensures c.start-in-Mesh.ensures))
-    c.in_err-mesh-in-Mesh.ensures.at_most
-
-pub returns-in_err-mesh-in-Mesh-clause-plain : goal.returns-in_err-mesh-in-Mesh-clause-plain
-returns-in_err-mesh-in-Mesh-clause-plain c =
-    subst (λ w. PointsRiseAtMost c.args.tally.now c.mesh.new.tally w.plain)
-    (sym (mesh_work_of c.args.job.now c.in-Mesh.view c.args.input.now c.in_ok-model.model c.start-in-Mesh.result c.in-Mesh.is c.requires.limit c.in_ok-model.ensures c.start-in-Mesh.ensures))
-    c.in_err-mesh-in-Mesh.ensures.plain
 
 pub returns-in_ok-count-in-Count-clause-at_most : goal.returns-in_ok-count-in-Count-clause-at_most
 returns-in_ok-count-in-Count-clause-at_most c =
