@@ -1,13 +1,14 @@
 -- The mesh of the grid of which the middle point alone is inside is closed, has one fan of faces at each vertex, and
--- faces out. A mesh with a face turned, one with a face missing, and two cones that share a tip are refused.
-use Rattle.std.proofs.Common.{◌≡◌, ℕ, ◌≤◌, ℤ, pos, negsuc, Bool, true, false, List, [], ◌∷◌, ◌++◌, length, refl, arith, sym, subst, ◌∙◌, inl, inr}
+-- faces out, and paths to its inside pass its vertices. Refused are a mesh with a face turned, one with a face missing, a
+-- flat face, two cones that share a tip, a triangle with two sides, and a vertex with no face.
+use Rattle.std.proofs.Common.{◌≡◌, ℕ, ◌<◌, ◌≤◌, ℤ, pos, negsuc, Bool, true, false, List, [], ◌∷◌, ◌++◌, length, refl, arith, sym, subst, ◌∙◌, inl, inr}
 use Rattle.std.specs.Prelude.{◌==◌, ◌&&◌, ◌||◌, ◌⊎◌, ◌≤ℤ◌, ◌<ℤ◌, int_le, int_lt, nat_lt, not, get_or, All, Contains, replicate}
 use Rattle.std.specs.Bool.{Decides}
 use Rattle.std.specs.List.{list_all, range_with_len}
 use Rattle.std.proofs.lemmas.Bool.Decides.{Decides-and, Decides-by_and, Decides-eqb, Decides-like, Decides-not, not_from_Decides}
 use Rattle.kuhn_cells.specs.Arrangement.{arranged, differ}
 use Rattle.kuhn_cells.specs.Faces.{Face, all_triangles, faces}
-use Rattle.kuhn_cells.specs.Grids.{Grid, value_at, vertices}
+use Rattle.kuhn_cells.specs.Grids.{Grid, edges, value_at, vertices}
 use Rattle.kuhn_cells.specs.Triangles.{GridPoint, point}
 use Rattle.kuhn_cells.specs.Vectors.{determinant_at}
 use Rattle.kuhn_cells.specs.declared.edge_key.EdgeKey.{EdgeKey}
@@ -16,13 +17,13 @@ use Rattle.mesh_laws.specs.Closed.{IsClosed, IsTriangle, directed_edges, occurre
 use Rattle.mesh_laws.specs.Frames.{IsFramed, IsOuter}
 use Rattle.mesh_laws.specs.Manifold.{HasFan, IsManifold, arcs, arcs_on, cycle_arcs}
 use Rattle.mesh_laws.specs.Places.{inner_end, lattice_place, point_place}
-use Rattle.mesh_laws.specs.Separating.{FacesOut}
+use Rattle.mesh_laws.specs.Separating.{FacesOut, IsPath, passed}
 use Rattle.mesh_laws.proofs.FanLaws.{counted, cycle_sources, occurs}
 use Rattle.mesh_laws.proofs.Owners.{found}
 use Rattle.mesh_laws.proofs.Rings.{cycle_of, follow, is_fan}
 use Rattle.std.proofs.lemmas.Bool.{agree_below, agree_below_at, and_parts, eqb-true, leb-true, not-true, or_cases, true≢false}
 use Rattle.std.proofs.lemmas.Int.{ints}
-use Rattle.std.proofs.lemmas.List.Elements.{All-cons, All-contains, All-head, All-nil, All-tail, All-weaker, Contains-get_or}
+use Rattle.std.proofs.lemmas.List.Elements.{All-cons, All-contains, All-head, All-map, All-nil, All-tail, All-weaker, Contains-get_or}
 use Rattle.std.proofs.lemmas.List.Sums.{AllPass-from_list_all}
 
 -- ---- a test of closed meshes
@@ -87,6 +88,22 @@ open_is_not_closed : IsClosed (first_missing (faces middle_inside)) → ⊥
 unfolding first_missing is_closed is_triangle faces all_triangles vertices arranged
 open_is_not_closed = not_from_Decides (is_closed (first_missing (faces middle_inside))) (closed_decides (first_missing (faces middle_inside))) refl
 
+abbrev face : ℕ → ℕ → ℕ → Face
+face a b c = record { a = a; b = b; c = c }
+
+-- a face two of whose vertices are one, although each of its directed edges has its partner
+flat_at_first_is_not_closed : IsClosed (face 0 0 1 ∷ []) → ⊥
+unfolding is_closed is_triangle
+flat_at_first_is_not_closed = not_from_Decides (is_closed (face 0 0 1 ∷ [])) (closed_decides (face 0 0 1 ∷ [])) refl
+
+flat_at_second_is_not_closed : IsClosed (face 0 1 1 ∷ []) → ⊥
+unfolding is_closed is_triangle
+flat_at_second_is_not_closed = not_from_Decides (is_closed (face 0 1 1 ∷ [])) (closed_decides (face 0 1 1 ∷ [])) refl
+
+flat_at_third_is_not_closed : IsClosed (face 0 1 0 ∷ []) → ⊥
+unfolding is_closed is_triangle
+flat_at_third_is_not_closed = not_from_Decides (is_closed (face 0 1 0 ∷ [])) (closed_decides (face 0 1 0 ∷ [])) refl
+
 -- ---- it is framed
 
 at_most : (a b : ℤ) → int_le a b ≡ true → a ≤ℤ b
@@ -141,9 +158,6 @@ middle_has_fans : list_all (λ u. is_fan (arcs (faces middle_inside) u)) (range_
 unfolding is_fan cycle_of follow found faces all_triangles vertices arranged
 middle_has_fans = refl
 
-abbrev face : ℕ → ℕ → ℕ → Face
-face a b c = record { a = a; b = b; c = c }
-
 -- two tetrahedra that share the vertex 0 and nothing else
 two_cones : List Face
 two_cones = face 0 1 2 ∷ face 0 2 3 ∷ face 0 3 1 ∷ face 1 3 2 ∷ face 0 4 5 ∷ face 0 5 6 ∷ face 0 6 4 ∷ face 4 6 5 ∷ []
@@ -195,6 +209,72 @@ cones_have_no_fan fan =
 cones_are_no_manifold : IsManifold 7 two_cones → ⊥
 cones_are_no_manifold h = cones_have_no_fan (h 0 (omega arith))
 
+-- one triangle and the same turned, whose fans have two faces
+two_sides : List Face
+two_sides = face 0 1 2 ∷ face 0 2 1 ∷ []
+
+sides_are_closed : IsClosed two_sides
+unfolding is_closed is_triangle two_sides
+sides_are_closed = (closed_decides two_sides).0 refl
+
+abbrev is_end : ℕ → Bool
+is_end v = v == 1 || v == 2
+
+ends_on : (fan : HasFan two_sides 0) → All (λ v. is_end v ≡ true) fan.cycle
+unfolding two_sides
+ends_on fan =
+    let c = fan.cycle in
+    let exact = fan.exact in
+    let es = arcs two_sides 0 in
+    let kept : All (λ (a : ℕ × ℕ). is_end a.0 ≡ true) es = AllPass-from_list_all (λ (a : ℕ × ℕ). is_end a.0) es refl in
+    let round : All (λ (a : ℕ × ℕ). is_end a.0 ≡ true) (cycle_arcs c) = λ k d within.
+    let a = get_or (cycle_arcs c) k d in
+    All-contains (λ (a : ℕ × ℕ). is_end a.0 ≡ true) es a kept (occurs es a.0 a.1 (subst (λ (n : ℕ). 1 ≤ n) (sym (exact a.0 a.1)) (counted (cycle_arcs c) a.0 a.1 (Contains-get_or (cycle_arcs c) k d within)))) in
+    subst (λ (xs : List ℕ). All (λ v. is_end v ≡ true) xs) (cycle_sources c) (All-map (λ v. is_end v ≡ true) (λ (a : ℕ × ℕ). a.0) (cycle_arcs c) round)
+
+one_end : (v : ℕ) → is_end v ≡ true → (v ≡ 1) ⊎ (v ≡ 2)
+one_end v h = by (or_cases _ _ h)
+  where
+    by : ((v == 1) ≡ true) ⊎ ((v == 2) ≡ true) → (v ≡ 1) ⊎ (v ≡ 2)
+    by (inl e) = inl (eqb-true v 1 e)
+    by (inr e) = inr (eqb-true v 2 e)
+
+no_three_ends : (x y z : ℕ) → (x ≡ y → ⊥) → (y ≡ z → ⊥) → (x ≡ z → ⊥) → (x ≡ 1) ⊎ (x ≡ 2) → (y ≡ 1) ⊎ (y ≡ 2) → (z ≡ 1) ⊎ (z ≡ 2) → ⊥
+no_three_ends x y z xy yz xz (inl a) (inl b) c = xy (a ∙ sym b)
+no_three_ends x y z xy yz xz (inl a) (inr b) (inl c) = xz (a ∙ sym c)
+no_three_ends x y z xy yz xz (inl a) (inr b) (inr c) = yz (b ∙ sym c)
+no_three_ends x y z xy yz xz (inr a) (inr b) c = xy (a ∙ sym b)
+no_three_ends x y z xy yz xz (inr a) (inl b) (inl c) = yz (b ∙ sym c)
+no_three_ends x y z xy yz xz (inr a) (inl b) (inr c) = xz (a ∙ sym c)
+
+sides_have_no_fan : HasFan two_sides 0 → ⊥
+sides_have_no_fan fan =
+    let c = fan.cycle in
+    let long = fan.long in
+    let at = λ (k : ℕ). get_or c k 0 in
+    let is = λ (k : ℕ) (few : k < 3). one_end (at k) (ends_on fan k 0 (omega (arith, long, few))) in
+    no_three_ends (at 0) (at 1) (at 2) (fan.differ 0 1 0 (omega arith) (omega (arith, long))) (fan.differ 1 2 0 (omega arith) (omega (arith, long))) (fan.differ 0 2 0 (omega arith) (omega (arith, long))) (is 0 (omega arith)) (is 1 (omega arith)) (is 2 (omega arith))
+
+sides_are_no_manifold : IsManifold 3 two_sides → ⊥
+sides_are_no_manifold h = sides_have_no_fan (h 0 (omega arith))
+
+-- a tetrahedron beside a vertex that has no face, which is the last
+beside_last : List Face
+beside_last = face 0 1 2 ∷ face 0 2 3 ∷ face 0 3 1 ∷ face 1 3 2 ∷ []
+
+no_cycle : (c : List ℕ) → 3 ≤ length c → ((v w : ℕ) → 0 ≡ occurrences (cycle_arcs c) v w) → ⊥
+no_cycle [] long none = omega (arith, long)
+no_cycle (v ∷ []) long none = omega (arith, long)
+no_cycle (v ∷ w ∷ ws) long none =
+    let one = counted (cycle_arcs (v ∷ w ∷ ws)) v w (Contains-get_or (cycle_arcs (v ∷ w ∷ ws)) 0 (v, w) (omega arith)) in
+    omega (arith, one, none v w)
+
+last_has_no_fan : IsManifold 5 beside_last → ⊥
+unfolding beside_last
+last_has_no_fan h =
+    let fan = h 4 (omega arith) in
+    no_cycle fan.cycle fan.long fan.exact
+
 -- ---- its faces have the inside ends behind them
 
 abbrev nowhere : EdgeKey
@@ -219,3 +299,42 @@ not_below a h k = omega (arith, ints, h, k)
 turned_faces_in : All (FacesOut middle_inside (vertices middle_inside)) (first_turned (faces middle_inside)) → ⊥
 unfolding first_turned faces all_triangles vertices arranged
 turned_faces_in h = not_below _ refl (h 0 (face 0 0 0) (omega arith) nowhere).at_a
+
+-- ---- paths pass its vertices
+
+edge : ℕ → ℕ → ℕ → ℕ → EdgeKey
+edge x y z dir = record { x = x; y = y; z = z; dir = dir }
+
+edges_counted : length (edges middle_inside) ≡ 98
+edges_counted = refl
+
+-- up to the middle point and down again elsewhere
+there : List EdgeKey
+there = edge 0 0 0 7 ∷ []
+
+there_and_back : List EdgeKey
+there_and_back = edge 0 0 0 7 ∷ edge 1 0 1 2 ∷ []
+
+up : Contains (edges middle_inside) (edge 0 0 0 7)
+unfolding edge
+up = Contains-get_or (edges middle_inside) 6 nowhere (omega (arith, edges_counted))
+
+down : Contains (edges middle_inside) (edge 1 0 1 2)
+unfolding edge
+down = Contains-get_or (edges middle_inside) 49 nowhere (omega (arith, edges_counted))
+
+path_there : IsPath middle_inside (point 0 0 0) there (point 1 1 1)
+unfolding there edge
+path_there = (up, inl (refl, refl))
+
+path_there_and_back : IsPath middle_inside (point 0 0 0) there_and_back (point 1 0 1)
+unfolding there_and_back edge
+path_there_and_back = (up, inl (refl, (down, inr (refl, refl))))
+
+passed_once : passed (vertices middle_inside) there ≡ 1
+unfolding there edge vertices
+passed_once = refl
+
+passed_twice : passed (vertices middle_inside) there_and_back ≡ 2
+unfolding there_and_back edge vertices
+passed_twice = refl

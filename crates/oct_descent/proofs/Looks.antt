@@ -241,7 +241,7 @@ handed-settled laws view v live t is same settled =
     settled-same (grid_value view live) (grid_value view v.list) v.box t
     (λ s p lies covers. ap (λ l. grid_value view l p) same ∙ handed-grid_value laws view v p is (corner-covered v.box s p lies covers)) settled
 
--- a cell of a half of a box that is split is a working one of the half exactly if it is one of the box
+-- the way to a cell of a half of a box that is split ends as that from the half on
 half-works : (laws : Lawful) (view : Window) (v : Visit) (live : List Step) (half : Indices) (s : Sample) → IsVisit (gridded view) v → is_cut (gridded view) v ≡ true → live ≡ handed_on (gridded view) v
     → Contains (halves_of 1 v.box) half → LiesIn half s → way_end (gridded view) v s ≡ way_end (gridded view) (visit half live) s
 half-works laws view v live half s is cut same among lies =

@@ -62,7 +62,7 @@ least [] = 0
 least (n ∷ []) = n
 least (n ∷ m ∷ ns) = min n (least (m ∷ ns))
 
--- the same lengths, of the working cells alone
+-- the lengths of the lists that those working cells receive that have a point as a corner, and none for another cell
 abbrev pub working_lengths : Window → List Step → GridPoint → List ℕ
 working_lengths view list p =
     over_block view.n view.n view.n (λ cell. if has_corner cell p && is_working (gridded view) (whole view list) (sample_of cell) then length (way_end (gridded view) (whole view list) (sample_of cell)).list ∷ [] else [])
