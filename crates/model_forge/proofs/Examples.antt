@@ -3,7 +3,8 @@ use Rattle.std.proofs.Common.{◌≡◌, pos, [], ◌∷◌, take, drop, refl}
 use Rattle.std.specs.Prelude.{codes, negsuc}
 use Rattle.std.specs.Fmt.{digits}
 use Rattle.fixed_ops.specs.declared.operation.Op.TheVariants.{X, Y, Neg, Square, Add, Sub, Min, Max}
-use Rattle.model_forge.specs.Discs.{centre_of, radius_of}
+use Rattle.model_forge.specs.declared.disc.Role.TheVariants.{Solid, Hole}
+use Rattle.model_forge.specs.Discs.{centre_of, radius_of, role_of}
 use Rattle.model_forge.specs.Forged.{constant, forged, of_disc, says}
 use Rattle.model_forge.specs.Stream.{drawn}
 
@@ -12,6 +13,9 @@ first_draw = refl
 
 least_centre : centre_of 131072 ≡ negsuc 4294967295
 least_centre = refl
+
+greatest_centre : centre_of 131071 ≡ pos 4294901760
+greatest_centre = refl
 
 greatest_radius : radius_of 4095 ≡ pos 268435456
 greatest_radius = refl
@@ -23,6 +27,13 @@ second_draw_of_seven = refl
 -- after the greatest radius comes the least
 least_radius : radius_of 4096 ≡ pos 65536
 least_radius = refl
+
+-- one number of four makes a hole
+fourth_number : role_of 12 ≡ Hole
+fourth_number = refl
+
+second_number : role_of 10 ≡ Solid
+second_number = refl
 
 -- a disc alone
 stands_alone : forged 0 1
