@@ -1,12 +1,19 @@
--- Places, computed on views that were worked out by hand.
-use Rattle.std.proofs.Common.{◌≡◌, ℕ, pos, negsuc, [], ◌∷◌, refl}
+-- Places, computed on views that were worked out by hand, and which settings verbs take.
+use Rattle.std.proofs.Common.{◌≡◌, ℕ, pos, negsuc, [], ◌∷◌, None, Some, Ok, Err, true, false, refl}
+use Rattle.std.specs.Prelude.{codes}
 use Rattle.view_settings.specs.declared.lattice.Axis.TheVariants as axes
 use Rattle.view_settings.specs.declared.lattice.Lattice.TheVariants.{Raster, Height, Grid}
-use Rattle.view_settings.specs.declared.name.Name.TheVariants.{W, H, D, N}
+use Rattle.view_settings.specs.declared.kind.Kind.TheVariants as kinds
+use Rattle.view_settings.specs.declared.name.Name.TheVariants.{Y0, Z0, Z1, Z, W, H, D, N, Solids}
 use Rattle.view_settings.specs.declared.setting.Value.TheVariants.{Count}
+use Rattle.view_settings.specs.declared.verb.Verb.TheVariants.{Render, Count as Counts, Height as Heights, Mesh, Forge}
+use Rattle.view_settings.specs.declared.word_fault.WordReason.TheVariants.{OutOfRange}
+use Rattle.view_settings.specs.Kinds.{kind_of}
+use Rattle.view_settings.specs.Names.{name_called}
 use Rattle.view_settings.specs.Places.{place_of, raster_point}
+use Rattle.view_settings.specs.Setting.{value_read}
 use Rattle.view_settings.specs.Settings.{window_of}
-use Rattle.view_settings.specs.Window.{Window}
+use Rattle.view_settings.specs.Window.{Window, fits_mesh, has_room}
 
 -- from -1 to 1, with this count along each axis
 abbrev counted : ℕ → Window
@@ -32,3 +39,72 @@ lone_sample = refl
 
 last_sample : raster_point (counted 2) 1 1 ≡ record { x = pos 4294967296; y = negsuc 4294967295; z = pos 0 }
 last_sample = refl
+
+-- a mesh needs room along each axis
+room_everywhere : fits_mesh (counted 4) ≡ true
+unfolding has_room
+room_everywhere = refl
+
+no_room_along_x : fits_mesh (record (counted 4) { x0 = pos 5; x1 = pos 5 }) ≡ false
+unfolding has_room
+no_room_along_x = refl
+
+no_room_along_y : fits_mesh (record (counted 4) { y0 = pos 5; y1 = pos 5 }) ≡ false
+unfolding has_room
+no_room_along_y = refl
+
+no_room_along_z : fits_mesh (record (counted 4) { z0 = pos 5; z1 = pos 5 }) ≡ false
+unfolding has_room
+no_room_along_z = refl
+
+-- the ends of a range of counts belong to it
+least_count : value_read (kinds.Count 1 1024) (codes "1") ≡ Ok (Count 1)
+least_count = refl
+
+greatest_count : value_read (kinds.Count 1 1024) (codes "1024") ≡ Ok (Count 1024)
+greatest_count = refl
+
+count_too_large : value_read (kinds.Count 1 1024) (codes "1025") ≡ Err OutOfRange
+count_too_large = refl
+
+-- the ranges
+layers_of_a_height_map : kind_of Heights D ≡ Some (kinds.Count 1 1024)
+layers_of_a_height_map = refl
+
+rows_of_a_height_map : kind_of Heights H ≡ Some (kinds.Count 1 1024)
+rows_of_a_height_map = refl
+
+columns_of_counts : kind_of Counts W ≡ Some (kinds.Count 1 4096)
+columns_of_counts = refl
+
+cells_of_a_mesh : kind_of Mesh N ≡ Some (kinds.Count 1 256)
+cells_of_a_mesh = refl
+
+discs : kind_of Forge Solids ≡ Some (kinds.Count 1 5000)
+discs = refl
+
+-- a verb that draws an image has a height and no span along z; the others the other way round
+image_of_discs_has_a_height : kind_of Forge Z ≡ Some kinds.Numeral
+image_of_discs_has_a_height = refl
+
+image_has_no_span_along_z : kind_of Forge Z1 ≡ None
+image_has_no_span_along_z = refl
+
+height_map_has_no_height : kind_of Heights Z ≡ None
+height_map_has_no_height = refl
+
+mesh_has_a_span_along_z : kind_of Mesh Z0 ≡ Some kinds.Numeral
+mesh_has_a_span_along_z = refl
+
+mesh_has_no_columns : kind_of Mesh W ≡ None
+mesh_has_no_columns = refl
+
+image_has_no_cells : kind_of Render N ≡ None
+image_has_no_cells = refl
+
+-- ends that are called much alike
+lower_end_of_y : name_called (codes "y0") ≡ Some Y0
+lower_end_of_y = refl
+
+lower_end_of_z : name_called (codes "z0") ≡ Some Z0
+lower_end_of_z = refl
