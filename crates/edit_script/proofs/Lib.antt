@@ -1,4 +1,5 @@
 pub mod CommandLemmas
+mod Examples
 pub mod KeywordLemmas
 pub mod LineStarts
 pub mod MarkLemmas
