@@ -84,7 +84,8 @@ impl Workspace {
     pub fn hand_on(&mut self, alloc: Global, tape: &Tape) -> Result<Tape, AllocError>
         requires room { length tape.now ≤ length self.old }
         requires choices { AreChoices tape.now (take (length tape.now) self.old) }
-        ensures list { IfOk result (λ list. list ≡ live_of tape.now (take (length tape.now) self.old)) }
+        ensures list { IfOk result (λ list. list ≡ live_of tape.now
+            (take (length tape.now) self.old)) }
         ensures shorter { IfOk result (λ list. length list ≤ length tape.now) }
         ensures same { self.new ≡ self.old }
     {

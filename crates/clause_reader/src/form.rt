@@ -35,7 +35,8 @@ fn make_form(alloc: Global, form: WrittenForm<'_>) -> Result<Form, FormFault>
     requires { IsForm (parts_in form) }
     ensures ok { IfOk result (λ made. checked (Ok (parts_in form.entry)) ≡ Ok made) }
     ensures fault { RefusesAs (checked (Ok (parts_in form.entry))) FormFault.NoMemory result }
-    ensures no_memory { WantsMemoryFor (checked (Ok (parts_in form.entry))) FormFault.NoMemory result }
+    ensures no_memory { WantsMemoryFor (checked (Ok (parts_in form.entry))) FormFault.NoMemory
+        result }
 {
     if has_comment(form.operands) {
         return Err(FormFault::BadName);

@@ -51,8 +51,10 @@ pub fn read_model(alloc: Global, text: &[u8]) -> Result<Model, TextFault>
 fn read_line<'t>(builder: &mut ModelBuilder, text: &'t [u8]) -> Result<&'t [u8], TextReason>
     ensures ok { OnOk result (line_read builder.old (line_of text.now) ≡ Ok builder.new) }
     ensures rest { IfOk result (λ after. after.now ≡ after_line text.now) }
-    ensures refused { RefusesAs (line_read builder.old (line_of text.now)) TextReason.NoMemory result }
-    ensures no_memory { WantsMemoryFor (line_read builder.old (line_of text.now)) TextReason.NoMemory result }
+    ensures refused { RefusesAs (line_read builder.old (line_of text.now)) TextReason.NoMemory
+        result }
+    ensures no_memory { WantsMemoryFor (line_read builder.old (line_of text.now))
+        TextReason.NoMemory result }
     ensures says { IfErr result (λ reason. is_clause (line_tokens text.now) ≡ true) }
 {
     match split_token(text) {
@@ -70,7 +72,8 @@ fn read_clause<'t>(
     text: &'t [u8],
 ) -> Result<&'t [u8], TextReason>
     requires { IsName name.now }
-    ensures ok { OnOk result (clauses_with builder.old (name.now ∷ line_tokens text.now) ≡ Ok builder.new) }
+    ensures ok { OnOk result (clauses_with builder.old (name.now ∷ line_tokens text.now) ≡ Ok
+        builder.new) }
     ensures rest { IfOk result (λ after. after.now ≡ after_line text.now) }
     ensures refused { RefusesAs (clauses_with builder.old (name.now ∷ line_tokens text.now))
         TextReason.NoMemory result }
@@ -94,7 +97,8 @@ fn push_form(
 ) -> Result<(), TextReason>
     requires name { IsName name.now }
     requires form { IsForm (parts_in form) }
-    ensures ok { OnOk result (extended builder.old name.now (Ok (parts_in form.entry)) ≡ Ok builder.new) }
+    ensures ok { OnOk result (extended builder.old name.now (Ok (parts_in form.entry)) ≡ Ok
+        builder.new) }
     ensures refused { RefusesAs (extended builder.old name.now (Ok (parts_in form.entry)))
         TextReason.NoMemory result }
     ensures no_memory { WantsMemoryFor (extended builder.old name.now (Ok (parts_in form.entry)))
@@ -115,8 +119,10 @@ fn push_form(
 // them names no clause.
 fn places(builder: &ModelBuilder, operands: Operands<'_>) -> Option<(u32, u32)>
     ensures known { is_none result ≡ has_unknown builder.now (names_in operands.entry) }
-    ensures first { IfSome result (λ places. places.0 ≡ place_or_zero builder.now (names_in operands.entry) 0) }
-    ensures second { IfSome result (λ places. places.1 ≡ place_or_zero builder.now (names_in operands.entry) 1) }
+    ensures first { IfSome result
+        (λ places. places.0 ≡ place_or_zero builder.now (names_in operands.entry) 0) }
+    ensures second { IfSome result
+        (λ places. places.1 ≡ place_or_zero builder.now (names_in operands.entry) 1) }
     ensures first_before { IfSome result (λ places. 0 < length (names_in operands.entry)
         → places.0 < length builder.now) }
     ensures second_before { IfSome result (λ places. 1 < length (names_in operands.entry)

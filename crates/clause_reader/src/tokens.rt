@@ -30,7 +30,8 @@ pub(crate) fn split_token(text: &[u8]) -> Option<(&[u8], &[u8])>
     ensures tokens { MatchOption result (line_tokens text.now ≡ [])
         (λ parts. line_tokens text.now ≡ parts.0.now ∷ line_tokens parts.1.now) }
     ensures line { IfSome result (λ parts. after_line parts.1.now ≡ after_line text.now) }
-    ensures run { IfSome result (λ parts. SplitsRun (parts.0.now ++ parts.1.now) parts.0.now parts.1.now) }
+    ensures run { IfSome result (λ parts. SplitsRun (parts.0.now ++ parts.1.now) parts.0.now
+        parts.1.now) }
     ensures some { IfSome result (λ parts. 0 < length parts.0.now) }
 {
     let start = skip_blanks(text);

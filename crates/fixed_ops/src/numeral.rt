@@ -57,7 +57,8 @@ fn signed_value(token: &[u8]) -> Option<i64>
 
 // The raw number of a numeral without a sign, and None where the text is none.
 fn read_unsigned(text: &[u8]) -> Option<i64>
-    ensures value { result ≡ (if is_unsigned_numeral text.now then Some (pos (unsigned_raw text.now)) else None) }
+    ensures value { result ≡ (if is_unsigned_numeral text.now then Some
+        (pos (unsigned_raw text.now)) else None) }
     ensures raw { IfSome result IsRaw }
 {
     let (whole, rest) = text.split_at(digit_count(text));
@@ -93,7 +94,8 @@ fn split_fraction(text: &[u8]) -> (&[u8], &[u8])
 
 // The exponent that the text spells, 0 where it is empty, and None where it spells none.
 fn read_exponent(text: &[u8]) -> Option<i32>
-    ensures value { result ≡ (if is_exponent text.now then Some (signed_digits_value 10 (drop 1 text.now)) else None) }
+    ensures value { result ≡ (if is_exponent text.now then Some
+        (signed_digits_value 10 (drop 1 text.now)) else None) }
     ensures size { IfSome result (λ e. unsigned_abs e < 1000) }
 {
     match text {
@@ -112,7 +114,8 @@ fn read_exponent(text: &[u8]) -> Option<i32>
 
 // The number that one to three digits spell, and None where the text is something else.
 fn short_number(text: &[u8]) -> Option<i32>
-    ensures value { result ≡ (if is_short text.now then Some (pos (digits_value 10 text.now)) else None) }
+    ensures value { result ≡ (if is_short text.now then Some (pos (digits_value 10 text.now))
+        else None) }
     ensures size { IfSome result (λ n. unsigned_abs n < 1000) }
 {
     if is_short_run(text) {

@@ -7,7 +7,8 @@ use view_settings::IndexBox;
 /// Whether each column of a box has a top. A row of the map has w columns.
 pub fn is_covered(w: u32, b: IndexBox, tops: &[u16]) -> bool
     requires { IsAmong w (length tops.now) b }
-    ensures { (p : ℕ) → result ≡ true → p < length tops.now → covers w b p ≡ true → 0 < get_or tops.now p 0 }
+    ensures { (p : ℕ) → result ≡ true → p < length tops.now → covers w b p ≡ true → 0 < get_or
+        tops.now p 0 }
 {
     for j in b.y0..b.y1 {
         if !is_row_covered(w, b, j, tops) {
@@ -50,7 +51,8 @@ fn lift_row(w: u32, b: IndexBox, j: u32, tops: &mut [u16])
     requires among { IsAmong w (length tops.old) b }
     requires row { j < b.y1 }
     requires high { b.z1 ≤ 1024 }
-    ensures { Changes (covers w (record b { y0 = j; y1 = j + 1 })) (λ p. lifted b.z1) tops.old tops.new }
+    ensures { Changes (covers w (record b { y0 = j; y1 = j + 1 })) (λ p. lifted b.z1) tops.old
+        tops.new }
 {
     let start = j as usize * w as usize;
     for i in b.x0..b.x1 {

@@ -33,10 +33,15 @@ pub fn draw_box(
     tally: &mut Tally,
 ) -> Result<(), AllocError>
     requires { MayDraw desk.old b received.now (length tops.old) }
-    ensures tops { OnOk result (Changes (covers desk.old.w b) (leaf_top desk.old.places.view received.now b) tops.old tops.new) }
-    ensures at_most { CountsAtMost (points_where (is_open desk.old.places.view received.now b tops.old) (layered desk.old.places.view) (visit b received.now))
+    ensures tops { OnOk result (Changes (covers desk.old.w b)
+        (leaf_top desk.old.places.view received.now b) tops.old tops.new) }
+    ensures at_most { CountsAtMost
+        (points_where (is_open desk.old.places.view received.now b tops.old)
+        (layered desk.old.places.view) (visit b received.now))
         (spans_in (layered desk.old.places.view) (visit b received.now)) tally.old tally.new }
-    ensures points { OnOk result (CountsPoints (points_where (is_open desk.old.places.view received.now b tops.old) (layered desk.old.places.view) (visit b received.now))
+    ensures points { OnOk result
+        (CountsPoints (points_where (is_open desk.old.places.view received.now b tops.old)
+        (layered desk.old.places.view) (visit b received.now))
         tally.old tally.new) }
     ensures kept { KeepsDesk desk.old desk.new }
 {
@@ -68,10 +73,15 @@ fn draw_undecided(
     tally: &mut Tally,
 ) -> Result<(), AllocError>
     requires { MayDraw desk.old b live.now (length tops.old) }
-    ensures tops { OnOk result (Changes (covers desk.old.w b) (leaf_top desk.old.places.view live.now b) tops.old tops.new) }
-    ensures at_most { CountsAtMost (open_points (is_open desk.old.places.view live.now b tops.old) (layered desk.old.places.view) b live.now)
+    ensures tops { OnOk result (Changes (covers desk.old.w b)
+        (leaf_top desk.old.places.view live.now b) tops.old tops.new) }
+    ensures at_most { CountsAtMost
+        (open_points (is_open desk.old.places.view live.now b tops.old)
+        (layered desk.old.places.view) b live.now)
         (open_spans (layered desk.old.places.view) b live.now) tally.old tally.new }
-    ensures points { OnOk result (CountsPoints (open_points (is_open desk.old.places.view live.now b tops.old) (layered desk.old.places.view) b live.now)
+    ensures points { OnOk result
+        (CountsPoints (open_points (is_open desk.old.places.view live.now b tops.old)
+        (layered desk.old.places.view) b live.now)
         tally.old tally.new) }
     ensures kept { KeepsDesk desk.old desk.new }
 {
@@ -95,10 +105,15 @@ fn draw_halves(
 ) -> Result<(), AllocError>
     requires may { MayDraw desk.old b live.now (length tops.old) }
     requires long { IsTrue (is_long_for 8 b) }
-    ensures tops { OnOk result (Changes (covers desk.old.w b) (leaf_top desk.old.places.view live.now b) tops.old tops.new) }
-    ensures at_most { CountsAtMost (halves_points (is_open desk.old.places.view live.now b tops.old) (layered desk.old.places.view) live.now (halves_of 8 b))
+    ensures tops { OnOk result (Changes (covers desk.old.w b)
+        (leaf_top desk.old.places.view live.now b) tops.old tops.new) }
+    ensures at_most { CountsAtMost
+        (halves_points (is_open desk.old.places.view live.now b tops.old)
+        (layered desk.old.places.view) live.now (halves_of 8 b))
         (halves_spans (layered desk.old.places.view) live.now (halves_of 8 b)) tally.old tally.new }
-    ensures points { OnOk result (CountsPoints (halves_points (is_open desk.old.places.view live.now b tops.old) (layered desk.old.places.view) live.now (halves_of 8 b))
+    ensures points { OnOk result
+        (CountsPoints (halves_points (is_open desk.old.places.view live.now b tops.old)
+        (layered desk.old.places.view) live.now (halves_of 8 b))
         tally.old tally.new) }
     ensures kept { KeepsDesk desk.old desk.new }
 {

@@ -26,7 +26,8 @@ pub fn draw_leaf(
     requires leaf { IsLeafOf places.now w b (length tops.old) }
     requires room { length list.now ≤ length values.old }
     ensures tops { Changes (covers w b) (leaf_top places.now.view list.now b) tops.old tops.new }
-    ensures counted { RisesBy tally.old tally.new (points_of (sum_in b (leaf_cost places.now.view list.now b tops.old))) }
+    ensures counted { RisesBy tally.old tally.new
+        (points_of (sum_in b (leaf_cost places.now.view list.now b tops.old))) }
 {
     for j in b.y0..b.y1 {
         draw_row(places, w, b, j, list, values, tops, tally);
@@ -48,7 +49,8 @@ fn draw_row(
     requires above { b.y0 ≤ j }
     requires below { j < b.y1 }
     requires room { length list.now ≤ length values.old }
-    ensures tops { Changes (covers w (record b { y0 = j; y1 = j + 1 })) (leaf_top places.now.view list.now b) tops.old tops.new }
+    ensures tops { Changes (covers w (record b { y0 = j; y1 = j + 1 }))
+        (leaf_top places.now.view list.now b) tops.old tops.new }
     ensures counted { RisesBy tally.old tally.new
         (points_of (sum_in (record b { y0 = j; y1 = j + 1 }) (leaf_cost places.now.view list.now b tops.old))) }
 {

@@ -47,9 +47,12 @@ pub fn heights(
     tally: &mut Tally,
 ) -> Result<TopMap, AllocError>
     requires { FitsHeight view.now }
-    ensures map { IfOk result (λ map. map ≡ record { w = view.now.w; h = view.now.h; d = view.now.d; tops = tops_of view.now list.now }) }
-    ensures at_most { CountsAtMost (height_points view.now list.now) (height_spans view.now list.now) tally.old tally.new }
-    ensures points { OnOk result (CountsPoints (height_points view.now list.now) tally.old tally.new) }
+    ensures map { IfOk result (λ map. map ≡ record
+        { w = view.now.w; h = view.now.h; d = view.now.d; tops = tops_of view.now list.now }) }
+    ensures at_most { CountsAtMost (height_points view.now list.now)
+        (height_spans view.now list.now) tally.old tally.new }
+    ensures points { OnOk result
+        (CountsPoints (height_points view.now list.now) tally.old tally.new) }
 {
     let mut desk = Desk::new(alloc, view, list.len())?;
     let mut tops = vec![in alloc; 0u16; view.w as usize * view.h as usize]?;

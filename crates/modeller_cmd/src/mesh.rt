@@ -80,7 +80,8 @@ fn mesh_of_input(alloc: Global, view: &View, input: &[u8], tally: &mut Tally) ->
 // Writes a text that is made piece by piece. After `Failed` some of it was taken, from its front.
 fn write_pieces<K: Sink>(out: &mut K, mut text: PlyPieces) -> Result<(), Failed>
     ensures ok { OnOk result (Gains K.held out.old out.new (text.entry.piece ++ text.entry.rest)) }
-    ensures err { OnErr result (GainsPrefix K.held out.old out.new (text.entry.piece ++ text.entry.rest)) }
+    ensures err { OnErr result (GainsPrefix K.held out.old out.new
+        (text.entry.piece ++ text.entry.rest)) }
     ensures no_fault { OnOk result (Stands K.faults out.old out.new) }
     ensures cause { OnErr result (RoseBy K.faults out.old out.new 1) }
 {

@@ -37,11 +37,15 @@ pub fn look_into(
     tally: &mut Tally,
 ) -> Result<(), AllocError>
     requires { MayLook desk.old b received.now values.old }
-    ensures settled { OnOk result (AreSettled (grid_value desk.old.places.view received.now) b values.new) }
-    ensures worked { OnOk result (AreWorked (gridded desk.old.places.view) (visit b received.now) values.new) }
+    ensures settled { OnOk result
+        (AreSettled (grid_value desk.old.places.view received.now) b values.new) }
+    ensures worked { OnOk result
+        (AreWorked (gridded desk.old.places.view) (visit b received.now) values.new) }
     ensures grows { Grows (grid_value desk.old.places.view received.now) b values.old values.new }
-    ensures counted { ChargesBox (gridded desk.old.places.view) (visit b received.now) values.old values.new tally.old tally.new }
-    ensures paid { PaysBox (gridded desk.old.places.view) (visit b received.now) values.old values.new tally.old tally.new }
+    ensures counted { ChargesBox (gridded desk.old.places.view) (visit b received.now) values.old
+        values.new tally.old tally.new }
+    ensures paid { PaysBox (gridded desk.old.places.view) (visit b received.now) values.old
+        values.new tally.old tally.new }
     ensures kept { KeepsDesk desk.old desk.new }
 {
     layers_hold();
@@ -68,11 +72,16 @@ fn look_into_halves(
 ) -> Result<(), AllocError>
     requires may { MayLook desk.old b live.now values.old }
     requires long { IsTrue (is_long_for 1 b) }
-    ensures settled { OnOk result (AreSettled (grid_value desk.old.places.view live.now) b values.new) }
-    ensures worked { OnOk result (All (λ half. AreWorked (gridded desk.old.places.view) (visit half live.now) values.new) (halves_of 1 b)) }
+    ensures settled { OnOk result
+        (AreSettled (grid_value desk.old.places.view live.now) b values.new) }
+    ensures worked { OnOk result
+        (All (λ half. AreWorked (gridded desk.old.places.view) (visit half live.now) values.new)
+        (halves_of 1 b)) }
     ensures grows { Grows (grid_value desk.old.places.view live.now) b values.old values.new }
-    ensures counted { ChargesHalves (gridded desk.old.places.view) live.now (halves_of 1 b) values.old values.new tally.old tally.new }
-    ensures paid { PaysHalves (gridded desk.old.places.view) live.now (halves_of 1 b) values.old values.new tally.old tally.new }
+    ensures counted { ChargesHalves (gridded desk.old.places.view) live.now (halves_of 1 b)
+        values.old values.new tally.old tally.new }
+    ensures paid { PaysHalves (gridded desk.old.places.view) live.now (halves_of 1 b) values.old
+        values.new tally.old tally.new }
     ensures kept { KeepsDesk desk.old desk.new }
 {
     layers_hold();
@@ -93,11 +102,15 @@ fn look_into_cell(
 ) -> Result<(), AllocError>
     requires may { MayLook desk.old b received.now values.old }
     requires one { is_long_for 1 b ≡ false }
-    ensures settled { OnOk result (AreSettled (grid_value desk.old.places.view received.now) b values.new) }
-    ensures worked { OnOk result (AreWorked (gridded desk.old.places.view) (visit b received.now) values.new) }
+    ensures settled { OnOk result
+        (AreSettled (grid_value desk.old.places.view received.now) b values.new) }
+    ensures worked { OnOk result
+        (AreWorked (gridded desk.old.places.view) (visit b received.now) values.new) }
     ensures grows { Grows (grid_value desk.old.places.view received.now) b values.old values.new }
-    ensures counted { ChargesBox (gridded desk.old.places.view) (visit b received.now) values.old values.new tally.old tally.new }
-    ensures paid { PaysBox (gridded desk.old.places.view) (visit b received.now) values.old values.new tally.old tally.new }
+    ensures counted { ChargesBox (gridded desk.old.places.view) (visit b received.now) values.old
+        values.new tally.old tally.new }
+    ensures paid { PaysBox (gridded desk.old.places.view) (visit b received.now) values.old
+        values.new tally.old tally.new }
     ensures kept { KeepsDesk desk.old desk.new }
 {
     layers_hold();
@@ -122,7 +135,8 @@ fn is_working(
     seen: Seen,
     tally: &mut Tally,
 ) -> bool
-    requires may { (t : PointValues) × MayLook desk.old b received.now t × IsSeen t (point b.x0 b.y0 b.z0) seen }
+    requires may { (t : PointValues) × MayLook desk.old b received.now t × IsSeen t
+        (point b.x0 b.y0 b.z0) seen }
     requires one { is_long_for 1 b ≡ false }
     requires n { n ≡ desk.old.places.view.n }
     ensures open { result ≡ is_open_for (gridded desk.old.places.view) (visit b received.now) }

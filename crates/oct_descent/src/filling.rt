@@ -67,9 +67,12 @@ fn fill_corner(
     requires z { z < values.old.n }
     requires c { c < 8 }
     ensures known { OnOk result (is_known (known_at values.new (further (point x y z) c)) ≡ true) }
-    ensures grows { Grows (grid_value desk.old.places.view list.now) (point_box (further (point x y z) c)) values.old values.new }
-    ensures counted { ChargesCorners (point_box (further (point x y z) c)) (length list.now) values.old values.new tally.old tally.new }
-    ensures paid { PaysCorners (point_box (further (point x y z) c)) (length list.now) values.old values.new tally.old tally.new }
+    ensures grows { Grows (grid_value desk.old.places.view list.now)
+        (point_box (further (point x y z) c)) values.old values.new }
+    ensures counted { ChargesCorners (point_box (further (point x y z) c)) (length list.now)
+        values.old values.new tally.old tally.new }
+    ensures paid { PaysCorners (point_box (further (point x y z) c)) (length list.now) values.old
+        values.new tally.old tally.new }
     ensures keeps { OnOk result (KeepsPlaces values.old values.new) }
     ensures kept { KeepsDesk desk.old desk.new }
 {

@@ -236,7 +236,8 @@ impl GridValues {
     #[inline]
     pub fn set(&mut self, at: usize, value: Fx)
         requires { at < length self.old.kept.known }
-        ensures sets { (p : GridPoint) → IsTrue (is_within self.old.n p) → stand_of self.old p ≡ Some at
+        ensures sets { (p : GridPoint) → IsTrue (is_within self.old.n p) → stand_of self.old p
+            ≡ Some at
             → Sets p value self.old self.new }
         ensures keeps { KeepsPlaces self.old self.new }
     {

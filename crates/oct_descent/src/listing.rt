@@ -13,7 +13,8 @@ use std::alloc::{AllocError, Global};
 /// The cells of a grid that have both an inside and an outside corner, with the values of their
 /// corners, by z, then by y, then by x. AllocError: there is no memory for them.
 pub fn cell_list(alloc: Global, tree: &OctTree) -> Result<CellList, AllocError>
-    ensures { IfOk result (λ list. ListsCells tree.now.view.n list (grid_of tree.now.view tree.now.list)) }
+    ensures { IfOk result (λ list. ListsCells tree.now.view.n list
+        (grid_of tree.now.view tree.now.list)) }
 {
     let mut cells = Vec::new(alloc);
     for z in 0..tree.view.n {
@@ -29,7 +30,8 @@ impl OctTree {
     // Adds the mixed cells of layer z.
     fn push_layer(&self, z: u32, cells: &mut Vec<CellValues>) -> Result<(), AllocError>
         requires { z < self.now.view.n }
-        ensures { OnOk result (cells.new.items ≡ cells.old.items ++ cells_in_layer self.now.view self.now.list z) }
+        ensures { OnOk result (cells.new.items ≡ cells.old.items ++ cells_in_layer self.now.view
+            self.now.list z) }
     {
         for y in 0..self.view.n {
             self.push_row(y, z, cells)?;
@@ -41,7 +43,8 @@ impl OctTree {
     fn push_row(&self, y: u32, z: u32, cells: &mut Vec<CellValues>) -> Result<(), AllocError>
         requires y { y < self.now.view.n }
         requires z { z < self.now.view.n }
-        ensures { OnOk result (cells.new.items ≡ cells.old.items ++ cells_in_row self.now.view self.now.list y z) }
+        ensures { OnOk result (cells.new.items ≡ cells.old.items ++ cells_in_row self.now.view
+            self.now.list y z) }
     {
         for eighth in 0..(self.view.n + 7) / 8 {
             self.push_eight(eighth * 8, y, z, cells)?;
@@ -63,7 +66,8 @@ impl OctTree {
         requires eighth { first % 8 ≡ 0 }
         requires y { y < self.now.view.n }
         requires z { z < self.now.view.n }
-        ensures { OnOk result (cells.new.items ≡ cells.old.items ++ cells_between self.now.view self.now.list first (min self.now.view.n (first + 8)) y z) }
+        ensures { OnOk result (cells.new.items ≡ cells.old.items ++ cells_between self.now.view
+            self.now.list first (min self.now.view.n (first + 8)) y z) }
     {
         let Some(start) = self.values.row(first, y, z) else {
             return Ok(());
@@ -88,7 +92,8 @@ impl OctTree {
         requires x { x < self.now.view.n }
         requires y { y < self.now.view.n }
         requires z { z < self.now.view.n }
-        ensures { OnOk result (cells.new.items ≡ cells.old.items ++ cells_at self.now.view self.now.list (point x y z)) }
+        ensures { OnOk result (cells.new.items ≡ cells.old.items ++ cells_at self.now.view
+            self.now.list (point x y z)) }
     {
         let Some(values) = corners(&self.values, x, y, z) else {
             return Ok(());

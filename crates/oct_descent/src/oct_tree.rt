@@ -45,8 +45,10 @@ pub fn cells(
 ) -> Result<OctTree, AllocError>
     requires { FitsMesh view.now }
     ensures tree { IfOk result (λ tree. tree ≡ record { view = view.now; list = list.now }) }
-    ensures at_most { CountsAtMost (mesh_points view.now list.now) (mesh_spans view.now list.now) tally.old tally.new }
-    ensures at_least { OnOk result (CountsAtLeast (mesh_least view.now list.now) tally.old tally.new) }
+    ensures at_most { CountsAtMost (mesh_points view.now list.now) (mesh_spans view.now list.now)
+        tally.old tally.new }
+    ensures at_least { OnOk result
+        (CountsAtLeast (mesh_least view.now list.now) tally.old tally.new) }
 {
     let mut desk = Desk::new(alloc, view, list.len())?;
     let mut values = GridValues::new(alloc, view.n)?;

@@ -32,10 +32,13 @@ pub fn draw_box(
     tally: &mut Tally,
 ) -> Result<(), AllocError>
     requires { MayDraw desk.old b received.now }
-    ensures nodes { OnOk result (nodes.new.items ≡ nodes.old.items ++ nodes_of (raster desk.old.places.view) (visit b received.now)) }
-    ensures counted { OnOk result (CountsExactly (points_in (raster desk.old.places.view) (visit b received.now))
+    ensures nodes { OnOk result (nodes.new.items ≡ nodes.old.items ++ nodes_of
+        (raster desk.old.places.view) (visit b received.now)) }
+    ensures counted { OnOk result
+        (CountsExactly (points_in (raster desk.old.places.view) (visit b received.now))
         (spans_in (raster desk.old.places.view) (visit b received.now)) tally.old tally.new) }
-    ensures at_most { OnErr result (CountsAtMost (points_in (raster desk.old.places.view) (visit b received.now))
+    ensures at_most { OnErr result
+        (CountsAtMost (points_in (raster desk.old.places.view) (visit b received.now))
         (spans_in (raster desk.old.places.view) (visit b received.now)) tally.old tally.new) }
     ensures kept { KeepsDesk desk.old desk.new }
 {
@@ -61,10 +64,13 @@ fn draw_undecided(
     tally: &mut Tally,
 ) -> Result<(), AllocError>
     requires { MayDraw desk.old b live.now }
-    ensures nodes { OnOk result (nodes.new.items ≡ nodes.old.items ++ open_nodes (raster desk.old.places.view) b live.now) }
-    ensures counted { OnOk result (CountsExactly (open_points (raster desk.old.places.view) b live.now)
+    ensures nodes { OnOk result (nodes.new.items ≡ nodes.old.items ++ open_nodes
+        (raster desk.old.places.view) b live.now) }
+    ensures counted { OnOk result
+        (CountsExactly (open_points (raster desk.old.places.view) b live.now)
         (open_spans (raster desk.old.places.view) b live.now) tally.old tally.new) }
-    ensures at_most { OnErr result (CountsAtMost (open_points (raster desk.old.places.view) b live.now)
+    ensures at_most { OnErr result
+        (CountsAtMost (open_points (raster desk.old.places.view) b live.now)
         (open_spans (raster desk.old.places.view) b live.now) tally.old tally.new) }
     ensures kept { KeepsDesk desk.old desk.new }
 {
@@ -90,9 +96,11 @@ fn draw_split(
     requires long { IsTrue (is_long_for 8 b) }
     ensures nodes { OnOk result (nodes.new.items
         ≡ nodes.old.items ++ split_node (halves_nodes (raster desk.old.places.view) live.now (halves_of 8 b))) }
-    ensures counted { OnOk result (CountsExactly (halves_points (raster desk.old.places.view) live.now (halves_of 8 b))
+    ensures counted { OnOk result
+        (CountsExactly (halves_points (raster desk.old.places.view) live.now (halves_of 8 b))
         (halves_spans (raster desk.old.places.view) live.now (halves_of 8 b)) tally.old tally.new) }
-    ensures at_most { OnErr result (CountsAtMost (halves_points (raster desk.old.places.view) live.now (halves_of 8 b))
+    ensures at_most { OnErr result
+        (CountsAtMost (halves_points (raster desk.old.places.view) live.now (halves_of 8 b))
         (halves_spans (raster desk.old.places.view) live.now (halves_of 8 b)) tally.old tally.new) }
     ensures kept { KeepsDesk desk.old desk.new }
 {
@@ -117,9 +125,11 @@ fn draw_halves(
     requires long { IsTrue (is_long_for 8 b) }
     ensures nodes { OnOk result (nodes.new.items
         ≡ nodes.old.items ++ halves_nodes (raster desk.old.places.view) live.now (halves_of 8 b)) }
-    ensures counted { OnOk result (CountsExactly (halves_points (raster desk.old.places.view) live.now (halves_of 8 b))
+    ensures counted { OnOk result
+        (CountsExactly (halves_points (raster desk.old.places.view) live.now (halves_of 8 b))
         (halves_spans (raster desk.old.places.view) live.now (halves_of 8 b)) tally.old tally.new) }
-    ensures at_most { OnErr result (CountsAtMost (halves_points (raster desk.old.places.view) live.now (halves_of 8 b))
+    ensures at_most { OnErr result
+        (CountsAtMost (halves_points (raster desk.old.places.view) live.now (halves_of 8 b))
         (halves_spans (raster desk.old.places.view) live.now (halves_of 8 b)) tally.old tally.new) }
     ensures kept { KeepsDesk desk.old desk.new }
 {

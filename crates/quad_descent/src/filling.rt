@@ -16,7 +16,8 @@ impl QuadTree {
         requires meets { IsTrue (meets band b) }
         requires byte { (p : ℕ) → p < length pixels.old → covers self.now.view.w band.row b p ≡ true
             → byte_at self.now.view self.now.list band.row p ≡ byte }
-        ensures { Paints (covers self.now.view.w band.row b) (byte_at self.now.view self.now.list band.row) pixels.old pixels.new }
+        ensures { Paints (covers self.now.view.w band.row b)
+            (byte_at self.now.view self.now.list band.row) pixels.old pixels.new }
     {
         for j in b.y0.max(band.row)..b.y1.min(band.row + band.rows) {
             let start = (j - band.row) as usize * self.view.w as usize;
@@ -31,7 +32,8 @@ impl QuadTree {
         requires meets { IsTrue (meets band b) }
         requires low { b.y1 - b.y0 ≤ 8 }
         requires rows { rows.now ≡ rows_of self.now.view Lattice.Raster self.now.list b }
-        ensures { Paints (covers self.now.view.w band.row b) (byte_at self.now.view self.now.list band.row) pixels.old pixels.new }
+        ensures { Paints (covers self.now.view.w band.row b)
+            (byte_at self.now.view self.now.list band.row) pixels.old pixels.new }
     {
         for j in b.y0.max(band.row)..b.y1.min(band.row + band.rows) {
             self.paint_row(rows[(j - b.y0) as usize], b, j, band, pixels);
@@ -45,7 +47,8 @@ impl QuadTree {
         requires above { band.row ≤ j }
         requires below { j < band.row + band.rows }
         requires bits { bits ≡ bits_of (insides self.now.view Lattice.Raster self.now.list b j) }
-        ensures { Paints (among ((j - band.row) * self.now.view.w + b.x0) ((j - band.row) * self.now.view.w + b.x1))
+        ensures { Paints (among ((j - band.row) * self.now.view.w + b.x0)
+            ((j - band.row) * self.now.view.w + b.x1))
             (byte_at self.now.view self.now.list band.row) pixels.old pixels.new }
     {
         let start = (j - band.row) as usize * self.view.w as usize;

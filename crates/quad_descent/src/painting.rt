@@ -19,7 +19,8 @@ use view_settings::{IndexBox, split};
 pub fn rows(tree: &QuadTree, row: u32, pixels: &mut [u8])
     requires whole { length pixels.old % tree.now.view.w ≡ 0 }
     requires within { row + length pixels.old / tree.now.view.w ≤ tree.now.view.h }
-    ensures { pixels.new ≡ rows_from tree.now.view tree.now.list row (length pixels.old / tree.now.view.w) }
+    ensures { pixels.new ≡ rows_from tree.now.view tree.now.list row
+        (length pixels.old / tree.now.view.w) }
 {
     let rows = (pixels.len() / tree.view.w as usize) as u32;
     tree.paint_box(0, root(&tree.view), Band { row, rows }, pixels);
@@ -31,7 +32,8 @@ impl QuadTree {
     fn paint_box(&self, at: usize, b: IndexBox, band: Band, pixels: &mut [u8])
         requires drawn { IsDrawnAt self.now.view self.now.list at b }
         requires band { IsBand self.now.view band (length pixels.old) }
-        ensures { Paints (covers self.now.view.w band.row b) (byte_at self.now.view self.now.list band.row) pixels.old pixels.new }
+        ensures { Paints (covers self.now.view.w band.row b)
+            (byte_at self.now.view self.now.list band.row) pixels.old pixels.new }
     {
         if !band.meets(b) {
             return;
@@ -51,7 +53,8 @@ impl QuadTree {
         requires drawn { AreDrawnAt self.now.view self.now.list first b (halves_of 8 b) }
         requires long { IsTrue (is_long 8 b) }
         requires band { IsBand self.now.view band (length pixels.old) }
-        ensures { Paints (covers self.now.view.w band.row b) (byte_at self.now.view self.now.list band.row) pixels.old pixels.new }
+        ensures { Paints (covers self.now.view.w band.row b)
+            (byte_at self.now.view self.now.list band.row) pixels.old pixels.new }
     {
         layers_hold();
         let mut at = first;

@@ -9,7 +9,11 @@ use std::alloc::{AllocError, Global};
 /// The image of a tree: the pixels that evaluating the whole list at each sample gives, 255 inside and
 /// 0 outside. AllocError: there is no memory for them.
 pub fn image(alloc: Global, tree: &QuadTree) -> Result<PixelGrid, AllocError>
-    ensures { IfOk result (λ grid. grid ≡ record { w = tree.now.view.w; h = tree.now.view.h; pixels = pixels_of tree.now.view tree.now.list }) }
+    ensures { IfOk result (λ grid. grid ≡ record {
+      w = tree.now.view.w;
+      h = tree.now.view.h;
+      pixels = pixels_of tree.now.view tree.now.list;
+    }) }
 {
     let mut pixels = Vec::new(alloc);
     push_pixels(tree, &mut pixels)?;
@@ -23,7 +27,8 @@ pub fn image(alloc: Global, tree: &QuadTree) -> Result<PixelGrid, AllocError>
 /// Puts the pixels of an image behind bytes that stand there already, as its header: there is no
 /// second copy of them. AllocError: there is no memory for them, and the bytes are as they were.
 pub fn push_pixels(tree: &QuadTree, bytes: &mut Vec<u8>) -> Result<(), AllocError>
-    ensures ok { OnOk result (bytes.new.items ≡ bytes.old.items ++ pixels_of tree.now.view tree.now.list) }
+    ensures ok { OnOk result (bytes.new.items ≡ bytes.old.items ++ pixels_of tree.now.view
+        tree.now.list) }
     ensures err { OnErr result (bytes.new.items ≡ bytes.old.items) }
 {
     let start = bytes.len();

@@ -46,8 +46,12 @@ pub fn draw(
     tally: &mut Tally,
 ) -> Result<QuadTree, AllocError>
     ensures tree { IfOk result (λ tree. tree ≡ record { view = view.now; list = list.now }) }
-    ensures counted { OnOk result (CountsExactly (fresh_points view.now list.now) (fresh_spans view.now list.now) tally.old tally.new) }
-    ensures at_most { OnErr result (CountsAtMost (fresh_points view.now list.now) (fresh_spans view.now list.now) tally.old tally.new) }
+    ensures counted { OnOk result
+        (CountsExactly (fresh_points view.now list.now) (fresh_spans view.now list.now) tally.old
+        tally.new) }
+    ensures at_most { OnErr result
+        (CountsAtMost (fresh_points view.now list.now) (fresh_spans view.now list.now) tally.old
+        tally.new) }
 {
     let mut desk = Desk::new(alloc, view, list.len())?;
     let mut nodes = Vec::new(alloc);

@@ -26,7 +26,8 @@ use view_settings::View;
 /// AllocError: there is no memory for it.
 pub fn build(alloc: Global, cells: &CellList, view: &View) -> Result<Mesh, AllocError>
     requires { (g : Grid) × ListsCells view.now.n cells.now g }
-    ensures mesh { (g : Grid) → ListsCells view.now.n cells.now g → IfOk result (λ mesh. mesh ≡ mesh_of g) }
+    ensures mesh { (g : Grid) → ListsCells view.now.n cells.now g → IfOk result
+        (λ mesh. mesh ≡ mesh_of g) }
     ensures sound { (g : Grid) → ListsCells view.now.n cells.now g → IfOk result (IsSound g) }
     ensures apart { FitsMesh view.now → IfOk result (λ mesh. LieApart view.now mesh.vertices) }
 {
@@ -38,7 +39,8 @@ pub fn build(alloc: Global, cells: &CellList, view: &View) -> Result<Mesh, Alloc
 // The mesh of mixed cells of a grid of n cells along each axis. AllocError: there is no memory.
 fn mesh_of_cells(alloc: Global, cells: &[CellValues], n: u32) -> Result<Mesh, AllocError>
     requires { AreCells n cells.now }
-    ensures { IfOk result (λ mesh. mesh ≡ record { vertices = flat_map vertices_on cells.now; faces = all_faces cells.now cells.now }) }
+    ensures { IfOk result (λ mesh. mesh ≡ record
+        { vertices = flat_map vertices_on cells.now; faces = all_faces cells.now cells.now }) }
 {
     let (vertices, faces) = counts(cells);
     let mut numbering = Numbering::new(alloc, n, vertices)?;

@@ -25,7 +25,8 @@ pub(crate) fn push_faces(
     requires slots { AreSlots n slots.now }
     requires shapes { AreShapes shapes.now }
     requires kept { All (OfEdges (IsKept n)) (triangles_of_cell cell.now) }
-    ensures { OnOk result (faces.new.items ≡ faces.old.items ++ map (face_in n slots.now) (triangles_of_cell cell.now)) }
+    ensures { OnOk result (faces.new.items ≡ faces.old.items ++ map (face_in n slots.now)
+        (triangles_of_cell cell.now)) }
 {
     let signs = usize::from(signs_of(cell));
     push_triangles(n, slots, cell, &shapes.shapes[signs], faces)
@@ -43,7 +44,8 @@ fn push_triangles(
 ) -> Result<(), AllocError>
     requires slots { AreSlots n slots.now }
     requires kept { All (λ t. OfEdges (IsKept n) (moved_triple cell.now t)) triangles.now }
-    ensures { OnOk result (faces.new.items ≡ faces.old.items ++ map (λ t. face_in n slots.now (moved_triple cell.now t)) triangles.now) }
+    ensures { OnOk result (faces.new.items ≡ faces.old.items ++ map
+        (λ t. face_in n slots.now (moved_triple cell.now t)) triangles.now) }
 {
     for triangle in triangles {
         faces.push(Face {
