@@ -1,12 +1,13 @@
 -- What a line says is what its operation and arguments say, before and after names are looked up.
-use Rattle.std.proofs.Common.{◌≡◌, ◌≢◌, IfOk, IfErr, IsOk, ap, sym, subst, ◌∙◌, ℕ, Bool, true, false, not, eqb, List, [], ◌∷◌, length, Option, Some, None, Result, Ok, Err, refl}
+use Rattle.std.proofs.Common.{◌≡◌, ◌≢◌, if◌then◌else◌, IfOk, IfErr, IsOk, ap, sym, subst, ◌∙◌, ℕ, Bool, true, false, not, eqb, List, [], ◌∷◌, length, Option, Some, None, Result, Ok, Err, refl}
 use Rattle.std.specs.List.{list_any}
 use Rattle.fixed_ops.specs.declared.operation.Op.{Op}
 use Rattle.solid_model.specs.declared.clause.Clause.{Clause}
 use Rattle.solid_model.specs.Parts.{Parts}
 use Rattle.clause_reader.specs.declared.form_fault.FormFault.{FormFault}
-use Rattle.clause_reader.specs.declared.form_fault.FormFault.TheVariants.{NoMemory}
+use Rattle.clause_reader.specs.declared.form_fault.FormFault.TheVariants.{BadName, NoMemory}
 use Rattle.clause_reader.specs.Forms.{operation_of, takes, numerals, is_no_numeral, form_read, GivesForm}
+use Rattle.clause_reader.specs.Lines.{begins_comment}
 use Rattle.clause_reader.specs.Reading.{clauses_with}
 use Rattle.clause_reader.specs.Written.{written, checked, extended}
 
@@ -48,3 +49,11 @@ gives-form tokens parts (Ok made) e ok fault no_memory = form_read-written token
 gives-form tokens parts (Err f) e ok fault no_memory =
     let meaning = form_read-written tokens ∙ ap checked e in
     (λ h. meaning ∙ fault h, λ h. subst IsOk (sym meaning) (no_memory h))
+
+-- and where operands are written, the form that is read has some
+pub names-read : (tokens : List (List ℕ)) (parts : Parts) → written tokens ≡ Ok parts → parts.args ≢ [] → IfOk (form_read tokens) (λ form. form.args ≢ [])
+names-read tokens parts e some = rw (form_read-written tokens ∙ ap checked e) (by (list_any begins_comment parts.args))
+  where
+    by : (comment : Bool) → IfOk (if comment then Err BadName else Ok parts) (λ form. form.args ≢ [])
+    by true = tt
+    by false = some

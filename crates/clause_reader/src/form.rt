@@ -1,7 +1,7 @@
 // The form that an operation and its arguments say.
-ghost use Rattle.std.specs.Prelude.{◌≡◌, Ok, Err, IfOk};
+ghost use Rattle.std.specs.Prelude.{◌≡◌, ◌≢◌, [], Ok, Err, IfOk, IsOk};
 ghost use Rattle.std.specs.List.{list_any};
-ghost use Rattle.clause_reader.specs.Forms.{GivesForm};
+ghost use Rattle.clause_reader.specs.Forms.{form_read, GivesForm};
 ghost use Rattle.clause_reader.specs.Lines.{begins_comment};
 ghost use Rattle.clause_reader.specs.Scan.{line_tokens};
 ghost use Rattle.clause_reader.specs.Written.{checked, names_in, parts_in};
@@ -20,9 +20,11 @@ use std::alloc::{AllocError, Global};
 /// The first of these that holds is answered. `NoOperation`: there is no token. `UnknownOperation`:
 /// the first names no operation. `WrongArity`: the others are not as many as it takes.
 /// `BadNumeral`: the argument of a constant is no numeral. `BadName`: an argument begins with `#`.
-/// `NoMemory`: memory was refused, and none of these holds.
+/// `NoMemory`: memory was refused for the name of an operand, and none of these holds.
 pub fn read_form(alloc: Global, rest: &[u8]) -> Result<Form, FormFault>
-    ensures { GivesForm (line_tokens rest.now) result }
+    ensures form { GivesForm (line_tokens rest.now) result }
+    ensures names { result ≡ Err FormFault.NoMemory
+        → IfOk (form_read (line_tokens rest.now)) (λ form. form.args ≢ []) }
 {
     match split_form(rest) {
         Ok((form, _)) => make_form(alloc, form),
@@ -37,6 +39,7 @@ fn make_form(alloc: Global, form: WrittenForm<'_>) -> Result<Form, FormFault>
     ensures fault { RefusesAs (checked (Ok (parts_in form.entry))) FormFault.NoMemory result }
     ensures no_memory { WantsMemoryFor (checked (Ok (parts_in form.entry))) FormFault.NoMemory
         result }
+    ensures names { result ≡ Err FormFault.NoMemory → names_in form.entry.operands ≢ [] }
 {
     if has_comment(form.operands) {
         return Err(FormFault::BadName);
@@ -60,7 +63,8 @@ fn has_comment(operands: Operands<'_>) -> bool
 
 // The names of operands.
 fn names(alloc: Global, operands: Operands<'_>) -> Result<Vec<Name>, AllocError>
-    ensures { IfOk result (λ names. names.items ≡ names_in operands.entry) }
+    ensures names { IfOk result (λ names. names.items ≡ names_in operands.entry) }
+    ensures none { names_in operands.entry ≡ [] → IsOk result }
 {
     let mut names = Vec::new(alloc);
     match operands {
