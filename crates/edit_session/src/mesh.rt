@@ -21,7 +21,7 @@ use oct_descent::{cell_list, cells, grid_work_is_bounded};
 use ply_writer::ply_text;
 use solid_model::Model;
 use std::alloc::{AllocError, Global};
-use tetra_mesh::{Mesh, build, meshes_are_sound};
+use tetra_mesh::{Mesh, build_from, meshes_are_sound};
 use view_settings::View;
 
 // The mesh of a model over a view, as PLY text. No more work is counted than that of the boxes that
@@ -66,8 +66,8 @@ pub fn solid_mesh(
     window_holds(view);
     let list = root_tape(alloc, model)?;
     let cells = mixed_cells(alloc, &list, view, tally)?;
-    // The list of cells is given up before the mesh is handed on.
-    build(alloc, &cells, view)
+    // The list of cells is given up before the faces are made.
+    build_from(alloc, cells, view)
 }
 
 // The mixed cells of the grid of a list over a view. The values of the grid are given up before the

@@ -1,6 +1,6 @@
 -- Binary numbers whose digits tell which corners pass a test.
 use Rattle.std.proofs.Common.{◌≡◌, ℕ, zero, suc, ◌+◌, ◌-◌, ◌*◌, ◌/◌, ◌%◌, ◌^◌, ◌<◌, ◌≤◌, Bool, true, false, List, [], ◌∷◌, refl, ap, sym, ◌∙◌, arith}
-use Rattle.std.specs.Prelude.{◌==◌, ◌&&◌, filter, get_or, length, ℤ, pos}
+use Rattle.std.specs.Prelude.{◌==◌, ◌&&◌, filter, get_or, length, ℤ, pos, if◌then◌else◌}
 use Rattle.std.specs.Int.RustNames.{count_ones}
 use Rattle.std.specs.List.{range_with_len}
 use Rattle.std.proofs.lemmas.Bool.{agree_below, agree_below_at, and_parts, eqb-true}
@@ -13,9 +13,10 @@ use Rattle.std.proofs.lemmas.List.{get_or_default}
 use Rattle.fixed_ops.specs.Raw.{is_inside}
 use Rattle.kuhn_cells.specs.declared.cell_list.CellValues.{CellValues}
 use Rattle.kuhn_cells.specs.Arrangement.{differ}
-use Rattle.kuhn_cells.specs.Cells.{has_inside}
+use Rattle.kuhn_cells.specs.Cells.{directions_of, has_inside}
 use Rattle.kuhn_cells.specs.Triangles.{has_sign}
 use Rattle.tetra_mesh.specs.Numbering.{digits, directions_below, mask_of, one_if, rank_of, signs_of}
+use Rattle.tetra_mesh.specs.Sides.{mask_by}
 
 -- a test of both truth values
 both : (Bool → Bool) → Bool
@@ -99,7 +100,7 @@ small_ones n few =
 
 ranks : Bool → Bool → Bool → Bool → Bool → Bool → Bool → Bool
 ranks b c d e f g h =
-    agree_below (λ k. digit_sum (number false b c d e f g h % 2 ^ k) == length (filter (λ i. get_or (eight false b c d e f g h) i false) (range_with_len 1 (k - 1)))) (λ k. true) 8
+    agree_below (λ k. digit_sum (number false b c d e f g h % 2 ^ k) == length (filter (λ i. get_or (eight false b c d e f g h) i false) (range_with_len 1 (k - 1)))) (λ k. true) 9
 
 all_ranked : four (λ a b c d. four (λ e f g h. ranks b c d e f g h)) ≡ true
 unfolding four both ranks number digit_sum
@@ -124,7 +125,7 @@ with_first : (f : ℕ → Bool) → f 0 ≡ false → digits f ≡ number false 
 unfolding number
 with_first f e = ap (λ b. one_if b + 2 * one_if (f 1) + 4 * one_if (f 2) + 8 * one_if (f 3) + 16 * one_if (f 4) + 32 * one_if (f 5) + 64 * one_if (f 6) + 128 * one_if (f 7)) e
 
-ranked : (f : ℕ → Bool) (k : ℕ) → f 0 ≡ false → k < 8 → count_ones (digits f % 2 ^ k) ≡ length (filter f (range_with_len 1 (k - 1)))
+ranked : (f : ℕ → Bool) (k : ℕ) → f 0 ≡ false → k < 9 → count_ones (digits f % 2 ^ k) ≡ length (filter f (range_with_len 1 (k - 1)))
 unfolding ranks
 ranked f k e few =
     let n = number false (f 1) (f 2) (f 3) (f 4) (f 5) (f 6) (f 7) in
@@ -134,7 +135,7 @@ ranked f k e few =
     let checked = four_at (λ a b c d. ranks (f 1) (f 2) (f 3) a b c d) (four_at (λ a b c d. four (λ e f g h. ranks b c d e f g h)) all_ranked false (f 1) (f 2) (f 3)) (f 4) (f 5) (f 6) (f 7) in
     small_ones (digits f % 2 ^ k) (omega (arith, least, below))
     ∙ ap (λ m. digit_sum (m % 2 ^ k)) (with_first f e)
-    ∙ eqb-true _ _ (agree_below_at (λ k. digit_sum (n % 2 ^ k) == length (filter (λ i. get_or (list false) i false) (range_with_len 1 (k - 1)))) (λ k. true) 8 k checked few)
+    ∙ eqb-true _ _ (agree_below_at (λ k. digit_sum (n % 2 ^ k) == length (filter (λ i. get_or (list false) i false) (range_with_len 1 (k - 1)))) (λ k. true) 9 k checked few)
     ∙ ap length (filter_range_same (λ i. get_or (list false) i false) f 1 (k - 1) (λ i low high. ap (λ b. get_or (list b) i false) (sym e) ∙ listed f i (omega (arith, few, low, high))))
 
 itself : (b : Bool) → differ b b ≡ false
@@ -144,7 +145,17 @@ itself false = refl
 -- the rank of a direction is how many lesser ones lead to the other side
 pub rank : (c : CellValues) (dir : ℕ) → dir < 8 → rank_of (mask_of c) dir ≡ length (directions_below c dir)
 unfolding rank_of mask_of
-rank c dir few = ranked (λ d. differ (has_inside c 0) (has_inside c d)) dir (itself (has_inside c 0)) few
+rank c dir few =
+    ranked (λ d. differ (has_inside c 0) (has_inside c d)) dir (itself (has_inside c 0)) (omega (arith, few))
+
+-- and there are as many digits as directions to the other side
+pub ones : (c : CellValues) → count_ones (mask_of c) ≡ length (directions_of c)
+unfolding mask_of directions_of
+ones c =
+    let f = λ (d : ℕ). differ (has_inside c 0) (has_inside c d) in
+    let below = small f in
+    let whole : digits f % 2 ^ 8 ≡ digits f = omega (arith, below) in
+    ap count_ones (sym whole) ∙ ranked f 8 (itself (has_inside c 0)) (omega arith)
 
 pub rank-few : (mask dir : ℕ) → mask < 256 → rank_of mask dir ≤ 8
 unfolding rank_of digit_sum
@@ -173,6 +184,14 @@ same_side : (a b : Bool) → a ≡ false → one_if (differ a b) ≡ one_if b
 same_side true b e = absurd (cc)
 same_side false b e = refl
 
+odd : (c : CellValues) → has_inside c 0 ≡ true → signs_of c % 2 ≡ 1
+unfolding signs_of
+odd c e = let first = ap one_if e in omega (arith, first)
+
+even : (c : CellValues) → has_inside c 0 ≡ false → signs_of c % 2 ≡ 0
+unfolding signs_of
+even c e = let first = ap one_if e in omega (arith, first)
+
 pub signs_turned : (c : CellValues) → has_inside c 0 ≡ true → 255 - signs_of c ≡ mask_of c
 unfolding signs_of mask_of
 signs_turned c e =
@@ -184,6 +203,14 @@ unfolding signs_of mask_of
 signs_kept c e =
     let at = λ (k : ℕ). same_side (has_inside c 0) (has_inside c k) e in
     omega (arith, at 0, at 1, at 2, at 3, at 4, at 5, at 6, at 7)
+
+-- the digits of the mask are found by the signs alone
+pub mask_is : (c : CellValues) → mask_by (signs_of c) ≡ mask_of c
+mask_is c = by (has_inside c 0) refl
+  where
+    by : (b : Bool) → has_inside c 0 ≡ b → mask_by (signs_of c) ≡ mask_of c
+    by true e = ap (λ r. if r == 1 then 255 - signs_of c else signs_of c) (odd c e) ∙ signs_turned c e
+    by false e = ap (λ r. if r == 1 then 255 - signs_of c else signs_of c) (even c e) ∙ signs_kept c e
 
 pub signs-few : (c : CellValues) → signs_of c < 256
 unfolding signs_of

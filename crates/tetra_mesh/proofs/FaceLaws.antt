@@ -13,7 +13,7 @@ use Rattle.kuhn_cells.specs.Laws.{OfEdges}
 use Rattle.kuhn_cells.specs.Triangles.{GridPoint, edge_from}
 use Rattle.tetra_mesh.specs.declared.entry.Entry.{Entry}
 use Rattle.tetra_mesh.specs.declared.numbering.Numbering.{Numbering}
-use Rattle.tetra_mesh.specs.Numbering.{AreCells, AreSlots, HasReached, IsIn, IsKept, IsNumbered, LiesBelow, ReachesAbove, all_faces, face_in, no_entry, number_in, rank_of, slot_of, vertices_on}
+use Rattle.tetra_mesh.specs.Numbering.{AreCells, AreSlots, HasReached, IsIn, IsKept, IsNumbered, LiesBelow, ReachesAbove, all_faces, face_in, no_entry, number_in, rank_of, slot_of}
 use Rattle.tetra_mesh.proofs.NumberLaws.{is_direction, number_by_cells}
 use Rattle.tetra_mesh.proofs.ReachLaws.{not_above}
 
@@ -117,9 +117,6 @@ reached_more cells n ahead i c are within here below above =
 pub numbered_as : (cells : List CellValues) (n m : ℕ) (s : Numbering) → n ≡ m → IsNumbered cells n s → IsNumbered cells m s
 numbered_as cells n m s same is = let P : ℕ → Type 0 = λ i. IsNumbered cells i s in subst P same is
 
-pub cells_as : (cells : List CellValues) (n m : ℕ) → n ≡ m → AreCells n cells → AreCells m cells
-cells_as cells n m same are = let P : ℕ → Type 0 = λ i. AreCells i cells in subst P same are
-
 pub slots_of : (cells : List CellValues) (n m : ℕ) (s : Numbering) (slots : List Entry) → AreCells n cells → IsNumbered cells n s → m ≡ n → slots ≡ s.slots.items → AreSlots m slots
 slots_of cells n m s slots are is same equal =
     let P : ℕ → Type 0 = λ i. AreSlots i slots in
@@ -137,7 +134,7 @@ started cells n s is =
     record {
       width = is.width;
       some = omega (arith, none);
-      vertices = is.vertices ∙ ap (λ i. flat_map vertices_on (take i [])) none ∙ sym (ap (λ i. flat_map vertices_on (take i cells)) none);
+      vertices = is.vertices ∙ ap (λ i. length (flat_map edges_of (take i []))) none ∙ sym (ap (λ i. length (flat_map edges_of (take i cells))) none);
       room = is.room;
       small = is.small;
       kept = λ j d e less near. absurd (omega (arith, less, none));

@@ -1,6 +1,6 @@
 -- The mesh of the mixed cells of a grid is the mesh of the grid.
-use Rattle.std.proofs.Common.{◌≡◌, ℕ, ◌*◌, ◌<◌, ◌≤◌, List, [], ◌∷◌, ◌++◌, refl, ap, sym, ◌∙◌, subst, add-zero, Result, Ok, Err, arith}
-use Rattle.std.specs.Prelude.{pos, map, flat_map, get_or, All, IfOk}
+use Rattle.std.proofs.Common.{◌≡◌, ℕ, ◌*◌, ◌<◌, ◌≤◌, List, [], ◌∷◌, ◌++◌, refl, ap, sym, ◌∙◌, add-zero, arith}
+use Rattle.std.specs.Prelude.{pos, map, flat_map, get_or, length, All}
 use Rattle.std.specs.List.{range_with_len}
 use Rattle.std.proofs.Math.Nat.{mul-le-mul_left}
 use Rattle.std.proofs.lemmas.List.{map-append}
@@ -15,10 +15,12 @@ use Rattle.kuhn_cells.specs.Grids.{Grid, value_at, vertices}
 use Rattle.kuhn_cells.specs.Laws.{CellsAreFew, CellsAreOfTheGrid, CellsHaveTriangles, CellsHaveVertices, CellsRise, EdgesHaveCells}
 use Rattle.kuhn_cells.specs.Lists.{ListsCells}
 use Rattle.kuhn_cells.specs.Triangles.{GridPoint, edge_from, further}
+use Rattle.tetra_mesh.specs.declared.sided_cell.SidedCell.{SidedCell}
 use Rattle.tetra_mesh.specs.declared.vertex.Vertex.{Vertex}
 use Rattle.tetra_mesh.specs.Cuts.{mesh_of, vertex_of, way_up}
 use Rattle.tetra_mesh.specs.Meshes.{Triangulation}
 use Rattle.tetra_mesh.specs.Numbering.{AreCells, IsIn, all_faces, vertex_on, vertices_on}
+use Rattle.tetra_mesh.specs.Sides.{HasParts, sided_of}
 
 -- ---- the cells
 
@@ -30,9 +32,15 @@ few_cells n x y z few ex ey ez =
     let same : x * (y * z) ≡ n * (n * n) = ap (λ i. i * (y * z)) ex ∙ ap (λ i. n * (i * z)) ey ∙ ap (λ i. n * (n * i)) ez in
     omega (arith, cube, square', same, few)
 
-pub are_cells : CellsAreOfTheGrid → CellsRise → CellsAreFew → EdgesHaveCells → (n : ℕ) (list : CellList) (g : Grid) → n ≤ 256 → ListsCells n list g → AreCells n list.cells.items
-are_cells of_grid rise few edges n list g narrow is =
-    let P : List CellValues → Type 0 = λ l. AreCells n l in
+pub are_few : CellsAreFew → (n : ℕ) (list : CellList) (g : Grid) → n ≤ 256 → ListsCells n list g → length list.cells.items ≤ 16777216
+are_few few n list g narrow is =
+    let count = few g in
+    let most = few_cells n g.x g.y g.z narrow is.x is.y is.z in
+    let same = ap length is.cells in
+    omega (arith, count, most, same)
+
+pub are_cells : CellsAreOfTheGrid → CellsRise → CellsAreFew → EdgesHaveCells → (n : ℕ) (g : Grid) (vertices : List Vertex) (sided : List SidedCell) → n ≤ 256 → HasParts n g vertices sided → AreCells n (mixed_cells g)
+are_cells of_grid rise few edges n g vertices sided narrow is =
     let x = is.x in
     let y = is.y in
     let z = is.z in
@@ -40,7 +48,7 @@ are_cells of_grid rise few edges n list g narrow is =
     All-weaker (IsCellOf g) (IsIn n) (λ c h. let fx = h.x in let fy = h.y in let fz = h.z in record { x = omega (arith, fx, x); y = omega (arith, fy, y); z = omega (arith, fz, z) }) (mixed_cells g) (of_grid g) in
     let count = few g in
     let most = few_cells n g.x g.y g.z narrow x y z in
-    subst P (sym is.cells) (record { narrow = narrow; few = omega (arith, count, most); within = within; rise = rise g; edges = edges g is.border })
+    record { narrow = narrow; few = omega (arith, count, most); within = within; rise = rise g; edges = edges g is.border }
 
 -- ---- the vertices
 
@@ -100,26 +108,19 @@ faces_of_cells have triangles g border =
 
 -- ---- the mesh
 
-pub mesh_is : CellsAreOfTheGrid → CellsHaveVertices → CellsHaveTriangles → (n : ℕ) (list : CellList) (g : Grid) (mesh : Triangulation) → ListsCells n list g → mesh ≡ record { vertices = flat_map vertices_on list.cells.items; faces = all_faces list.cells.items list.cells.items } → mesh ≡ mesh_of g
-mesh_is of_grid have triangles n list g mesh is made =
+-- the vertices of the cells of a list, and their places and sides, are those of the grid's mixed cells
+pub parts_of_grid : (n : ℕ) (list : CellList) (items : List CellValues) (g : Grid) (vertices : List Vertex) (sided : List SidedCell) → ListsCells n list g → items ≡ list.cells.items → vertices ≡ flat_map vertices_on items → sided ≡ map sided_of items → HasParts n g vertices sided
+parts_of_grid n list items g vertices sided is same have sides = record {
+  x = is.x;
+  y = is.y;
+  z = is.z;
+  border = is.border;
+  on_edges = have ∙ ap (flat_map vertices_on) (same ∙ is.cells);
+  sides = sides ∙ ap (map sided_of) (same ∙ is.cells);
+}
+
+pub mesh_is : CellsAreOfTheGrid → CellsHaveVertices → CellsHaveTriangles → (n : ℕ) (g : Grid) (vertices : List Vertex) (sided : List SidedCell) (faces : List Face) → HasParts n g vertices sided → faces ≡ all_faces (mixed_cells g) (mixed_cells g) → record { vertices = vertices; faces = faces } ≡ mesh_of g
+mesh_is of_grid have triangles n g v sided f is made =
     let make : List Vertex → List Face → Triangulation = λ v f. record { vertices = v; faces = f } in
-    let of : List CellValues → Triangulation = λ l. make (flat_map vertices_on l) (all_faces l l) in
-    made
-    ∙ ap of is.cells
-    ∙ ap (λ v. make v (all_faces (mixed_cells g) (mixed_cells g))) (all_vertices of_grid have g is.border)
-    ∙ ap (make (map (vertex_of g) (vertices g))) (faces_of_cells have triangles g is.border)
-
-pub same_mesh : (v v' : List Vertex) (f f' : List Face) (mesh : Triangulation) → mesh ≡ record { vertices = v; faces = f } → v ≡ v' → f ≡ f' → mesh ≡ record { vertices = v'; faces = f' }
-same_mesh v v' f f' mesh is e h =
-    let make : List Vertex → List Face → Triangulation = λ v f. record { vertices = v; faces = f } in
-    is ∙ ap (λ l. make l f) e ∙ ap (make v') h
-
-pub cells_of : (n m : ℕ) (cells items : List CellValues) → AreCells n cells → n ≡ m → items ≡ cells → AreCells m items
-cells_of n m cells items are same equal =
-    let P : ℕ → Type 0 = λ i. AreCells i items in
-    let Q : List CellValues → Type 0 = λ l. AreCells n l in
-    subst P same (subst Q (sym equal) are)
-
-pub ok_weaker : {T E : Type 0} (P Q : T → Type 0) (r : Result T E) → ((x : T) → P x → Q x) → IfOk r P → IfOk r Q
-ok_weaker P Q (Ok x) weaker h = weaker x h
-ok_weaker P Q (Err e) weaker h = tt
+    ap (λ l. make l f) (is.on_edges ∙ all_vertices of_grid have g is.border)
+    ∙ ap (make (map (vertex_of g) (vertices g))) (made ∙ faces_of_cells have triangles g is.border)

@@ -8,4 +8,5 @@ pub mod ReachLaws
 pub mod TriangleLaws
 pub mod VertexLaws
 pub mod WayLaws
+pub mod SideLaws
 pub mod SoundLaws

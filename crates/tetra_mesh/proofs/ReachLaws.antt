@@ -1,5 +1,5 @@
 -- Numbering one more cell.
-use Rattle.std.proofs.Common.{◌≡◌, ℕ, suc, ◌+◌, ◌*◌, ◌/◌, ◌%◌, ◌^◌, ◌<◌, ◌≤◌, Bool, true, false, cond, List, [], ◌∷◌, ◌++◌, refl, ap, sym, ◌∙◌, subst, inl, inr, arith}
+use Rattle.std.proofs.Common.{◌≡◌, ℕ, suc, ◌+◌, ◌*◌, ◌/◌, ◌%◌, ◌^◌, ◌<◌, ◌≤◌, Bool, true, false, cond, List, [], ◌∷◌, ◌++◌, ap, sym, ◌∙◌, subst, inl, inr, arith}
 use Rattle.std.specs.Prelude.{◌⊎◌, filter, flat_map, take, set, get_or, length}
 use Rattle.std.specs.List.{range_with_len}
 use Rattle.std.proofs.lemmas.Bool.{cases_lt, cases_order}
@@ -14,7 +14,8 @@ use Rattle.kuhn_cells.specs.Laws.{IsCellBefore}
 use Rattle.kuhn_cells.specs.Triangles.{edge_from}
 use Rattle.tetra_mesh.specs.declared.entry.Entry.{Entry}
 use Rattle.tetra_mesh.specs.declared.numbering.Numbering.{Numbering}
-use Rattle.tetra_mesh.specs.Numbering.{AreCells, IsIn, IsNumbered, IsSmall, LiesBelow, Numbers, ReachesAbove, entry_after, mask_of, slot_of, vertex_on, vertices_on}
+use Rattle.tetra_mesh.specs.Numbering.{AreCells, IsIn, IsNumbered, IsSmall, LiesBelow, ReachesAbove, entry_after, mask_of, slot_of}
+use Rattle.tetra_mesh.proofs.SideLaws.{NumbersCell}
 
 -- ---- how many vertices there are
 
@@ -30,22 +31,17 @@ seven : (c : CellValues) → length (directions_of c) ≤ 7
 unfolding directions_of
 seven c = filter_length (λ d. differ (has_inside c 0) (has_inside c d)) (range_with_len 1 7)
 
-vertices_few : (cells : List CellValues) → length (flat_map vertices_on cells) ≤ 7 * length cells
-vertices_few [] = omega arith
-vertices_few (c ∷ cells) =
-    omega (arith, length-append (vertices_on c) (flat_map vertices_on cells), length-map (directions_of c) (vertex_on c), seven c, vertices_few cells)
+edges_few : (cells : List CellValues) → length (flat_map edges_of cells) ≤ 7 * length cells
+edges_few [] = omega arith
+edges_few (c ∷ cells) =
+    omega (arith, length-append (edges_of c) (flat_map edges_of cells), length-map (directions_of c) (edge_from (place_of c)), seven c, edges_few cells)
 
-as_many : (cells : List CellValues) → length (flat_map vertices_on cells) ≡ length (flat_map edges_of cells)
-as_many [] = refl
-as_many (c ∷ cells) =
-    omega (arith, length-append (vertices_on c) (flat_map vertices_on cells), length-append (edges_of c) (flat_map edges_of cells), length-map (directions_of c) (vertex_on c), length-map (directions_of c) (edge_from (place_of c)), as_many cells)
-
-pub room_left : (cells : List CellValues) (n : ℕ) (s : Numbering) → AreCells n cells → IsNumbered cells n s → length s.vertices.items < 2 ^ 31
+pub room_left : (cells : List CellValues) (n : ℕ) (s : Numbering) → AreCells n cells → IsNumbered cells n s → s.vertices < 2 ^ 31
 room_left cells n s are is =
-    let e = ap length is.vertices in
+    let e = is.vertices in
     let few = are.few in
     let some = is.some in
-    omega (arith, e, vertices_few (take s.ahead cells), length-take-le s.ahead cells some, few, some)
+    omega (arith, e, edges_few (take s.ahead cells), length-take-le s.ahead cells some, few, some)
 
 -- ---- slots
 
@@ -79,9 +75,9 @@ slot_within n x y z fx fy = grind arith
 -- ---- one more cell
 
 abbrev entry_kept : Numbering → CellValues → Entry
-entry_kept s c = record { base = length s.vertices.items; mask = mask_of c }
+entry_kept s c = record { base = s.vertices; mask = mask_of c }
 
-kept_last : (cells : List CellValues) (n : ℕ) (old new : Numbering) (c : CellValues) (e : Entry) → AreCells n cells → IsNumbered cells n old → IsIn n c → Numbers c old new → get_or new.slots.items (slot_of n c.x c.y c.z) e ≡ entry_after (take old.ahead cells) c
+kept_last : (cells : List CellValues) (n : ℕ) (old new : Numbering) (c : CellValues) (e : Entry) → AreCells n cells → IsNumbered cells n old → IsIn n c → NumbersCell c old new → get_or new.slots.items (slot_of n c.x c.y c.z) e ≡ entry_after (take old.ahead cells) c
 kept_last cells n old new c e are is in_c step =
     let slot = slot_of old.n c.x c.y c.z in
     let entry = entry_kept old c in
@@ -92,9 +88,9 @@ kept_last cells n old new c e are is in_c step =
     ap (λ l. get_or l (slot_of n c.x c.y c.z) e) step.slots
     ∙ ap (λ s. get_or (set old.slots.items slot entry) s e) place
     ∙ get_or-set_same old.slots.items slot entry e within
-    ∙ ap make (ap length is.vertices ∙ as_many (take old.ahead cells))
+    ∙ ap make is.vertices
 
-kept_on : (cells : List CellValues) (n : ℕ) (old new : Numbering) (c : CellValues) → AreCells n cells → IsNumbered cells n old → old.ahead < length cells → c ≡ get_or cells old.ahead c → Numbers c old new → (j : ℕ) (d : CellValues) (e : Entry) → (j < old.ahead) ⊎ (old.ahead ≤ j) → j < new.ahead → ((k : ℕ) → k < new.ahead → (get_or cells k d).z ≤ (get_or cells j d).z + 1) → let b = get_or cells j d in get_or new.slots.items (slot_of n b.x b.y b.z) e ≡ entry_after (take j cells) b
+kept_on : (cells : List CellValues) (n : ℕ) (old new : Numbering) (c : CellValues) → AreCells n cells → IsNumbered cells n old → old.ahead < length cells → c ≡ get_or cells old.ahead c → NumbersCell c old new → (j : ℕ) (d : CellValues) (e : Entry) → (j < old.ahead) ⊎ (old.ahead ≤ j) → j < new.ahead → ((k : ℕ) → k < new.ahead → (get_or cells k d).z ≤ (get_or cells j d).z + 1) → let b = get_or cells j d in get_or new.slots.items (slot_of n b.x b.y b.z) e ≡ entry_after (take j cells) b
 kept_on cells n old new c are is more here step j d e (inl earlier) less near =
     let a = old.ahead in
     let b = get_or cells j d in
@@ -123,13 +119,13 @@ kept_on cells n old new c are is more here step j d e (inr late) less near =
     let R : ℕ → Type 0 = λ i. let b = get_or cells i d in get_or new.slots.items (slot_of n b.x b.y b.z) e ≡ entry_after (take i cells) b in
     subst R same (subst P (sym next) (kept_last cells n old new c e are is in_c step))
 
-pub numbered_more : (cells : List CellValues) (n : ℕ) (old new : Numbering) (c : CellValues) → AreCells n cells → IsNumbered cells n old → old.ahead < length cells → c ≡ get_or cells old.ahead c → Numbers c old new → IsNumbered cells n new
+pub numbered_more : (cells : List CellValues) (n : ℕ) (old new : Numbering) (c : CellValues) → AreCells n cells → IsNumbered cells n old → old.ahead < length cells → c ≡ get_or cells old.ahead c → NumbersCell c old new → IsNumbered cells n new
 numbered_more cells n old new c are is more here step =
     let a = old.ahead in
-    let first = flat_map vertices_on (take a cells) in
+    let first = flat_map edges_of (take a cells) in
     let taken : take (a + 1) cells ≡ take a cells ++ c ∷ [] = take_more cells a c more ∙ ap (λ x. take a cells ++ x ∷ []) (sym here) in
-    let whole : flat_map vertices_on (take new.ahead cells) ≡ first ++ vertices_on c =
-    ap (λ i. flat_map vertices_on (take i cells)) step.ahead ∙ ap (flat_map vertices_on) taken ∙ flat_map-append vertices_on (take a cells) (c ∷ []) ∙ ap (λ l. first ++ l) (append-nil (vertices_on c)) in
+    let whole : flat_map edges_of (take new.ahead cells) ≡ first ++ edges_of c =
+    ap (λ i. flat_map edges_of (take i cells)) step.ahead ∙ ap (flat_map edges_of) taken ∙ flat_map-append edges_of (take a cells) (c ∷ []) ∙ ap (λ l. first ++ l) (append-nil (edges_of c)) in
     let entry = entry_kept old c in
     let slot = slot_of old.n c.x c.y c.z in
     let width = step.width in
@@ -138,7 +134,7 @@ numbered_more cells n old new c are is more here step =
     record {
       width = step.width ∙ is.width;
       some = omega (arith, ahead, more);
-      vertices = step.vertices ∙ ap (λ l. l ++ vertices_on c) is.vertices ∙ sym whole;
+      vertices = step.vertices ∙ ap (λ k. k + length (edges_of c)) is.vertices ∙ sym (ap length whole ∙ length-append first (edges_of c));
       room = ap length step.slots ∙ length-set old.slots.items slot entry ∙ is.room;
       small = All-same IsSmall new.slots.items (set old.slots.items slot entry) step.slots (All-set IsSmall old.slots.items slot entry left is.small);
       kept = λ j d e less near. kept_on cells n old new c are is more here step j d e (cases_lt j a) less near;

@@ -14,8 +14,10 @@ use Rattle.kuhn_cells.specs.Arrangement.{arrangement, inside_count, pattern_of}
 use Rattle.kuhn_cells.specs.Cells.{has_inside, place_of, triangles_of_cell}
 use Rattle.kuhn_cells.specs.Corners.{along_x, along_y, along_z, corner}
 use Rattle.kuhn_cells.specs.Triangles.{edge_between, has_sign, point, triangles_among, triangles_by, triangles_in, triangles_of}
+use Rattle.tetra_mesh.specs.declared.sided_cell.SidedCell.{SidedCell}
 use Rattle.tetra_mesh.specs.Numbering.{signs_of}
-use Rattle.tetra_mesh.specs.Shapes.{moved, moved_triple, shape_front, shape_of}
+use Rattle.tetra_mesh.specs.Shapes.{moved, moved_triple, shape_front, shape_of, sided_triangles}
+use Rattle.tetra_mesh.specs.Sides.{sided_of}
 use Rattle.tetra_mesh.proofs.Bits.{digit}
 use Rattle.tetra_mesh.proofs.NumberLaws.{range_parts}
 
@@ -51,14 +53,14 @@ among_moved f edge far same count a b c d = by (count == 1) (count == 3) (count 
     by false false true = rw (same a c, same a d, same b d, same b c) refl
     by false false false = refl
 
-edge_moved : (c : CellValues) (i j : ℕ) → moved c (edge_between (point 0 0 0) i j) ≡ edge_between (place_of c) i j
+edge_moved : (c : CellValues) (i j : ℕ) → moved (sided_of c) (edge_between (point 0 0 0) i j) ≡ edge_between (place_of c) i j
 edge_moved c i j = rw (zero-add (along_x (min i j)), zero-add (along_y (min i j)), zero-add (along_z (min i j))) refl
 
-tetra_moved : (c : CellValues) (tetra signs : ℕ) → map (moved_triple c) (triangles_of 0 0 0 tetra signs) ≡ triangles_of c.x c.y c.z tetra signs
+tetra_moved : (c : CellValues) (tetra signs : ℕ) → map (moved_triple (sided_of c)) (triangles_of 0 0 0 tetra signs) ≡ triangles_of c.x c.y c.z tetra signs
 tetra_moved c tetra signs =
     let pattern = pattern_of (has_sign signs) tetra in
     let corners = arrangement tetra pattern in
-    among_moved (moved c) (edge_between (point 0 0 0)) (edge_between (place_of c)) (edge_moved c) (inside_count pattern) (get_or corners 0 0) (get_or corners 1 0) (get_or corners 2 0) (get_or corners 3 0)
+    among_moved (moved (sided_of c)) (edge_between (point 0 0 0)) (edge_between (place_of c)) (edge_moved c) (inside_count pattern) (get_or corners 0 0) (get_or corners 1 0) (get_or corners 2 0) (get_or corners 3 0)
 
 map_flat : {X A B : Type 0} (f : A → B) (h : X → List A) (xs : List X) → map f (flat_map h xs) ≡ flat_map (λ x. map f (h x)) xs
 map_flat f h [] = refl
@@ -72,11 +74,11 @@ flat_same f h a (suc n) same =
     cc
 
 -- the triangles of a cell are those of the cell at the origin with its signs
-pub shape_moved : (c : CellValues) → map (moved_triple c) (shape_of (signs_of c)) ≡ triangles_of_cell c
+pub shape_moved : (c : CellValues) → sided_triangles (sided_of c) ≡ triangles_of_cell c
 unfolding shape_of triangles_of_cell
 shape_moved c =
-    map_flat (moved_triple c) (λ tetra. triangles_of 0 0 0 tetra (signs_of c)) (range_with_len 0 6)
-    ∙ flat_same (λ tetra. map (moved_triple c) (triangles_of 0 0 0 tetra (signs_of c))) (λ tetra. triangles_in (place_of c) tetra (has_inside c)) 0 6 (λ tetra few. tetra_moved c tetra (signs_of c) ∙ by_signs c tetra (omega (arith, few)))
+    map_flat (moved_triple (sided_of c)) (λ tetra. triangles_of 0 0 0 tetra (signs_of c)) (range_with_len 0 6)
+    ∙ flat_same (λ tetra. map (moved_triple (sided_of c)) (triangles_of 0 0 0 tetra (signs_of c))) (λ tetra. triangles_in (place_of c) tetra (has_inside c)) 0 6 (λ tetra few. tetra_moved c tetra (signs_of c) ∙ by_signs c tetra (omega (arith, few)))
 
 map_map : {X A B : Type 0} (f : A → B) (h : X → A) (xs : List X) → map (λ x. f (h x)) xs ≡ map f (map h xs)
 map_map f h [] = refl
@@ -87,13 +89,13 @@ all_mapped P h [] all = All-nil (λ x. P (h x))
 all_mapped P h (x ∷ xs) all =
     All-cons (λ x. P (h x)) x xs (All-head P (h x) (map h xs) all) (all_mapped P h xs (All-tail P (h x) (map h xs) all))
 
-pub faces_moved : {A : Type 0} (f : Triple → A) (c : CellValues) (ts : List Triple) → ts ≡ shape_of (signs_of c) → map (λ t. f (moved_triple c t)) ts ≡ map f (triangles_of_cell c)
+pub faces_moved : {A : Type 0} (f : Triple → A) (c : SidedCell) (ts : List Triple) → ts ≡ shape_of c.signs → map (λ t. f (moved_triple c t)) ts ≡ map f (sided_triangles c)
 faces_moved f c ts is =
-    map_map f (moved_triple c) ts ∙ ap (map f) (ap (map (moved_triple c)) is ∙ shape_moved c)
+    map_map f (moved_triple c) ts ∙ ap (λ l. map f (map (moved_triple c) l)) is
 
-pub all_moved : (P : Triple → Type 0) (c : CellValues) (ts : List Triple) → ts ≡ shape_of (signs_of c) → All P (triangles_of_cell c) → All (λ t. P (moved_triple c t)) ts
+pub all_moved : (P : Triple → Type 0) (c : SidedCell) (ts : List Triple) → ts ≡ shape_of c.signs → All P (sided_triangles c) → All (λ t. P (moved_triple c t)) ts
 all_moved P c ts is all =
-    all_mapped P (moved_triple c) ts (All-same P (map (moved_triple c) ts) (triangles_of_cell c) (ap (map (moved_triple c)) is ∙ shape_moved c) all)
+    all_mapped P (moved_triple c) ts (All-same P (map (moved_triple c) ts) (sided_triangles c) (ap (map (moved_triple c)) is) all)
 
 -- ---- one more tetrahedron, and one more shape
 

@@ -3,6 +3,7 @@ pub mod Meshes
 pub mod Numbering
 pub mod Places
 pub mod Shapes
+pub mod Sides
 pub mod Sound
 pub mod SoundLaws
 pub mod Tables

@@ -1,5 +1,5 @@
 -- How the vertices of a list of mixed cells are numbered.
-use Rattle.std.specs.Prelude.{◌≡◌, ℕ, ◌+◌, ◌-◌, ◌*◌, ◌%◌, ◌^◌, ◌<◌, ◌≤◌, pos, Bool, List, ◌++◌, map, flat_map, filter, take, set, get_or, length, All, AllPairs, if◌then◌else◌}
+use Rattle.std.specs.Prelude.{◌≡◌, ℕ, ◌+◌, ◌-◌, ◌*◌, ◌%◌, ◌^◌, ◌<◌, ◌≤◌, pos, Bool, List, map, flat_map, filter, take, get_or, length, All, AllPairs, if◌then◌else◌}
 use Rattle.std.specs.Int.RustNames.{count_ones}
 use Rattle.std.specs.List.{range_with_len}
 use Rattle.kuhn_cells.specs.declared.cell_list.CellValues.{CellValues}
@@ -83,7 +83,7 @@ IsSmall e = e.base < 2 ^ 31
 pub record IsNumbered (cells : List CellValues) (n : ℕ) (s : Numbering) : Type 0 where
   pub width : s.n ≡ n
   pub some : s.ahead ≤ length cells
-  pub vertices : s.vertices.items ≡ flat_map vertices_on (take s.ahead cells)
+  pub vertices : s.vertices ≡ length (flat_map edges_of (take s.ahead cells))
   pub room : length s.slots.items ≡ 2 * n * n
   pub small : All IsSmall s.slots.items
   pub kept : (j : ℕ) (d : CellValues) (e : Entry) → j < s.ahead
@@ -104,13 +104,6 @@ pub record HasReached (cells : List CellValues) (ahead done : ℕ) : Type 0 wher
   pub first : done ≤ ahead
   pub near : (j k : ℕ) (d : CellValues) → j < ahead → done ≤ k → k < length cells
       → (get_or cells j d).z ≤ (get_or cells k d).z + 1
-
--- one more cell is numbered
-pub record Numbers (c : CellValues) (old new : Numbering) : Type 0 where
-  pub width : new.n ≡ old.n
-  pub ahead : new.ahead ≡ old.ahead + 1
-  pub vertices : new.vertices.items ≡ old.vertices.items ++ vertices_on c
-  pub slots : new.slots.items ≡ set old.slots.items (slot_of old.n c.x c.y c.z) (record { base = length old.vertices.items; mask = mask_of c })
 
 -- the number of a vertex by what is kept of its cell
 abbrev pub number_in : ℕ → List Entry → EdgeKey → ℕ

@@ -1,12 +1,12 @@
 -- The triangles of a cell by those of the cell at the origin.
-use Rattle.std.specs.Prelude.{◌≡◌, ℕ, ◌+◌, ◌<◌, List, Vec, flat_map, get_or, length}
+use Rattle.std.specs.Prelude.{◌≡◌, ℕ, ◌+◌, ◌<◌, List, Vec, flat_map, get_or, length, map}
 use Rattle.std.specs.List.{range_with_len}
 use Rattle.std.specs.declared.alloc.Global.{Global}
-use Rattle.kuhn_cells.specs.declared.cell_list.CellValues.{CellValues}
 use Rattle.kuhn_cells.specs.declared.edge_key.EdgeKey.{EdgeKey}
 use Rattle.kuhn_cells.specs.declared.triple.Triple.{Triple}
 use Rattle.kuhn_cells.specs.Triangles.{triangles_of}
 use Rattle.tetra_mesh.specs.declared.shapes.Shapes.{Shapes as Kept}
+use Rattle.tetra_mesh.specs.declared.sided_cell.SidedCell.{SidedCell}
 
 -- the triangles of the first tetrahedra of the cell at the origin with these signs
 abbrev pub shape_front : ℕ → ℕ → List Triple
@@ -17,11 +17,15 @@ unfoldable pub shape_of : ℕ → List Triple
 shape_of signs = shape_front signs 6
 
 -- an edge of the cell at the origin, in another cell
-abbrev pub moved : CellValues → EdgeKey → EdgeKey
+abbrev pub moved : SidedCell → EdgeKey → EdgeKey
 moved c e = record { x = c.x + e.x; y = c.y + e.y; z = c.z + e.z; dir = e.dir }
 
-abbrev pub moved_triple : CellValues → Triple → Triple
+abbrev pub moved_triple : SidedCell → Triple → Triple
 moved_triple c t = record { a = moved c t.a; b = moved c t.b; c = moved c t.c }
+
+-- the triangles of a cell by its place and sides
+abbrev pub sided_triangles : SidedCell → List Triple
+sided_triangles c = map (moved_triple c) (shape_of c.signs)
 
 -- the triangles for all signs
 pub record AreShapes (s : Kept) : Type 0 where

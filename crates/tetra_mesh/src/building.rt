@@ -1,12 +1,11 @@
 // Whole meshes.
-ghost use Rattle.std.specs.Prelude.{◌≡◌, ◌≤◌, ◌++◌, IfOk, OnOk, flat_map, length, map};
-ghost use Rattle.kuhn_cells.specs.Cells.{edges_of, triangles_of_cell};
-ghost use Rattle.kuhn_cells.specs.Faces.{face_among};
+ghost use Rattle.std.specs.Prelude.{◌≡◌, ◌≤◌, [], ◌++◌, IfOk, OnOk, flat_map, length, map};
 ghost use Rattle.kuhn_cells.specs.Grids.{Grid};
 ghost use Rattle.kuhn_cells.specs.Lists.{ListsCells};
 ghost use Rattle.tetra_mesh.specs.Cuts.{mesh_of};
-ghost use Rattle.tetra_mesh.specs.Numbering.{AreCells, IsNumbered, all_faces, vertices_on};
+ghost use Rattle.tetra_mesh.specs.Numbering.{IsNumbered, all_faces, vertices_on};
 ghost use Rattle.tetra_mesh.specs.Shapes.{AreShapes};
+ghost use Rattle.tetra_mesh.specs.Sides.{HasParts, HaveCells, OfCells, sided_of};
 ghost use Rattle.tetra_mesh.specs.Sound.{IsSound, LieApart};
 ghost use Rattle.view_settings.specs.Window.{FitsMesh};
 
@@ -14,8 +13,9 @@ use crate::faces::{face_count, push_faces};
 use crate::laws::meshes_are_sound;
 use crate::numbering::Numbering;
 use crate::shapes::Shapes;
-use crate::sides::{mask_of, signs_of};
-use crate::{Face, Mesh};
+use crate::sided_cell::SidedCell;
+use crate::vertices::vertices_of;
+use crate::{Face, Mesh, Vertex};
 use kuhn_cells::{CellList, CellValues, mixed_cells_suffice};
 use std::alloc::{AllocError, Global};
 use view_settings::View;
@@ -31,58 +31,142 @@ pub fn build(alloc: Global, cells: &CellList, view: &View) -> Result<Mesh, Alloc
     ensures sound { (g : Grid) → ListsCells view.now.n cells.now g → IfOk result (IsSound g) }
     ensures apart { FitsMesh view.now → IfOk result (λ mesh. LieApart view.now mesh.vertices) }
 {
-    meshes_are_sound();
-    mixed_cells_suffice();
-    mesh_of_cells(alloc, &cells.cells, view.n)
+    cells_are_few(cells, view);
+    let (vertices, sided) = parts(alloc, &cells.cells)?;
+    mesh_of_parts(alloc, vertices, &sided, view)
 }
 
-// The mesh of mixed cells of a grid of n cells along each axis. AllocError: there is no memory.
-fn mesh_of_cells(alloc: Global, cells: &[CellValues], n: u32) -> Result<Mesh, AllocError>
-    requires { AreCells n cells.now }
-    ensures { IfOk result (λ mesh. mesh ≡ record
-        { vertices = flat_map vertices_on cells.now; faces = all_faces cells.now cells.now }) }
+/// The mesh that `build` gives. The list of cells is given up before the faces are made.
+pub fn build_from(alloc: Global, cells: CellList, view: &View) -> Result<Mesh, AllocError>
+    requires { (g : Grid) × ListsCells view.now.n cells g }
+    ensures mesh { (g : Grid) → ListsCells view.now.n cells g → IfOk result
+        (λ mesh. mesh ≡ mesh_of g) }
+    ensures sound { (g : Grid) → ListsCells view.now.n cells g → IfOk result (IsSound g) }
+    ensures apart { FitsMesh view.now → IfOk result (λ mesh. LieApart view.now mesh.vertices) }
 {
-    let (vertices, faces) = counts(cells);
-    let mut numbering = Numbering::new(alloc, n, vertices)?;
-    let mut faces = Vec::with_capacity(alloc, faces)?;
+    cells_are_few(&cells, view);
+    let (vertices, sided) = parts_of(alloc, cells)?;
+    mesh_of_parts(alloc, vertices, &sided, view)
+}
+
+// Lets a proof know how many cells of a grid of the view's size are mixed at most.
+#[inline]
+fn cells_are_few(cells: &CellList, view: &View)
+    requires { (g : Grid) × ListsCells view.now.n cells.now g }
+    ensures { length cells.now.cells.items ≤ 16777216 }
+{
+    mixed_cells_suffice();
+    let _n = view.n;
+}
+
+// The vertices of the cells of a list that is given up, and the places and sides of the cells.
+// AllocError: there is no memory for them.
+fn parts_of(alloc: Global, cells: CellList) -> Result<(Vec<Vertex>, Vec<SidedCell>), AllocError>
+    requires { length cells.cells.items ≤ 16777216 }
+    ensures vertices { IfOk result
+        (λ parts. parts.0.items ≡ flat_map vertices_on cells.cells.items) }
+    ensures sides { IfOk result (λ parts. parts.1.items ≡ map sided_of cells.cells.items) }
+{
+    parts(alloc, &cells.cells)
+}
+
+// The vertices of cells, and the places and sides of the cells. AllocError: there is no memory for
+// them.
+fn parts(alloc: Global, cells: &[CellValues]) -> Result<(Vec<Vertex>, Vec<SidedCell>), AllocError>
+    requires { length cells.now ≤ 16777216 }
+    ensures vertices { IfOk result (λ parts. parts.0.items ≡ flat_map vertices_on cells.now) }
+    ensures sides { IfOk result (λ parts. parts.1.items ≡ map sided_of cells.now) }
+{
+    let sided = sided_cells(alloc, cells)?;
+    let vertices = vertices_of(alloc, cells, vertex_count(&sided))?;
+    Ok((vertices, sided))
+}
+
+// The places and sides of cells. AllocError: there is no memory for them.
+fn sided_cells(alloc: Global, cells: &[CellValues]) -> Result<Vec<SidedCell>, AllocError>
+    ensures { IfOk result (λ sided. sided.items ≡ map sided_of cells.now) }
+{
+    let mut sided = Vec::with_capacity(alloc, cells.len())?;
+    for cell in cells {
+        sided.push(SidedCell::new(cell))?;
+    }
+    Ok(sided)
+}
+
+// The mesh of a grid of the view's size, from the vertices of its mixed cells and from the places
+// and sides of these cells. AllocError: there is no memory for it.
+fn mesh_of_parts(
+    alloc: Global,
+    vertices: Vec<Vertex>,
+    sided: &[SidedCell],
+    view: &View,
+) -> Result<Mesh, AllocError>
+    requires { (g : Grid) × HasParts view.now.n g vertices.items sided.now }
+    ensures mesh { (g : Grid) → HasParts view.now.n g vertices.items sided.now → IfOk result
+        (λ mesh. mesh ≡ mesh_of g) }
+    ensures sound { (g : Grid) → HasParts view.now.n g vertices.items sided.now → IfOk result
+        (IsSound g) }
+    ensures apart { FitsMesh view.now → IfOk result (λ mesh. LieApart view.now mesh.vertices) }
+{
+    meshes_are_sound();
+    mixed_cells_suffice();
+    let faces = faces_of(alloc, sided, view.n)?;
+    Ok(Mesh { vertices, faces })
+}
+
+// The faces of mixed cells of a grid of n cells along each axis, by their places and sides alone.
+// AllocError: there is no memory for them.
+fn faces_of(alloc: Global, sided: &[SidedCell], n: u32) -> Result<Vec<Face>, AllocError>
+    requires { HaveCells n sided.now }
+    ensures { OfCells n sided.now
+        (λ cells. IfOk result (λ faces. faces.items ≡ all_faces cells cells)) }
+{
+    let mut numbering = Numbering::new(alloc, n)?;
+    let mut faces = Vec::with_capacity(alloc, total_face_count(sided))?;
     let shapes = Shapes::new(alloc)?;
-    push_all_faces(cells, &shapes, &mut numbering, &mut faces)?;
-    Ok(Mesh {
-        vertices: numbering.vertices,
-        faces,
-    })
+    push_all_faces(sided, &shapes, &mut numbering, &mut faces)?;
+    Ok(faces)
 }
 
 // The faces of all cells, and with them the numbers of their vertices. AllocError: there is no
 // memory for them.
 fn push_all_faces(
-    cells: &[CellValues],
+    sided: &[SidedCell],
     shapes: &Shapes,
     numbering: &mut Numbering,
     faces: &mut Vec<Face>,
 ) -> Result<(), AllocError>
-    requires cells { AreCells numbering.old.n cells.now }
-    requires none { IsNumbered cells.now numbering.old.n numbering.old }
-    requires first { numbering.old.ahead ≡ 0 }
+    requires cells { HaveCells numbering.old.n sided.now }
+    requires none { IsNumbered [] numbering.old.n numbering.old }
     requires shapes { AreShapes shapes.now }
-    ensures vertices { OnOk result (numbering.new.vertices.items ≡ flat_map vertices_on cells.now) }
-    ensures faces { OnOk result (faces.new.items ≡ faces.old.items ++ all_faces cells.now cells.now) }
+    ensures { OfCells numbering.old.n sided.now
+        (λ cells. OnOk result (faces.new.items ≡ faces.old.items ++ all_faces cells cells)) }
 {
-    for cell in cells {
-        numbering.reach(cells, cell.z)?;
+    for cell in sided {
+        numbering.reach(sided, cell.z);
         push_faces(numbering.n, &numbering.slots, shapes, cell, faces)?;
     }
     Ok(())
 }
 
-// How many vertices cells have, and how many faces.
-fn counts(cells: &[CellValues]) -> (usize, usize)
+// How many vertices cells have.
+fn vertex_count(cells: &[SidedCell]) -> usize
     requires { length cells.now ≤ 16777216 }
 {
-    let (mut vertices, mut faces) = (0, 0);
+    let mut count = 0;
     for cell in cells {
-        vertices += mask_of(cell).count_ones() as usize;
-        faces += face_count(signs_of(cell));
+        count += cell.mask().count_ones() as usize;
     }
-    (vertices, faces)
+    count
+}
+
+// How many faces cells have.
+fn total_face_count(cells: &[SidedCell]) -> usize
+    requires { length cells.now ≤ 16777216 }
+{
+    let mut count = 0;
+    for cell in cells {
+        count += face_count(cell.signs);
+    }
+    count
 }

@@ -150,3 +150,22 @@ fn lone_cell_has_an_empty_mesh(rt: HostRuntime) -> Result<(), Fail> {
     assert!(rt; mesh.faces.is_empty());
     Ok(())
 }
+
+#[test]
+fn mesh_is_the_same_where_the_cells_are_given_up(rt: HostRuntime) -> Result<(), Fail> {
+    let cells = lone_point(rt.alloc())?;
+    let kept = build(rt.alloc(), &cells, &view_of(2))?;
+    let mesh = build_from(rt.alloc(), cells, &view_of(2))?;
+    assert_eq!(rt; mesh.faces.len(), 24);
+    assert_eq!(rt; mesh.vertices.as_slice(), kept.vertices.as_slice());
+    assert_eq!(rt; mesh.faces.as_slice(), kept.faces.as_slice());
+    Ok(())
+}
+
+#[test]
+fn lone_cell_that_is_given_up_has_an_empty_mesh(rt: HostRuntime) -> Result<(), Fail> {
+    let mesh = build_from(rt.alloc(), lone_cell(rt.alloc()), &view_of(1))?;
+    assert!(rt; mesh.vertices.is_empty());
+    assert!(rt; mesh.faces.is_empty());
+    Ok(())
+}

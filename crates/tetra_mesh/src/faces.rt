@@ -1,16 +1,15 @@
 // The faces of mixed cells, by the numbers of their vertices.
 ghost use Rattle.std.specs.Prelude.{◌≡◌, ◌*◌, ◌≤◌, ◌<◌, ◌++◌, All, OnOk, length, map};
-ghost use Rattle.kuhn_cells.specs.Cells.{triangles_of_cell};
 ghost use Rattle.kuhn_cells.specs.Laws.{OfEdges};
 ghost use Rattle.tetra_mesh.specs.Numbering.{AreSlots, IsKept, face_in, number_in};
-ghost use Rattle.tetra_mesh.specs.Shapes.{AreShapes, moved, moved_triple};
+ghost use Rattle.tetra_mesh.specs.Shapes.{AreShapes, moved, moved_triple, sided_triangles};
 
 use crate::Face;
 use crate::entry::Entry;
 use crate::numbering::slot;
 use crate::shapes::Shapes;
-use crate::sides::signs_of;
-use kuhn_cells::{CellValues, EdgeKey, Triple, corner_of};
+use crate::sided_cell::SidedCell;
+use kuhn_cells::{EdgeKey, Triple, corner_of};
 use std::alloc::AllocError;
 
 // The faces of a cell. AllocError: there is no memory for them.
@@ -19,16 +18,16 @@ pub(crate) fn push_faces(
     n: usize,
     slots: &[Entry],
     shapes: &Shapes,
-    cell: &CellValues,
+    cell: &SidedCell,
     faces: &mut Vec<Face>,
 ) -> Result<(), AllocError>
     requires slots { AreSlots n slots.now }
     requires shapes { AreShapes shapes.now }
-    requires kept { All (OfEdges (IsKept n)) (triangles_of_cell cell.now) }
+    requires kept { All (OfEdges (IsKept n)) (sided_triangles cell.now) }
     ensures { OnOk result (faces.new.items ≡ faces.old.items ++ map (face_in n slots.now)
-        (triangles_of_cell cell.now)) }
+        (sided_triangles cell.now)) }
 {
-    let signs = usize::from(signs_of(cell));
+    let signs = usize::from(cell.signs);
     push_triangles(n, slots, cell, &shapes.shapes[signs], faces)
 }
 
@@ -38,7 +37,7 @@ pub(crate) fn push_faces(
 fn push_triangles(
     n: usize,
     slots: &[Entry],
-    cell: &CellValues,
+    cell: &SidedCell,
     triangles: &[Triple],
     faces: &mut Vec<Face>,
 ) -> Result<(), AllocError>
@@ -59,7 +58,7 @@ fn push_triangles(
 
 // The number of the vertex on an edge of the cell at the origin, in another cell.
 #[inline]
-fn number(n: usize, slots: &[Entry], cell: &CellValues, edge: EdgeKey) -> u32
+fn number(n: usize, slots: &[Entry], cell: &SidedCell, edge: EdgeKey) -> u32
     requires slots { AreSlots n slots.now }
     requires kept { IsKept n (moved cell.now edge) }
     ensures { result ≡ number_in n slots.now (moved cell.now edge) }

@@ -12,10 +12,12 @@ mod mesh;
 mod numbering;
 mod place;
 mod shapes;
+mod sided_cell;
 mod sides;
 mod vertex;
+mod vertices;
 
-pub use building::build;
+pub use building::{build, build_from};
 pub use face::Face;
 pub use grid_places::GridPlaces;
 pub use laws::meshes_are_sound;

@@ -1,9 +1,9 @@
 // On which side of the surface the corners of a cell lie.
-ghost use Rattle.std.specs.Prelude.{◌≡◌, ◌-◌, ◌≤◌, true};
+ghost use Rattle.std.specs.Prelude.{◌≡◌, ◌≤◌, true};
 ghost use Rattle.fixed_ops.specs.Raw.{is_inside as is_inside_of};
 ghost use Rattle.kuhn_cells.specs.Arrangement.{differ};
 ghost use Rattle.tetra_mesh.specs.Cuts.{way_up as way_up_of};
-ghost use Rattle.tetra_mesh.specs.Numbering.{mask_of as mask_of_cell, signs_of as signs_of_cell};
+ghost use Rattle.tetra_mesh.specs.Numbering.{signs_of as signs_of_cell};
 
 use fixed_ops::{Fx, cut, is_inside};
 use kuhn_cells::CellValues;
@@ -22,19 +22,6 @@ pub(crate) fn signs_of(cell: &CellValues) -> u8
         + 32 * u8::from(is_inside(values[5]))
         + 64 * u8::from(is_inside(values[6]))
         + 128 * u8::from(is_inside(values[7]))
-}
-
-// Bit k is 1 where corner k is not on the side of corner 0.
-#[inline]
-pub(crate) fn mask_of(cell: &CellValues) -> u8
-    ensures { result ≡ mask_of_cell cell.now }
-{
-    let signs = signs_of(cell);
-    if is_inside(cell.values[0]) {
-        255 - signs
-    } else {
-        signs
-    }
 }
 
 // How far from its lower point an edge is cut, by the values of the lower and the upper point.

@@ -24,40 +24,40 @@ returns-in_err-cells-clause-plain c =
     (subst IsTape c.list.view_is c.list.invariant) c.grid_work_is_bounded.ensures.points
     (mesh_within c.args.tally.now c.mixed_cells.new.tally c.args.view.now c.args.model.now c.in_ok-list.list c.in_ok-list.ensures.live c.in_err-cells.ensures.at_most)
 
-pub build-requires : goal.build-requires
-build-requires c = (grid_of c.args.view.now (λ p. tape_value p c.in_ok-list.list), c.in_ok-cells.ensures.cells)
+pub build_from-requires : goal.build_from-requires
+build_from-requires c = (grid_of c.args.view.now (λ p. tape_value p c.in_ok-list.list), c.in_ok-cells.ensures.cells)
 
 pub returns-clause-mesh : goal.returns-clause-mesh
 returns-clause-mesh c =
-    mesh_same c.build.result c.args.view.now c.args.model.now c.in_ok-list.list c.in_ok-list.ensures.value
-    (c.build.ensures.mesh (grid_of c.args.view.now (λ p. tape_value p c.in_ok-list.list)) c.in_ok-cells.ensures.cells)
+    mesh_same c.build_from.result c.args.view.now c.args.model.now c.in_ok-list.list c.in_ok-list.ensures.value
+    (c.build_from.ensures.mesh (grid_of c.args.view.now (λ p. tape_value p c.in_ok-list.list)) c.in_ok-cells.ensures.cells)
 
 pub returns-clause-text : goal.returns-clause-text
 returns-clause-text c =
-    of_mesh c.build.result (mesh_of (grid_of c.args.view.now (λ p. solid_value p c.args.model.now))) (λ mesh. ply_of c.args.view.now mesh.vertices mesh.faces ≡ mesh_text c.args.view.now c.args.model.now)
-    (mesh_same c.build.result c.args.view.now c.args.model.now c.in_ok-list.list c.in_ok-list.ensures.value
-    (c.build.ensures.mesh (grid_of c.args.view.now (λ p. tape_value p c.in_ok-list.list)) c.in_ok-cells.ensures.cells))
+    of_mesh c.build_from.result (mesh_of (grid_of c.args.view.now (λ p. solid_value p c.args.model.now))) (λ mesh. ply_of c.args.view.now mesh.vertices mesh.faces ≡ mesh_text c.args.view.now c.args.model.now)
+    (mesh_same c.build_from.result c.args.view.now c.args.model.now c.in_ok-list.list c.in_ok-list.ensures.value
+    (c.build_from.ensures.mesh (grid_of c.args.view.now (λ p. tape_value p c.in_ok-list.list)) c.in_ok-cells.ensures.cells))
     (solid_text c.args.view.now c.args.model.now)
 
 pub returns-clause-placed : goal.returns-clause-placed
 returns-clause-placed c =
-    of_mesh c.build.result (mesh_of (grid_of c.args.view.now (λ p. solid_value p c.args.model.now))) (λ mesh. All (IsPlaced c.args.view.now) mesh.vertices)
-    (mesh_same c.build.result c.args.view.now c.args.model.now c.in_ok-list.list c.in_ok-list.ensures.value
-    (c.build.ensures.mesh (grid_of c.args.view.now (λ p. tape_value p c.in_ok-list.list)) c.in_ok-cells.ensures.cells))
+    of_mesh c.build_from.result (mesh_of (grid_of c.args.view.now (λ p. solid_value p c.args.model.now))) (λ mesh. All (IsPlaced c.args.view.now) mesh.vertices)
+    (mesh_same c.build_from.result c.args.view.now c.args.model.now c.in_ok-list.list c.in_ok-list.ensures.value
+    (c.build_from.ensures.mesh (grid_of c.args.view.now (λ p. tape_value p c.in_ok-list.list)) c.in_ok-cells.ensures.cells))
     (solid_placed c.args.view.now (λ p. solid_value p c.args.model.now) c.vertices_are_mixed_edges.ensures.edges)
 
 pub returns-clause-vertices : goal.returns-clause-vertices
 returns-clause-vertices c =
-    of_mesh c.build.result (mesh_of (grid_of c.args.view.now (λ p. solid_value p c.args.model.now))) (λ mesh. length mesh.vertices < 2 ^ 31)
-    (mesh_same c.build.result c.args.view.now c.args.model.now c.in_ok-list.list c.in_ok-list.ensures.value
-    (c.build.ensures.mesh (grid_of c.args.view.now (λ p. tape_value p c.in_ok-list.list)) c.in_ok-cells.ensures.cells))
+    of_mesh c.build_from.result (mesh_of (grid_of c.args.view.now (λ p. solid_value p c.args.model.now))) (λ mesh. length mesh.vertices < 2 ^ 31)
+    (mesh_same c.build_from.result c.args.view.now c.args.model.now c.in_ok-list.list c.in_ok-list.ensures.value
+    (c.build_from.ensures.mesh (grid_of c.args.view.now (λ p. tape_value p c.in_ok-list.list)) c.in_ok-cells.ensures.cells))
     (solid_vertices c.args.view.now (λ p. solid_value p c.args.model.now) c.window_holds.ensures.n.few)
 
 pub returns-clause-faces : goal.returns-clause-faces
 returns-clause-faces c =
-    of_mesh c.build.result (mesh_of (grid_of c.args.view.now (λ p. solid_value p c.args.model.now))) (λ mesh. length mesh.faces < 2 ^ 31)
-    (mesh_same c.build.result c.args.view.now c.args.model.now c.in_ok-list.list c.in_ok-list.ensures.value
-    (c.build.ensures.mesh (grid_of c.args.view.now (λ p. tape_value p c.in_ok-list.list)) c.in_ok-cells.ensures.cells))
+    of_mesh c.build_from.result (mesh_of (grid_of c.args.view.now (λ p. solid_value p c.args.model.now))) (λ mesh. length mesh.faces < 2 ^ 31)
+    (mesh_same c.build_from.result c.args.view.now c.args.model.now c.in_ok-list.list c.in_ok-list.ensures.value
+    (c.build_from.ensures.mesh (grid_of c.args.view.now (λ p. tape_value p c.in_ok-list.list)) c.in_ok-cells.ensures.cells))
     (solid_faces c.args.view.now (λ p. solid_value p c.args.model.now) c.window_holds.ensures.n.few)
 
 pub returns-clause-at_most : goal.returns-clause-at_most

@@ -1,60 +1,116 @@
 -- One cell after another.
-use Rattle.std.proofs.Common.{arith, ap, sym, ◌∙◌}
-use Rattle.std.specs.Prelude.{map}
-use Rattle.std.proofs.lemmas.List.{append-nil}
+use Rattle.std.proofs.Common.{◌≤◌, ◌++◌, [], arith, ap, length, refl, sym, ◌∙◌}
+use Rattle.std.specs.Prelude.{get_or, map}
+use Rattle.std.proofs.lemmas.List.{append-nil, length-map, take_all}
+use Rattle.std.proofs.lemmas.List.Elements.{All-same}
 use Rattle.kuhn_cells.specs.Cells.{triangles_of_cell}
-use Rattle.tetra_mesh.specs.Numbering.{face_in}
-use Rattle.tetra_mesh.proofs.FaceLaws.{all_kept, below_at, cells_as, faces_here, faces_more, numbered_as, reached_more, slots_of}
+use Rattle.kuhn_cells.specs.Laws.{OfEdges}
+use Rattle.tetra_mesh.specs.declared.sided_cell.SidedCell.{SidedCell}
+use Rattle.tetra_mesh.specs.Numbering.{IsKept, all_faces, face_in}
+use Rattle.tetra_mesh.specs.Shapes.{sided_triangles}
+use Rattle.tetra_mesh.specs.Sides.{sided_of}
+use Rattle.tetra_mesh.proofs.FaceLaws.{all_kept, below_at, faces_here, faces_more, nothing, numbered_as, reached_more, slots_of, started}
+use Rattle.tetra_mesh.proofs.SideLaws.{behind, lower_z, no_sides, sides_as, upper_z}
+use Rattle.tetra_mesh.proofs.ReachLaws.{in_at}
+use Rattle.tetra_mesh.proofs.TriangleLaws.{shape_moved}
 use Rattle.tetra_mesh.proofs.building.push_all_faces.Goals as goal
 
 pub loop-cell-init : goal.loop-cell-init
 loop-cell-init c =
-    let first = c.requires.first in
+    let s = c.args.numbering.now in
+    let first = nothing [] s.n s c.requires.none in
     record {
-      numbered = c.requires.none;
-      reached = record { first = omega arith; near = λ j k d less low within. absurd (omega (arith, less, first)) };
-      faces = sym (append-nil c.args.faces.now.items);
+      width = refl;
+      numbered = λ cells are. started cells s.n s c.requires.none;
+      reached = λ cells are. record { first = omega arith; near = λ j k d less low within. absurd (omega (arith, less, first)) };
+      faces = λ cells are. sym (append-nil c.args.faces.now.items);
     }
 
 pub reach-requires-clause-cells : goal.reach-requires-clause-cells
-reach-requires-clause-cells c = cells_as c.args.cells.now c.args.numbering.now.n c.loop-cell.numbering.n (sym c.loop-cell.invariant.numbered.width) c.requires.cells
+reach-requires-clause-cells c =
+    let cells = c.requires.cells in
+    (cells.0, sides_as cells.0 c.args.sided.now c.args.numbering.now.n c.loop-cell.numbering.n (sym c.loop-cell.invariant.width) cells.1)
 
 pub reach-requires-clause-numbered : goal.reach-requires-clause-numbered
-reach-requires-clause-numbered c =
-    numbered_as c.args.cells.now c.args.numbering.now.n c.loop-cell.numbering.n c.loop-cell.numbering (sym c.loop-cell.invariant.numbered.width) c.loop-cell.invariant.numbered
+reach-requires-clause-numbered c cells are =
+    let was = sides_as cells c.args.sided.now c.loop-cell.numbering.n c.args.numbering.now.n c.loop-cell.invariant.width are in
+    numbered_as cells c.args.numbering.now.n c.loop-cell.numbering.n c.loop-cell.numbering (sym c.loop-cell.invariant.width) (c.loop-cell.invariant.numbered cells was)
 
 pub reach-requires-clause-below : goal.reach-requires-clause-below
-reach-requires-clause-below c =
-    below_at c.args.cells.now c.loop-cell.numbering.ahead c.loop-cell.cell-index c.cell-item.result c.loop-cell.invariant.reached c.loop-cell-test.true c.cell-item.is
+reach-requires-clause-below c cells are =
+    let was = sides_as cells c.args.sided.now c.loop-cell.numbering.n c.args.numbering.now.n c.loop-cell.invariant.width are in
+    let b = behind cells c.args.sided.now c.loop-cell.cell-index are.sides c.loop-cell-test.true in
+    let below = below_at cells c.loop-cell.numbering.ahead c.loop-cell.cell-index b.cell (c.loop-cell.invariant.reached cells was) b.within b.here in
+    let z = ap (λ (s : SidedCell). s.z) b.sided in
+    λ k d less. let low = below k d less in omega (arith, low, z)
+
+pub reach-requires-clause-layer : goal.reach-requires-clause-layer
+reach-requires-clause-layer c =
+    let cells = c.requires.cells.0 in
+    let are = c.requires.cells.1 in
+    let b = behind cells c.args.sided.now c.loop-cell.cell-index are.sides c.loop-cell-test.true in
+    let z = ap (λ (s : SidedCell). s.z) b.sided in
+    let within = in_at cells c.args.numbering.now.n c.args.numbering.now.n c.loop-cell.cell-index b.cell are.mixed refl b.within b.here in
+    let high = within.z in
+    let narrow = are.mixed.narrow in
+    omega (arith, z, high, narrow)
 
 pub push_faces-requires-clause-slots : goal.push_faces-requires-clause-slots
 push_faces-requires-clause-slots c =
-    let cells = c.args.cells.now in
+    let cells = c.requires.cells.0 in
+    let are = c.requires.cells.1 in
     let n = c.args.numbering.now.n in
     let s = c.reach.new.self in
-    let is = numbered_as cells c.loop-cell.numbering.n n s c.loop-cell.invariant.numbered.width c.in_ok-reach.ensures.numbered in
-    slots_of cells n s.n s c.deref.result.now c.requires.cells is is.width c.deref.ensures.value
+    let now = sides_as cells c.args.sided.now n c.loop-cell.numbering.n (sym c.loop-cell.invariant.width) are in
+    let is = numbered_as cells c.loop-cell.numbering.n n s c.loop-cell.invariant.width (c.reach.ensures.numbered cells now) in
+    slots_of cells n s.n s c.deref.result.now are.mixed is is.width c.deref.ensures.value
 
 pub push_faces-requires-clause-kept : goal.push_faces-requires-clause-kept
 push_faces-requires-clause-kept c =
-    let cells = c.args.cells.now in
+    let cells = c.requires.cells.0 in
+    let are = c.requires.cells.1 in
     let n = c.args.numbering.now.n in
     let s = c.reach.new.self in
-    let is = numbered_as cells c.loop-cell.numbering.n n s c.loop-cell.invariant.numbered.width c.in_ok-reach.ensures.numbered in
-    all_kept cells n s.n c.loop-cell.cell-index c.cell-item.result c.requires.cells is.width c.loop-cell-test.true c.cell-item.is
+    let b = behind cells c.args.sided.now c.loop-cell.cell-index are.sides c.loop-cell-test.true in
+    let same = ap sided_triangles b.sided ∙ shape_moved b.cell in
+    All-same (OfEdges (IsKept s.n)) (sided_triangles (get_or c.args.sided.now c.loop-cell.cell-index no_sides)) (triangles_of_cell b.cell) same
+    (all_kept cells n s.n c.loop-cell.cell-index b.cell are.mixed (c.reach.ensures.width ∙ c.loop-cell.invariant.width) b.within b.here)
 
 pub loop-cell-preserved : goal.loop-cell-preserved
 loop-cell-preserved c =
-    let cells = c.args.cells.now in
+    let sided = c.args.sided.now in
     let n = c.args.numbering.now.n in
     let s = c.reach.new.self in
     let i = c.loop-cell.cell-index in
-    let cell = c.cell-item.result in
-    let reach = c.in_ok-reach.ensures in
-    let is = numbered_as cells c.loop-cell.numbering.n n s c.loop-cell.invariant.numbered.width reach.numbered in
-    let own = ap (λ m. map (face_in m c.deref.result.now) (triangles_of_cell cell)) is.width ∙ ap (λ l. map (face_in n l) (triangles_of_cell cell)) c.deref.ensures.value ∙ faces_here cells n s i cell c.requires.cells is reach.below reach.reached c.loop-cell-test.true c.cell-item.is in
+    let reach = c.reach.ensures in
+    let inv = c.loop-cell.invariant in
+    let width = reach.width ∙ inv.width in
+    let item = get_or sided i no_sides in
     record {
-      numbered = is;
-      reached = reached_more cells n s.ahead i cell c.requires.cells c.loop-cell-test.true c.cell-item.is reach.below reach.reached;
-      faces = faces_more cells i cell c.args.faces.now.items c.loop-cell.faces.items c.push_faces.new.faces.items (map (face_in s.n c.deref.result.now) (triangles_of_cell cell)) c.loop-cell-test.true c.cell-item.is c.in_ok-push_faces.ensures c.loop-cell.invariant.faces own;
+      width = width;
+      numbered = λ cells are.
+          let now = sides_as cells sided n c.loop-cell.numbering.n (sym inv.width) are in
+          numbered_as cells c.loop-cell.numbering.n n s inv.width (reach.numbered cells now);
+      reached = λ cells are.
+          let now = sides_as cells sided n c.loop-cell.numbering.n (sym inv.width) are in
+          let b = behind cells sided i are.sides c.loop-cell-test.true in
+          let z = ap (λ (x : SidedCell). x.z) b.sided in
+          reached_more cells n s.ahead i b.cell are.mixed b.within b.here (lower_z cells s.ahead item.z b.cell.z z (reach.below cells now)) (upper_z cells s.ahead item.z b.cell.z z (reach.reached cells now));
+      faces = λ cells are.
+          let now = sides_as cells sided n c.loop-cell.numbering.n (sym inv.width) are in
+          let is = numbered_as cells c.loop-cell.numbering.n n s inv.width (reach.numbered cells now) in
+          let b = behind cells sided i are.sides c.loop-cell-test.true in
+          let z = ap (λ (x : SidedCell). x.z) b.sided in
+          let own = ap (λ l. map (face_in s.n c.deref.result.now) l) (ap sided_triangles b.sided ∙ shape_moved b.cell)
+          ∙ ap (λ m. map (face_in m c.deref.result.now) (triangles_of_cell b.cell)) width
+          ∙ ap (λ l. map (face_in n l) (triangles_of_cell b.cell)) c.deref.ensures.value
+          ∙ faces_here cells n s i b.cell are.mixed is (lower_z cells s.ahead item.z b.cell.z z (reach.below cells now)) (upper_z cells s.ahead item.z b.cell.z z (reach.reached cells now)) b.within b.here in
+          faces_more cells i b.cell c.args.faces.now.items c.loop-cell.faces.items c.push_faces.new.faces.items (map (face_in s.n c.deref.result.now) (sided_triangles item)) b.within b.here c.in_ok-push_faces.ensures (inv.faces cells are) own;
     }
+
+pub returns : goal.returns
+returns c cells are =
+    let long = ap length are.sides ∙ length-map cells sided_of in
+    let end = c.loop-cell-test.false in
+    let whole : length cells ≤ c.loop-cell.cell-index = omega (arith, long, end) in
+    c.loop-cell.invariant.faces cells are ∙ ap (λ l. c.args.faces.now.items ++ all_faces cells l) (take_all c.loop-cell.cell-index cells whole)

@@ -4,8 +4,8 @@ use Rattle.std.specs.Prelude.{map}
 use Rattle.std.proofs.lemmas.List.{append-nil}
 use Rattle.tetra_mesh.specs.Numbering.{directions_below, vertex_on}
 use Rattle.tetra_mesh.proofs.VertexLaws.{all_seven, compared, passed, pushed, side_read, vertex_read}
-use Rattle.tetra_mesh.proofs.numbering.push_vertices.Goals.{then-is_inside+in_ok-push, else-is_inside}
-use Rattle.tetra_mesh.proofs.numbering.push_vertices.Goals as goal
+use Rattle.tetra_mesh.proofs.vertices.push_vertices.Goals.{then-is_inside+in_ok-push, else-is_inside}
+use Rattle.tetra_mesh.proofs.vertices.push_vertices.Goals as goal
 
 pub loop-dir-init : goal.loop-dir-init
 loop-dir-init c = sym (append-nil c.args.vertices.now.items)

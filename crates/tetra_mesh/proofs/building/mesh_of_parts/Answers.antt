@@ -1,0 +1,41 @@
+-- The mixed cells of the grid suffice.
+use Rattle.std.proofs.Common.{◌≤◌, ap, arith, subst, sym}
+use Rattle.kuhn_cells.specs.Cells.{mixed_cells}
+use Rattle.tetra_mesh.specs.Sound.{IsSound, LieApart}
+use Rattle.view_settings.specs.Window.{IsWindow}
+use Rattle.tetra_mesh.proofs.GridLaws.{are_cells, mesh_is}
+use Rattle.tetra_mesh.proofs.SideLaws.{sides_as}
+use Rattle.tetra_mesh.proofs.building.mesh_of_parts.Goals as goal
+
+pub faces_of-requires : goal.faces_of-requires
+faces_of-requires c =
+    let laws = c.mixed_cells_suffice.ensures in
+    let n = c.args.view.now.n in
+    let g = c.requires.0 in
+    let is = c.requires.1 in
+    let same = ap (λ v. v.n) c.view.view_is in
+    let narrow : n ≤ 256 = let most = c.view.invariant.n.few in omega (arith, same, most) in
+    let cells = are_cells laws.cells laws.order laws.few laws.edges n g c.args.vertices.items c.args.sided.now narrow is in
+    (mixed_cells g, sides_as (mixed_cells g) c.args.sided.now n c.view.inside.n (sym same) (record { mixed = cells; sides = is.sides }))
+
+pub returns-clause-mesh : goal.returns-clause-mesh
+returns-clause-mesh c g is =
+    let laws = c.mixed_cells_suffice.ensures in
+    let n = c.args.view.now.n in
+    let same = ap (λ v. v.n) c.view.view_is in
+    let narrow : n ≤ 256 = let most = c.view.invariant.n.few in omega (arith, same, most) in
+    let cells = are_cells laws.cells laws.order laws.few laws.edges n g c.args.vertices.items c.args.sided.now narrow is in
+    let are = sides_as (mixed_cells g) c.args.sided.now n c.view.inside.n (sym same) (record { mixed = cells; sides = is.sides }) in
+    mesh_is laws.cells laws.vertices laws.triangles n g c.args.vertices.items c.args.sided.now c.in_ok-faces.faces.items is (c.in_ok-faces.ensures (mixed_cells g) are)
+
+pub returns-clause-sound : goal.returns-clause-sound
+returns-clause-sound c g is =
+    subst (IsSound g) (sym (returns-clause-mesh c g is)) (c.meshes_are_sound.ensures.sound g is.border)
+
+pub returns-clause-apart : goal.returns-clause-apart
+returns-clause-apart c fits =
+    let g = c.requires.0 in
+    let is = c.requires.1 in
+    let window = subst IsWindow c.view.view_is c.view.invariant in
+    subst (λ m. LieApart c.args.view.now m.vertices) (sym (returns-clause-mesh c g is))
+    (c.meshes_are_sound.ensures.apart c.args.view.now g window fits (record { x = is.x; y = is.y; z = is.z }) is.border)
