@@ -2,6 +2,7 @@
 // writers in memory, and the two loops.
 ghost use Rattle.std.specs.Prelude.{◌≤◌, IfOk};
 
+use crate::fault_script::FaultScript;
 use crate::{
     Failed, MemSink, MemSource, ReadEnd, ReadSource, Sink, Source, SureSink, SureSource, WriteSink,
     read_all, write_all,
@@ -12,6 +13,8 @@ use std::test::Fail;
 
 const TEXT: &[u8] = b"abcdefghijklmnopqrst";
 
+const LAST: u64 = 18_446_744_073_709_551_615;
+
 #[test]
 fn a_source_in_memory_gives_chunks_and_fails_where_told(rt: HostRuntime) -> Result<(), Fail> {
     let bytes = TEXT[..10].to_vec(rt.alloc())?;
@@ -21,6 +24,25 @@ fn a_source_in_memory_gives_chunks_and_fails_where_told(rt: HostRuntime) -> Resu
         assert_eq!(rt; source.read(&mut buf), want);
     }
     assert_eq!(rt; &buf[..2], &TEXT[8..10]);
+    Ok(())
+}
+
+#[test]
+fn counts_stand_still_at_their_last_value(rt: HostRuntime) -> Result<(), Fail> {
+    let fails = [LAST].to_vec(rt.alloc())?;
+    let mut script = FaultScript {
+        calls: LAST - 2,
+        faults: LAST - 1,
+        fails,
+    };
+    for (want, calls, faults) in [
+        (Ok(()), LAST - 1, LAST - 1),
+        (Err(Failed), LAST, LAST),
+        (Err(Failed), LAST, LAST),
+    ] {
+        assert_eq!(rt; script.count_call(), want);
+        assert_eq!(rt; (script.calls, script.faults), (calls, faults));
+    }
     Ok(())
 }
 

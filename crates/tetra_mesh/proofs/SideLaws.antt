@@ -13,7 +13,7 @@ use Rattle.tetra_mesh.specs.Numbering.{LiesBelow, ReachesAbove, mask_of, slot_of
 use Rattle.tetra_mesh.specs.Sides.{AreSidesOf, Numbers, sided_of}
 use Rattle.tetra_mesh.proofs.Bits.{mask_is, ones}
 
--- a cell of a list has a place and sides
+-- the cell of a list that has a place and sides
 pub record IsBehind (cells : List CellValues) (i : ℕ) (s : SidedCell) : Type 0 where
   pub cell : CellValues
   pub within : i < length cells
@@ -37,7 +37,7 @@ behind cells sided i same inside =
       sided = ap (λ l. get_or l i no_sides) same ∙ get_or-map sided_of cells i no_cell no_sides within;
     }
 
--- the same, where a number of cells is spelled in two ways
+-- the same, where a number is spelled in two ways
 pub sides_as : (cells : List CellValues) (sided : List SidedCell) (n m : ℕ) → n ≡ m → AreSidesOf n cells sided → AreSidesOf m cells sided
 sides_as cells sided n m same are = let P : ℕ → Type 0 = λ i. AreSidesOf i cells sided in subst P same are
 
