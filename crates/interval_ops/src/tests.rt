@@ -123,6 +123,28 @@ fn hulls_of_all_numbers(rt: HostRuntime) {
     }
 }
 
+// The corners that the hull of an operation counted.
+fn corners(op: Op, a: (i64, i64), b: (i64, i64)) -> Option<u64> {
+    let mut tally = Tally::new();
+    let _hull = span_apply(op, span(a)?, span(b)?, &mut tally);
+    Some(tally.corners())
+}
+
+#[test]
+fn hulls_count_their_corners(rt: HostRuntime) {
+    for (op, a, b, count) in [
+        (Op::Z, (-3, 7), (1, 2), 0),
+        (Op::Neg, (1, 5), (0, 0), 2),
+        (Op::Square, (-2 * ONE, ONE), (0, 0), 2),
+        (Op::Sub, (1, 5), (2, 3), 2),
+        (Op::Mul, (ONE, 2 * ONE), (-3, 4), 4),
+        (Op::Div, (-2, 4), (-2 * ONE, -ONE), 2),
+        (Op::Div, (-2, 4), (0, ONE), 0),
+    ] {
+        assert_eq!(rt; corners(op, a, b), Some(count), "{op:?} of {a:?} and {b:?}");
+    }
+}
+
 #[test]
 fn ties_go_left_and_overlaps_to_both(rt: HostRuntime) {
     for (op, a, b, choice) in [
@@ -137,8 +159,11 @@ fn ties_go_left_and_overlaps_to_both(rt: HostRuntime) {
         ),
         (Op::Max, (0, 0), (0, 0), Choice::Left),
         (Op::Max, (0, 2), (1, 1), Choice::Both),
+        (Op::Max, (0, 1), (1, 2), Choice::Both),
         (Op::Max, (0, 1), (2, 3), Choice::Right),
         (Op::Add, (0, 1), (2, 3), Choice::Both),
+        (Op::X, (0, 1), (2, 3), Choice::Both),
+        (Op::Const, (2, 3), (0, 1), Choice::Both),
     ] {
         let chosen = span(a).and_then(|a| span(b).map(|b| choose(op, a, b)));
         assert_eq!(rt; chosen, Some(choice), "{op:?} of {a:?} and {b:?}");
