@@ -10,7 +10,8 @@ type Case = (&'static [&'static str], &'static str, u64, u64, u64);
 
 // Two bars of the width 0.5 round x = -0.5 and x = 0.5.
 const BARS: &str =
-    "x var-x\np const -0.5\nq const 0.5\na sub x p\nb abs a\nc sub x q\nd abs c\ne min b d\nr const 0.25\nf sub e r";
+    "x var-x\np const -0.5\nq const 0.5\na sub x p\nb abs a\nc sub x q\nd abs c\ne min b d\n\
+    r const 0.25\nf sub e r";
 
 const CASES: [Case; 7] = [
     // A quotient whose divisor may be 0 decides nothing.
@@ -60,8 +61,8 @@ fn a_picture_takes_the_work_that_is_told(rt: HostRuntime) -> Result<(), Fail> {
     let words = &["render", "w=32", "h=1"];
     assert_eq!(rt; trial.run(rt.alloc(), words)?, Status::Done);
     // Inside at the places 4 to 11 and 20 to 27.
-    let picture =
-        b"P5\n32 1\n255\n\x00\x00\x00\x00\xff\xff\xff\xff\xff\xff\xff\xff\x00\x00\x00\x00\x00\x00\x00\x00\xff\xff\xff\xff\xff\xff\xff\xff\x00\x00\x00\x00";
+    let picture = b"P5\n32 1\n255\n\
+        \x00\x00\x00\x00\xff\xff\xff\xff\xff\xff\xff\xff\x00\x00\x00\x00\x00\x00\x00\x00\xff\xff\xff\xff\xff\xff\xff\xff\x00\x00\x00\x00";
     trial.assert_holds(&rt, picture, b"");
     assert_eq!(rt; trial.tally.points(), 192);
     assert_eq!(rt; trial.tally.spans(), 54);

@@ -12,14 +12,16 @@ const HALF: i64 = 1 << 31;
 
 // The ball of radius 0.5.
 const BALL: &[u8] =
-    b"x var-x\ny var-y\nz var-z\na square x\nb square y\nc square z\nd add a b\ne add d c\nr const 0.25\nf sub e r";
+    b"x var-x\ny var-y\nz var-z\na square x\nb square y\nc square z\nd add a b\ne add d c\n\
+    r const 0.25\nf sub e r";
 
 // What lies below 0 along both x and y.
 const WALL: &[u8] = b"x var-x\ny var-y\nm max x y";
 
 // Between two spheres.
 const SHELL: &[u8] =
-    b"x var-x\ny var-y\nz var-z\na square x\nb square y\nc square z\nd add a b\ne add d c\nr const 0.5\nf sub e r\ng abs f\nt const 0.0625\nh sub g t";
+    b"x var-x\ny var-y\nz var-z\na square x\nb square y\nc square z\nd add a b\ne add d c\n\
+    r const 0.5\nf sub e r\ng abs f\nt const 0.0625\nh sub g t";
 
 // A grid of n cells along each axis, from -1 to 1.
 fn view(n: u32) -> Result<View, Fail> {

@@ -12,11 +12,14 @@ const PLANE: &str = "x var-x\ny var-y\nz var-z\ns add x y\nf sub z s";
 
 // A ball of radius 0.4 round x = -0.4, z = 0.5, before a slab that ends at z = -0.3.
 const BODIES: &str =
-    "x var-x\ny var-y\nz var-z\ncx const -0.4\ncz const 0.5\ndx sub x cx\ndz sub z cz\nx2 square dx\ny2 square y\nz2 square dz\na add x2 y2\nb add a z2\nr const 0.16\nball sub b r\nl const -0.3\nslab sub z l\nu min ball slab";
+    "x var-x\ny var-y\nz var-z\ncx const -0.4\ncz const 0.5\ndx sub x cx\ndz sub z cz\n\
+    x2 square dx\ny2 square y\nz2 square dz\na add x2 y2\nb add a z2\nr const 0.16\nball sub b r\n\
+    l const -0.3\nslab sub z l\nu min ball slab";
 
 // A ball of radius 0.9 that is hollow up to 0.6.
 const HOLLOW: &str =
-    "x var-x\ny var-y\nz var-z\nx2 square x\ny2 square y\nz2 square z\na add x2 y2\nb add a z2\nr sqrt b\no const 0.9\ni const 0.6\nout sub r o\nin sub i r\ns max out in";
+    "x var-x\ny var-y\nz var-z\nx2 square x\ny2 square y\nz2 square z\na add x2 y2\nb add a z2\n\
+    r sqrt b\no const 0.9\ni const 0.6\nout sub r o\nin sub i r\ns max out in";
 
 const CASES: [Case; 17] = [
     // The places -1, 0 and 1, of which 0 is outside.

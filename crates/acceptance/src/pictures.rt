@@ -34,7 +34,8 @@ const CASES: [Case; 12] = [
     // A file as a program writes it: lines that end with CR LF, and none at the end.
     (
         &["render", "w=3", "h=1"],
-        "# text\r\n_0 const 2.95\r\n_1 var-x\r\n_2 const 8.13008\r\n_3 mul _1 _2\r\n_4 add _0 _3\r\n_5 neg _4\r\n_6 square _5\r\n_7 sqrt _6\r\n_8 const 3\r\n_1f sub _7 _8",
+        "# text\r\n_0 const 2.95\r\n_1 var-x\r\n_2 const 8.13008\r\n_3 mul _1 _2\r\n\
+        _4 add _0 _3\r\n_5 neg _4\r\n_6 square _5\r\n_7 sqrt _6\r\n_8 const 3\r\n_1f sub _7 _8",
         b"P5\n3 1\n255\n\x00\xff\x00",
     ),
     // 1 / x, where x is never 0.
@@ -75,8 +76,10 @@ const CASES: [Case; 12] = [
     // A disc without a bar, and the bar.
     (
         &["render", "w=5", "h=5"],
-        "x var-x\ny var-y\nx2 square x\ny2 square y\ns add x2 y2\nr sqrt s\none const 0.8\nd sub r one\nb abs x\nh const 0.25\nbar sub b h\nn neg bar\ncut max d n\ne min cut bar",
-        b"P5\n5 5\n255\n\x00\x00\xff\x00\x00\x00\xff\xff\xff\x00\x00\xff\xff\xff\x00\x00\xff\xff\xff\x00\x00\x00\xff\x00\x00",
+        "x var-x\ny var-y\nx2 square x\ny2 square y\ns add x2 y2\nr sqrt s\none const 0.8\n\
+        d sub r one\nb abs x\nh const 0.25\nbar sub b h\nn neg bar\ncut max d n\ne min cut bar",
+        b"P5\n5 5\n255\n\
+        \x00\x00\xff\x00\x00\x00\xff\xff\xff\x00\x00\xff\xff\xff\x00\x00\xff\xff\xff\x00\x00\x00\xff\x00\x00",
     ),
 ];
 

@@ -9,8 +9,10 @@ use std::test::Fail;
 const CASES: [(&str, &[u8]); 8] = [
     // Edits that are refused, each for another reason, and the same picture before and after.
     (
-        "x var-x\nc const 0.5\nf sub x c\n%%\nrender w=3 h=1\ncut c\nadd x var-y\nset c sub x f\nrender w=3 h=1\n",
-        b"@ render 14\nP5\n3 1\n255\n\xff\xff\x00@ refused 6 InUse\n@ refused 7 DoubleName\n@ refused 8 NotEarlier\n@ render 14\nP5\n3 1\n255\n\xff\xff\x00",
+        "x var-x\nc const 0.5\nf sub x c\n%%\nrender w=3 h=1\ncut c\nadd x var-y\nset c sub x f\n\
+        render w=3 h=1\n",
+        b"@ render 14\nP5\n3 1\n255\n\xff\xff\x00@ refused 6 InUse\n@ refused 7 DoubleName\n\
+        @ refused 8 NotEarlier\n@ render 14\nP5\n3 1\n255\n\xff\xff\x00",
     ),
     // A clause before another, the output cut twice, and the last clause.
     (
@@ -19,18 +21,25 @@ const CASES: [(&str, &[u8]); 8] = [
     ),
     // Two bars, of which the right one is moved over the left one.
     (
-        "x var-x\np const -0.5\nq const 0.5\na sub x p\nb abs a\nc sub x q\nd abs c\ne min b d\nr const 0.25\nf sub e r\n%%\nrender w=16 h=1\nset q const -0.75\nrender w=16 h=1",
-        b"@ render 28\nP5\n16 1\n255\n\x00\x00\xff\xff\xff\xff\x00\x00\x00\x00\xff\xff\xff\xff\x00\x00@ render 28\nP5\n16 1\n255\n\x00\xff\xff\xff\xff\xff\x00\x00\x00\x00\x00\x00\x00\x00\x00\x00",
+        "x var-x\np const -0.5\nq const 0.5\na sub x p\nb abs a\nc sub x q\nd abs c\ne min b d\n\
+        r const 0.25\nf sub e r\n%%\nrender w=16 h=1\nset q const -0.75\nrender w=16 h=1",
+        b"@ render 28\nP5\n16 1\n255\n\
+        \x00\x00\xff\xff\xff\xff\x00\x00\x00\x00\xff\xff\xff\xff\x00\x00@ render 28\nP5\n16 1\n\
+        255\n\x00\xff\xff\xff\xff\xff\x00\x00\x00\x00\x00\x00\x00\x00\x00\x00",
     ),
     // Height maps of a slope, of all and of nothing.
     (
-        "z var-z\n%%\nheight w=1 h=1 d=3\nheight w=1 h=1 d=300\nset z const -1\nheight w=1 h=1 d=3\nset z const 1\nheight w=1 h=1 d=3\n",
-        b"@ height 10\nP5\n1 1\n3\n\x01@ height 13\nP5\n1 1\n300\n\x00\x96@ height 10\nP5\n1 1\n3\n\x03@ height 10\nP5\n1 1\n3\n\x00",
+        "z var-z\n%%\nheight w=1 h=1 d=3\nheight w=1 h=1 d=300\nset z const -1\n\
+        height w=1 h=1 d=3\nset z const 1\nheight w=1 h=1 d=3\n",
+        b"@ height 10\nP5\n1 1\n3\n\x01@ height 13\nP5\n1 1\n300\n\x00\x96@ height 10\nP5\n1 1\n3\n\
+        \x03@ height 10\nP5\n1 1\n3\n\x00",
     ),
     // A mesh of one cell, all of whose corners lie in the outermost layer.
     (
         "a const -1\n%%\nmesh n=1\n",
-        b"@ mesh 157\nply\nformat ascii 1.0\nelement vertex 0\nproperty double x\nproperty double y\nproperty double z\nelement face 0\nproperty list uchar int vertex_indices\nend_header\n",
+        b"@ mesh 157\nply\nformat ascii 1.0\nelement vertex 0\nproperty double x\n\
+        property double y\nproperty double z\nelement face 0\n\
+        property list uchar int vertex_indices\nend_header\n",
     ),
     // Each draw has its own settings.
     (
@@ -160,13 +169,15 @@ fn a_full_model_takes_no_clause_more(rt: HostRuntime) -> Result<(), Fail> {
         writeln!(script, "{number} var-x")?;
     }
     script.push_str(
-        "%%\nadd a neg b\nadd 0 var-y\nadd a var-y\nput 0 a neg 1\nput 1 a var-y\ncut 0\nadd a const 0\nrender w=1 h=1\n",
+        "%%\nadd a neg b\nadd 0 var-y\nadd a var-y\nput 0 a neg 1\nput 1 a var-y\ncut 0\n\
+        add a const 0\nrender w=1 h=1\n",
     )?;
     let mut trial = trial(rt.alloc(), &script)?;
     assert_eq!(rt; trial.run(rt.alloc(), &["replay"])?, Status::Done);
     trial.assert_holds(
         &rt,
-        b"@ refused 65537 UnknownName\n@ refused 65538 DoubleName\n@ refused 65539 Full\n@ refused 65540 NotEarlier\n@ refused 65541 Full\n@ render 12\nP5\n1 1\n255\n\x00",
+        b"@ refused 65537 UnknownName\n@ refused 65538 DoubleName\n@ refused 65539 Full\n\
+        @ refused 65540 NotEarlier\n@ refused 65541 Full\n@ render 12\nP5\n1 1\n255\n\x00",
         b"",
     );
     Ok(())

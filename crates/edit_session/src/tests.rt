@@ -12,11 +12,13 @@ use view_settings::View;
 
 // A ball of radius 0.5.
 const BALL: &[u8] =
-    b"x var-x\ny var-y\nz var-z\na square x\nb square y\nc square z\nd add a b\ne add d c\nr const 0.25\nf sub e r\n";
+    b"x var-x\ny var-y\nz var-z\na square x\nb square y\nc square z\nd add a b\ne add d c\n\
+    r const 0.25\nf sub e r\n";
 
 // The ball's clauses as they are written.
 const BALL_TEXT: &[u8] =
-    b"x var-x\ny var-y\nz var-z\na square x\nb square y\nc square z\nd add a b\ne add d c\nr const 0.2500000000\nf sub e r\n";
+    b"x var-x\ny var-y\nz var-z\na square x\nb square y\nc square z\nd add a b\ne add d c\n\
+    r const 0.2500000000\nf sub e r\n";
 
 // The picture and the map with only the middle one of nine samples or columns inside. There the
 // middle one of three samples along z lies within, whose top is 2.
@@ -26,7 +28,18 @@ const MIDDLE_TOP: &[u8] = b"P5\n3 3\n3\n\x00\x00\x00\x00\x02\x00\x00\x00\x00";
 
 // The mesh round the middle one of 27 points.
 const MIDDLE_MESH: &[u8] =
-    b"ply\nformat ascii 1.0\nelement vertex 14\nproperty double x\nproperty double y\nproperty double z\nelement face 24\nproperty list uchar int vertex_indices\nend_header\n-0.0833282470 -0.0833282470 -0.0833282470\n0.0000000000 -0.1250000000 -0.1250000000\n-0.1250000000 0.0000000000 -0.1250000000\n0.0000000000 0.0000000000 -0.2500000000\n-0.1250000000 -0.1250000000 0.0000000000\n0.0000000000 -0.2500000000 0.0000000000\n-0.2500000000 0.0000000000 0.0000000000\n0.2500000000 0.0000000000 0.0000000000\n0.0000000000 0.2500000000 0.0000000000\n0.1250000000 0.1250000000 0.0000000000\n0.0000000000 0.0000000000 0.2500000000\n0.1250000000 0.0000000000 0.1250000000\n0.0000000000 0.1250000000 0.1250000000\n0.0833282470 0.0833282470 0.0833282470\n3 0 3 1\n3 0 1 5\n3 0 2 3\n3 0 6 2\n3 0 5 4\n3 0 4 6\n3 1 3 7\n3 1 7 5\n3 2 8 3\n3 2 6 8\n3 3 9 7\n3 3 8 9\n3 4 5 10\n3 4 10 6\n3 5 7 11\n3 5 11 10\n3 6 12 8\n3 6 10 12\n3 7 9 13\n3 7 13 11\n3 8 13 9\n3 8 12 13\n3 10 11 13\n3 10 13 12\n";
+    b"ply\nformat ascii 1.0\nelement vertex 14\nproperty double x\nproperty double y\n\
+    property double z\nelement face 24\nproperty list uchar int vertex_indices\nend_header\n\
+    -0.0833282470 -0.0833282470 -0.0833282470\n0.0000000000 -0.1250000000 -0.1250000000\n\
+    -0.1250000000 0.0000000000 -0.1250000000\n0.0000000000 0.0000000000 -0.2500000000\n\
+    -0.1250000000 -0.1250000000 0.0000000000\n0.0000000000 -0.2500000000 0.0000000000\n\
+    -0.2500000000 0.0000000000 0.0000000000\n0.2500000000 0.0000000000 0.0000000000\n\
+    0.0000000000 0.2500000000 0.0000000000\n0.1250000000 0.1250000000 0.0000000000\n\
+    0.0000000000 0.0000000000 0.2500000000\n0.1250000000 0.0000000000 0.1250000000\n\
+    0.0000000000 0.1250000000 0.1250000000\n0.0833282470 0.0833282470 0.0833282470\n3 0 3 1\n\
+    3 0 1 5\n3 0 2 3\n3 0 6 2\n3 0 5 4\n3 0 4 6\n3 1 3 7\n3 1 7 5\n3 2 8 3\n3 2 6 8\n3 3 9 7\n\
+    3 3 8 9\n3 4 5 10\n3 4 10 6\n3 5 7 11\n3 5 11 10\n3 6 12 8\n3 6 10 12\n3 7 9 13\n3 7 13 11\n\
+    3 8 13 9\n3 8 12 13\n3 10 11 13\n3 10 13 12\n";
 
 // Three samples along each axis, from -1 to 1.
 fn view() -> View
