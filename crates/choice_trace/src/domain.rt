@@ -4,6 +4,7 @@ ghost use Rattle.fixed_ops.specs.Counts.{Counts, points_of, spans_of};
 ghost use Rattle.choice_trace.specs.Meaning.{StandsForResults};
 ghost use Rattle.choice_trace.specs.Work.{RisesWithin};
 ghost use Rattle.interval_ops.specs.HullCounts.{hulls_of};
+ghost use Rattle.interval_ops.specs.Hulls.{IsHull, between};
 ghost use Rattle.interval_ops.specs.Spans.{Holds};
 
 use fixed_ops::{Fx, Op, Tally};
@@ -58,13 +59,22 @@ impl Domain for Span {
 
     ghost most = { hulls_of 1 4 };
 
+    /// The range of a number alone.
     #[inline]
-    fn constant(v: Fx) -> Span {
+    fn constant(v: Fx) -> Span
+        ensures stands { Holds result v }
+        ensures alone { result ≡ between v v }
+    {
         Span::new(v, v)
     }
 
+    /// No range within the answer holds all those results.
     #[inline]
-    fn apply(op: Op, a: Span, b: Span, tally: &mut Tally) -> Span {
+    fn apply(op: Op, a: Span, b: Span, tally: &mut Tally) -> Span
+        ensures stands { StandsForResults Holds op a b result }
+        ensures hull { IsHull op a b result }
+        ensures counted { RisesWithin tally.old tally.new (spans_of 1) (hulls_of 1 4) }
+    {
         // The ends of a range are in order.
         let _ends = (a.lo(), b.lo());
         span_apply(op, a, b, tally)
