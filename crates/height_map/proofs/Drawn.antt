@@ -2,7 +2,7 @@
 use Rattle.std.proofs.Common.{◌≡◌, ℕ, suc, ◌+◌, ◌*◌, ◌/◌, ◌%◌, ◌<◌, ◌≤◌, Bool, true, false, cond, List, ◌∷◌, length, get_or, take, drop, refl, sym, ap, subst, ◌∙◌, Result, Ok, Err, arith}
 use Rattle.std.specs.Prelude.{Option, Some, None, nat_le, ◌==◌, ◌&&◌, OnErr, OnOk}
 use Rattle.std.proofs.Math.Nat.{mul-le-mul_right}
-use Rattle.std.proofs.lemmas.Bool.{and_from, and_parts, eq-eqb, eqb-true, le-leb, leb-true, lt-ltb}
+use Rattle.std.proofs.lemmas.Bool.{le-leb, lt-ltb}
 use Rattle.std.proofs.lemmas.Nat.{div-mul-add, mod-mul-add}
 use Rattle.std.proofs.lemmas.List.Sums.{sum_by-cons}
 use Rattle.std.proofs.lemmas.List.{drop_all, drop_more}
@@ -35,7 +35,7 @@ use Rattle.box_chains.specs.TallyLaws.{most-hulls, most-more, most-points, most-
 use Rattle.height_map.specs.Tops.{inside, top_among}
 use Rattle.height_map.proofs.ChangeLaws.{Changes-none, Changes-numbers, cell-of, covers-place, lifted-some, place-within}
 use Rattle.height_map.proofs.Stacks.{floor-halves, floor_of, halves-stacked, stacked-at}
-use Rattle.height_map.proofs.TopLaws.{best, best-all, best-empty, best-none, best-same, lifted-nothing, lifted-twice, lifted-zero, near-part}
+use Rattle.height_map.proofs.TopLaws.{best, best-all, best-empty, best-none, best-same, lifted-nothing, lifted-twice, open-same}
 use Rattle.height_map.proofs.WorkLaws.{points-below, points-open, spans-decided, spans-open, sum-drop_below}
 
 -- the tops of the columns of a box that hands on a list, once some of its halves are drawn
@@ -229,7 +229,28 @@ half-drawn view list b half i old mid new is within read first second = record {
         floor-there p e = half-below view.w p i b half within read e
     by p h false e = first.each p h ∙ ap (λ t. cond (covers view.w b p) (lifted (best (f p) (cond t half.z0 (floor_of (λ h. covers view.w h p) b.z1 rest)) b.z1) (get_or old p 0)) (get_or old p 0)) (sym e)
 
--- and its work is among that of the halves
+-- a sample is open in a half, once the nearer halves are drawn, exactly where it was open in the box
+pub half-open : (view : Window) (list : List Step) (b half : Indices) (i : ℕ) (old mid : List ℕ) → IsBox b → IsAmong view.w (length old) b
+    → i < length (halves_of 8 b) → half ≡ get_or (halves_of 8 b) i half → Changes (covers view.w b) (drawn_to view list b (drop (suc i) (halves_of 8 b))) old mid
+    → (s : Sample) → LiesIn half s → is_open view list half mid s ≡ is_open view list b old s
+half-open view list b half i old mid is among within read changed s lies =
+    let part = half-part b half i is within read in
+    let p = s.j * view.w + s.i in
+    let column : s.i < b.x1 = omega (arith, lies.x, part.x.below) in
+    let row : s.j < b.y1 = omega (arith, lies.y, part.y.below) in
+    let narrow : s.i < view.w = omega (arith, column, among.columns) in
+    let here = covers-place view.w s.i s.j half narrow lies.x.0 lies.x.1 lies.y.0 lies.y.1 in
+    let there = place-within view.w (length old) s.i s.j b among column row in
+    let drawn : get_or mid p 0 ≡ lifted (best (inside view list s.i s.j) half.z1 b.z1) (get_or old p 0) =
+    changed.each p there
+    ∙ ap (λ t. cond t (drawn_to view list b (drop (suc i) (halves_of 8 b)) p (get_or old p 0)) (get_or old p 0)) (part-covers view.w p b half part here)
+    ∙ ap (λ z. lifted (top_among view list z b.z1 (p % view.w) (p / view.w)) (get_or old p 0)) (sym (half-below view.w p i b half within read here))
+    ∙ ap (λ n. lifted (top_among view list half.z1 b.z1 n (p / view.w)) (get_or old p 0)) (mod-mul-add s.j view.w s.i narrow)
+    ∙ ap (λ n. lifted (top_among view list half.z1 b.z1 s.i n) (get_or old p 0)) (div-mul-add s.j view.w s.i narrow) in
+    open-same (inside view list s.i s.j) b.z0 half.z0 half.z1 b.z1 s.k (get_or old p 0) (get_or mid p 0)
+    part.z.above (omega (arith, part.z.some)) part.z.below lies.z.0 lies.z.1 drawn
+
+-- and the work of the half is among that of the halves
 pub half-counted : (view : Window) (list : List Step) (b half : Indices) (i : ℕ) (old mid : List ℕ) (start between end : Counts) → IsBox b → IsAmong view.w (length old) b
     → i < length (halves_of 8 b) → half ≡ get_or (halves_of 8 b) i half
     → Changes (covers view.w b) (drawn_to view list b (drop (suc i) (halves_of 8 b))) old mid
@@ -258,31 +279,8 @@ half-counted view list b half i old mid start between end is among within read c
     more : drop i (halves_of 8 b) ≡ half ∷ rest
     more = drop_more (halves_of 8 b) i half within ∙ ap (λ h. h ∷ drop (i + 1) (halves_of 8 b)) (sym read) ∙ ap (λ n. half ∷ drop n (halves_of 8 b)) next
 
-    part : IsPart 8 b half
-    part = half-part b half i is within read
-
-    opened : (s : Sample) → LiesIn half s → is_open view list half mid s ≡ true → is_open view list b old s ≡ true
-    opened s lies e =
-        let p = s.j * view.w + s.i in
-        let parts = and_parts (get_or mid p 0 == 0) (nat_le (top_among view list half.z0 half.z1 s.i s.j) (s.k + 1)) e in
-        let column : s.i < b.x1 = omega (arith, lies.x, part.x.below) in
-        let row : s.j < b.y1 = omega (arith, lies.y, part.y.below) in
-        let narrow : s.i < view.w = omega (arith, column, among.columns) in
-        let here = covers-place view.w s.i s.j half narrow lies.x.0 lies.x.1 lies.y.0 lies.y.1 in
-        let there = place-within view.w (length old) s.i s.j b among column row in
-        let drawn : get_or mid p 0 ≡ lifted (best (inside view list s.i s.j) half.z1 b.z1) (get_or old p 0) =
-        changed.each p there
-        ∙ ap (λ t. cond t (drawn_to view list b rest p (get_or old p 0)) (get_or old p 0)) (part-covers view.w p b half part here)
-        ∙ ap (λ z. lifted (top_among view list z b.z1 (p % view.w) (p / view.w)) (get_or old p 0)) (sym (half-below view.w p i b half within read here))
-        ∙ ap (λ n. lifted (top_among view list half.z1 b.z1 n (p / view.w)) (get_or old p 0)) (mod-mul-add s.j view.w s.i narrow)
-        ∙ ap (λ n. lifted (top_among view list half.z1 b.z1 s.i n) (get_or old p 0)) (div-mul-add s.j view.w s.i narrow) in
-        let none = lifted-zero (best (inside view list s.i s.j) half.z1 b.z1) (get_or old p 0) (sym drawn ∙ eqb-true (get_or mid p 0) 0 parts.0) in
-        let near = near-part (inside view list s.i s.j) b.z0 half.z0 half.z1 b.z1 s.k part.z.above (omega (arith, part.z.some)) part.z.below lies.z.0 none.1
-        (leb-true (top_among view list half.z0 half.z1 s.i s.j) (s.k + 1) parts.1) in
-        and_from (get_or old p 0 == 0) (nat_le (top_among view list b.z0 b.z1 s.i s.j) (s.k + 1)) (eq-eqb (get_or old p 0) 0 none.0) (le-leb (top_among view list b.z0 b.z1 s.i s.j) (s.k + 1) near)
-
     fewer : points_where (is_open view list half mid) d v ≤ points_where (is_open view list b old) d v
-    fewer = points-below (is_open view list half mid) (is_open view list b old) d v opened
+    fewer = points-below (is_open view list half mid) (is_open view list b old) d v (λ s lies e. sym (half-open view list b half i old mid is among within read changed s lies) ∙ e)
 
 -- the work of some of the halves is among that of all
 pub halves-bounded : (view : Window) (list : List Step) (b : Indices) (old : List ℕ) (i : ℕ) (start end : Counts)

@@ -1,15 +1,13 @@
 -- The evaluations of a map are exactly those of the samples that do not lie behind a top.
-use Rattle.std.proofs.Common.{◌≡◌, ℕ, zero, suc, ◌+◌, ◌*◌, ◌/◌, ◌%◌, ◌<◌, ◌≤◌, Bool, true, false, cond, List, ◌∷◌, length, get_or, replicate, drop, refl, sym, ap, subst, ◌∙◌, ◌⊎◌, inl, inr, arith}
-use Rattle.std.specs.Prelude.{Some, None, max, nat_le, ◌==◌, ◌&&◌}
-use Rattle.std.proofs.lemmas.Bool.{cases_lt, le-leb, lt-leb, ne_eqb}
+use Rattle.std.proofs.Common.{◌≡◌, ℕ, zero, suc, ◌+◌, ◌*◌, ◌<◌, Bool, true, false, cond, List, ◌∷◌, length, get_or, replicate, drop, refl, sym, ap, subst, ◌∙◌, arith}
+use Rattle.std.specs.Prelude.{Some, None, nat_le, ◌==◌, ◌&&◌}
+use Rattle.std.proofs.lemmas.Bool.{ne_eqb}
 use Rattle.std.proofs.lemmas.List.{drop_all, drop_more}
 use Rattle.std.proofs.lemmas.List.Sums.{sum_by-cons}
-use Rattle.std.proofs.lemmas.Nat.{div-mul-add, mod-mul-add}
 use Rattle.box_chains.specs.Chains.{Descent, Visit, decision, handed_on, is_long, visit}
 use Rattle.box_chains.specs.Counts.{cost, end_cost}
 use Rattle.box_chains.specs.SumLaws.{sum_in-same}
 use Rattle.box_chains.specs.Sums.{LiesIn, Sample, sum_in}
-use Rattle.box_chains.specs.HalfLaws.{IsPart}
 use Rattle.box_chains.specs.ValueLaws.{IsVisit, Lawful}
 use Rattle.fixed_ops.specs.CountLaws.{risen-risen, risen-zero}
 use Rattle.fixed_ops.specs.Counts.{Counts, RisesBy, points_of, risen}
@@ -20,12 +18,11 @@ use Rattle.view_settings.specs.Spans.{root_of}
 use Rattle.view_settings.specs.Window.{Window}
 use Rattle.view_settings.specs.declared.lattice.Lattice.TheVariants.{Height}
 use Rattle.height_map.specs.Bound.{CountsPoints, halves_points, height_points, is_near, layered, open_points, points_where, whole}
-use Rattle.height_map.specs.Columns.{Changes, IsAmong, covers, is_open, leaf_cost, lifted}
-use Rattle.height_map.specs.Tops.{inside, top_among, top_of}
-use Rattle.height_map.proofs.ChangeLaws.{covers-place, lifted-none, lifted-some, place-within}
-use Rattle.height_map.proofs.Drawn.{drawn_to, half-below, half-part, handed-top, part-covers}
+use Rattle.height_map.specs.Columns.{Changes, IsAmong, covers, is_open, leaf_cost}
+use Rattle.height_map.specs.Tops.{top_among, top_of}
+use Rattle.height_map.proofs.ChangeLaws.{covers-place, place-within}
+use Rattle.height_map.proofs.Drawn.{drawn_to, half-open, handed-top}
 use Rattle.height_map.proofs.Leaves.{sum-nothing}
-use Rattle.height_map.proofs.TopLaws.{best, best-above, best-le, best-parts}
 use Rattle.height_map.proofs.WorkLaws.{decided-split, points-end, points-open}
 
 -- no evaluation
@@ -59,20 +56,23 @@ pub points-closed : (test : Sample → Bool) (d : Descent) (v : Visit) → ((s :
 unfolding points_where
 points-closed test d v none = sum-nothing v.box (λ s. cond (test s) (cost d v s) 0) (λ s lies. ap (λ t. cond t (cost d v s) 0) (none s lies))
 
--- a box whose columns all have tops takes none
+-- no sample of a box is open whose columns all have tops
+pub covered-closed : (view : Window) (list : List Step) (b : Indices) (w : ℕ) (tops : List ℕ) → w ≡ view.w → IsAmong view.w (length tops) b
+    → ((p : ℕ) → p < length tops → covers w b p ≡ true → 0 < get_or tops p 0) → (s : Sample) → LiesIn b s → is_open view list b tops s ≡ false
+covered-closed view list b w tops width among covered s lies =
+    let p = s.j * view.w + s.i in
+    let narrow : s.i < view.w = omega (arith, lies.x, among.columns) in
+    let here = covers-place view.w s.i s.j b narrow lies.x.0 lies.x.1 lies.y.0 lies.y.1 in
+    let there = place-within view.w (length tops) s.i s.j b among lies.x.1 lies.y.1 in
+    let some = covered p there (ap (λ n. covers n b p) width ∙ here) in
+    ap (λ t. t && nat_le (top_among view list b.z0 b.z1 s.i s.j) (s.k + 1)) (ne_eqb (get_or tops p 0) 0 (λ e. omega (arith, some, e)))
+
+-- so it takes no evaluation
 pub points-covered : (view : Window) (list : List Step) (b : Indices) (w : ℕ) (tops : List ℕ) (counts : Counts) → w ≡ view.w → IsAmong view.w (length tops) b
     → ((p : ℕ) → p < length tops → covers w b p ≡ true → 0 < get_or tops p 0)
     → CountsPoints (points_where (is_open view list b tops) (layered view) (visit b list)) counts counts
-points-covered view list b w tops counts width among covered = points-none counts _ (points-closed (is_open view list b tops) (layered view) (visit b list) closed)
-  where
-    closed : (s : Sample) → LiesIn b s → is_open view list b tops s ≡ false
-    closed s lies =
-        let p = s.j * view.w + s.i in
-        let narrow : s.i < view.w = omega (arith, lies.x, among.columns) in
-        let here = covers-place view.w s.i s.j b narrow lies.x.0 lies.x.1 lies.y.0 lies.y.1 in
-        let there = place-within view.w (length tops) s.i s.j b among lies.x.1 lies.y.1 in
-        let some = covered p there (ap (λ n. covers n b p) width ∙ here) in
-        ap (λ t. t && nat_le (top_among view list b.z0 b.z1 s.i s.j) (s.k + 1)) (ne_eqb (get_or tops p 0) 0 (λ e. omega (arith, some, e)))
+points-covered view list b w tops counts width among covered =
+    points-none counts _ (points-closed (is_open view list b tops) (layered view) (visit b list) (covered-closed view list b w tops width among covered))
 
 -- and so does a decided one
 pub points-decided : (test : Sample → Bool) (d : Descent) (v : Visit) (inside : Bool) (before after : Counts) → IsBox v.box → decision d v ≡ Some inside → CountsHulls (length v.list) before after
@@ -90,7 +90,13 @@ points-decided test d v inside before after is e h = points-are before after 0 (
     none = points-end test d v is (decided-split d v inside e)
         ∙ sum-nothing v.box (λ s. cond (test s) (end_cost d v) 0) (λ s lies. ap (λ n. cond (test s) n 0) free ∙ either (test s))
 
--- an undecided one takes those of what it hands on
+-- the same samples are open by the list that is handed on
+pub handed-open : (laws : Lawful) (view : Window) (list live : List Step) (b : Indices) (tops : List ℕ) → IsVisit (layered view) (visit b list) → live ≡ handed_on (layered view) (visit b list)
+    → (s : Sample) → LiesIn b s → is_open view live b tops s ≡ is_open view list b tops s
+handed-open laws view list live b tops is same s lies =
+    ap (λ n. get_or tops (s.j * view.w + s.i) 0 == 0 && nat_le n (s.k + 1)) (ap (λ l. top_among view l b.z0 b.z1 s.i s.j) same ∙ handed-top laws view b list s.i s.j is lies.x lies.y)
+
+-- an undecided box takes the evaluations of what it hands on
 pub points-undecided : (laws : Lawful) (view : Window) (list live : List Step) (b : Indices) (tops : List ℕ) (before mid after : Counts) → IsVisit (layered view) (visit b list)
     → decision (layered view) (visit b list) ≡ None → live ≡ handed_on (layered view) (visit b list) → CountsHulls (length list) before mid
     → CountsPoints (open_points (is_open view live b tops) (layered view) b live) mid after
@@ -105,9 +111,7 @@ points-undecided laws view list live b tops before mid after is e same h below =
     v = visit b list
 
     opened : points_where (is_open view live b tops) d v ≡ points_where (is_open view list b tops) d v
-    opened = points-same (is_open view live b tops) (is_open view list b tops) d v
-        (λ s lies.
-        ap (λ n. get_or tops (s.j * view.w + s.i) 0 == 0 && nat_le n (s.k + 1)) (ap (λ l. top_among view l b.z0 b.z1 s.i s.j) same ∙ handed-top laws view b list s.i s.j is lies.x lies.y))
+    opened = points-same (is_open view live b tops) (is_open view list b tops) d v (handed-open laws view list live b tops is same)
 
     all : 0 + open_points (is_open view live b tops) d b live ≡ points_where (is_open view list b tops) d v
     all = omega (arith, points-open (is_open view live b tops) d v (omega arith) is.box laws.halves e, ap (open_points (is_open view live b tops) d b) same, opened)
@@ -121,36 +125,6 @@ pub points-halves : (view : Window) (list : List Step) (b : Indices) (tops : Lis
     → CountsPoints (halves_points (is_open view list b tops) (layered view) list (halves_of 8 b)) before after
     → CountsPoints (open_points (is_open view list b tops) (layered view) b list) before after
 points-halves view list b tops before after long h = rw long h
-
--- a sample is open in a part, once the nearer parts are drawn, exactly where it was open in the whole
-open-same : (f : ℕ → Bool) (low mid high end k old new : ℕ) → low ≤ mid → mid ≤ high → high ≤ end → mid ≤ k → k < high → new ≡ lifted (best f high end) old
-    → (new == 0 && nat_le (best f mid high) (k + 1)) ≡ (old == 0 && nat_le (best f low end) (k + 1))
-open-same f low mid high end k (suc old) new below above beyond from under is =
-    ap (λ n. n == 0 && nat_le (best f mid high) (k + 1)) (is ∙ lifted-some (best f high end) (suc old) (λ same. omega (arith, same)))
-    ∙ ap (λ t. t && nat_le (best f mid high) (k + 1)) some ∙ sym (ap (λ t. t && nat_le (best f low end) (k + 1)) some)
-  where
-    some : (suc old == 0) ≡ false
-    some = ne_eqb (suc old) 0 (λ same. omega (arith, same))
-open-same f low mid high end k zero new below above beyond from under is =
-    ap (λ n. n == 0 && nat_le (best f mid high) (k + 1)) (is ∙ lifted-none (best f high end) 0 refl) ∙ by (best-above f high end)
-  where
-    first : best f low end ≡ max (best f low mid) (best f mid end)
-    first = best-parts f low mid end below (omega (arith, above, beyond))
-
-    second : best f mid end ≡ max (best f mid high) (best f high end)
-    second = best-parts f mid high end above beyond
-
-    by : (best f high end ≡ 0) ⊎ (high < best f high end) → (best f high end == 0 && nat_le (best f mid high) (k + 1)) ≡ nat_le (best f low end) (k + 1)
-    by (inl none) = ap (λ n. n == 0 && nat_le (best f mid high) (k + 1)) none ∙ test (cases_lt (k + 1) (best f mid high))
-      where
-        test : (k + 1 < best f mid high) ⊎ (best f mid high ≤ k + 1) → nat_le (best f mid high) (k + 1) ≡ nat_le (best f low end) (k + 1)
-        test (inl more) = lt-leb (best f mid high) (k + 1) more ∙ sym (lt-leb (best f low end) (k + 1) (omega (arith, first, second, more)))
-        test (inr less) =
-            le-leb (best f mid high) (k + 1) less
-            ∙ sym (le-leb (best f low end) (k + 1) (omega (arith, first, second, none, less, best-le f low mid below, from)))
-    by (inr some) =
-        ap (λ t. t && nat_le (best f mid high) (k + 1)) (ne_eqb (best f high end) 0 (λ e. omega (arith, some, e)))
-        ∙ sym (lt-leb (best f low end) (k + 1) (omega (arith, first, second, some, under)))
 
 -- before any half is drawn
 pub halves-none : (view : Window) (list : List Step) (b : Indices) (n : ℕ) (tops : List ℕ) (counts : Counts) → n ≡ length (halves_of 8 b)
@@ -186,28 +160,8 @@ half-points view list b half i old mid start between end is among within read ch
     more : drop i (halves_of 8 b) ≡ half ∷ rest
     more = drop_more (halves_of 8 b) i half within ∙ ap (λ h. h ∷ drop (i + 1) (halves_of 8 b)) (sym read) ∙ ap (λ n. half ∷ drop n (halves_of 8 b)) next
 
-    part : IsPart 8 b half
-    part = half-part b half i is within read
-
-    opened : (s : Sample) → LiesIn half s → is_open view list half mid s ≡ is_open view list b old s
-    opened s lies =
-        let p = s.j * view.w + s.i in
-        let column : s.i < b.x1 = omega (arith, lies.x, part.x.below) in
-        let row : s.j < b.y1 = omega (arith, lies.y, part.y.below) in
-        let narrow : s.i < view.w = omega (arith, column, among.columns) in
-        let here = covers-place view.w s.i s.j half narrow lies.x.0 lies.x.1 lies.y.0 lies.y.1 in
-        let there = place-within view.w (length old) s.i s.j b among column row in
-        let drawn : get_or mid p 0 ≡ lifted (best (inside view list s.i s.j) half.z1 b.z1) (get_or old p 0) =
-        changed.each p there
-        ∙ ap (λ t. cond t (drawn_to view list b rest p (get_or old p 0)) (get_or old p 0)) (part-covers view.w p b half part here)
-        ∙ ap (λ z. lifted (top_among view list z b.z1 (p % view.w) (p / view.w)) (get_or old p 0)) (sym (half-below view.w p i b half within read here))
-        ∙ ap (λ n. lifted (top_among view list half.z1 b.z1 n (p / view.w)) (get_or old p 0)) (mod-mul-add s.j view.w s.i narrow)
-        ∙ ap (λ n. lifted (top_among view list half.z1 b.z1 s.i n) (get_or old p 0)) (div-mul-add s.j view.w s.i narrow) in
-        open-same (inside view list s.i s.j) b.z0 half.z0 half.z1 b.z1 s.k (get_or old p 0) (get_or mid p 0)
-        part.z.above (omega (arith, part.z.some)) part.z.below lies.z.0 lies.z.1 drawn
-
     equal : points_where (is_open view list half mid) d v ≡ points_where (is_open view list b old) d v
-    equal = points-same (is_open view list half mid) (is_open view list b old) d v opened
+    equal = points-same (is_open view list half mid) (is_open view list b old) d v (half-open view list b half i old mid is among within read changed)
 
 -- the same, where so many halves are left, by a desk that has the view
 pub next-points : (view other : Window) (list : List Step) (b half : Indices) (n i : ℕ) (old mid : List ℕ) (start between end : Counts) → other ≡ view → n ≡ suc i → IsBox b → IsAmong view.w (length old) b
@@ -225,13 +179,16 @@ no_tops zero p = refl
 no_tops (suc n) zero = refl
 no_tops (suc n) (suc p) = no_tops n p
 
--- the box of all samples, over no tops
+-- over no tops the samples are open that do not lie behind a top
+pub map-open : (view : Window) (list : List Step) (n : ℕ) (tops : List ℕ) → tops ≡ replicate n 0 → (s : Sample) → is_open view list (root_of view Height) tops s ≡ is_near view list s
+map-open view list n tops empty s =
+    let p = s.j * view.w + s.i in
+    ap (λ t. t == 0 && nat_le (top_of view list s.i s.j) (s.k + 1)) (ap (λ l. get_or l p 0) empty ∙ no_tops n p)
+
+-- the evaluations of the box of all samples, over no tops
 pub map-points : (view : Window) (list : List Step) (b : Indices) (n : ℕ) (tops : List ℕ) (before after : Counts) → b ≡ root_of view Height → tops ≡ replicate n 0
     → CountsPoints (points_where (is_open view list b tops) (layered view) (visit b list)) before after → CountsPoints (height_points view list) before after
 map-points view list b n tops before after is empty h =
     points-are before after _ (height_points view list)
-    (points-same (is_open view list (root_of view Height) tops) (is_near view list) (layered view) (whole view list)
-    (λ s lies.
-    let p = s.j * view.w + s.i in
-    ap (λ t. t == 0 && nat_le (top_of view list s.i s.j) (s.k + 1)) (ap (λ l. get_or l p 0) empty ∙ no_tops n p)))
+    (points-same (is_open view list (root_of view Height) tops) (is_near view list) (layered view) (whole view list) (λ s lies. map-open view list n tops empty s))
     (subst (λ c. CountsPoints (points_where (is_open view list c tops) (layered view) (visit c list)) before after) is h)

@@ -5,7 +5,7 @@ use Rattle.box_chains.specs.Counts.{spans_in}
 use Rattle.fixed_ops.specs.declared.operation.Op.TheVariants.{X, Y, Z, Const, Neg, Sub, Max}
 use Rattle.live_clauses.specs.declared.step.Step.{Step}
 use Rattle.view_settings.specs.Window.{Window}
-use Rattle.height_map.specs.Bound.{height_points, height_spans, points_where}
+use Rattle.height_map.specs.Bound.{height_points, height_spans, near_spans, points_where, spans_where}
 use Rattle.height_map.specs.Tops.{tops_of}
 
 -- from -1 to 1
@@ -40,6 +40,11 @@ toward_points = refl
 toward_spans : height_spans (window 1 1 16) toward ≡ 3
 unfolding spans_in chain_within
 toward_spans = refl
+
+-- and all three boxes are traced, since the nearest sample that is inside lies in the far half
+toward_traced : near_spans (window 1 1 16) toward ≡ 3
+unfolding spans_where chain_within
+toward_traced = refl
 
 -- one leaf of eight samples: the four nearer ones and the first that is inside do not lie behind the top
 leaf_tops : tops_of (window 1 1 8) toward ≡ 4 ∷ []
@@ -109,3 +114,13 @@ slab_points = refl
 slab_spans : height_spans (window 1 1 16) slab ≡ 17
 unfolding spans_in chain_within
 slab_spans = refl
+
+-- the far half lies behind the top, and is not traced
+slab_traced : near_spans (window 1 1 16) slab ≡ 12
+unfolding spans_where chain_within
+slab_traced = refl
+
+-- two columns: the left one is inside at each sample, and the right one at none, so that no box lies behind both tops
+side_traced : near_spans (window 2 1 9) across ≡ 3
+unfolding spans_where chain_within
+side_traced = refl

@@ -26,7 +26,7 @@ counted-sample before mid after k high len some below first second =
     subst (λ n. RisesBy before after (points_of n)) next
     (RisesBy-then before mid after (points_of ((high - k) * len)) (points_of len) first (points_are_exact mid after len second))
 
-along-one : (j : ℕ) (f : ℕ → ℕ) → sum_along j (j + 1) f ≡ f j
+pub along-one : (j : ℕ) (f : ℕ → ℕ) → sum_along j (j + 1) f ≡ f j
 along-one j f = let count : j + 1 - j ≡ 1 = omega arith in rw count (zero-add (f j))
 
 -- a sum over the samples of a row, and those of one more column

@@ -7,4 +7,5 @@ pub mod Leaves
 pub mod Maps
 pub mod Stacks
 pub mod TopLaws
+pub mod Traced
 pub mod WorkLaws

@@ -1,8 +1,8 @@
 -- How tops are those of parts of a column.
 use Rattle.std.proofs.Common.{◌≡◌, ℕ, zero, suc, ◌+◌, ◌-◌, ◌*◌, ◌<◌, ◌≤◌, Bool, true, false, cond, map, refl, sym, ap, ◌∙◌, ◌⊎◌, inl, inr, arith}
-use Rattle.std.specs.Prelude.{max, nat_le}
+use Rattle.std.specs.Prelude.{max, nat_le, ◌==◌, ◌&&◌}
 use Rattle.std.specs.List.{range_with_len}
-use Rattle.std.proofs.lemmas.Bool.{cond-false, cond-true, le-leb, lt-leb}
+use Rattle.std.proofs.lemmas.Bool.{cases_lt, cond-false, cond-true, le-leb, lt-leb, ne_eqb}
 use Rattle.box_chains.specs.Sums.{sum_along}
 use Rattle.height_map.specs.Columns.{lifted}
 use Rattle.height_map.specs.Tops.{greatest}
@@ -132,21 +132,40 @@ lifted-twice f low mid high (suc old) below above =
     ∙ lifted-some (best f low mid) (suc old) (λ same. omega (arith, same))
     ∙ sym (lifted-some (best f low high) (suc old) (λ same. omega (arith, same)))
 
--- a column that has no top then had none before, and the nearer part gives it none
-pub lifted-zero : (new old : ℕ) → lifted new old ≡ 0 → (old ≡ 0) × (new ≡ 0)
-lifted-zero new zero e = (refl, sym (lifted-none new 0 refl) ∙ e)
-lifted-zero new (suc old) e = absurd (omega (arith, lifted-some new (suc old) (λ same. omega (arith, same)), e))
-
 -- a top of 0 changes nothing
 pub lifted-nothing : (old : ℕ) → lifted 0 old ≡ old
 lifted-nothing zero = lifted-none 0 0 refl
 lifted-nothing (suc old) = lifted-some 0 (suc old) (λ same. omega (arith, same))
 
--- where a nearer part has no top, a sample does not lie behind the top of a part with the sample where it does not lie
--- behind that of a larger part
-pub near-part : (f : ℕ → Bool) (low mid high end k : ℕ) → low ≤ mid → mid ≤ high → high ≤ end → mid ≤ k → best f high end ≡ 0 → best f mid high ≤ k + 1 → best f low end ≤ k + 1
-near-part f low mid high end k below above beyond inside none near =
-    omega (arith, best-parts f low mid end below (omega (arith, above, beyond)), best-parts f mid high end above beyond, best-le f low mid below, none, near, inside)
+-- a sample is open in a part, once the nearer parts are drawn, exactly where it was open in the whole
+pub open-same : (f : ℕ → Bool) (low mid high end k old new : ℕ) → low ≤ mid → mid ≤ high → high ≤ end → mid ≤ k → k < high → new ≡ lifted (best f high end) old
+    → (new == 0 && nat_le (best f mid high) (k + 1)) ≡ (old == 0 && nat_le (best f low end) (k + 1))
+open-same f low mid high end k (suc old) new below above beyond from under is =
+    ap (λ n. n == 0 && nat_le (best f mid high) (k + 1)) (is ∙ lifted-some (best f high end) (suc old) (λ same. omega (arith, same)))
+    ∙ ap (λ t. t && nat_le (best f mid high) (k + 1)) some ∙ sym (ap (λ t. t && nat_le (best f low end) (k + 1)) some)
+  where
+    some : (suc old == 0) ≡ false
+    some = ne_eqb (suc old) 0 (λ same. omega (arith, same))
+open-same f low mid high end k zero new below above beyond from under is =
+    ap (λ n. n == 0 && nat_le (best f mid high) (k + 1)) (is ∙ lifted-none (best f high end) 0 refl) ∙ by (best-above f high end)
+  where
+    first : best f low end ≡ max (best f low mid) (best f mid end)
+    first = best-parts f low mid end below (omega (arith, above, beyond))
+
+    second : best f mid end ≡ max (best f mid high) (best f high end)
+    second = best-parts f mid high end above beyond
+
+    by : (best f high end ≡ 0) ⊎ (high < best f high end) → (best f high end == 0 && nat_le (best f mid high) (k + 1)) ≡ nat_le (best f low end) (k + 1)
+    by (inl none) = ap (λ n. n == 0 && nat_le (best f mid high) (k + 1)) none ∙ test (cases_lt (k + 1) (best f mid high))
+      where
+        test : (k + 1 < best f mid high) ⊎ (best f mid high ≤ k + 1) → nat_le (best f mid high) (k + 1) ≡ nat_le (best f low end) (k + 1)
+        test (inl more) = lt-leb (best f mid high) (k + 1) more ∙ sym (lt-leb (best f low end) (k + 1) (omega (arith, first, second, more)))
+        test (inr less) =
+            le-leb (best f mid high) (k + 1) less
+            ∙ sym (le-leb (best f low end) (k + 1) (omega (arith, first, second, none, less, best-le f low mid below, from)))
+    by (inr some) =
+        ap (λ t. t && nat_le (best f mid high) (k + 1)) (ne_eqb (best f high end) 0 (λ e. omega (arith, some, e)))
+        ∙ sym (lt-leb (best f low end) (k + 1) (omega (arith, first, second, some, under)))
 
 -- what evaluating a column from the nearest sample on takes, until one is inside
 pub found-sum : (low m high c : ℕ) → low ≤ m → m < high → sum_along low high (λ k. cond (nat_le (m + 1) (k + 1)) c 0) ≡ (high - m) * c

@@ -64,7 +64,7 @@ unfolding points_where
 points-end test d v is e =
     sum_in-same v.box (λ s. cond (test s) (cost d v s) 0) (λ s. cond (test s) (end_cost d v) 0) (λ s lies. ap (λ end. cond (test s) (end_cost d end) 0) (end-ends d v s is e))
 
-open-split : (d : Descent) (v : Visit) → decision d v ≡ None → is_split d v ≡ is_long d.leaf v.box
+pub open-split : (d : Descent) (v : Visit) → decision d v ≡ None → is_split d v ≡ is_long d.leaf v.box
 open-split d v e = rw e refl
 
 pub decided-split : (d : Descent) (v : Visit) (inside : Bool) → decision d v ≡ Some inside → is_split d v ≡ false

@@ -1,5 +1,5 @@
 -- Tops that change column by column.
-use Rattle.std.specs.Prelude.{◌≡◌, ℕ, ◌+◌, ◌*◌, ◌/◌, ◌%◌, ◌<◌, ◌≤◌, ◌==◌, nat_le, nat_lt, Bool, ◌&&◌, List, length, get_or, if◌then◌else◌}
+use Rattle.std.specs.Prelude.{◌≡◌, ℕ, ◌+◌, ◌*◌, ◌/◌, ◌%◌, ◌<◌, ◌≤◌, ◌==◌, nat_le, nat_lt, Bool, true, ◌&&◌, List, length, get_or, if◌then◌else◌}
 use Rattle.box_chains.specs.Placing.{Sampling}
 use Rattle.box_chains.specs.Sums.{Sample}
 use Rattle.live_clauses.specs.declared.step.Step.{Step}
@@ -19,6 +19,13 @@ pub record IsAmong (w len : ℕ) (b : Indices) : Type 0 where
 abbrev pub covers : ℕ → Indices → ℕ → Bool
 covers w b p =
     nat_le b.x0 (p % w) && (nat_lt (p % w) b.x1 && (nat_le b.y0 (p / w) && nat_lt (p / w) b.y1))
+
+-- some column of a box has no top
+pub record HasOpen (w : ℕ) (b : Indices) (tops : List ℕ) : Type 0 where
+  pub place : ℕ
+  pub within : place < length tops
+  pub covered : covers w b place ≡ true
+  pub none : get_or tops place 0 ≡ 0
 
 -- the numbers at some places become what they are to be, by place and number, and the others stay
 pub record Changes (covers : ℕ → Bool) (becomes : ℕ → ℕ → ℕ) (before after : List ℕ) : Type 0 where

@@ -1,14 +1,15 @@
 // The tops of the columns of a box.
-ghost use Rattle.std.specs.Prelude.{◌≡◌, ◌+◌, ◌*◌, ◌<◌, ◌≤◌, ℕ, true, length, get_or};
-ghost use Rattle.height_map.specs.Columns.{Changes, IsAmong, covers, lifted};
+ghost use Rattle.std.specs.Prelude.{◌≡◌, ◌+◌, ◌*◌, ◌<◌, ◌≤◌, ℕ, true, false, length, get_or};
+ghost use Rattle.height_map.specs.Columns.{Changes, HasOpen, IsAmong, covers, lifted};
 
 use view_settings::IndexBox;
 
 /// Whether each column of a box has a top. A row of the map has w columns.
 pub fn is_covered(w: u32, b: IndexBox, tops: &[u16]) -> bool
     requires { IsAmong w (length tops.now) b }
-    ensures { (p : ℕ) → result ≡ true → p < length tops.now → covers w b p ≡ true → 0 < get_or
-        tops.now p 0 }
+    ensures covered { (p : ℕ) → result ≡ true → p < length tops.now → covers w b p ≡ true
+        → 0 < get_or tops.now p 0 }
+    ensures open { result ≡ false → HasOpen w b tops.now }
 {
     for j in b.y0..b.y1 {
         if !is_row_covered(w, b, j, tops) {
@@ -23,7 +24,10 @@ pub fn is_covered(w: u32, b: IndexBox, tops: &[u16]) -> bool
 fn is_row_covered(w: u32, b: IndexBox, j: u32, tops: &[u16]) -> bool
     requires among { IsAmong w (length tops.now) b }
     requires row { j < b.y1 }
-    ensures { (i : ℕ) → result ≡ true → b.x0 ≤ i → i < b.x1 → 0 < get_or tops.now (j * w + i) 0 }
+    ensures covered { (i : ℕ) → result ≡ true → b.x0 ≤ i → i < b.x1
+        → 0 < get_or tops.now (j * w + i) 0 }
+    ensures open { result ≡ false
+        → (i : ℕ) × (b.x0 ≤ i) × (i < b.x1) × (get_or tops.now (j * w + i) 0 ≡ 0) }
 {
     let start = j as usize * w as usize;
     for i in b.x0..b.x1 {

@@ -5,7 +5,7 @@ ghost use Rattle.box_chains.specs.Counts.{spans_in};
 ghost use Rattle.view_settings.specs.Boxes.{halves_of};
 ghost use Rattle.box_chains.specs.Chains.{visit};
 ghost use Rattle.box_chains.specs.Tallied.{CountsAtMost};
-ghost use Rattle.height_map.specs.Bound.{CountsPoints, halves_points, halves_spans, layered, open_points, open_spans, points_where};
+ghost use Rattle.height_map.specs.Bound.{CountsPoints, CountsSpans, halves_points, halves_spans, halves_traced, layered, open_points, open_spans, open_traced, points_where, spans_where};
 ghost use Rattle.height_map.specs.Columns.{Changes, covers, is_open, leaf_top};
 ghost use Rattle.height_map.specs.Desks.{KeepsDesk, MayDraw};
 
@@ -41,6 +41,10 @@ pub fn draw_box(
         (spans_in (layered desk.old.places.view) (visit b received.now)) tally.old tally.new }
     ensures points { OnOk result
         (CountsPoints (points_where (is_open desk.old.places.view received.now b tops.old)
+        (layered desk.old.places.view) (visit b received.now))
+        tally.old tally.new) }
+    ensures hulls { OnOk result
+        (CountsSpans (spans_where (is_open desk.old.places.view received.now b tops.old)
         (layered desk.old.places.view) (visit b received.now))
         tally.old tally.new) }
     ensures kept { KeepsDesk desk.old desk.new }
@@ -83,6 +87,10 @@ fn draw_undecided(
         (CountsPoints (open_points (is_open desk.old.places.view live.now b tops.old)
         (layered desk.old.places.view) b live.now)
         tally.old tally.new) }
+    ensures hulls { OnOk result
+        (CountsSpans (open_traced (is_open desk.old.places.view live.now b tops.old)
+        (layered desk.old.places.view) b live.now)
+        tally.old tally.new) }
     ensures kept { KeepsDesk desk.old desk.new }
 {
     if is_long(b, LEAF) {
@@ -113,6 +121,10 @@ fn draw_halves(
         (halves_spans (layered desk.old.places.view) live.now (halves_of 8 b)) tally.old tally.new }
     ensures points { OnOk result
         (CountsPoints (halves_points (is_open desk.old.places.view live.now b tops.old)
+        (layered desk.old.places.view) live.now (halves_of 8 b))
+        tally.old tally.new) }
+    ensures hulls { OnOk result
+        (CountsSpans (halves_traced (is_open desk.old.places.view live.now b tops.old)
         (layered desk.old.places.view) live.now (halves_of 8 b))
         tally.old tally.new) }
     ensures kept { KeepsDesk desk.old desk.new }

@@ -3,11 +3,12 @@ ghost use Rattle.std.specs.Prelude.{◌≡◌, IfOk, OnOk};
 ghost use Rattle.view_settings.specs.Spans.{root_of};
 ghost use Rattle.view_settings.specs.Window.{FitsHeight};
 ghost use Rattle.box_chains.specs.Tallied.{CountsAtMost};
-ghost use Rattle.height_map.specs.Bound.{CountsPoints, height_points, height_spans};
+ghost use Rattle.height_map.specs.Bound.{CountsPoints, CountsSpans, height_points, height_spans, near_spans};
 ghost use Rattle.height_map.specs.Tops.{tops_of};
 
 use crate::desk::Desk;
 use crate::drawing::draw_box;
+use box_chains::layers_hold;
 use fixed_ops::Tally;
 use live_clauses::Tape;
 use std::alloc::{AllocError, Global};
@@ -38,7 +39,8 @@ impl Model for TopMap {
 
 /// The height map of a list of steps over a view. Each step that is traced over a box is counted, at
 /// most four corners with it, and each step that is evaluated at a sample. No sample behind the
-/// nearest one that is inside is evaluated, and each other one of an undecided leaf is, once.
+/// nearest one that is inside is evaluated, and each other one of an undecided leaf is, once. No box
+/// is traced whose samples all lie behind tops, and each other one on the way to a sample is, once.
 /// AllocError: there is no memory for the map, and no more work was done than a map takes.
 pub fn heights(
     alloc: Global,
@@ -53,7 +55,10 @@ pub fn heights(
         (height_spans view.now list.now) tally.old tally.new }
     ensures points { OnOk result
         (CountsPoints (height_points view.now list.now) tally.old tally.new) }
+    ensures hulls { OnOk result
+        (CountsSpans (near_spans view.now list.now) tally.old tally.new) }
 {
+    layers_hold();
     let mut desk = Desk::new(alloc, view, list.len())?;
     let mut tops = vec![in alloc; 0u16; view.w as usize * view.h as usize]?;
     draw_box(alloc, &mut desk, root(view), list, &mut tops, tally)?;

@@ -9,8 +9,9 @@ use Rattle.height_map.specs.Bound.{layered}
 use Rattle.height_map.specs.Columns.{Changes, covers, is_open, leaf_top}
 use Rattle.box_chains.specs.TallyLaws.{most-none}
 use Rattle.height_map.proofs.Drawn.{all-drawn, columns-there, decided-counted, drawn_to, half-part, half-visit, halves-bounded, handed, inside-drawn, leaf-counted, looked, next-counted, next-drawn, none-drawn, on_ok-then, outside-drawn, trace-counted, undecided-counted, undecided-drawn}
-use Rattle.height_map.specs.Bound.{CountsPoints, halves_points}
+use Rattle.height_map.specs.Bound.{CountsPoints, CountsSpans, halves_points, halves_traced}
 use Rattle.height_map.proofs.Evaluated.{halves-none, next-points, points-covered, points-decided, points-halves, points-leaf, points-undecided}
+use Rattle.height_map.proofs.Traced.{next-traced, open-some, traced-covered, traced-decided, traced-halves, traced-leaf, traced-none, traced-undecided}
 use Rattle.height_map.proofs.drawing.+drawing.Goals as goal
 
 pub draw_box-returns-then-is_covered-clause-at_most : goal.draw_box-returns-then-is_covered-clause-at_most
@@ -80,6 +81,7 @@ draw_halves-loop-n-init t c =
       tops = none-drawn c.args.desk.now.places.view c.args.live.now c.args.b c.len-n.result c.args.tops.now (c.len-n.ensures.value ∙ ap length all);
       counted = most-none c.args.tally.now _ _;
       points = halves-none c.args.desk.now.places.view c.args.live.now c.args.b c.len-n.result c.args.tops.now c.args.tally.now (c.len-n.ensures.value ∙ ap length all);
+      hulls = traced-none c.args.desk.now.places.view c.args.live.now c.args.b c.len-n.result c.args.tops.now c.args.tally.now (c.len-n.ensures.value ∙ ap length all);
     }
 
 pub draw_halves-draw_box-requires : goal.draw_halves-draw_box-requires
@@ -129,6 +131,8 @@ draw_halves-loop-n-preserved t c =
           (columns-there view live b view.w (length c.args.tops.now) c.requires.may.visit_is refl c.requires.may.tops) within read c.loop-n.invariant.tops c.loop-n.invariant.counted c.in_ok-draw_box.ensures.at_most;
       points = next-points view c.loop-n.desk.places.view live b half c.loop-n.n i c.args.tops.now c.loop-n.tops c.args.tally.now c.loop-n.tally c.draw_box.new.tally same next c.requires.may.visit_is.box
           (columns-there view live b view.w (length c.args.tops.now) c.requires.may.visit_is refl c.requires.may.tops) within read c.loop-n.invariant.tops c.loop-n.invariant.points c.in_ok-draw_box.ensures.points;
+      hulls = next-traced view c.loop-n.desk.places.view live b half c.loop-n.n i c.args.tops.now c.loop-n.tops c.args.tally.now c.loop-n.tally c.draw_box.new.tally same next c.requires.may.visit_is.box
+          (columns-there view live b view.w (length c.args.tops.now) c.requires.may.visit_is refl c.requires.may.tops) c.layers_hold.ensures.halves within read c.loop-n.invariant.tops c.loop-n.invariant.hulls c.in_ok-draw_box.ensures.hulls;
     }
 
 pub draw_halves-returns-in_err-draw_box-clause-at_most : goal.draw_halves-returns-in_err-draw_box-clause-at_most
@@ -166,7 +170,7 @@ draw_box-returns-then-is_covered-clause-points t c =
     let view = c.args.desk.now.places.view in
     points-covered view c.args.received.now c.args.b c.args.desk.now.w c.args.tops.now c.args.tally.now c.requires.width
     (columns-there view c.args.received.now c.args.b view.w (length c.args.tops.now) c.requires.visit_is refl c.requires.tops)
-    (λ p h e. c.is_covered.ensures p c.if-is_covered.true h e)
+    (λ p h e. c.is_covered.ensures.covered p c.if-is_covered.true h e)
 
 pub draw_box-returns-in-Some-true-clause-points : goal.draw_box-returns-in-Some-true-clause-points
 draw_box-returns-in-Some-true-clause-points t c =
@@ -207,3 +211,55 @@ draw_halves-returns-clause-points t c =
     let none : c.loop-n.n ≡ 0 = omega (arith, c.loop-n-test.false) in
     subst (λ n. CountsPoints (halves_points (is_open c.args.desk.now.places.view c.args.live.now c.args.b c.args.tops.now) (layered c.args.desk.now.places.view) c.args.live.now (drop n (halves_of 8 c.args.b))) c.args.tally.now c.loop-n.tally)
     none c.loop-n.invariant.points
+
+-- ---- what is traced
+
+pub draw_box-returns-then-is_covered-clause-hulls : goal.draw_box-returns-then-is_covered-clause-hulls
+draw_box-returns-then-is_covered-clause-hulls t c =
+    let view = c.args.desk.now.places.view in
+    traced-covered view c.args.received.now c.args.b c.args.desk.now.w c.args.tops.now c.args.tally.now c.requires.width
+    (columns-there view c.args.received.now c.args.b view.w (length c.args.tops.now) c.requires.visit_is refl c.requires.tops) c.requires.visit_is.box c.layers_hold.ensures.halves
+    (λ p h e. c.is_covered.ensures.covered p c.if-is_covered.true h e)
+
+pub draw_box-returns-in-Some-true-clause-hulls : goal.draw_box-returns-in-Some-true-clause-hulls
+draw_box-returns-in-Some-true-clause-hulls t c =
+    let view = c.args.desk.now.places.view in
+    let list = c.args.received.now in
+    let told = looked view c.args.desk.now.places.lattice c.args.b list c.region.result c.look.result c.requires.lattice c.region.ensures c.look.ensures.decision in
+    traced-decided (is_open view list c.args.b c.args.tops.now) (layered view) (visit c.args.b list) c.in-Some-true.field-0 c.args.tally.now c.look.new.tally c.requires.visit_is.box (told ∙ c.in-Some-true.is)
+    (open-some view list c.args.b c.args.desk.now.w c.args.tops.now c.requires.width c.requires.visit_is.box (c.is_covered.ensures.open c.if-is_covered.false)) c.look.ensures.counted
+
+pub draw_box-returns-in-Some-false-clause-hulls : goal.draw_box-returns-in-Some-false-clause-hulls
+draw_box-returns-in-Some-false-clause-hulls t c =
+    let view = c.args.desk.now.places.view in
+    let list = c.args.received.now in
+    let told = looked view c.args.desk.now.places.lattice c.args.b list c.region.result c.look.result c.requires.lattice c.region.ensures c.look.ensures.decision in
+    traced-decided (is_open view list c.args.b c.args.tops.now) (layered view) (visit c.args.b list) c.in-Some-false.field-0 c.args.tally.now c.look.new.tally c.requires.visit_is.box (told ∙ c.in-Some-false.is)
+    (open-some view list c.args.b c.args.desk.now.w c.args.tops.now c.requires.width c.requires.visit_is.box (c.is_covered.ensures.open c.if-is_covered.false)) c.look.ensures.counted
+
+pub draw_box-returns-in_ok-live-in-None-clause-hulls : goal.draw_box-returns-in_ok-live-in-None-clause-hulls
+draw_box-returns-in_ok-live-in-None-clause-hulls t c =
+    let view = c.args.desk.now.places.view in
+    let list = c.args.received.now in
+    let told = looked view c.args.desk.now.places.lattice c.args.b list c.region.result c.look.result c.requires.lattice c.region.ensures c.look.ensures.decision in
+    let same = handed view c.args.desk.now.places.lattice c.args.b list c.in_ok-live-in-None.live c.region.result c.look.new.self c.requires.lattice c.region.ensures c.look.ensures.choices c.in_ok-live-in-None.ensures.list in
+    on_ok-then c.draw_undecided.result _ _
+    (λ below. traced-undecided c.layers_hold.ensures view list c.in_ok-live-in-None.live c.args.b c.args.tops.now c.args.tally.now c.look.new.tally c.draw_undecided.new.tally c.requires.visit_is
+    (told ∙ c.in-None.is) same (open-some view list c.args.b c.args.desk.now.w c.args.tops.now c.requires.width c.requires.visit_is.box (c.is_covered.ensures.open c.if-is_covered.false)) c.look.ensures.counted below)
+    c.draw_undecided.ensures.hulls
+
+pub draw_undecided-returns-then-is_long-clause-hulls : goal.draw_undecided-returns-then-is_long-clause-hulls
+draw_undecided-returns-then-is_long-clause-hulls t c =
+    on_ok-then c.draw_halves.result _ _
+    (λ h. traced-halves c.args.desk.now.places.view c.args.live.now c.args.b c.args.tops.now c.args.tally.now c.draw_halves.new.tally (sym c.is_long.ensures ∙ c.if-is_long.true) h)
+    c.draw_halves.ensures.hulls
+
+pub draw_undecided-returns-else-is_long-clause-hulls : goal.draw_undecided-returns-else-is_long-clause-hulls
+draw_undecided-returns-else-is_long-clause-hulls t c =
+    traced-leaf c.args.desk.now.places.view c.args.live.now c.args.b c.args.tops.now _ c.args.tally.now c.draw_leaf.new.tally (sym c.is_long.ensures ∙ c.if-is_long.false) c.draw_leaf.ensures.counted
+
+pub draw_halves-returns-clause-hulls : goal.draw_halves-returns-clause-hulls
+draw_halves-returns-clause-hulls t c =
+    let none : c.loop-n.n ≡ 0 = omega (arith, c.loop-n-test.false) in
+    subst (λ n. CountsSpans (halves_traced (is_open c.args.desk.now.places.view c.args.live.now c.args.b c.args.tops.now) (layered c.args.desk.now.places.view) c.args.live.now (drop n (halves_of 8 c.args.b))) c.args.tally.now c.loop-n.tally)
+    none c.loop-n.invariant.hulls

@@ -2,7 +2,7 @@ use Rattle.std.proofs.Common.{◌≡◌, ◌+◌, ◌*◌, drop}
 use Rattle.box_chains.specs.Chains.{sides}
 use Rattle.view_settings.specs.Boxes.{halves_of}
 use Rattle.box_chains.specs.Tallied.{CountsAtMost}
-use Rattle.height_map.specs.Bound.{CountsPoints, halves_points, halves_spans, layered}
+use Rattle.height_map.specs.Bound.{CountsPoints, CountsSpans, halves_points, halves_spans, halves_traced, layered}
 use Rattle.height_map.specs.Columns.{Changes, covers, is_open}
 use Rattle.height_map.specs.Desks.{KeepsDesk}
 use Rattle.height_map.proofs.Drawn.{drawn_to}
@@ -26,4 +26,5 @@ invariant-draw_halves-loop-n l = record {
   counted : CountsAtMost (halves_points (is_open l.fn.desk.places.view l.fn.live l.fn.b l.fn.tops) (layered l.fn.desk.places.view) l.fn.live (drop l.n (halves_of 8 l.fn.b)))
       (halves_spans (layered l.fn.desk.places.view) l.fn.live (drop l.n (halves_of 8 l.fn.b))) l.fn.tally l.tally;
   points : CountsPoints (halves_points (is_open l.fn.desk.places.view l.fn.live l.fn.b l.fn.tops) (layered l.fn.desk.places.view) l.fn.live (drop l.n (halves_of 8 l.fn.b))) l.fn.tally l.tally;
+  hulls : CountsSpans (halves_traced (is_open l.fn.desk.places.view l.fn.live l.fn.b l.fn.tops) (layered l.fn.desk.places.view) l.fn.live (drop l.n (halves_of 8 l.fn.b))) l.fn.tally l.tally;
 }

@@ -4,12 +4,13 @@ use Rattle.std.proofs.lemmas.List.{with_items_is}
 use Rattle.box_chains.specs.Counts.{spans_in}
 use Rattle.box_chains.specs.Chains.{visit}
 use Rattle.box_chains.specs.Tallied.{CountsAtMost}
-use Rattle.height_map.specs.Bound.{layered, points_where}
+use Rattle.height_map.specs.Bound.{layered, points_where, spans_where}
 use Rattle.height_map.specs.Columns.{Changes, covers, is_open, leaf_top}
 use Rattle.box_chains.specs.TallyLaws.{most-none}
 use Rattle.height_map.proofs.Maps.{map-counted, map-drawn, same_maps}
-use Rattle.height_map.specs.Bound.{CountsPoints}
+use Rattle.height_map.specs.Bound.{CountsPoints, CountsSpans}
 use Rattle.height_map.proofs.Evaluated.{map-points}
+use Rattle.height_map.proofs.Traced.{map-traced}
 use Rattle.height_map.proofs.top_map.heights.Goals as goal
 
 pub returns-in_err-desk-clause-at_most : goal.returns-in_err-desk-clause-at_most
@@ -58,3 +59,16 @@ returns-clause-points c =
     map-points c.args.view.now list c.root.result (c.view.inside.w * c.view.inside.h) c.deref_mut.result.now c.args.tally.now c.draw_box.new.tally c.root.ensures empty
     (subst (λ v. CountsPoints (points_where (is_open v list c.root.result c.deref_mut.result.now) (layered v) (visit c.root.result list)) c.args.tally.now c.draw_box.new.tally)
     same c.in_ok-draw_box.ensures.points)
+
+pub returns-clause-hulls : goal.returns-clause-hulls
+returns-clause-hulls c =
+    let list = c.args.list.now in
+    let same = ap (λ p. p.view) c.in_ok-desk.ensures.places in
+    let w = ap (λ v. v.w) c.view.view_is in
+    let h = ap (λ v. v.h) c.view.view_is in
+    let d = ap (λ v. v.d) c.view.view_is in
+    let empty : c.deref_mut.result.now ≡ replicate (c.view.inside.w * c.view.inside.h) 0 = c.deref_mut.ensures.value ∙ c.in_ok-tops.ensures.items_if_clones_equal (λ y h. h) in
+    map-traced c.args.view.now list c.root.result (c.view.inside.w * c.view.inside.h) c.deref_mut.result.now c.args.tally.now c.draw_box.new.tally c.root.ensures
+    (record { x = omega (arith, w, c.view.invariant.w.some); y = omega (arith, h, c.view.invariant.h.some); z = omega (arith, d, c.view.invariant.d.some) }) c.layers_hold.ensures.halves empty
+    (subst (λ v. CountsSpans (spans_where (is_open v list c.root.result c.deref_mut.result.now) (layered v) (visit c.root.result list)) c.args.tally.now c.draw_box.new.tally)
+    same c.in_ok-draw_box.ensures.hulls)
