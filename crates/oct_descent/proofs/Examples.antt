@@ -7,7 +7,7 @@ use Rattle.kuhn_cells.specs.Triangles.{point}
 use Rattle.live_clauses.specs.declared.step.Step.{Step}
 use Rattle.view_settings.specs.Boxes.{Indices}
 use Rattle.view_settings.specs.Window.{Window}
-use Rattle.oct_descent.specs.Bound.{greatest, least, mesh_least, mesh_points, mesh_spans, spans_in}
+use Rattle.oct_descent.specs.Bound.{greatest, least, long_spans_in, mesh_least, mesh_long_spans, mesh_points, mesh_spans, spans_in}
 use Rattle.oct_descent.specs.GridValues.{grid_of, grid_value, is_border}
 use Rattle.oct_descent.specs.Ways.{is_open_by, meets_border, way_within}
 
@@ -115,6 +115,15 @@ cell_opposite_least = refl
 uneven_spans : mesh_spans (window 3) full ≡ 35
 unfolding spans_in way_within
 uneven_spans = refl
+
+-- of these the first box and 7 of the 8 have more than one cell
+uneven_long : mesh_long_spans (window 3) full ≡ 8
+unfolding long_spans_in way_within
+uneven_long = refl
+
+other_half_long : mesh_long_spans (window 2) other_half ≡ 2
+unfolding long_spans_in way_within
+other_half_long = refl
 
 -- the least of some numbers, wherever it stands
 least_first : least (2 ∷ 7 ∷ 5 ∷ []) ≡ 2

@@ -1,5 +1,5 @@
 -- What looking into a box leaves.
-use Rattle.std.proofs.Common.{◌≡◌, ℕ, ◌+◌, ◌<◌, ◌≤◌, ℤ, Bool, true, false, List, [], ◌∷◌, ◌++◌, length, get_or, take, refl, sym, ap, subst, ◌∙◌, Result, Ok, Err, inl, inr, arith}
+use Rattle.std.proofs.Common.{◌≡◌, ℕ, ◌+◌, ◌<◌, ◌≤◌, ℤ, Bool, true, false, cond, List, [], ◌∷◌, ◌++◌, length, get_or, take, refl, sym, ap, subst, ◌∙◌, Result, Ok, Err, inl, inr, arith}
 use Rattle.std.specs.Prelude.{Option, Some, None, ◌&&◌, not, unwrap_or, OnOk}
 use Rattle.std.specs.List.{All, Contains}
 use Rattle.std.proofs.lemmas.Bool.{false≢true}
@@ -13,9 +13,10 @@ use Rattle.box_chains.specs.ValueLaws.{IsVisit, Lawful}
 use Rattle.box_chains.specs.Tallied.{CountsAtMost}
 use Rattle.box_chains.specs.TallyLaws.{most-hulls}
 use Rattle.choice_trace.specs.Hulls.{choices_over, tape_hull}
-use Rattle.fixed_ops.specs.Counts.{Counts}
+use Rattle.fixed_ops.specs.CountLaws.{RisesBy-none, RisesBy-then}
+use Rattle.fixed_ops.specs.Counts.{Counts, no_counts, plus}
 use Rattle.interval_ops.specs.Decided.{decided_of}
-use Rattle.interval_ops.specs.HullCounts.{CountsHulls}
+use Rattle.interval_ops.specs.HullCounts.{CountsHulls, hulls_of}
 use Rattle.interval_ops.specs.declared.choice.Choice.{Choice}
 use Rattle.interval_ops.specs.declared.region.Region.{Region}
 use Rattle.fixed_ops.specs.Raw.{is_inside}
@@ -28,9 +29,9 @@ use Rattle.view_settings.specs.Spans.{region_of}
 use Rattle.view_settings.specs.Window.{Window}
 use Rattle.view_settings.specs.declared.lattice.Lattice.{Lattice}
 use Rattle.view_settings.specs.declared.lattice.Lattice.TheVariants as lattices
-use Rattle.oct_descent.specs.Bound.{spans_in}
+use Rattle.oct_descent.specs.Bound.{CountsHullsAtLeast, long_spans_in, spans_in}
 use Rattle.oct_descent.specs.Corners.{ShowsCorner}
-use Rattle.oct_descent.specs.Desks.{ChargesHalves, KeepsDesk, MayLook, PaysHalves, halves_spans}
+use Rattle.oct_descent.specs.Desks.{ChargesHalves, KeepsDesk, MayLook, PaysHalves, halves_long_spans, halves_spans}
 use Rattle.oct_descent.specs.Fills.{ChargesCorners, PaysCorners}
 use Rattle.oct_descent.specs.GridValues.{grid_value}
 use Rattle.oct_descent.specs.Tables.{AllKnown, AreRight, AreSettled, AreWorked, Charges, ChargesBox, Grows, IsDue, IsEnough, IsUniform, PaysBox, PointValues, is_known}
@@ -39,11 +40,15 @@ use Rattle.oct_descent.specs.declared.desk.Desk.{Desk}
 use Rattle.oct_descent.proofs.Corners.{IsOne, mask-covered, short-one}
 use Rattle.oct_descent.proofs.Covered.{corner-covered, handed-grid_value, inside-uniform, outside-uniform}
 use Rattle.oct_descent.proofs.TableLaws.{charges-hulls, charges-more, charges-most, charges-then, grows-wider, pays-most, pays-then, right-same, settled-same, settled-stays, worked-stays}
-use Rattle.oct_descent.proofs.WayLaws.{end-ends, end-of_half, spans-end, spans-some, spans-split}
+use Rattle.oct_descent.proofs.WayLaws.{end-ends, end-of_half, long-end, long-split, spans-end, spans-some, spans-split}
 
 pub on_ok-then : {T E : Type 0} (r : Result T E) (P Q : Type 0) → (P → Q) → OnOk r P → OnOk r Q
 on_ok-then (Ok x) P Q f p = f p
 on_ok-then (Err e) P Q f p = tt
+
+pub on_ok : {T E : Type 0} (r : Result T E) (P : Type 0) → P → OnOk r P
+on_ok (Ok x) P p = p
+on_ok (Err e) P p = tt
 
 -- what a look told is the box's decision
 pub looked : (view : Window) (lattice : Lattice) (b : Indices) (list : List Step) (region : Region) (told : Option Bool)
@@ -146,12 +151,11 @@ sides-open laws view v t is short right inner outer = by (is_open (gridded view)
         let uniform = closed-uniform laws view v s is e lies in
         absurd (false≢true (sym (shown false outer) ∙ uniform.each (corner outer.corner) (own outer.corner) ∙ sym (uniform.each (corner inner.corner) (own inner.corner)) ∙ shown true inner))
 
--- a working cell takes what its corners do
-pub cell-charged : (laws : Lawful) (view : Window) (v : Visit) (before after : PointValues) (told since now : Counts) → IsVisit (gridded view) v → is_open (gridded view) v ≡ true → is_long 1 v.box ≡ false
-    → CountsAtMost 0 (length v.list) told since → ChargesCorners v.box (length v.list) before after since now → ChargesBox (gridded view) v before after told now
-cell-charged laws view v before after told since now is open' short hulls corners f enough =
-    charges-then f (length v.list) 0 (spans_in d v) before before after told since now (omega (arith, spans-end d v is.box uncut))
-    (charges-most f (length v.list) before told since hulls) (corners f each)
+-- what holds of each corner of each working cell of a box, and of the list that the cell receives, holds of a cell that stays open
+cell-corners : (view : Window) (v : Visit) (Q : ℕ → GridPoint → Type 0) → IsVisit (gridded view) v → is_open (gridded view) v ≡ true → is_long 1 v.box ≡ false
+    → ((s : Sample) → LiesIn v.box s → is_working (gridded view) v s ≡ true → (p : GridPoint) → Covers (cell_box s) p → Q (length (way_end (gridded view) v s).list) p)
+    → (p : GridPoint) → Covers v.box p → Q (length v.list) p
+cell-corners view v Q is open' short each p covers = subst (λ w. Q (length w.list) p) end (each s lies works p corner)
   where
     d : Descent
     d = gridded view
@@ -174,50 +178,26 @@ cell-charged laws view v before after told since now is open' short hulls corner
     works : is_working d v s ≡ true
     works = ap (λ w. is_open d w && not (is_long 1 w.box)) end ∙ (rw (open', short) refl)
 
-    each : (p : GridPoint) → Covers v.box p → length v.list ≤ f p
-    each p covers =
-        let corner : Covers (cell_box s) p = record {
-          x = (covers.x.0, omega (arith, covers.x.1, one.x));
-          y = (covers.y.0, omega (arith, covers.y.1, one.y));
-          z = (covers.z.0, omega (arith, covers.z.1, one.z));
-        } in
-        subst (λ w. length w.list ≤ f p) end (enough s lies works p corner)
+    corner : Covers (cell_box s) p
+    corner = record {
+      x = (covers.x.0, omega (arith, covers.x.1, one.x));
+      y = (covers.y.0, omega (arith, covers.y.1, one.y));
+      z = (covers.z.0, omega (arith, covers.z.1, one.z));
+    }
+
+-- a working cell takes what its corners do
+pub cell-charged : (laws : Lawful) (view : Window) (v : Visit) (before after : PointValues) (told since now : Counts) → IsVisit (gridded view) v → is_open (gridded view) v ≡ true → is_long 1 v.box ≡ false
+    → CountsAtMost 0 (length v.list) told since → ChargesCorners v.box (length v.list) before after since now → ChargesBox (gridded view) v before after told now
+cell-charged laws view v before after told since now is open' short hulls corners f enough =
+    let uncut : is_cut (gridded view) v ≡ false = rw (open', short) refl in
+    charges-then f (length v.list) 0 (spans_in (gridded view) v) before before after told since now (omega (arith, spans-end (gridded view) v is.box uncut))
+    (charges-most f (length v.list) before told since hulls) (corners f (cell-corners view v (λ n p. n ≤ f p) is open' short enough))
 
 -- and what it takes is paid
 pub cell-paid : (view : Window) (v : Visit) (before after : PointValues) (told since now : Counts) → IsVisit (gridded view) v → is_open (gridded view) v ≡ true → is_long 1 v.box ≡ false
     → CountsAtMost 0 (length v.list) told since → PaysCorners v.box (length v.list) before after since now → PaysBox (gridded view) v before after told now
 cell-paid view v before after told since now is open' short hulls corners f due =
-    pays-then f before before after told since now (pays-most f 0 (length v.list) before told since hulls) (corners f each)
-  where
-    d : Descent
-    d = gridded view
-
-    one : IsOne v.box
-    one = short-one v.box is.box short
-
-    uncut : is_cut d v ≡ false
-    uncut = rw (open', short) refl
-
-    s : Sample
-    s = record { i = v.box.x0; j = v.box.y0; k = v.box.z0 }
-
-    lies : LiesIn v.box s
-    lies = record { x = (omega arith, omega (arith, one.x)); y = (omega arith, omega (arith, one.y)); z = (omega arith, omega (arith, one.z)) }
-
-    end : way_end d v s ≡ v
-    end = end-ends d v s is.box uncut
-
-    works : is_working d v s ≡ true
-    works = ap (λ w. is_open d w && not (is_long 1 w.box)) end ∙ (rw (open', short) refl)
-
-    each : (p : GridPoint) → Covers v.box p → f p ≤ length v.list
-    each p covers =
-        let corner : Covers (cell_box s) p = record {
-          x = (covers.x.0, omega (arith, covers.x.1, one.x));
-          y = (covers.y.0, omega (arith, covers.y.1, one.y));
-          z = (covers.z.0, omega (arith, covers.z.1, one.z));
-        } in
-        subst (λ w. f p ≤ length w.list) end (due s lies works p corner)
+    pays-then f before before after told since now (pays-most f 0 (length v.list) before told since hulls) (corners f (cell-corners view v (λ n p. f p ≤ n) is open' short due))
 
 -- the corners of a cell of a box are known where all points that the box covers are
 pub known-settled : (g : GridPoint → ℤ) (b : Indices) (t : PointValues) → AllKnown t b → AreSettled g b t
@@ -421,3 +401,74 @@ pub all-settled : (laws : Lawful) (g : GridPoint → ℤ) (b : Indices) (t : Poi
 all-settled laws g b t each s lies =
     let half = half_with-among laws.halves 1 b s lies in
     All-contains (λ h. AreSettled g h t) (halves_of 1 b) _ each half.0 s half.1
+
+-- ---- what is traced at least
+
+hulls-least : (told now : Counts) (n : ℕ) → CountsHulls n told now → CountsHullsAtLeast n told now
+hulls-least told now n h = record { by = hulls_of n h.corners; many = omega arith; rises = h.rises }
+
+hulls-then : (told since now : Counts) (m n k : ℕ) → k ≤ m + n → CountsHullsAtLeast m told since → CountsHullsAtLeast n since now → CountsHullsAtLeast k told now
+hulls-then told since now m n k enough first second = record {
+  by = plus first.by second.by;
+  many = omega (arith, enough, first.many, second.many);
+  rises = RisesBy-then told since now first.by second.by first.rises second.rises;
+}
+
+-- before any half is looked into
+pub traced-none : (counts : Counts) → CountsHullsAtLeast 0 counts counts
+traced-none counts = record { by = no_counts; many = omega arith; rises = RisesBy-none counts }
+
+-- a cell need not be traced
+pub cell-traced : (d : Descent) (v : Visit) (before after : PointValues) (told now : Counts) → IsBox v.box → is_long d.leaf v.box ≡ false → PaysBox d v before after told now
+    → CountsHullsAtLeast (long_spans_in d v) told now
+cell-traced d v before after told now is short pays =
+    let paid = pays (λ p. 0) (λ s lies works p covers. omega arith) in
+    let none = long-end d v is uncut ∙ ap (λ t. cond {A = ℕ} t (length v.list) 0) short in
+    record { by = paid.counts.by; many = omega (arith, none); rises = paid.counts.rises }
+  where
+    closed : (t : Bool) → (t && false) ≡ false
+    closed true = refl
+    closed false = refl
+
+    uncut : is_cut d v ≡ false
+    uncut = ap (λ l. is_open d v && l) short ∙ closed (is_open d v)
+
+-- a box of more cells that does not stay open is
+pub closed-traced : (view : Window) (v : Visit) (told now : Counts) → IsBox v.box → is_open (gridded view) v ≡ false → is_long 1 v.box ≡ true → CountsHulls (length v.list) told now
+    → CountsHullsAtLeast (long_spans_in (gridded view) v) told now
+closed-traced view v told now is closed long hulls =
+    let uncut : is_cut (gridded view) v ≡ false = rw closed refl in
+    let own = long-end (gridded view) v is uncut ∙ ap (λ t. cond {A = ℕ} t (length v.list) 0) long in
+    let least = hulls-least told now (length v.list) hulls in
+    record { by = least.by; many = omega (arith, own, least.many); rises = least.rises }
+
+-- and one that is split is, and so are its halves
+pub halves-traced : (laws : Lawful) (view : Window) (v : Visit) (live : List Step) (told since now : Counts) → IsVisit (gridded view) v → is_open (gridded view) v ≡ true → is_long 1 v.box ≡ true
+    → live ≡ handed_on (gridded view) v → CountsHulls (length v.list) told since → CountsHullsAtLeast (halves_long_spans (gridded view) live (halves_of 1 v.box)) since now
+    → CountsHullsAtLeast (long_spans_in (gridded view) v) told now
+halves-traced laws view v live told since now is open' long same hulls halves =
+    hulls-then told since now (length v.list) (halves_long_spans d live (halves_of 1 v.box)) (long_spans_in d v)
+    (omega (arith, long-split d v (omega arith) is.box laws.halves cut, ap (λ l. halves_long_spans d l (halves_of 1 v.box)) same)) (hulls-least told since (length v.list) hulls) halves
+  where
+    d : Descent
+    d = gridded view
+
+    cut : is_cut d v ≡ true
+    cut = rw (open', long) refl
+
+-- one more half is traced
+pub next-traced : (view other : Window) (list : List Step) (half : Indices) (halves : List Indices) (i : ℕ) (told since now : Counts) → other ≡ view → i < length halves → half ≡ get_or halves i half
+    → CountsHullsAtLeast (halves_long_spans (gridded view) list (take i halves)) told since → CountsHullsAtLeast (long_spans_in (gridded other) (visit half list)) since now
+    → CountsHullsAtLeast (halves_long_spans (gridded view) list (take (i + 1) halves)) told now
+next-traced view other list half halves i told since now same within read earlier here =
+    hulls-then told since now (halves_long_spans d list (take i halves)) (long_spans_in d (visit half list)) (halves_long_spans d list (take (i + 1) halves))
+    (omega (
+      arith,
+      ap (halves_long_spans d list) (take_more halves i half within ∙ ap (λ h. take i halves ++ h ∷ []) (sym read)),
+      sum_by-append (λ h. long_spans_in d (visit h list)) (take i halves) (half ∷ []),
+      sum_by-cons (λ h. long_spans_in d (visit h list)) half [],
+    ))
+    earlier (subst (λ v. CountsHullsAtLeast (long_spans_in (gridded v) (visit half list)) since now) same here)
+  where
+    d : Descent
+    d = gridded view

@@ -1,6 +1,6 @@
 -- Ways through boxes of cells, and the steps that are traced over a box, from those of its halves.
 use Rattle.std.proofs.Common.{◌≡◌, ℕ, zero, suc, ◌+◌, ◌-◌, ◌*◌, ◌<◌, ◌≤◌, Bool, true, false, cond, List, [], ◌∷◌, refl, sym, ap, ◌∙◌, zero-add, arith}
-use Rattle.std.specs.Prelude.{Some, length, unwrap_or}
+use Rattle.std.specs.Prelude.{Some, ◌&&◌, length, unwrap_or}
 use Rattle.std.specs.List.{All, Contains, last_or, sum_by}
 use Rattle.std.proofs.Math.Nat.{mul-le-mul, mul-le-mul_left, mul-le-mul_right}
 use Rattle.std.proofs.lemmas.Bool.{and_parts}
@@ -16,7 +16,7 @@ use Rattle.box_chains.specs.SumLaws.{size, sum_by-equal, sum_in-const, sum_in-fi
 use Rattle.box_chains.specs.Sums.{LiesIn, Sample, sum_in}
 use Rattle.box_chains.specs.ValueLaws.{IsVisit, Lawful, handed-is}
 use Rattle.box_chains.specs.WorkLaws.{half-is_visit}
-use Rattle.oct_descent.specs.Bound.{spans_in}
+use Rattle.oct_descent.specs.Bound.{long_lengths, long_spans_in, spans_in}
 use Rattle.oct_descent.specs.Ways.{is_cut, is_open, way, way_end, way_within}
 
 -- only a box with a long side is split
@@ -141,6 +141,36 @@ spans-end d v is e =
     let apart = sum_in-same v.box (λ s. first_lengths s (way d v s)) (own_length v)
     (λ s lies. ap (first_lengths s) (way-ends d v s is e) ∙ zero-add (own_length v s)) in
     omega (arith, apart, own-once v is)
+
+-- ---- of these, the steps that are traced over boxes of more than one cell
+
+own_long-once : (t : Bool) (v : Visit) → IsBox v.box → sum_in v.box (λ s. cond (t && is_first v.box s) (length v.list) 0) ≡ cond t (length v.list) 0
+own_long-once true v is = own-once v is
+own_long-once false v is = sum_in-const v.box 0 ∙ omega arith
+
+-- a box that is split adds its own
+pub long-split : (d : Descent) (v : Visit) → 0 < d.leaf → IsBox v.box → HalvesPart → is_cut d v ≡ true
+    → long_spans_in d v ≡ length v.list + sum_by (λ half. long_spans_in d (half_visit d v half)) (halves_of d.leaf v.box)
+unfolding long_spans_in
+long-split d v some is law e =
+    let own : Sample → ℕ = λ s. cond (is_long d.leaf v.box && is_first v.box s) (length v.list) 0 in
+    let rest : Sample → ℕ = λ s. long_lengths d s (way d (next_visit d v s) s) in
+    let apart = sum_in-same v.box (λ s. long_lengths d s (way d v s)) (λ s. own s + rest s)
+    (λ s lies. ap (long_lengths d s) (way-goes_on d v s some is lies law e)
+    ∙ sum_by-cons (λ w. cond (is_long d.leaf w.box && is_first w.box s) (length w.list) 0) v (way d (next_visit d v s) s)) in
+    let below = sum-over_halves d v rest (λ half s. long_lengths d s (way d (half_visit d v half) s)) law
+    (λ half s among lies. ap (λ next. long_lengths d s (way d next s)) (next-is_half d v half s law among lies)) in
+    let once = own_long-once (is_long d.leaf v.box) v is ∙ ap (λ t. cond {A = ℕ} t (length v.list) 0) (cut-is_long d v e) in
+    omega (arith, apart, sum_in-plus v.box own rest, once, below)
+
+-- and one that is not adds its own where it is more than a cell
+pub long-end : (d : Descent) (v : Visit) → IsBox v.box → is_cut d v ≡ false → long_spans_in d v ≡ cond (is_long d.leaf v.box) (length v.list) 0
+unfolding long_spans_in
+long-end d v is e =
+    let own : Sample → ℕ = λ s. cond (is_long d.leaf v.box && is_first v.box s) (length v.list) 0 in
+    let apart = sum_in-same v.box (λ s. long_lengths d s (way d v s)) own
+    (λ s lies. ap (long_lengths d s) (way-ends d v s is e) ∙ zero-add (own s)) in
+    omega (arith, apart, own_long-once (is_long d.leaf v.box) v is)
 
 -- a box takes at least its own trace
 pub spans-some : (d : Descent) (v : Visit) → 0 < d.leaf → IsBox v.box → HalvesPart → length v.list ≤ spans_in d v

@@ -1,7 +1,8 @@
 -- The work that the cells of a grid take at most.
 use Rattle.std.specs.Prelude.{ℕ, ◌+◌, ◌≤◌, Bool, ◌&&◌, nat_le, List, [], ◌∷◌, length, max, min, if◌then◌else◌}
-use Rattle.box_chains.specs.Chains.{Descent, Visit}
-use Rattle.box_chains.specs.Counts.{first_lengths}
+use Rattle.std.specs.List.{sum_by}
+use Rattle.box_chains.specs.Chains.{Descent, Visit, is_long}
+use Rattle.box_chains.specs.Counts.{first_lengths, is_first}
 use Rattle.box_chains.specs.Sums.{Sample, sum_in}
 use Rattle.fixed_ops.specs.Counts.{Counts, RisesBy}
 use Rattle.kuhn_cells.specs.Grids.{over_block}
@@ -19,6 +20,20 @@ spans_in d v = sum_in v.box (λ s. first_lengths s (way d v s))
 -- what the boxes of a grid take at most
 abbrev pub mesh_spans : Window → List Step → ℕ
 mesh_spans view list = spans_in (gridded view) (whole view list)
+
+-- the lengths of the lists of those boxes of more than one cell that have a cell as their first
+abbrev pub long_lengths : Descent → Sample → List Visit → ℕ
+long_lengths d s visits =
+    sum_by (λ v. if is_long d.leaf v.box && is_first v.box s then length v.list else 0) visits
+
+-- the steps that are traced over those boxes of more than one cell
+unfoldable pub long_spans_in : Descent → Visit → ℕ
+long_spans_in d v = sum_in v.box (λ s. long_lengths d s (way d v s))
+
+-- What the boxes of a grid take at least: each box of more than one cell on the way to a cell is traced. A cell alone
+-- need not be, where its known corners tell enough.
+abbrev pub mesh_long_spans : Window → List Step → ℕ
+mesh_long_spans view list = long_spans_in (gridded view) (whole view list)
 
 -- the greatest of some numbers, 0 where there is none
 abbrev pub greatest : List ℕ → ℕ
@@ -39,7 +54,9 @@ sample_of p = record { i = p.x; j = p.y; k = p.z }
 -- the length of the list that a working cell receives, and 0 for another cell
 abbrev pub working_length : Window → List Step → GridPoint → ℕ
 working_length view list cell =
-    if is_working (gridded view) (whole view list) (sample_of cell) then length (way_end (gridded view) (whole view list) (sample_of cell)).list else 0
+    if is_working (gridded view) (whole view list) (sample_of cell)
+    then length (way_end (gridded view) (whole view list) (sample_of cell)).list
+    else 0
 
 -- the lengths of the lists that those working cells receive that have a point as a corner
 abbrev pub lengths_at : Window → List Step → GridPoint → List ℕ
@@ -65,7 +82,10 @@ least (n ∷ m ∷ ns) = min n (least (m ∷ ns))
 -- the lengths of the lists that those working cells receive that have a point as a corner, and none for another cell
 abbrev pub working_lengths : Window → List Step → GridPoint → List ℕ
 working_lengths view list p =
-    over_block view.n view.n view.n (λ cell. if has_corner cell p && is_working (gridded view) (whole view list) (sample_of cell) then length (way_end (gridded view) (whole view list) (sample_of cell)).list ∷ [] else [])
+    over_block view.n view.n view.n (λ cell.
+    if has_corner cell p && is_working (gridded view) (whole view list) (sample_of cell)
+    then length (way_end (gridded view) (whole view list) (sample_of cell)).list ∷ []
+    else [])
 
 -- What the points of a grid take at least: each corner of a working cell the length of the shortest list that a
 -- working cell receives that has it as a corner.
@@ -77,4 +97,10 @@ mesh_least view list =
 pub record CountsAtLeast (points : ℕ) (before after : Counts) : Type 0 where
   pub by : Counts
   pub many : points ≤ by.points
+  pub rises : RisesBy before after by
+
+-- a tally rises by at least so many hulls
+pub record CountsHullsAtLeast (spans : ℕ) (before after : Counts) : Type 0 where
+  pub by : Counts
+  pub many : spans ≤ by.spans
   pub rises : RisesBy before after by

@@ -9,7 +9,7 @@ use Rattle.live_clauses.specs.declared.step.Step.{Step}
 use Rattle.view_settings.specs.Boxes.{Indices}
 use Rattle.view_settings.specs.Window.{Window}
 use Rattle.view_settings.specs.declared.lattice.Lattice.TheVariants as lattices
-use Rattle.oct_descent.specs.Bound.{spans_in}
+use Rattle.oct_descent.specs.Bound.{long_spans_in, spans_in}
 use Rattle.oct_descent.specs.GridValues.{grid_value}
 use Rattle.oct_descent.specs.Tables.{AreRight, Charges, IsDue, IsEnough, Pays, PointValues}
 use Rattle.oct_descent.specs.Ways.{gridded}
@@ -40,6 +40,10 @@ pub record IsDesk (view : Window) (len : ℕ) (desk : Desk) : Type 0 where
 -- the steps that are traced over some halves of a box, which receive a list
 abbrev pub halves_spans : Descent → List Step → List Indices → ℕ
 halves_spans d list halves = sum_by (λ half. spans_in d (visit half list)) halves
+
+-- and of these, those that are traced over boxes of more than one cell
+abbrev pub halves_long_spans : Descent → List Step → List Indices → ℕ
+halves_long_spans d list halves = sum_by (λ half. long_spans_in d (visit half list)) halves
 
 -- whatever points take, if it is enough for each half of a box, no more is counted
 abbrev pub ChargesHalves : Descent → List Step → List Indices → PointValues → PointValues → Counts

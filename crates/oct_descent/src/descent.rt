@@ -5,8 +5,9 @@ ghost use Rattle.box_chains.specs.Chains.{is_long as is_long_for, visit};
 ghost use Rattle.box_chains.specs.Tallied.{CountsAtMost};
 ghost use Rattle.kuhn_cells.specs.Triangles.{GridPoint, point};
 ghost use Rattle.view_settings.specs.Boxes.{halves_of};
+ghost use Rattle.oct_descent.specs.Bound.{CountsHullsAtLeast, long_spans_in};
 ghost use Rattle.oct_descent.specs.Corners.{IsSeen};
-ghost use Rattle.oct_descent.specs.Desks.{ChargesHalves, KeepsDesk, MayLook, PaysHalves};
+ghost use Rattle.oct_descent.specs.Desks.{ChargesHalves, KeepsDesk, MayLook, PaysHalves, halves_long_spans};
 ghost use Rattle.oct_descent.specs.GridValues.{grid_value};
 ghost use Rattle.oct_descent.specs.Tables.{AreSettled, AreWorked, ChargesBox, Grows, PaysBox, PointValues};
 ghost use Rattle.oct_descent.specs.Ways.{gridded, is_open as is_open_for, is_open_by, meets_border as meets_border_of};
@@ -46,6 +47,9 @@ pub fn look_into(
         values.new tally.old tally.new }
     ensures paid { PaysBox (gridded desk.old.places.view) (visit b received.now) values.old
         values.new tally.old tally.new }
+    ensures traced { OnOk result
+        (CountsHullsAtLeast (long_spans_in (gridded desk.old.places.view) (visit b received.now))
+        tally.old tally.new) }
     ensures kept { KeepsDesk desk.old desk.new }
 {
     layers_hold();
@@ -82,6 +86,9 @@ fn look_into_halves(
         values.old values.new tally.old tally.new }
     ensures paid { PaysHalves (gridded desk.old.places.view) live.now (halves_of 1 b) values.old
         values.new tally.old tally.new }
+    ensures traced { OnOk result
+        (CountsHullsAtLeast (halves_long_spans (gridded desk.old.places.view) live.now
+        (halves_of 1 b)) tally.old tally.new) }
     ensures kept { KeepsDesk desk.old desk.new }
 {
     layers_hold();

@@ -3,7 +3,7 @@ ghost use Rattle.std.specs.Prelude.{◌≡◌, IfOk, OnOk};
 ghost use Rattle.view_settings.specs.Spans.{root_of};
 ghost use Rattle.view_settings.specs.Window.{FitsMesh};
 ghost use Rattle.box_chains.specs.Tallied.{CountsAtMost};
-ghost use Rattle.oct_descent.specs.Bound.{CountsAtLeast, mesh_least, mesh_points, mesh_spans};
+ghost use Rattle.oct_descent.specs.Bound.{CountsAtLeast, CountsHullsAtLeast, mesh_least, mesh_long_spans, mesh_points, mesh_spans};
 
 use crate::descent::look_into;
 use crate::desk::Desk;
@@ -49,6 +49,8 @@ pub fn cells(
         tally.old tally.new }
     ensures at_least { OnOk result
         (CountsAtLeast (mesh_least view.now list.now) tally.old tally.new) }
+    ensures traced { OnOk result
+        (CountsHullsAtLeast (mesh_long_spans view.now list.now) tally.old tally.new) }
 {
     let mut desk = Desk::new(alloc, view, list.len())?;
     let mut values = GridValues::new(alloc, view.n)?;

@@ -7,12 +7,13 @@ use Rattle.live_clauses.specs.Choices.{AreChoices}
 use Rattle.live_clauses.specs.Steps.{IsTape}
 use Rattle.box_chains.specs.TallyLaws.{most-hulls}
 use Rattle.box_chains.specs.ValueLaws.{IsVisit}
+use Rattle.oct_descent.specs.Bound.{CountsHullsAtLeast}
 use Rattle.oct_descent.specs.GridValues.{grid_value}
-use Rattle.oct_descent.specs.Desks.{PaysHalves, halves_spans}
+use Rattle.oct_descent.specs.Desks.{PaysHalves, halves_long_spans, halves_spans}
 use Rattle.kuhn_cells.specs.Triangles.{GridPoint}
 use Rattle.oct_descent.specs.Tables.{AreRight, AreSettled, AreWorked, Charges, IsEnough}
 use Rattle.oct_descent.specs.Ways.{gridded}
-use Rattle.oct_descent.proofs.Looks.{handed-right, all-settled, closed-settled, closed-worked, half-grows, half-part, half-shorter, half-visit, halves-charged, halves-paid, halves-worked, handed, handed-grows, handed-settled, look-paid, looked, next-charged, next-paid, next-settled, next-worked, on_ok-then, opened, part-covers, some-charged, trace-charged}
+use Rattle.oct_descent.proofs.Looks.{handed-right, all-settled, cell-traced, closed-settled, closed-traced, closed-worked, half-grows, half-part, half-shorter, half-visit, halves-charged, halves-paid, halves-traced, halves-worked, handed, handed-grows, handed-settled, look-paid, looked, next-charged, next-paid, next-settled, next-traced, next-worked, on_ok, on_ok-then, opened, part-covers, some-charged, trace-charged, traced-none}
 use Rattle.oct_descent.proofs.TableLaws.{charges-none, grows-none, grows-then, pays-none, right-grows}
 use Rattle.oct_descent.proofs.descent.+looking.Goals as goal
 
@@ -94,6 +95,7 @@ look_into_halves-loop-half-init t c =
       counted = λ f enough. charges-none f 0 c.args.values.now c.args.tally.now;
       worked = All-nil (λ h. AreWorked (gridded c.args.desk.now.places.view) (visit h c.args.live.now) c.args.values.now);
       paid = λ f due. pays-none f c.args.values.now c.args.tally.now;
+      traced = traced-none c.args.tally.now;
     }
 
 pub look_into_halves-look_into-requires : goal.look_into_halves-look_into-requires
@@ -158,6 +160,8 @@ look_into_halves-loop-half-preserved t c =
       worked = next-worked view c.loop-half.desk.places.view live c.args.b half halves c.loop-half.half-index c.loop-half.values c.look_into.new.values same c.loop-half-test.true c.half-item.is grown after.worked before.worked;
       paid = next-paid view c.loop-half.desk.places.view live half halves c.loop-half.half-index c.args.values.now c.loop-half.values c.look_into.new.values c.args.tally.now c.loop-half.tally c.look_into.new.tally
           same c.loop-half-test.true c.half-item.is before.paid after.paid;
+      traced = next-traced view c.loop-half.desk.places.view live half halves c.loop-half.half-index c.args.tally.now c.loop-half.tally c.look_into.new.tally same c.loop-half-test.true c.half-item.is
+          before.traced after.traced;
     }
 
 pub look_into_halves-returns-clause-settled : goal.look_into_halves-returns-clause-settled
@@ -241,3 +245,41 @@ pub look_into_halves-returns-clause-paid : goal.look_into_halves-returns-clause-
 look_into_halves-returns-clause-paid t c =
     let all = c.as_slice-half-items.ensures.value ∙ c.split-halves.ensures in
     subst (λ hs. PaysHalves (gridded c.args.desk.now.places.view) c.args.live.now hs c.args.values.now c.loop-half.values c.args.tally.now c.loop-half.tally) all c.loop-half.invariant.paid
+
+-- ---- what is traced
+
+pub look_into-returns-then-not-is_long-clause-traced : goal.look_into-returns-then-not-is_long-clause-traced
+look_into-returns-then-not-is_long-clause-traced t c =
+    on_ok c.look_into_cell.result _
+    (cell-traced (gridded c.args.desk.now.places.view) (visit c.args.b c.args.received.now) c.args.values.now c.look_into_cell.new.values c.args.tally.now c.look_into_cell.new.tally c.requires.visit_is.box
+    (sym c.is_long.ensures ∙ c.if-not-is_long.true) c.look_into_cell.ensures.paid)
+
+pub look_into-returns-then-not-is_open-clause-traced : goal.look_into-returns-then-not-is_open-clause-traced
+look_into-returns-then-not-is_open-clause-traced t c =
+    let view = c.args.desk.now.places.view in
+    let b = c.args.b in
+    let list = c.args.received.now in
+    let told = looked view c.args.desk.now.places.lattice b list c.region.result c.look_apart-told.result c.requires.lattice c.region.ensures c.look_apart-told.ensures.decision in
+    let open' = opened view b list c.n.result c.look_apart-told.result c.is_open.result (c.n.ensures ∙ c.requires.n) told c.is_open.ensures in
+    closed-traced view (visit b list) c.args.tally.now c.look_apart-told.new.tally c.requires.visit_is.box (open' ∙ c.if-not-is_open.true) (sym c.is_long.ensures ∙ c.if-not-is_long.false)
+    c.look_apart-told.ensures.counted
+
+pub look_into-returns-clause-traced : goal.look_into-returns-clause-traced
+look_into-returns-clause-traced t c =
+    let view = c.args.desk.now.places.view in
+    let b = c.args.b in
+    let list = c.args.received.now in
+    let told = looked view c.args.desk.now.places.lattice b list c.region.result c.look_apart-told.result c.requires.lattice c.region.ensures c.look_apart-told.ensures.decision in
+    let open' = opened view b list c.n.result c.look_apart-told.result c.is_open.result (c.n.ensures ∙ c.requires.n) told c.is_open.ensures in
+    let same = handed view c.args.desk.now.places.lattice b list c.in_ok-live.live c.region.result c.look_apart-told.new.self c.requires.lattice c.region.ensures c.look_apart-told.ensures.choices c.in_ok-live.ensures.list in
+    on_ok-then c.look_into_halves.result _ _
+    (halves-traced c.layers_hold.ensures view (visit b list) c.in_ok-live.live c.args.tally.now c.look_apart-told.new.tally c.look_into_halves.new.tally c.requires.visit_is
+    (open' ∙ c.if-not-is_open.false) (sym c.is_long.ensures ∙ c.if-not-is_long.false) same c.look_apart-told.ensures.counted)
+    c.look_into_halves.ensures.traced
+
+pub look_into_halves-returns-clause-traced : goal.look_into_halves-returns-clause-traced
+look_into_halves-returns-clause-traced t c =
+    let all = c.as_slice-half-items.ensures.value ∙ c.split-halves.ensures in
+    let halves = c.as_slice-half-items.result.now in
+    subst (λ hs. CountsHullsAtLeast (halves_long_spans (gridded c.args.desk.now.places.view) c.args.live.now hs) c.args.tally.now c.loop-half.tally)
+    (take_all c.loop-half.half-index halves (omega (arith, c.loop-half-test.false)) ∙ all) c.loop-half.invariant.traced

@@ -2,7 +2,8 @@ use Rattle.std.proofs.Common.{◌+◌, ◌*◌, ℕ, take}
 use Rattle.std.specs.List.{All}
 use Rattle.box_chains.specs.Chains.{sides, visit}
 use Rattle.kuhn_cells.specs.Triangles.{GridPoint}
-use Rattle.oct_descent.specs.Desks.{KeepsDesk, PaysHalves, halves_spans}
+use Rattle.oct_descent.specs.Bound.{CountsHullsAtLeast}
+use Rattle.oct_descent.specs.Desks.{KeepsDesk, PaysHalves, halves_long_spans, halves_spans}
 use Rattle.oct_descent.specs.GridValues.{grid_value}
 use Rattle.oct_descent.specs.Tables.{AreSettled, AreWorked, Charges, Grows, IsEnough}
 use Rattle.oct_descent.specs.Ways.{gridded}
@@ -24,4 +25,5 @@ invariant-look_into_halves-loop-half l = record {
       → Charges f (halves_spans (gridded l.fn.desk.places.view) l.live (take l.half-index l.half-items)) l.fn.values l.values l.fn.tally l.tally;
   worked : All (λ h. AreWorked (gridded l.fn.desk.places.view) (visit h l.live) l.values) (take l.half-index l.half-items);
   paid : PaysHalves (gridded l.fn.desk.places.view) l.live l.half-items l.fn.values l.values l.fn.tally l.tally;
+  traced : CountsHullsAtLeast (halves_long_spans (gridded l.fn.desk.places.view) l.live (take l.half-index l.half-items)) l.fn.tally l.tally;
 }

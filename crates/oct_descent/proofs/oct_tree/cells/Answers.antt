@@ -1,6 +1,11 @@
 use Rattle.std.proofs.Common.{◌≤◌, ap, arith, subst, sym, ◌∙◌}
 use Rattle.box_chains.specs.TallyLaws.{most-none}
+use Rattle.box_chains.specs.Chains.{visit}
+use Rattle.view_settings.specs.Spans.{root_of}
+use Rattle.view_settings.specs.declared.lattice.Lattice.TheVariants as lattices
+use Rattle.oct_descent.specs.Bound.{CountsHullsAtLeast, long_spans_in}
 use Rattle.oct_descent.specs.Trees.{IsTold}
+use Rattle.oct_descent.specs.Ways.{gridded}
 use Rattle.oct_descent.proofs.Whole.{whole-counted, whole-paid, whole-told}
 use Rattle.oct_descent.proofs.oct_tree.cells.Goals as goal
 
@@ -37,6 +42,12 @@ returns-clause-at_least c =
     let n = c.in_ok-values.ensures.n ∙ ap (λ v. v.n) c.view.view_is in
     whole-paid c.args.view.now c.in_ok-desk.desk.places.view c.args.list.now c.root.result c.in_ok-values.values c.look_into.new.values c.args.tally.now c.look_into.new.tally view c.root.ensures n c.in_ok-values.ensures.none
     c.in_ok-look_into.ensures.worked c.in_ok-look_into.ensures.paid
+
+pub returns-clause-traced : goal.returns-clause-traced
+returns-clause-traced c =
+    let view = ap (λ p. p.view) c.in_ok-desk.ensures.places in
+    subst (λ v. CountsHullsAtLeast (long_spans_in (gridded v) (visit (root_of c.args.view.now lattices.Grid) c.args.list.now)) c.args.tally.now c.look_into.new.tally) view
+    (subst (λ b. CountsHullsAtLeast (long_spans_in (gridded c.in_ok-desk.desk.places.view) (visit b c.args.list.now)) c.args.tally.now c.look_into.new.tally) c.root.ensures c.in_ok-look_into.ensures.traced)
 
 pub invariant_of-result-2 : goal.invariant_of-result-2
 invariant_of-result-2 c =
