@@ -1,5 +1,6 @@
 -- Hulls and choices, computed over regions that were worked out by hand.
-use Rattle.std.proofs.Common.{◌≡◌, ℤ, pos, negsuc, [], ◌∷◌, List, refl}
+use Rattle.std.proofs.Common.{◌≡◌, ◌∙◌, ℤ, pos, negsuc, [], ◌∷◌, List, ap, refl}
+use Rattle.fixed_ops.specs.Operations.{op_result}
 use Rattle.fixed_ops.specs.declared.operation.Op.{Op}
 use Rattle.fixed_ops.specs.declared.operation.Op.TheVariants.{X, Y, Z, Const, Neg, Sub, Min, Max}
 use Rattle.interval_ops.specs.Hulls.{between}
@@ -7,6 +8,7 @@ use Rattle.interval_ops.specs.declared.choice.Choice.TheVariants.{Left, Right, B
 use Rattle.interval_ops.specs.declared.region.Region.{Region}
 use Rattle.live_clauses.specs.declared.step.Step.{Step}
 use Rattle.choice_trace.specs.Hulls.{choices_over, tape_hull}
+use Rattle.choice_trace.specs.Meaning.{StandForPoint, StandsForResults}
 
 -- x from one number to another, y from 2 to 3, and z from 5 to 7
 abbrev region : ℤ → ℤ → Region
@@ -59,3 +61,11 @@ lesser_choices = refl
 
 lesser_hull : tape_hull (region (pos 0) (pos 1)) lesser ≡ between (pos 8589934592) (pos 12884901888)
 lesser_hull = refl
+
+-- three numbers stand for the point with just these coordinates
+coordinates : StandForPoint (λ a v. a ≡ v) (record { x = pos 1; y = pos 2; z = pos 3 }) (record { x = pos 1; y = pos 2; z = pos 3 })
+coordinates = record { x = refl; y = refl; z = refl }
+
+-- the number 5 stands for what 7 less 2 is
+difference : StandsForResults (λ a v. a ≡ v) Sub (pos 7) (pos 2) (pos 5)
+difference = λ u v first second. ap (op_result Sub (pos 7)) second ∙ ap (λ w. op_result Sub w v) first

@@ -1,12 +1,18 @@
 -- The work and the pixels of images, computed on lists that were worked out by hand.
-use Rattle.std.proofs.Common.{◌≡◌, ℕ, pos, negsuc, [], ◌∷◌, List, refl}
+use Rattle.std.proofs.Common.{◌≡◌, ℕ, true, false, pos, negsuc, [], ◌∷◌, List, refl}
 use Rattle.box_chains.specs.Chains.{chain_within}
 use Rattle.box_chains.specs.Counts.{points_in, spans_in}
 use Rattle.fixed_ops.specs.declared.operation.Op.TheVariants.{X, Y, Const, Neg}
 use Rattle.live_clauses.specs.declared.step.Step.{Step}
 use Rattle.view_settings.specs.Window.{Window}
+use Rattle.view_settings.specs.Boxes.{Indices}
+use Rattle.quad_descent.specs.Drawn.{count_of}
+use Rattle.quad_descent.specs.Nodes.{bits_of, nodes_of, nodes_within}
+use Rattle.quad_descent.specs.Painting.{covers, meets}
 use Rattle.quad_descent.specs.Pixels.{pixels_of, rows_from}
-use Rattle.quad_descent.specs.Raster.{fresh_points, fresh_spans}
+use Rattle.quad_descent.specs.Raster.{fresh_points, fresh_spans, raster, whole}
+use Rattle.quad_descent.specs.declared.band.Band.{Band}
+use Rattle.quad_descent.specs.declared.node.Node.TheVariants.{Outside, Leaf, Split}
 
 -- from -1 to 1, at the height 0
 abbrev window : ℕ → ℕ → Window
@@ -85,3 +91,58 @@ down =
 down_points : fresh_points (window 1 9) down ≡ 10
 unfolding points_in chain_within
 down_points = refl
+
+-- ---- what is kept of boxes
+
+digits : bits_of (true ∷ false ∷ true ∷ true ∷ []) ≡ 11
+digits = refl
+
+-- of nine columns the first four are inside: the lower half is a leaf of five samples, and the upper one is decided
+odd_nodes :
+    nodes_of (raster (window 9 1)) (whole (window 9 1) across) ≡ Split 2 ∷ Leaf (30 ∷ 0 ∷ 0 ∷ 0 ∷ 0 ∷ 0 ∷ 0 ∷ 0 ∷ []) ∷ Outside ∷ []
+unfolding nodes_within
+odd_nodes = refl
+
+-- of three rows of two samples the lowest one alone is inside
+row_nodes : nodes_of (raster (window 2 3)) (whole (window 2 3) up) ≡ Leaf (0 ∷ 0 ∷ 3 ∷ 0 ∷ 0 ∷ 0 ∷ 0 ∷ 0 ∷ []) ∷ []
+unfolding nodes_within
+row_nodes = refl
+
+-- a node of a box that is split, and one of another
+split_count : count_of (Split 5) ≡ 6
+split_count = refl
+
+outside_count : count_of Outside ≡ 1
+outside_count = refl
+
+-- ---- what is painted
+
+-- rows 4 and 5
+abbrev band : Band
+band = record { row = 4; rows = 2 }
+
+-- columns 1 and 2 of the rows from one on, below another
+abbrev rows_of_box : ℕ → ℕ → Indices
+rows_of_box low high = record { x0 = 1; x1 = 3; y0 = low; y1 = high; z0 = 0; z1 = 1 }
+
+ends_above : meets band (rows_of_box 2 4) ≡ false
+ends_above = refl
+
+reaches_in : meets band (rows_of_box 2 5) ≡ true
+reaches_in = refl
+
+begins_below : meets band (rows_of_box 6 8) ≡ false
+begins_below = refl
+
+begins_within : meets band (rows_of_box 5 8) ≡ true
+begins_within = refl
+
+-- in rows of four columns from row 4 on, place 5 is column 1 of row 5
+covered_place : covers 4 4 (rows_of_box 5 6) 5 ≡ true
+covered_place = refl
+
+place_beside : covers 4 4 (rows_of_box 5 6) 7 ≡ false
+place_beside = refl
+
+place_above : covers 4 4 (rows_of_box 5 6) 1 ≡ false
+place_above = refl
