@@ -25,7 +25,8 @@ quotient_included a b h u v i j hull k l =
     (λ lt. (hull.free (λ z. omega (arith, ints, lt, z.1))).all u v k l)
     (λ high. by_lt_z (pos 0) b.lo
     (λ lt. (hull.free (λ z. omega (arith, ints, lt, z.0))).all u v k l)
-    (λ low. subst (λ (s : Interval). Holds s (op_result Div u v)) (sym (hull.by_zero (low, high))) (IsRaw-op_result Div u v (IsRaw-held a u i k) (IsRaw-held b v j l))))
+    (λ low. subst (λ (s : Interval). Holds s (op_result Div u v)) (sym (hull.by_zero (low, high)))
+    (IsRaw-op_result Div u v (IsRaw-held a u i k) (IsRaw-held b v j l))))
 
 pub included : (op : Op) (a b : Interval) (u v : ℤ) → IsSpan a → IsSpan b → Includes op a b u v
 included X a b u v i j h e k l = subst (λ (s : Interval). Holds s u) (sym e) k
@@ -89,28 +90,34 @@ result_included : (op : Op) (a b c d h : Interval) (r : ℤ) → IsSpan a → Is
     → IsWithin c a → IsWithin d b → IsResult op c d r → Holds h r
 result_included op a b c d h r i j hull p q result =
     subst (λ (x : ℤ). Holds h x) (sym result.is)
-    (included op a b result.left result.right i j h hull (Holds-wider c a result.left p result.in_a) (Holds-wider d b result.right q result.in_b))
+    (included op a b result.left result.right i j h hull
+    (Holds-wider c a result.left p result.in_a) (Holds-wider d b result.right q result.in_b))
 
 -- so the hull holds both of them
 ends_included : (op : Op) (a b c d h k : Interval) → IsSpan a → IsSpan b → IsHull op a b h
     → IsWithin c a → IsWithin d b → IsResult op c d k.lo × IsResult op c d k.hi → IsWithin k h
-ends_included op a b c d h k i j hull p q ends =
-    ((result_included op a b c d h k.lo i j hull p q ends.0).0, (result_included op a b c d h k.hi i j hull p q ends.1).1)
+ends_included op a b c d h k i j hull p q ends = (
+  (result_included op a b c d h k.lo i j hull p q ends.0).0,
+  (result_included op a b c d h k.hi i j hull p q ends.1).1,
+)
 
 -- a division by spans that both hold 0
 zero_shrinks : (a b c d h k : Interval) → IsQuotientHull a b h → IsQuotientHull c d k → IsWithin d b
     → Holds d (pos 0) → IsWithin k h
 zero_shrinks a b c d h k hull inner q z =
     subst (λ (s : Interval). IsWithin k s) (sym (hull.by_zero (Holds-wider d b (pos 0) q z)))
-    (subst (λ (s : Interval). IsWithin s all_numbers) (sym (inner.by_zero z)) (omega (arith, ints), omega (arith, ints)))
+    (subst (λ (s : Interval). IsWithin s all_numbers) (sym (inner.by_zero z))
+    (omega (arith, ints), omega (arith, ints)))
 
 quotient_shrinks : (a b c d h k : Interval) → IsSpan a → IsSpan b → IsSpan c → IsSpan d
     → IsQuotientHull a b h → IsQuotientHull c d k → IsWithin c a → IsWithin d b → IsWithin k h
 quotient_shrinks a b c d h k i j m n hull inner p q =
     by_lt_z d.hi (pos 0)
-    (λ lt. ends_included Div a b c d h k i j hull p q (ends_attained Div c d m n k inner (λ z. omega (arith, ints, lt, z.1.1))))
+    (λ lt. ends_included Div a b c d h k i j hull p q
+    (ends_attained Div c d m n k inner (λ z. omega (arith, ints, lt, z.1.1))))
     (λ high. by_lt_z (pos 0) d.lo
-    (λ lt. ends_included Div a b c d h k i j hull p q (ends_attained Div c d m n k inner (λ z. omega (arith, ints, lt, z.1.0))))
+    (λ lt. ends_included Div a b c d h k i j hull p q
+    (ends_attained Div c d m n k inner (λ z. omega (arith, ints, lt, z.1.0))))
     (λ low. zero_shrinks a b c d h k hull inner q (low, high)))
 
 pub shrinks : (op : Op) (a b c d : Interval) → IsSpan a → IsSpan b → IsSpan c → IsSpan d

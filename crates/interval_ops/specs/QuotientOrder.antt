@@ -61,12 +61,16 @@ opposites x (negsuc d) h = refl
 positive_falls_below : (x d e : ℤ) → pos 0 ≤ℤ x → e <ℤ pos 0 → d ≤ℤ e
     → quotient_of x e ≤ℤ quotient_of x d
 positive_falls_below x d e h k le =
-    rw (opposites x e k, opposites x d (omega (arith, ints))) (negative_rises (neg_ℤ x) (neg_ℤ e) (neg_ℤ d) (omega (arith, ints)) (omega (arith, ints)) (omega (arith, ints)))
+    rw (opposites x e k, opposites x d (omega (arith, ints)))
+    (negative_rises (neg_ℤ x) (neg_ℤ e) (neg_ℤ d)
+    (omega (arith, ints)) (omega (arith, ints)) (omega (arith, ints)))
 
 negative_rises_below : (x d e : ℤ) → x ≤ℤ pos 0 → e <ℤ pos 0 → d ≤ℤ e
     → quotient_of x d ≤ℤ quotient_of x e
 negative_rises_below x d e h k le =
-    rw (opposites x e k, opposites x d (omega (arith, ints))) (positive_falls (neg_ℤ x) (neg_ℤ e) (neg_ℤ d) (omega (arith, ints)) (omega (arith, ints)) (omega (arith, ints)))
+    rw (opposites x e k, opposites x d (omega (arith, ints)))
+    (positive_falls (neg_ℤ x) (neg_ℤ e) (neg_ℤ d)
+    (omega (arith, ints)) (omega (arith, ints)) (omega (arith, ints)))
 
 -- the divisor that gives the least quotient, by the sign of the dividend
 least_divisor : (x lo hi v : ℤ) (below : Bool) → below ≡ is_inside x → pos 0 <ℤ lo → lo ≤ℤ v
