@@ -1,2 +1,3 @@
+mod Examples
 pub mod Gains
 pub mod Taking
