@@ -1,4 +1,5 @@
 pub mod DigitLaws
+mod Examples
 pub mod NumeralLaws
 pub mod QuotientLaws
 pub mod RootLaws
