@@ -1,18 +1,22 @@
--- Places, computed on views that were worked out by hand, and which settings verbs take.
-use Rattle.std.proofs.Common.{◌≡◌, ℕ, pos, negsuc, [], ◌∷◌, None, Some, Ok, Err, true, false, refl}
+-- Places and boxes, computed on views that were worked out by hand, and which settings verbs take.
+use Rattle.std.proofs.Common.{◌≡◌, ℕ, pos, negsuc, List, [], ◌∷◌, None, Some, Ok, Err, true, false, refl}
 use Rattle.std.specs.Prelude.{codes}
 use Rattle.view_settings.specs.declared.lattice.Axis.TheVariants as axes
 use Rattle.view_settings.specs.declared.lattice.Lattice.TheVariants.{Raster, Height, Grid}
 use Rattle.view_settings.specs.declared.kind.Kind.TheVariants as kinds
-use Rattle.view_settings.specs.declared.name.Name.TheVariants.{Y0, Z0, Z1, Z, W, H, D, N, Solids}
-use Rattle.view_settings.specs.declared.setting.Value.TheVariants.{Count}
-use Rattle.view_settings.specs.declared.verb.Verb.TheVariants.{Render, Count as Counts, Height as Heights, Mesh, Forge}
+use Rattle.view_settings.specs.declared.name.Name.{Name}
+use Rattle.view_settings.specs.declared.name.Name.TheVariants.{X0, X1, Y0, Y1, Z0, Z1, Z, W, H, D, N, Seed, Solids}
+use Rattle.view_settings.specs.declared.setting.Setting.{Setting}
+use Rattle.view_settings.specs.declared.setting.Value.TheVariants.{Raw, Count}
+use Rattle.view_settings.specs.declared.verb.Verb.TheVariants.{Render, Count as Counts, Height as Heights, Mesh, Text, Replay, Forge}
 use Rattle.view_settings.specs.declared.word_fault.WordReason.TheVariants.{OutOfRange}
+use Rattle.view_settings.specs.Boxes.{middle, one_sample}
 use Rattle.view_settings.specs.Kinds.{kind_of}
 use Rattle.view_settings.specs.Names.{name_called}
 use Rattle.view_settings.specs.Places.{place_of, raster_point}
 use Rattle.view_settings.specs.Setting.{value_read}
-use Rattle.view_settings.specs.Settings.{window_of}
+use Rattle.view_settings.specs.Settings.{forge_of, window_of}
+use Rattle.view_settings.specs.Spans.{root_of}
 use Rattle.view_settings.specs.Window.{Window, fits_mesh, has_room}
 
 -- from -1 to 1, with this count along each axis
@@ -108,3 +112,57 @@ lower_end_of_y = refl
 
 lower_end_of_z : name_called (codes "z0") ≡ Some Z0
 lower_end_of_z = refl
+
+-- a text and a script have no window
+text_has_no_window : kind_of Text X0 ≡ None
+text_has_no_window = refl
+
+script_has_no_window : kind_of Replay Y1 ≡ None
+script_has_no_window = refl
+
+height_map_has_a_span_along_z : kind_of Heights Z1 ≡ Some kinds.Numeral
+height_map_has_a_span_along_z = refl
+
+-- every number of 64 bits is a seed
+seeds : kind_of Forge Seed ≡ Some (kinds.Count 0 18446744073709551615)
+seeds = refl
+
+abbrev a_number : Name → ℕ → Setting
+a_number name n = record { name = name; value = Raw (pos n) }
+
+abbrev a_count : Name → ℕ → Setting
+a_count name n = record { name = name; value = Count n }
+
+-- each setting by a value of its own, the last name first
+abbrev every_setting : List Setting
+every_setting =
+    a_count Solids 22 ∷ a_count Seed 21 ∷ a_count N 20 ∷ a_count D 19 ∷ a_count H 18 ∷
+    a_count W 17 ∷ a_number Z 16 ∷ a_number Z1 15 ∷ a_number Z0 14 ∷ a_number Y1 13 ∷
+    a_number Y0 12 ∷ a_number X1 11 ∷ a_number X0 10 ∷ []
+
+each_setting_sets_its_own : forge_of every_setting ≡ record {
+  seed = 21;
+  solids = 22;
+  view = record {
+    x0 = pos 10;
+    x1 = pos 11;
+    y0 = pos 12;
+    y1 = pos 13;
+    z0 = pos 14;
+    z1 = pos 15;
+    z = pos 16;
+    w = 17;
+    h = 18;
+    d = 19;
+    n = 20;
+  };
+}
+each_setting_sets_its_own = refl
+
+-- of 17 indices from 3 on the lower half has 9
+lower_half_has_the_odd_index : middle 3 20 ≡ 12
+lower_half_has_the_odd_index = refl
+
+-- an image of one pixel is the box of the one index 0 on each axis
+lone_pixel : root_of (counted 1) Raster ≡ one_sample
+lone_pixel = refl
