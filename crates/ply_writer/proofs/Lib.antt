@@ -1,3 +1,4 @@
+mod Examples
 pub mod DigitLaws
 pub mod LineLaws
 pub mod PairLaws
