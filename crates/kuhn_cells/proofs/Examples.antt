@@ -1,13 +1,18 @@
 -- The mesh of a grid of two cells along each axis of which the middle point alone is inside, worked out by hand.
-use Rattle.std.proofs.Common.{◌≡◌, ℕ, pos, negsuc, true, false, [], ◌∷◌, ◌++◌, refl}
-use Rattle.std.specs.Prelude.{ℤ, List, map, replicate}
+use Rattle.std.proofs.Common.{◌≡◌, ℕ, ◌≤◌, pos, negsuc, true, false, [], ◌∷◌, ◌++◌, refl, arith, inl, inr}
+use Rattle.std.specs.Prelude.{ℤ, List, get_or, map, replicate}
 use Rattle.std.specs.List.{range_with_len}
+use Rattle.std.proofs.lemmas.Bool.{cases_lt}
+use Rattle.std.proofs.lemmas.List.{get_or-replicate, get_or_past, length-replicate}
+use Rattle.kuhn_cells.specs.declared.cell_list.CellList.{CellList}
 use Rattle.kuhn_cells.specs.declared.cell_list.CellValues.{CellValues}
 use Rattle.kuhn_cells.specs.declared.edge_key.EdgeKey.{EdgeKey}
 use Rattle.kuhn_cells.specs.Arrangement.{arranged}
-use Rattle.kuhn_cells.specs.Cells.{cell_at, is_mixed_cell, is_outermost}
+use Rattle.kuhn_cells.specs.Cells.{IsBordered, cell_at, is_mixed_cell, is_outermost}
 use Rattle.kuhn_cells.specs.Faces.{Face, faces, all_triangles}
 use Rattle.kuhn_cells.specs.Grids.{Grid, is_point, over_block, value_at, vertices}
+use Rattle.kuhn_cells.specs.Lists.{ListsCells}
+use Rattle.kuhn_cells.specs.Rings.{IsRing}
 use Rattle.kuhn_cells.specs.Triangles.{point}
 
 abbrev middle_inside : Grid
@@ -103,3 +108,39 @@ all_inside_is_not_mixed = refl
 
 all_outside_is_not_mixed : is_mixed_cell (cell 0 0 0 (replicate 8 (pos 0))) ≡ false
 all_outside_is_not_mixed = refl
+
+-- ---- grids whose outermost layer is outside
+
+zero_everywhere : (n k : ℕ) → get_or (replicate n (pos 0)) k (pos 0) ≡ pos 0
+zero_everywhere n k =
+    elim (cases_lt k n) [
+      | inl h ↦ get_or-replicate n k (pos 0) (pos 0) h
+      | inr h ↦ get_or_past (replicate n (pos 0)) k (pos 0) (rw (length-replicate n (pos 0)) h)
+    ]
+
+-- two points along x, three along y and four along z have 24 values
+zeros_are_bordered : IsBordered (record uneven { values = replicate 24 (pos 0) })
+zeros_are_bordered = record { whole = refl; outside = λ p within outer. rw (zero_everywhere 24 _) refl }
+
+-- cells are listed of grids alone that have as many of them along each axis as is told
+listed_along_x : (list : CellList) → ListsCells 3 list (record wide { z = 3 }) → ⊥
+listed_along_x list h = let x : 2 ≡ 3 = h.x in omega (arith, x)
+
+listed_along_y : (list : CellList) → ListsCells 2 list (record wide { z = 2 }) → ⊥
+listed_along_y list h = let y : 3 ≡ 2 = h.y in omega (arith, y)
+
+listed_along_z : (list : CellList) → ListsCells 3 list (record wide { x = 3 }) → ⊥
+listed_along_z list h = let z : 4 ≡ 3 = h.z in omega (arith, z)
+
+listed_count : (list : CellList) (g : Grid) → list.n ≡ 3 → ListsCells 2 list g → ⊥
+listed_count list g e h = omega (arith, e, h.count)
+
+-- ---- rings
+
+-- the four tetrahedra round the edge to corner 3, from the second on
+ring_from_the_second : IsRing 3 ((4, 4) ∷ (4, 5) ∷ (0, 2) ∷ (0, 0) ∷ []) → ⊥
+ring_from_the_second h = let least : 4 ≤ 0 = h.least 3 (0, 0) (omega arith) in omega (arith, least)
+
+-- and with the first once more at the end
+ring_with_one_twice : IsRing 3 ((0, 0) ∷ (4, 4) ∷ (4, 5) ∷ (0, 2) ∷ (0, 0) ∷ []) → ⊥
+ring_with_one_twice h = h.once 0 4 (0, 0) (omega arith) (omega arith) refl
