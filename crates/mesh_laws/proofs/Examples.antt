@@ -2,7 +2,7 @@
 -- faces out, and paths to its inside pass its vertices. Refused are a mesh with a face turned, one with a face missing, a
 -- flat face, two cones that share a tip, a triangle with two sides, and a vertex with no face.
 use Rattle.std.proofs.Common.{◌≡◌, ℕ, ◌<◌, ◌≤◌, ℤ, pos, negsuc, Bool, true, false, List, [], ◌∷◌, ◌++◌, length, refl, arith, sym, subst, ◌∙◌, inl, inr}
-use Rattle.std.specs.Prelude.{◌==◌, ◌&&◌, ◌||◌, ◌⊎◌, ◌≤ℤ◌, ◌<ℤ◌, int_le, int_lt, nat_lt, not, get_or, All, Contains, replicate}
+use Rattle.std.specs.Prelude.{◌==◌, ◌&&◌, ◌||◌, ◌⊎◌, ◌≤ℤ◌, ◌<ℤ◌, int_le, int_lt, nat_lt, not, get_or, All, AllPairs, Contains, replicate}
 use Rattle.std.specs.Bool.{Decides}
 use Rattle.std.specs.List.{list_all, range_with_len}
 use Rattle.std.proofs.lemmas.Bool.Decides.{Decides-and, Decides-by_and, Decides-eqb, Decides-like, Decides-not, not_from_Decides}
@@ -22,8 +22,11 @@ use Rattle.mesh_laws.proofs.FanLaws.{counted, cycle_sources, occurs}
 use Rattle.mesh_laws.proofs.Owners.{found}
 use Rattle.mesh_laws.proofs.Rings.{cycle_of, follow, is_fan}
 use Rattle.std.proofs.lemmas.Bool.{agree_below, agree_below_at, and_parts, eqb-true, leb-true, not-true, or_cases, true≢false}
+use Rattle.std.proofs.lemmas.Bool.{cases_lt}
 use Rattle.std.proofs.lemmas.Int.{ints}
+use Rattle.std.proofs.lemmas.List.{get_or-replicate, get_or_past, length-replicate}
 use Rattle.std.proofs.lemmas.List.Elements.{All-cons, All-contains, All-head, All-map, All-nil, All-tail, All-weaker, Contains-get_or}
+use Rattle.std.proofs.lemmas.List.Kept.{AllPairs-cons}
 use Rattle.std.proofs.lemmas.List.Sums.{AllPass-from_list_all}
 
 -- ---- a test of closed meshes
@@ -152,6 +155,20 @@ middle_is_framed =
           outer_is_outside p (agree_below_at (is_right p.x p.y) yes 3 p.z (agree_below_at (λ y. agree_below (is_right p.x y) yes 3) yes 3 p.y (agree_below_at (λ x. agree_below (λ y. agree_below (is_right x y) yes 3) yes 3) yes 3 p.x all_right (omega (arith, fx))) (omega (arith, fy))) (omega (arith, fz))) outer;
     }
 
+-- a grid of other sizes along each axis: two points, three and four, none of them inside
+abbrev uneven : Grid
+uneven = record { x = 1; y = 2; z = 3; values = replicate 24 (pos 0) }
+
+zero_everywhere : (n k : ℕ) → get_or (replicate n (pos 0)) k (pos 0) ≡ pos 0
+zero_everywhere n k =
+    elim (cases_lt k n) [
+      | inl h ↦ get_or-replicate n k (pos 0) (pos 0) h
+      | inr h ↦ get_or_past (replicate n (pos 0)) k (pos 0) (rw (length-replicate n (pos 0)) h)
+    ]
+
+uneven_is_framed : IsFramed uneven
+uneven_is_framed = record { points = refl; frame = λ p within outer. rw (zero_everywhere 24 _) (omega (arith, ints)) }
+
 -- ---- it has one fan of faces at each vertex
 
 middle_has_fans : list_all (λ u. is_fan (arcs (faces middle_inside) u)) (range_with_len 0 14) ≡ true
@@ -261,6 +278,24 @@ sides_are_no_manifold h = sides_have_no_fan (h 0 (omega arith))
 -- a tetrahedron beside a vertex that has no face, which is the last
 beside_last : List Face
 beside_last = face 0 1 2 ∷ face 0 2 3 ∷ face 0 3 1 ∷ face 1 3 2 ∷ []
+
+abbrev unlike : ℕ → ℕ → Type 0
+unlike v w = v ≡ w → ⊥
+
+three_unlike : AllPairs unlike (1 ∷ 2 ∷ 3 ∷ [])
+three_unlike =
+    AllPairs-cons unlike 1 (2 ∷ 3 ∷ []) (All-cons (unlike 1) 2 (3 ∷ []) (λ e. omega (arith, e)) (All-cons (unlike 1) 3 [] (λ e. omega (arith, e)) (All-nil (unlike 1))))
+    (AllPairs-cons unlike 2 (3 ∷ []) (All-cons (unlike 2) 3 [] (λ e. omega (arith, e)) (All-nil (unlike 2))) (λ i j d before within. absurd (omega (arith, before, within))))
+
+-- the first vertex of the tetrahedron has the least fan, of three faces
+first_has_fan : HasFan beside_last 0
+unfolding beside_last
+first_has_fan = record {
+  cycle = 1 ∷ 2 ∷ 3 ∷ [];
+  long = omega arith;
+  differ = three_unlike;
+  exact = λ v w. refl;
+}
 
 no_cycle : (c : List ℕ) → 3 ≤ length c → ((v w : ℕ) → 0 ≡ occurrences (cycle_arcs c) v w) → ⊥
 no_cycle [] long none = omega (arith, long)
