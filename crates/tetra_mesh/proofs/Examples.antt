@@ -1,8 +1,8 @@
 -- Places, computed on vertices that were worked out by hand.
-use Rattle.std.proofs.Common.{◌≡◌, ℕ, pos, negsuc, refl}
+use Rattle.std.proofs.Common.{◌≡◌, ℕ, ◌≤◌, pos, negsuc, refl, arith}
 use Rattle.tetra_mesh.specs.declared.vertex.Vertex.{Vertex}
 use Rattle.tetra_mesh.specs.Cuts.{way_up}
-use Rattle.tetra_mesh.specs.Places.{lattice_place, vertex_place}
+use Rattle.tetra_mesh.specs.Places.{IsPlaced, lattice_place, vertex_place}
 use Rattle.tetra_mesh.specs.Sound.{lattice_of, raw_of}
 use Rattle.view_settings.specs.declared.lattice.Axis.TheVariants.{X, Y, Z}
 use Rattle.view_settings.specs.Window.{Window}
@@ -115,3 +115,38 @@ lattice_of_quarter = refl
 
 raw_of_quarter : raw_of uneven quarter ≡ record { x = pos 225; y = pos 1000; z = pos 7 }
 raw_of_quarter = refl
+
+-- ---- which vertices lie in a grid
+
+abbrev at : ℕ → ℕ → ℕ → ℕ → ℕ → Vertex
+at x y z dir t = record { key = record { x = x; y = y; z = z; dir = dir }; t = t }
+
+-- one just below the last point of two cells along each axis
+last_is_placed : IsPlaced cells (at 1 1 1 7 65535)
+unfolding cells
+last_is_placed = record {
+  direction = record { some = omega arith; within = omega arith };
+  upper_end = record { x = omega arith; y = omega arith; z = omega arith };
+  some = omega arith;
+  few = omega arith;
+}
+
+-- none on an end of its edge
+none_on_the_upper_end : IsPlaced cells (at 1 1 1 7 65536) → ⊥
+none_on_the_upper_end h = let few : 65536 ≤ 65535 = h.few in omega (arith, few)
+
+none_on_the_lower_end : IsPlaced cells (at 1 1 1 7 0) → ⊥
+none_on_the_lower_end h = let some : 1 ≤ 0 = h.some in omega (arith, some)
+
+-- and none beyond the last point along an axis
+none_beyond_along_x : IsPlaced cells (at 2 1 0 1 1) → ⊥
+unfolding cells
+none_beyond_along_x h = let x : 3 ≤ 2 = h.upper_end.x in omega (arith, x)
+
+none_beyond_along_y : IsPlaced cells (at 0 2 1 2 1) → ⊥
+unfolding cells
+none_beyond_along_y h = let y : 3 ≤ 2 = h.upper_end.y in omega (arith, y)
+
+none_beyond_along_z : IsPlaced cells (at 1 0 2 4 1) → ⊥
+unfolding cells
+none_beyond_along_z h = let z : 3 ≤ 2 = h.upper_end.z in omega (arith, z)
