@@ -1,7 +1,7 @@
 // A model that is edited and drawn.
-ghost use Rattle.std.specs.Prelude.{◌≡◌, length, Ok, IfOk, OnErr, OnOk};
+ghost use Rattle.std.specs.Prelude.{◌≡◌, length, Ok, IfErr, IfOk, OnErr, OnOk};
 ghost use Rattle.clause_reader.specs.ModelText.{model_text};
-ghost use Rattle.solid_model.specs.Edits.{edited};
+ghost use Rattle.solid_model.specs.Edits.{edited, MakesClause};
 ghost use Rattle.solid_model.specs.Refusals.{RefusesAs, WantsMemoryFor};
 ghost use Rattle.view_settings.specs.Window.{FitsHeight, FitsMesh};
 ghost use Rattle.edit_session.specs.Heights.{heights_of, plain_depths};
@@ -51,11 +51,12 @@ impl Session {
     /// stand already, names no clause. `DoubleName`: the new name stands already. `NotEarlier`: an
     /// argument stands at or after the place of the clause. `InUse`: another clause has this one as
     /// an argument. `LastClause`: the model has one clause. `Full`: the model has 65,535 clauses.
-    /// `NoMemory`: memory was refused, and none of these holds.
+    /// `NoMemory`: memory was refused for a new clause, and none of these holds.
     pub fn edit(&mut self, edit: Edit) -> Result<(), EditFault>
         ensures ok { OnOk result (edited self.old edit ≡ Ok self.new) }
         ensures fault { RefusesAs (edited self.old edit) EditFault.NoMemory result }
         ensures no_memory { WantsMemoryFor (edited self.old edit) EditFault.NoMemory result }
+        ensures makes { IfErr result (λ fault. fault ≡ EditFault.NoMemory → MakesClause edit) }
         ensures err { OnErr result (self.new ≡ self.old) }
     {
         self.model.apply(edit)

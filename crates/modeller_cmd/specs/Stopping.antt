@@ -7,7 +7,7 @@ use Rattle.edit_script.specs.declared.command.Command.{Command}
 use Rattle.edit_script.specs.declared.command.Command.TheVariants as commands
 use Rattle.edit_session.specs.Work.{CountsWork}
 use Rattle.fixed_ops.specs.Counts.{Counts}
-use Rattle.solid_model.specs.Edits.{edited}
+use Rattle.solid_model.specs.Edits.{MakesClause, edited}
 use Rattle.solid_model.specs.declared.clause.Clause.{Clause}
 use Rattle.view_settings.specs.declared.job.Job.TheVariants.{Replay}
 use Rattle.modeller_cmd.specs.Asking.{asked}
@@ -19,10 +19,10 @@ use Rattle.modeller_cmd.specs.declared.status.Status.{Status}
 use Rattle.modeller_cmd.specs.declared.stop.Stop.{Stop}
 use Rattle.modeller_cmd.specs.declared.stop.Stop.TheVariants.{WriteFault, NoMemory}
 
--- Memory may be wanted for a command: for an edit only where it is accepted, and never for one that
--- names no clause anywhere.
+-- Memory may be wanted for a command: for an edit only where it is accepted and makes a clause, and
+-- never for one that names no clause anywhere.
 abbrev pub WantsMemory : List Clause → Command → Type 0
-WantsMemory clauses (commands.Edit line edit) = IsOk (edited clauses edit)
+WantsMemory clauses (commands.Edit line edit) = IsOk (edited clauses edit) × MakesClause edit
 WantsMemory clauses (commands.Stray line) = ⊥
 WantsMemory clauses other = ⊤
 

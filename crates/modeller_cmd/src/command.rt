@@ -2,7 +2,7 @@
 ghost use Rattle.std.specs.Prelude.{◌≡◌, ◌≢◌, ◌+◌, ◌<◌, ◌≤◌, ◌↔◌, [], ℕ, length, vec_len, false, true, All, Some, None, Ok, Err, IfOk, IfErr, IsOk, IsErr, IfSome, OnOk};
 ghost use Rattle.edit_script.specs.Commands.{IsCommand};
 ghost use Rattle.edit_script.specs.Scripts.{script_read};
-ghost use Rattle.modeller_io.specs.Count.{last_count, RoseBy, Stands};
+ghost use Rattle.modeller_io.specs.Count.{last_count, RoseAtMost, RoseBy, Stands};
 ghost use Rattle.modeller_io.specs.Held.{Gains, GainsPrefix, Grew};
 ghost use Rattle.modeller_io.specs.Took.{LosesAtMost};
 ghost use Rattle.view_settings.specs.Settings.{IsJob};
@@ -105,6 +105,7 @@ pub fn run<S: Source, K: Sink, N: Sink>(
         StopsRun K.held K.faults out.old out.new tally.old tally.new (bytes_of words.now) input
         result) }
     ensures never_falls { N.faults notes.old ≤ N.faults notes.new }
+    ensures fails_once { RoseAtMost N.faults notes.old notes.new 1 }
 
     // The one line of the notes.
     ensures note { Tells (bytes_of words.now)
@@ -139,6 +140,7 @@ pub fn run<S: Source, K: Sink, N: Sink>(
 fn tell<N: Sink>(notes: &mut N, stop: Stop)
     ensures line { TakesLine N.faults N.held notes.old notes.new (line_of stop) }
     ensures never_falls { N.faults notes.old ≤ N.faults notes.new }
+    ensures fails_once { RoseAtMost N.faults notes.old notes.new 1 }
 {
     let _ = write_all(notes, note_of(stop).as_slice());
 }

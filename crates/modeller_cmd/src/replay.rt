@@ -11,7 +11,7 @@ ghost use Rattle.modeller_cmd.specs.Replays.{clauses_after, parts_at, refusal, r
 ghost use Rattle.modeller_cmd.specs.Stopping.{StopsAt, StopsPlay, WantsMemory};
 ghost use Rattle.modeller_cmd.specs.Parts.{AreExact, work_of_parts};
 ghost use Rattle.edit_session.specs.Work.{CountsWork};
-ghost use Rattle.solid_model.specs.Edits.{edited};
+ghost use Rattle.solid_model.specs.Edits.{MakesClause, edited};
 
 use crate::frame::{write_frame, write_refused};
 use crate::frame_kind::FrameKind;
@@ -140,7 +140,7 @@ fn change<K: Sink>(session: &mut Session, line: u32, edit: Edit, out: &mut K) ->
         → Stopped K.held K.faults out.old out.new counts counts
         (parts_at session.old (Command.Edit line edit)) stop) }
     ensures unwritten { result ≡ Err Stop.NoMemory → out.new ≡ out.old }
-    ensures wants { result ≡ Err Stop.NoMemory → IsOk (edited session.old edit) }
+    ensures wants { result ≡ Err Stop.NoMemory → IsOk (edited session.old edit) × MakesClause edit }
 {
     match session.edit(edit) {
         Ok(()) => Ok(()),

@@ -1,13 +1,15 @@
 // A run none of whose reads and writes can fail.
-ghost use Rattle.std.specs.Prelude.{◌≡◌, ◌⊎◌, Some};
+ghost use Rattle.std.specs.Prelude.{◌≡◌, ◌≢◌, ◌+◌, ◌⊎◌, false, true, IfSome, Some};
 ghost use Rattle.modeller_io.specs.Held.{Extends};
+ghost use Rattle.modeller_io.specs.Took.{LosesAtMost};
 ghost use Rattle.view_settings.specs.Words.{bytes_of};
 ghost use Rattle.edit_session.specs.Work.{CountsWithin, CountsWork, PointsRiseAtMost};
 ghost use Rattle.modeller_cmd.specs.Asking.{asks_nothing, input_told};
-ghost use Rattle.modeller_cmd.specs.Endings.{IsRefusal, IsUnwritten, IsWorked, TakesLine, Tells};
-ghost use Rattle.modeller_cmd.specs.Output.{WithOutput, output_of};
+ghost use Rattle.modeller_cmd.specs.Endings.{GainsParts, IsRead, IsRefusal, IsUnwritten, IsWorked, ReadsWhole, TakesLine, Tells};
+ghost use Rattle.modeller_cmd.specs.Output.{WithOutput, input_limit, output_of};
 ghost use Rattle.modeller_cmd.specs.Parts.{AreExact, bytes_of_parts, work_of_parts};
-ghost use Rattle.modeller_cmd.specs.declared.status.Status.TheVariants.{Done, NoMemory};
+ghost use Rattle.modeller_cmd.specs.Stopping.{StopsRun};
+ghost use Rattle.modeller_cmd.specs.declared.status.Status.TheVariants.{Done, NoMemory, Usage};
 
 use crate::{Status, run};
 use fixed_ops::Tally;
@@ -30,7 +32,20 @@ pub fn run_surely(
         → Extends out.old.held out.new.held
         (bytes_of_parts (output_of (bytes_of words.now) source.old.rest).parts) }
     ensures silent { result ≡ Done → notes.new ≡ notes.old }
+    ensures read { asks_nothing (bytes_of words.now) ≡ false → IsRead result
+        → ReadsWhole (λ s. Some s.rest) source.old source.new }
+    ensures unread { result ≡ Usage → source.new ≡ source.old }
+    ensures unasked { asks_nothing (bytes_of words.now) ≡ true → source.new ≡ source.old }
+    ensures lost { result ≢ Usage → LosesAtMost (λ s. Some s.rest) (λ s. s.taken) source.old
+        source.new (input_limit + 1) }
     ensures unwritten { IsUnwritten (bytes_of words.now) result → out.new ≡ out.old }
+    ensures whole { result ≡ NoMemory
+        → WithOutput (λ s. Some s.rest) source.old (bytes_of words.now) (λ output.
+        GainsParts (λ s. s.held) out.old out.new output.parts) }
+    ensures stops { result ≢ Done
+        → IfSome (input_told (λ s. Some s.rest) source.old (asks_nothing (bytes_of words.now)))
+        (λ input. StopsRun (λ s. s.held) (λ _. 0) out.old out.new tally.old tally.new
+        (bytes_of words.now) input result) }
     ensures note { Tells (bytes_of words.now)
         (input_told (λ s. Some s.rest) source.old (asks_nothing (bytes_of words.now))) result
         (TakesLine (λ _. 0) (λ s. s.held) notes.old notes.new) }
