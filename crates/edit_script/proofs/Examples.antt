@@ -1,7 +1,14 @@
 -- A small script, worked out by hand: which lines say commands, and on which of them memory may be wanted.
-use Rattle.std.proofs.Common.{◌≡◌, ℕ, true, false, Some, Ok, Err, List, [], ◌∷◌, refl, arith}
+use Rattle.std.proofs.Common.{◌≡◌, ℕ, pos, negsuc, true, false, Some, Ok, Err, List, [], ◌∷◌, refl, arith}
 use Rattle.std.specs.Prelude.{codes}
-use Rattle.edit_script.specs.declared.command.Command.TheVariants.{Stray, Text}
+use Rattle.fixed_ops.specs.Numerals.{cut_magnitude, is_unsigned_numeral, nearest_raw, unsigned_raw}
+use Rattle.fixed_ops.specs.declared.operation.Op.TheVariants as ops
+use Rattle.solid_model.specs.declared.edit.Edit.TheVariants as edits
+use Rattle.view_settings.specs.Setting.{setting_of}
+use Rattle.view_settings.specs.Window.{Window, has_room}
+use Rattle.edit_script.specs.Commands.{IsCommand}
+use Rattle.edit_script.specs.Marks.{before_mark, mark_ends}
+use Rattle.edit_script.specs.declared.command.Command.TheVariants.{Edit, Height, Mesh, Render, Stray, Text}
 use Rattle.edit_script.specs.declared.script_reason.ScriptReason.TheVariants.{UnknownCommand, NoMemory}
 use Rattle.edit_script.specs.Scripts.{script_read, IsCommandLine, RefusesScript}
 
@@ -39,3 +46,60 @@ memory_before_it = record { refused = λ other. absurd (other refl); no_memory =
 
 no_memory_on_it : RefusesScript refused (record { line = 3; reason = NoMemory }) → ⊥
 no_memory_on_it refuses = let less = refuses.no_memory refl in absurd (omega (arith, less))
+
+-- the model is what stands before the mark line, and the commands what stands after it
+ends_of_the_mark : mark_ends script ≡ Some (8, 11)
+ends_of_the_mark = refl
+
+model_before_the_mark : before_mark script ≡ codes "x var-x\n"
+model_before_the_mark = refl
+
+all_before_no_mark : before_mark (codes "x\n%% %%\n") ≡ codes "x\n%% %%\n"
+all_before_no_mark = refl
+
+-- each edit has the number of its line, its names and its arguments in their order
+edits_of_a_script : script_read (codes "%%\n\nset x sub a b\nadd s neg x\nput x t const 2\ncut s")
+    ≡ Ok (
+    Edit 3 (edits.Set (codes "x") (record { op = ops.Sub; args = codes "a" ∷ codes "b" ∷ []; value = pos 0 }))
+    ∷ Edit 4 (edits.Add (codes "s") (record { op = ops.Neg; args = codes "x" ∷ []; value = pos 0 }))
+    ∷ Edit 5 (edits.Put (codes "x") (codes "t") (record { op = ops.Const; args = []; value = pos 8589934592 }))
+    ∷ Edit 6 (edits.Cut (codes "s")) ∷ [])
+unfolding cut_magnitude is_unsigned_numeral nearest_raw unsigned_raw
+edits_of_a_script = refl
+
+-- where a token that begins with `#` should name a clause, the line names none
+strays_of_a_script : script_read (codes "%%\nset #x neg a\nadd s neg #x\nput #x t var-y\ncut #") ≡ Ok (Stray 2 ∷ Stray 3 ∷ Stray 4 ∷ Stray 5 ∷ [])
+strays_of_a_script = refl
+
+-- the window of a draw without settings
+abbrev window : Window
+window = record {
+  x0 = negsuc 4294967295;
+  x1 = pos 4294967296;
+  y0 = negsuc 4294967295;
+  y1 = pos 4294967296;
+  z0 = negsuc 4294967295;
+  z1 = pos 4294967296;
+  z = pos 0;
+  w = 512;
+  h = 512;
+  d = 255;
+  n = 64;
+}
+
+-- each draw has its own settings
+draws_of_a_script : script_read (codes "%%\nrender w=3\nheight h=4 d=5\nmesh n=6\nrender")
+    ≡ Ok (
+    Render (record window { w = 3 })
+    ∷ Height (record window { h = 4; d = 5 })
+    ∷ Mesh (record window { n = 6 })
+    ∷ Render window ∷ [])
+unfolding setting_of has_room
+draws_of_a_script = refl
+
+-- what an edit names is a name, and a map that is too wide may not be drawn
+cut_of_no_name : IsCommand (Edit 3 (edits.Cut [])) → ⊥
+cut_of_no_name is = (cc)
+
+wide_map : IsCommand (Height (record window { w = 1025 })) → ⊥
+wide_map is = absurd (omega (arith, is.1.w))
