@@ -1,11 +1,14 @@
 -- The definitions of frames, computed on models and views that were worked out by hand.
-use Rattle.std.proofs.Common.{◌≡◌, ℕ, pos, negsuc, List, [], ◌∷◌, ◌++◌, Result, Ok, Err, refl}
+use Rattle.std.proofs.Common.{◌≡◌, ℕ, pos, negsuc, List, [], ◌∷◌, ◌++◌, Result, Ok, Err, refl, ap, arith}
 use Rattle.std.specs.Prelude.{codes, replicate, take}
 use Rattle.std.specs.Fmt.{digits}
 use Rattle.box_chains.specs.Chains.{chain_within}
 use Rattle.box_chains.specs.Counts.{points_in, spans_in}
 use Rattle.clause_reader.specs.Reading.{text_read}
 use Rattle.clause_reader.specs.declared.text_fault.TextFault.{TextFault}
+use Rattle.height_map.specs.Bound.{points_where}
+use Rattle.oct_descent.specs.Bound.{mesh_points, spans_in as spans_of_cells}
+use Rattle.oct_descent.specs.Ways.{way_within}
 use Rattle.fixed_ops.specs.Numerals.{cut_magnitude, is_unsigned_numeral, nearest_raw, unsigned_raw}
 use Rattle.kuhn_cells.specs.Faces.{all_triangles, faces}
 use Rattle.kuhn_cells.specs.Grids.{vertices}
@@ -14,7 +17,8 @@ use Rattle.view_settings.specs.Window.{Window}
 use Rattle.edit_session.specs.Heights.{heights_of, plain_depths}
 use Rattle.edit_session.specs.Images.{image_of, plain_points}
 use Rattle.edit_session.specs.Meshes.{grid_of, mesh_text, plain_grid}
-use Rattle.edit_session.specs.Work.{frame_work}
+use Rattle.fixed_ops.specs.Counts.{no_counts, points_of, spans_of}
+use Rattle.edit_session.specs.Work.{CountsWithin, CountsWork, PointsRiseAtMost, Work, both, frame_work, height_work, mesh_work, no_work}
 
 -- the clauses of a text that is read
 abbrev solid : List ℕ → List Clause
@@ -115,3 +119,38 @@ along_y = refl
 along_z : take 19 (grid_of two_cells (λ p. p.z)).values ≡ replicate 18 (pos 0) ++ pos 4294967296 ∷ []
 unfolding grid_of
 along_z = refl
+
+-- the work of two frames is the sum, number by number
+sum_of_work : both (record { points = 1; spans = 20; plain = 300 }) (record { points = 4; spans = 50; plain = 600 })
+    ≡ record { points = 5; spans = 70; plain = 900 }
+sum_of_work = refl
+
+-- of a clause that the last one does not need, a map and a mesh take no work, but plain evaluation of it does
+map_of_two_clauses : height_work (window 1 1 3) (solid (codes "u var-x\nz var-z\n"))
+    ≡ record { points = 3; spans = 1; plain = 6 }
+unfolding points_in spans_in points_where chain_within
+map_of_two_clauses = refl
+
+mesh_of_two_clauses : mesh_work (window 1 1 1) (solid (codes "u var-x\na const -1\n"))
+    ≡ record { points = 8; spans = 1; plain = 16 }
+unfolding mesh_points spans_of_cells way_within cut_magnitude is_unsigned_numeral nearest_raw unsigned_raw
+mesh_of_two_clauses = refl
+
+-- exact work is counted neither more nor less, and evaluations are no hulls
+abbrev two_points : Work
+two_points = record no_work { points = 2 }
+
+one_for_two : CountsWork no_counts (points_of 1) two_points → ⊥
+unfolding CountsWork
+one_for_two counts = let same : 1 ≡ 2 = ap (λ c. c.points) counts.rises in absurd (omega (arith, same))
+
+three_for_two : CountsWithin no_counts (points_of 3) two_points → ⊥
+unfolding CountsWithin
+three_for_two counts = (grind (arith, counts.few.points, counts.rises))
+
+hull_for_two : CountsWithin no_counts (spans_of 1) two_points → ⊥
+unfolding CountsWithin
+hull_for_two counts = (grind (arith, counts.few.spans, counts.rises))
+
+three_above_two : PointsRiseAtMost no_counts (points_of 3) 2 → ⊥
+three_above_two rises = (grind (arith, rises.few, rises.rises))

@@ -1,6 +1,7 @@
 -- The definitions of a run, computed on words, texts and views that were worked out by hand.
-use Rattle.std.proofs.Common.{◌≡◌, ℕ, true, false, pos, negsuc, ◌+◌, List, [], ◌∷◌, ◌++◌, length, Option, Err, refl, arith}
-use Rattle.std.specs.Prelude.{codes, ℤ}
+use Rattle.std.proofs.Common.{◌≡◌, ℕ, zero, suc, true, false, pos, negsuc, ◌+◌, List, [], ◌∷◌, ◌++◌, length, map, take, Option, Some, Ok, Err, refl, subst, sym, arith}
+use Rattle.std.specs.Prelude.{codes, slice_index_or, IsTrue, ℤ}
+use Rattle.std.proofs.lemmas.List.Elements.{All-head}
 use Rattle.std.specs.Fmt.{digits}
 use Rattle.std.proofs.lemmas.Bool.{le-ltb, lt-ltb}
 use Rattle.box_chains.specs.Chains.{chain_within}
@@ -18,17 +19,27 @@ use Rattle.modeller_io.specs.Count.{last_count}
 use Rattle.view_settings.specs.Setting.{setting_of}
 use Rattle.view_settings.specs.Window.{Window}
 use Rattle.view_settings.specs.declared.job.Job.{Job}
+use Rattle.view_settings.specs.declared.forge.Forge.{Forge as Wanted}
 use Rattle.view_settings.specs.declared.job.Job.TheVariants.{Count, Forge, Height, Render}
 use Rattle.view_settings.specs.declared.word_fault.WordReason.TheVariants as word
-use Rattle.modeller_cmd.specs.Asking.{asks_nothing, reads_nothing}
-use Rattle.modeller_cmd.specs.Endings.{IsAnswer, IsRead, IsRefusal, IsUnwritten, IsWorked, NoFault, Tells}
+use Rattle.modeller_cmd.specs.Asking.{asks_nothing, input_told, reads_nothing}
+use Rattle.modeller_cmd.specs.Endings.{GainsParts, IsAnswer, IsRead, IsRefusal, IsUnwritten, IsWorked, NoFault, ReadsWhole, TakesLine, Tells}
 use Rattle.modeller_cmd.specs.Frames.{frame_header, refused_line}
 use Rattle.modeller_cmd.specs.declared.frame_kind.FrameKind.TheVariants as frames
 use Rattle.solid_model.specs.declared.edit.EditFault.TheVariants as fault
 use Rattle.edit_session.specs.Heights.{heights_of}
 use Rattle.modeller_cmd.specs.Notes.{line_of}
-use Rattle.modeller_cmd.specs.Output.{Output, input_limit, made, model_bytes, output_as, output_of, parts_after}
-use Rattle.modeller_cmd.specs.Parts.{Part}
+use Rattle.modeller_cmd.specs.Output.{Output, WithOutput, input_limit, made, model_bytes, output_as, output_of, parts_after}
+use Rattle.modeller_cmd.specs.Parts.{AreExact, Part, bytes_of_parts, work_of_parts}
+use Rattle.modeller_cmd.specs.Playing.{Played}
+use Rattle.modeller_cmd.specs.Statuses.{number_of}
+use Rattle.modeller_cmd.specs.Stopping.{StopsIn, WantsMemory}
+use Rattle.modeller_cmd.specs.Forging.{forge_text}
+use Rattle.fixed_ops.specs.Counts.{no_counts}
+use Rattle.solid_model.specs.declared.clause.Clause.{Clause}
+use Rattle.solid_model.specs.declared.edit.Edit.TheVariants as edits
+use Rattle.edit_script.specs.declared.command.Command.TheVariants as commands
+use Rattle.clause_reader.specs.declared.text_fault.TextFault.{TextFault}
 use Rattle.modeller_cmd.specs.Replays.{replayed}
 use Rattle.edit_session.specs.Work.{no_work}
 use Rattle.modeller_cmd.specs.declared.refusal.Refusal.TheVariants as refusal
@@ -376,3 +387,141 @@ read_fault_is_told words input takes = refl
 memory_is_told : (words : List (List ℕ)) (input : Option (List ℕ)) (takes : List ℕ → Type 0)
     → Tells words input status.NoMemory takes ≡ takes (codes "modeller: no memory\n")
 memory_is_told words input takes = refl
+
+-- each status has its own number, with which the program ends
+numbers_of_statuses : map number_of (status.Done ∷ status.Usage ∷ status.BadModel ∷ status.BadScript ∷ status.TooLong ∷ status.ReadFault ∷ status.WriteFault ∷ status.NoMemory ∷ [])
+    ≡ 0 ∷ 2 ∷ 3 ∷ 4 ∷ 5 ∷ 6 ∷ 7 ∷ 8 ∷ []
+numbers_of_statuses = refl
+
+-- what is done was counted, and its source was read to the end
+done_is_counted : (words : List (List ℕ)) → IsWorked words status.Done
+done_is_counted words = tt
+
+done_was_read : IsRead status.Done
+done_was_read = tt
+
+-- a source is not read to its end where a byte is left
+byte_is_left : ReadsWhole (λ (s : List ℕ). Some s) (codes "ab") (codes "b") → ⊥
+byte_is_left whole = let none : Some (codes "b") ≡ Some [] = whole.0 in (cc)
+
+-- under want of memory nothing is written, but of a script some parts may be
+memory_writes_nothing : IsUnwritten (codes "text" ∷ []) status.NoMemory
+memory_writes_nothing is = grind (arith, is)
+
+script_may_have_written : IsUnwritten (codes "replay" ∷ []) status.NoMemory → ⊥
+script_may_have_written unwritten = unwritten refl
+
+-- the input that is told, and what is asked of it
+input_is_told : input_told (λ (s : List ℕ). Some s) (codes "ab") false ≡ Some (codes "ab")
+input_is_told = refl
+
+no_input_is_told : input_told (λ (s : List ℕ). Some s) (codes "ab") true ≡ Some []
+no_input_is_told = refl
+
+output_of_what_is_told : WithOutput (λ (s : List ℕ). Some s) (codes "x var-x") (codes "text" ∷ []) (λ output. output.status ≡ status.Done)
+output_of_what_is_told = refl
+
+-- what the notes are told where the words are refused, the input is too long or the sink fails
+words_are_told : (input : Option (List ℕ)) (takes : List ℕ → Type 0)
+    → Tells (codes "draw" ∷ []) input status.Usage takes ≡ takes (codes "modeller: word 1: UnknownVerb\n")
+unfolding digits
+words_are_told input takes = refl
+
+length_is_told : (words : List (List ℕ)) (input : Option (List ℕ)) (takes : List ℕ → Type 0)
+    → Tells words input status.TooLong takes ≡ takes (codes "modeller: input too long\n")
+length_is_told words input takes = refl
+
+write_fault_is_told : (words : List (List ℕ)) (input : Option (List ℕ)) (takes : List ℕ → Type 0)
+    → Tells words input status.WriteFault takes ≡ takes (codes "modeller: write fault\n")
+write_fault_is_told words input takes = refl
+
+-- of a solid the line that is refused is told, and no other: its number is the byte at place 15
+abbrev first_line : TextFault
+first_line = record { line = 1; reason = text.UnknownName }
+
+abbrev tells_line_2 : TextFault → Type 0
+tells_line_2 fault = slice_index_or (line_of (stop.Refused (refusal.Model fault))) 15 0 ≡ 50
+
+another_line_is_told : Tells (codes "text" ∷ []) (Some (codes "x neg y")) status.BadModel (λ line. slice_index_or line 15 0 ≡ 50) → ⊥
+unfolding digits
+another_line_is_told tells =
+    let given : Err (refusal.Model first_line) ≡ Err (refusal.Model tells.fault) = tells.given in
+    let same : first_line ≡ tells.fault = cc in
+    let told : 49 ≡ 50 = subst tells_line_2 (sym same) tells.told in
+    absurd (omega (arith, told))
+
+-- the notes take all of the line where they do not fail, and a sink takes parts whole
+front_is_not_all : TakesLine (λ (s : List ℕ). 0) (λ s. Some s) [] (codes "a") (codes "ab") → ⊥
+front_is_not_all takes = let same : codes "a" ≡ codes "ab" = takes.whole (omega arith, omega arith) in (cc)
+
+half_a_part : GainsParts (λ (s : List ℕ). Some s) [] (codes "a") (idle (codes "ab") ∷ []) → ⊥
+half_a_part gains = by gains.count gains.gained
+  where
+    by : (count : ℕ) → codes "a" ≡ bytes_of_parts (take count (idle (codes "ab") ∷ [])) → ⊥
+    by zero same = (cc)
+    by (suc count) same =
+        let whole : codes "a" ≡ codes "ab" ++ bytes_of_parts (take count []) = same in (cc)
+
+-- a part that is not written was not played
+unwritten_part : Played (λ (s : List ℕ). Some s) (λ s. 0) [] [] no_counts no_counts (idle (codes "a") ∷ []) → ⊥
+unwritten_part played = let same : [] ≡ codes "a" = played.gained in (cc)
+
+-- where memory is refused nothing of the command is written
+part_without_memory : StopsIn (λ (s : List ℕ). Some s) (λ s. 0) [] (codes "@") no_counts no_counts [] commands.Text stop.NoMemory → ⊥
+part_without_memory stops = let same : codes "@" ≡ [] = stops.unwritten refl in (cc)
+
+-- memory is wanted for a frame and for a clause that is added, and for no edit that is refused or makes no clause
+abbrev two : List Clause
+two = record { name = codes "x"; op = op.X; a = 0; b = 0; value = pos 0 } ∷ record { name = codes "f"; op = op.Neg; a = 0; b = 0; value = pos 0 } ∷ []
+
+text_wants_memory : WantsMemory two commands.Text
+text_wants_memory = tt
+
+clause_wants_memory : WantsMemory two (commands.Edit 4 (edits.Add (codes "y") (record { op = op.Y; args = []; value = pos 0 })))
+clause_wants_memory = (refl, tt)
+
+double_name_wants_none : WantsMemory two (commands.Edit 4 (edits.Add (codes "f") (record { op = op.Y; args = []; value = pos 0 }))) → ⊥
+double_name_wants_none wants = let is : false ≡ true = wants.0 in (cc)
+
+cut_wants_none : WantsMemory two (commands.Edit 4 (edits.Cut (codes "f"))) → ⊥
+cut_wants_none wants = wants.1
+
+stray_wants_none : WantsMemory two (commands.Stray 4) → ⊥
+stray_wants_none wants = wants
+
+-- the work of parts is the sum of theirs
+work_adds_up : work_of_parts (picture ∷ record { bytes = []; exact = true; work = record { points = 1; spans = 20; plain = 300 } } ∷ [])
+    ≡ record { points = 10; spans = 23; plain = 309 }
+work_adds_up = refl
+
+-- what is bounded is not exact
+bounded_is_not_exact : AreExact (record (idle []) { exact = false } ∷ []) → ⊥
+unfolding AreExact
+bounded_is_not_exact exact =
+    let is : false ≡ true = All-head (λ (part : Part). IsTrue part.exact) (record (idle []) { exact = false }) [] exact in (cc)
+
+-- an image is counted exactly, and a map and a mesh at most, each by its own plain evaluation: pixels, samples and points
+abbrev drawn_of_two : List Part
+drawn_of_two =
+    let view = record (window 2 3 (pos 0)) { d = 4; n = 1 } in replayed two (commands.Render view ∷ commands.Height view ∷ commands.Mesh view ∷ [])
+
+exact_or_bounded : map (λ part. part.exact) drawn_of_two ≡ true ∷ false ∷ false ∷ []
+unfolding replayed
+exact_or_bounded = refl
+
+plain_evaluations : map (λ part. part.work.plain) drawn_of_two ≡ 12 ∷ 48 ∷ 16 ∷ []
+unfolding replayed
+plain_evaluations = refl
+
+-- the lines of a solid that is forged: of three pixels the places -1 and 0 lie below 0.5, as in the picture
+forged_lines : forge_text (window 3 1 (pos 0)) (
+    record { name = codes "x"; op = op.X; a = 0; b = 0; value = pos 0 }
+    ∷ record { name = codes "c"; op = op.Const; a = 0; b = 0; value = pos 2147483648 }
+    ∷ record { name = codes "f"; op = op.Sub; a = 0; b = 1; value = pos 0 } ∷ [])
+    ≡ codes "clauses 3\ninside 2\npoints 9\nspans 3\nplain 9\n"
+unfolding digits points_in spans_in chain_within
+forged_lines = refl
+
+-- forging gives one part, whose work is exact
+forging_is_exact : (wanted : Wanted) (input : List ℕ) → map (λ part. part.exact) (output_as (made (Forge wanted) input)).parts ≡ true ∷ []
+forging_is_exact wanted input = refl
