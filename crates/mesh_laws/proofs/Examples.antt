@@ -2,7 +2,7 @@
 -- faces out, and paths to its inside pass its vertices. Refused are a mesh with a face turned, one with a face missing, a
 -- flat face, two cones that share a tip, a triangle with two sides, and a vertex with no face.
 use Rattle.std.proofs.Common.{◌≡◌, ℕ, ◌<◌, ◌≤◌, ℤ, pos, negsuc, Bool, true, false, List, [], ◌∷◌, ◌++◌, length, refl, arith, sym, subst, ◌∙◌, inl, inr}
-use Rattle.std.specs.Prelude.{◌==◌, ◌&&◌, ◌||◌, ◌⊎◌, ◌≤ℤ◌, ◌<ℤ◌, int_le, int_lt, nat_lt, not, get_or, All, AllPairs, Contains, replicate}
+use Rattle.std.specs.Prelude.{◌==◌, ◌&&◌, ◌||◌, ◌⊎◌, ◌≤ℤ◌, ◌<ℤ◌, int_le, int_lt, nat_lt, not, get_or, All, Contains, replicate}
 use Rattle.std.specs.Bool.{Decides}
 use Rattle.std.specs.List.{list_all, range_with_len}
 use Rattle.std.proofs.lemmas.Bool.Decides.{Decides-and, Decides-by_and, Decides-eqb, Decides-like, Decides-not, not_from_Decides}
@@ -26,7 +26,6 @@ use Rattle.std.proofs.lemmas.Bool.{cases_lt}
 use Rattle.std.proofs.lemmas.Int.{ints}
 use Rattle.std.proofs.lemmas.List.{get_or-replicate, get_or_past, length-replicate}
 use Rattle.std.proofs.lemmas.List.Elements.{All-cons, All-contains, All-head, All-map, All-nil, All-tail, All-weaker, Contains-get_or}
-use Rattle.std.proofs.lemmas.List.Kept.{AllPairs-cons}
 use Rattle.std.proofs.lemmas.List.Sums.{AllPass-from_list_all}
 
 -- ---- a test of closed meshes
@@ -278,24 +277,6 @@ sides_are_no_manifold h = sides_have_no_fan (h 0 (omega arith))
 -- a tetrahedron beside a vertex that has no face, which is the last
 beside_last : List Face
 beside_last = face 0 1 2 ∷ face 0 2 3 ∷ face 0 3 1 ∷ face 1 3 2 ∷ []
-
-abbrev unlike : ℕ → ℕ → Type 0
-unlike v w = v ≡ w → ⊥
-
-three_unlike : AllPairs unlike (1 ∷ 2 ∷ 3 ∷ [])
-three_unlike =
-    AllPairs-cons unlike 1 (2 ∷ 3 ∷ []) (All-cons (unlike 1) 2 (3 ∷ []) (λ e. omega (arith, e)) (All-cons (unlike 1) 3 [] (λ e. omega (arith, e)) (All-nil (unlike 1))))
-    (AllPairs-cons unlike 2 (3 ∷ []) (All-cons (unlike 2) 3 [] (λ e. omega (arith, e)) (All-nil (unlike 2))) (λ i j d before within. absurd (omega (arith, before, within))))
-
--- the first vertex of the tetrahedron has the least fan, of three faces
-first_has_fan : HasFan beside_last 0
-unfolding beside_last
-first_has_fan = record {
-  cycle = 1 ∷ 2 ∷ 3 ∷ [];
-  long = omega arith;
-  differ = three_unlike;
-  exact = λ v w. refl;
-}
 
 no_cycle : (c : List ℕ) → 3 ≤ length c → ((v w : ℕ) → 0 ≡ occurrences (cycle_arcs c) v w) → ⊥
 no_cycle [] long none = omega (arith, long)
