@@ -18,7 +18,7 @@ use Rattle.edit_session.specs.Heights.{heights_of, plain_depths}
 use Rattle.edit_session.specs.Images.{image_of, plain_points}
 use Rattle.edit_session.specs.Meshes.{grid_of, mesh_text, plain_grid}
 use Rattle.fixed_ops.specs.Counts.{no_counts, points_of, spans_of}
-use Rattle.edit_session.specs.Work.{CountsWithin, CountsWork, PointsRiseAtMost, Work, both, frame_work, height_work, mesh_work, no_work}
+use Rattle.edit_session.specs.Work.{CountsWithin, CountsWork, FitsCounts, PointsRiseAtMost, Work, both, frame_work, height_work, mesh_work, no_work}
 
 -- the clauses of a text that is read
 abbrev solid : List ℕ → List Clause
@@ -124,6 +124,16 @@ along_z = refl
 sum_of_work : both (record { points = 1; spans = 20; plain = 300 }) (record { points = 4; spans = 50; plain = 600 })
     ≡ record { points = 5; spans = 70; plain = 900 }
 sum_of_work = refl
+
+nothing_adds_nothing : both no_work (record { points = 1; spans = 20; plain = 300 }) ≡ record { points = 1; spans = 20; plain = 300 }
+nothing_adds_nothing = refl
+
+-- a count has at most 64 bits
+points_beyond_a_count : FitsCounts (record no_work { points = 18446744073709551616 }) → ⊥
+points_beyond_a_count fits = absurd (omega (arith, fits.points))
+
+spans_beyond_a_count : FitsCounts (record no_work { spans = 18446744073709551616 }) → ⊥
+spans_beyond_a_count fits = absurd (omega (arith, fits.spans))
 
 -- of a clause that the last one does not need, a map and a mesh take no work, but plain evaluation of it does
 map_of_two_clauses : height_work (window 1 1 3) (solid (codes "u var-x\nz var-z\n"))

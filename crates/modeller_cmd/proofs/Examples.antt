@@ -1,6 +1,6 @@
 -- The definitions of a run, computed on words, texts and views that were worked out by hand.
-use Rattle.std.proofs.Common.{◌≡◌, ℕ, zero, suc, true, false, pos, negsuc, ◌+◌, List, [], ◌∷◌, ◌++◌, length, map, take, Option, Some, Ok, Err, refl, subst, sym, arith}
-use Rattle.std.specs.Prelude.{codes, slice_index_or, IsTrue, ℤ}
+use Rattle.std.proofs.Common.{◌≡◌, ℕ, zero, suc, true, false, pos, negsuc, ◌+◌, List, [], ◌∷◌, ◌++◌, length, map, take, Option, Some, None, Err, refl, subst, sym, ap, ◌∙◌, arith}
+use Rattle.std.specs.Prelude.{codes, slice_get, slice_index_or, IsTrue, ℤ}
 use Rattle.std.proofs.lemmas.List.Elements.{All-head}
 use Rattle.std.specs.Fmt.{digits}
 use Rattle.std.proofs.lemmas.Bool.{le-ltb, lt-ltb}
@@ -31,16 +31,17 @@ use Rattle.edit_session.specs.Heights.{heights_of}
 use Rattle.modeller_cmd.specs.Notes.{line_of}
 use Rattle.modeller_cmd.specs.Output.{Output, WithOutput, input_limit, made, model_bytes, output_as, output_of, parts_after}
 use Rattle.modeller_cmd.specs.Parts.{AreExact, Part, bytes_of_parts, work_of_parts}
-use Rattle.modeller_cmd.specs.Playing.{Played}
+use Rattle.modeller_cmd.specs.Playing.{Played, Stopped}
 use Rattle.modeller_cmd.specs.Statuses.{number_of}
-use Rattle.modeller_cmd.specs.Stopping.{StopsIn, WantsMemory}
+use Rattle.modeller_cmd.specs.Stopping.{StopsAt, StopsIn, WantsMemory}
 use Rattle.modeller_cmd.specs.Forging.{forge_text}
-use Rattle.fixed_ops.specs.Counts.{no_counts}
+use Rattle.fixed_ops.specs.Counts.{Counts, no_counts}
 use Rattle.solid_model.specs.declared.clause.Clause.{Clause}
 use Rattle.solid_model.specs.declared.edit.Edit.TheVariants as edits
+use Rattle.edit_script.specs.declared.command.Command.{Command}
 use Rattle.edit_script.specs.declared.command.Command.TheVariants as commands
 use Rattle.clause_reader.specs.declared.text_fault.TextFault.{TextFault}
-use Rattle.modeller_cmd.specs.Replays.{replayed}
+use Rattle.modeller_cmd.specs.Replays.{replayed, standing}
 use Rattle.edit_session.specs.Work.{no_work}
 use Rattle.modeller_cmd.specs.declared.refusal.Refusal.TheVariants as refusal
 use Rattle.modeller_cmd.specs.declared.status.Status.{Status}
@@ -152,6 +153,11 @@ bad_line = refl
 empty_input : output_of (codes "text" ∷ []) [] ≡ refused status.BadModel (codes "modeller: line 0: Empty\n")
 unfolding digits
 empty_input = refl
+
+-- a mark line parts a script alone: to other words it is a clause without an operation
+mark_is_no_clause : output_of (codes "text" ∷ []) (codes "x var-x\n%%\n") ≡ refused status.BadModel (codes "modeller: line 2: NoOperation\n")
+unfolding digits
+mark_is_no_clause = refl
 
 -- what a script writes: the frames of a replay and the lines of edits that are refused
 abbrev replayed_of : List ℕ → Output
@@ -462,6 +468,16 @@ half_a_part gains = by gains.count gains.gained
     by (suc count) same =
         let whole : codes "a" ≡ codes "ab" ++ bytes_of_parts (take count []) = same in (cc)
 
+other_bytes_are_no_front : TakesLine (λ (s : List ℕ). last_count) (λ s. Some s) [] (codes "b") (codes "ab") → ⊥
+other_bytes_are_no_front takes = by takes.front.count takes.front.gained
+  where
+    by : (count : ℕ) → codes "b" ≡ take count (codes "ab") → ⊥
+    by zero same = (cc)
+    by (suc count) same = let byte : 98 ≡ 97 = ap (λ s. slice_index_or s 0 0) same in absurd (omega (arith, byte))
+
+half_a_part_without_memory : Stopped (λ (s : List ℕ). Some s) (λ s. 0) [] (codes "a") no_counts no_counts (idle (codes "ab") ∷ []) stop.NoMemory → ⊥
+half_a_part_without_memory stopped = half_a_part (stopped.whole refl)
+
 -- a part that is not written was not played
 unwritten_part : Played (λ (s : List ℕ). Some s) (λ s. 0) [] [] no_counts no_counts (idle (codes "a") ∷ []) → ⊥
 unwritten_part played = let same : [] ≡ codes "a" = played.gained in (cc)
@@ -489,7 +505,36 @@ cut_wants_none wants = wants.1
 stray_wants_none : WantsMemory two (commands.Stray 4) → ⊥
 stray_wants_none wants = wants
 
--- the work of parts is the sum of theirs
+-- what stands after an edit that is accepted
+after_a_cut : standing two (commands.Edit 3 (edits.Cut (codes "f")) ∷ commands.Text ∷ []) ≡ record { name = codes "x"; op = op.X; a = 0; b = 0; value = pos 0 } ∷ []
+unfolding standing
+after_a_cut = refl
+
+-- a frame stops for want of memory only behind what the stray line before it writes, and that line never does
+abbrev stray_and_text : List Command
+stray_and_text = commands.Stray 3 ∷ commands.Text ∷ []
+
+stray_is_passed : StopsAt (λ (s : List ℕ). Some s) (λ s. 0) [] [] no_counts no_counts two stray_and_text stop.NoMemory → ⊥
+unfolding digits replayed standing
+stray_is_passed at = by at.earlier at.command at.later at.split at.between at.counts at.played at.stops
+  where
+    by : (earlier : List Command) (command : Command) (later : List Command) → stray_and_text ≡ earlier ++ command ∷ later
+        → (between : List ℕ) (counts : Counts) → Played (λ (s : List ℕ). Some s) (λ s. 0) [] between no_counts counts (replayed two earlier)
+        → StopsIn (λ (s : List ℕ). Some s) (λ s. 0) between [] counts no_counts (standing two earlier) command stop.NoMemory → ⊥
+    by [] command later split between counts played stops =
+        let same : commands.Stray 3 ≡ command = cc in subst (WantsMemory two) (sym same) (stops.wants refl)
+    by (first ∷ earlier) command later split between counts played stops =
+        let same : commands.Stray 3 ≡ first = cc in
+        let none : [] ≡ between = stops.unwritten refl in
+        let some : between ≡ bytes_of_parts (replayed two (commands.Stray 3 ∷ earlier)) =
+            subst (λ command. between ≡ bytes_of_parts (replayed two (command ∷ earlier))) (sym same) played.gained in
+        let byte : None ≡ Some 64 = ap (λ s. slice_get s 0) none ∙ ap (λ s. slice_get s 0) some in
+        (cc)
+
+-- parts are written in their order, and their work is the sum of theirs
+parts_in_order : bytes_of_parts (idle (codes "a") ∷ idle (codes "bc") ∷ []) ≡ codes "abc"
+parts_in_order = refl
+
 work_adds_up : work_of_parts (picture ∷ record { bytes = []; exact = true; work = record { points = 1; spans = 20; plain = 300 } } ∷ [])
     ≡ record { points = 10; spans = 23; plain = 309 }
 work_adds_up = refl

@@ -1,5 +1,5 @@
 -- Edits and values of a few clauses, worked out by hand.
-use Rattle.std.proofs.Common.{◌≡◌, nat_le, pos, negsuc, [], ◌∷◌, ◌++◌, List, length, Ok, Err, true, false, refl}
+use Rattle.std.proofs.Common.{◌≡◌, nat_le, pos, negsuc, [], ◌∷◌, ◌++◌, List, length, map, Ok, Err, true, false, refl}
 use Rattle.fixed_ops.specs.declared.operation.Op.TheVariants as ops
 use Rattle.fixed_ops.specs.Points.{Point}
 use Rattle.solid_model.specs.declared.clause.Clause.{Clause}
@@ -7,6 +7,7 @@ use Rattle.solid_model.specs.declared.edit.Edit.TheVariants.{Set, Add, Put, Cut}
 use Rattle.solid_model.specs.declared.edit.EditFault.TheVariants.{UnknownName, DoubleName, NotEarlier, InUse, LastClause, Full}
 use Rattle.solid_model.specs.Edits.{before, edited, is_named, MakesClause}
 use Rattle.solid_model.specs.Named.{named_of, placed}
+use Rattle.solid_model.specs.Names.{is_name}
 use Rattle.solid_model.specs.Parts.{Parts}
 use Rattle.solid_model.specs.Values.{values, solid_value}
 
@@ -98,3 +99,8 @@ set_makes_none makes = makes
 
 cut_makes_none : MakesClause (Cut (120 ∷ [])) → ⊥
 cut_makes_none makes = makes
+
+-- a name is a token that does not begin with `#`: it is not empty, and has no space, tab, carriage return or line feed
+names : map is_name ((97 ∷ []) ∷ (97 ∷ 35 ∷ []) ∷ [] ∷ (35 ∷ 97 ∷ []) ∷ (97 ∷ 32 ∷ 98 ∷ []) ∷ (97 ∷ 9 ∷ []) ∷ (13 ∷ 97 ∷ []) ∷ (97 ∷ 10 ∷ 98 ∷ []) ∷ [])
+    ≡ true ∷ true ∷ false ∷ false ∷ false ∷ false ∷ false ∷ false ∷ []
+names = refl
