@@ -527,7 +527,7 @@ stray_is_passed at = by at.earlier at.command at.later at.split at.between at.co
         let same : commands.Stray 3 ≡ first = cc in
         let none : [] ≡ between = stops.unwritten refl in
         let some : between ≡ bytes_of_parts (replayed two (commands.Stray 3 ∷ earlier)) =
-            subst (λ command. between ≡ bytes_of_parts (replayed two (command ∷ earlier))) (sym same) played.gained in
+        subst (λ command. between ≡ bytes_of_parts (replayed two (command ∷ earlier))) (sym same) played.gained in
         let byte : None ≡ Some 64 = ap (λ s. slice_get s 0) none ∙ ap (λ s. slice_get s 0) some in
         (cc)
 
