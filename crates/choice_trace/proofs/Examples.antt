@@ -1,7 +1,6 @@
 -- Hulls and choices, computed over regions that were worked out by hand.
 use Rattle.std.proofs.Common.{◌≡◌, ◌∙◌, ℤ, pos, negsuc, [], ◌∷◌, List, ap, refl}
 use Rattle.fixed_ops.specs.Operations.{op_result}
-use Rattle.fixed_ops.specs.declared.operation.Op.{Op}
 use Rattle.fixed_ops.specs.declared.operation.Op.TheVariants.{X, Y, Z, Const, Neg, Sub, Min, Max}
 use Rattle.interval_ops.specs.Hulls.{between}
 use Rattle.interval_ops.specs.declared.choice.Choice.TheVariants.{Left, Right, Both}

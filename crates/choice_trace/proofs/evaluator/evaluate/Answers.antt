@@ -3,7 +3,7 @@ use Rattle.std.proofs.lemmas.List.{drop-set-lt}
 use Rattle.fixed_ops.specs.Counts.{no_counts, times}
 use Rattle.live_clauses.specs.Steps.{values}
 use Rattle.choice_trace.specs.Work.{RisesWithin}
-use Rattle.choice_trace.proofs.Elements.{RisesWithin-apart, none_read, read_more, step_stands, within_more, within_none}
+use Rattle.choice_trace.proofs.Elements.{none_read, read_more, step_stands, within_more, within_none}
 use Rattle.choice_trace.proofs.evaluator.evaluate.Goals as goal
 
 pub loop-at-init : goal.loop-at-init

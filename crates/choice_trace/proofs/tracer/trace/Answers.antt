@@ -1,4 +1,4 @@
-use Rattle.std.proofs.Common.{◌≤◌, ◌*◌, ◌≡◌, ◌∙◌, ◌-◌, ap, arith, get_or, length, subst, sym, take}
+use Rattle.std.proofs.Common.{◌≡◌, ◌∙◌, ◌-◌, ap, arith, get_or, length, subst, sym, take}
 use Rattle.std.proofs.lemmas.List.{drop-set-lt, get_or_read}
 use Rattle.fixed_ops.specs.Counts.{no_counts}
 use Rattle.interval_ops.specs.HullCountLaws.{CountsHulls-apart, CountsHulls-then}
