@@ -1,5 +1,5 @@
 -- What the program ends with.
-use Rattle.std.specs.Prelude.{ℕ}
+use Rattle.std.specs.Prelude.{ℕ, ⊤}
 use Rattle.std.specs.declared.io.ErrorKind.{ErrorKind}
 use Rattle.std.specs.declared.io.ErrorKind.TheVariants.{OutOfMemory}
 use Rattle.modeller_cmd.specs.Statuses.{number_of}
@@ -13,3 +13,8 @@ abbrev pub number_of_end : End → ℕ
 number_of_end (Ran status) = number_of status
 number_of_end (Wordless OutOfMemory) = number_of NoMemory
 number_of_end (Wordless _) = 1
+
+-- the program has run
+abbrev pub HasRun : End → Type 0
+HasRun (Ran status) = ⊤
+HasRun (Wordless kind) = ⊥
