@@ -33,7 +33,7 @@ use Rattle.modeller_cmd.specs.Output.{Output, WithOutput, input_limit, made, mod
 use Rattle.modeller_cmd.specs.Parts.{AreExact, Part, bytes_of_parts, work_of_parts}
 use Rattle.modeller_cmd.specs.Playing.{Played, Stopped}
 use Rattle.modeller_cmd.specs.Statuses.{number_of}
-use Rattle.modeller_cmd.specs.Stopping.{StopsAt, StopsIn, WantsMemory}
+use Rattle.modeller_cmd.specs.Stopping.{StopsAt, StopsIn, WantsMemory, WritesSomething}
 use Rattle.modeller_cmd.specs.Forging.{forge_text}
 use Rattle.fixed_ops.specs.Counts.{Counts, no_counts}
 use Rattle.solid_model.specs.declared.clause.Clause.{Clause}
@@ -504,6 +504,13 @@ cut_wants_none wants = wants.1
 
 stray_wants_none : WantsMemory two (commands.Stray 4) → ⊥
 stray_wants_none wants = wants
+
+-- an edit writes a line where it is refused, and nothing where it is accepted
+refused_edit_writes : WritesSomething two (commands.Edit 4 (edits.Cut (codes "x")))
+refused_edit_writes = refl
+
+accepted_edit_writes_nothing : WritesSomething two (commands.Edit 4 (edits.Cut (codes "f"))) → ⊥
+accepted_edit_writes_nothing writes = let is : false ≡ true = writes in (cc)
 
 -- what stands after an edit that is accepted
 after_a_cut : standing two (commands.Edit 3 (edits.Cut (codes "f")) ∷ commands.Text ∷ []) ≡ record { name = codes "x"; op = op.X; a = 0; b = 0; value = pos 0 } ∷ []

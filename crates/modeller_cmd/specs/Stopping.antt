@@ -1,5 +1,5 @@
 -- Where the commands of a script stop.
-use Rattle.std.specs.Prelude.{◌≡◌, ◌⊎◌, ℕ, List, ◌∷◌, ◌++◌, Option, Ok, IsOk, ⊤}
+use Rattle.std.specs.Prelude.{◌≡◌, ◌⊎◌, ℕ, List, ◌∷◌, ◌++◌, Option, Ok, IsOk, IsErr, ⊤}
 use Rattle.clause_reader.specs.Reading.{text_read}
 use Rattle.edit_script.specs.Marks.{before_mark}
 use Rattle.edit_script.specs.Scripts.{script_read}
@@ -26,13 +26,19 @@ WantsMemory clauses (commands.Edit line edit) = IsOk (edited clauses edit) × Ma
 WantsMemory clauses (commands.Stray line) = ⊥
 WantsMemory clauses other = ⊤
 
+-- A command writes something: an edit only where it is refused.
+abbrev pub WritesSomething : List Clause → Command → Type 0
+WritesSomething clauses (commands.Edit line edit) = IsErr (edited clauses edit)
+WritesSomething clauses other = ⊤
+
 -- Something stopped one command. Where memory was refused nothing of it was written, and it may want
--- memory; under a fault of the sink its work was done.
+-- memory; under a fault of the sink it writes something, and its work was done.
 pub record StopsIn {K : Type 0} (held : K → Option (List ℕ)) (faults : K → ℕ)
     (before after : K) (first last : Counts) (clauses : List Clause) (command : Command)
     (stop : Stop) : Type 0 where
   pub unwritten : stop ≡ NoMemory → after ≡ before
   pub wants : stop ≡ NoMemory → WantsMemory clauses command
+  pub writes : stop ≡ WriteFault → WritesSomething clauses command
   pub counted : stop ≡ WriteFault → AreExact (parts_at clauses command)
       → CountsWork first last (work_of_parts (parts_at clauses command))
   pub stopped : Stopped held faults before after first last (parts_at clauses command) stop

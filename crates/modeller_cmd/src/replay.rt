@@ -1,5 +1,5 @@
 // A script that is played on the model before its mark.
-ghost use Rattle.std.specs.Prelude.{◌≡◌, ◌≢◌, ◌≤◌, [], ◌∷◌, length, Err, All, IfErr, IfOk, IsOk, OnOk};
+ghost use Rattle.std.specs.Prelude.{◌≡◌, ◌≢◌, ◌≤◌, [], ◌∷◌, length, Err, All, IfErr, IfOk, IsErr, IsOk, OnOk};
 ghost use Rattle.edit_script.specs.Commands.{IsCommand};
 ghost use Rattle.edit_script.specs.Marks.{before_mark};
 ghost use Rattle.edit_script.specs.Scripts.{script_read};
@@ -8,7 +8,7 @@ ghost use Rattle.modeller_cmd.specs.Endings.{Ends, IsPlayStop, IsRefusal, IsServ
 ghost use Rattle.modeller_cmd.specs.Output.{input_limit, made, output_as};
 ghost use Rattle.modeller_cmd.specs.Playing.{Played, Stopped};
 ghost use Rattle.modeller_cmd.specs.Replays.{clauses_after, parts_at, refusal, replayed};
-ghost use Rattle.modeller_cmd.specs.Stopping.{StopsAt, StopsPlay, WantsMemory};
+ghost use Rattle.modeller_cmd.specs.Stopping.{StopsAt, StopsPlay, WantsMemory, WritesSomething};
 ghost use Rattle.modeller_cmd.specs.Parts.{AreExact, work_of_parts};
 ghost use Rattle.edit_session.specs.Work.{CountsWork};
 ghost use Rattle.solid_model.specs.Edits.{MakesClause, edited};
@@ -104,6 +104,7 @@ fn step<K: Sink>(
         (parts_at session.old command)) }
     ensures unwritten { result ≡ Err Stop.NoMemory → out.new ≡ out.old }
     ensures wants { result ≡ Err Stop.NoMemory → WantsMemory session.old command }
+    ensures writes { result ≡ Err Stop.WriteFault → WritesSomething session.old command }
     ensures counted { result ≡ Err Stop.WriteFault → AreExact (parts_at session.old command)
         → CountsWork tally.old tally.new (work_of_parts (parts_at session.old command)) }
 {
@@ -141,6 +142,7 @@ fn change<K: Sink>(session: &mut Session, line: u32, edit: Edit, out: &mut K) ->
         (parts_at session.old (Command.Edit line edit)) stop) }
     ensures unwritten { result ≡ Err Stop.NoMemory → out.new ≡ out.old }
     ensures wants { result ≡ Err Stop.NoMemory → IsOk (edited session.old edit) × MakesClause edit }
+    ensures writes { result ≡ Err Stop.WriteFault → IsErr (edited session.old edit) }
 {
     match session.edit(edit) {
         Ok(()) => Ok(()),

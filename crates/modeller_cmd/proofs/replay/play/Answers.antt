@@ -73,6 +73,7 @@ returns-in_err-step-clause-ends g c =
           (record {
             unwritten = λ is. c.in_err-step.ensures.unwritten (ap (λ s. Err s) is);
             wants = λ is. c.in_err-step.ensures.wants (ap (λ s. Err s) is);
+            writes = λ is. c.in_err-step.ensures.writes (ap (λ s. Err s) is);
             counted = λ is. c.in_err-step.ensures.counted (ap (λ s. Err s) is);
             stopped = c.in_err-step.ensures.stopped;
           });
