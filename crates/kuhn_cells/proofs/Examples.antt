@@ -12,8 +12,9 @@ use Rattle.kuhn_cells.specs.Cells.{IsBordered, cell_at, is_mixed_cell, is_outerm
 use Rattle.kuhn_cells.specs.Faces.{Face, faces, all_triangles}
 use Rattle.kuhn_cells.specs.Grids.{Grid, is_point, over_block, value_at, vertices}
 use Rattle.kuhn_cells.specs.Lists.{ListsCells}
-use Rattle.kuhn_cells.specs.Rings.{IsRing}
+use Rattle.kuhn_cells.specs.Rings.{HasEdge, IsRing, corners_off, sides}
 use Rattle.kuhn_cells.specs.Triangles.{point}
+use Rattle.kuhn_cells.specs.Vectors.{Vector}
 
 abbrev middle_inside : Grid
 middle_inside = record { x = 2; y = 2; z = 2; values = (replicate 13 (pos 1) ++ negsuc 0 ∷ []) ++ replicate 13 (pos 1) }
@@ -136,6 +137,24 @@ listed_count : (list : CellList) (g : Grid) → list.n ≡ 3 → ListsCells 2 li
 listed_count list g e h = omega (arith, e, h.count)
 
 -- ---- rings
+
+-- the corners 0, 1, 3 and 7 of the first tetrahedron, of which the edge to corner 7 takes two
+off_the_diagonal : corners_off 7 (0, 0) ≡ 1 ∷ 3 ∷ []
+off_the_diagonal = refl
+
+abbrev vector : ℕ → ℕ → ℕ → Vector
+vector x y z = record { x = pos x; y = pos y; z = pos z }
+
+-- round the diagonal the second tetrahedron, with the corners 0, 1, 5 and 7, ends at corner 1, where the first begins
+first_lies_between : sides 7 (0, 0) ≡ (vector 1 0 0, vector 1 1 0)
+first_lies_between = refl
+
+second_lies_between : sides 7 (0, 1) ≡ (vector 1 0 1, vector 1 0 0)
+second_lies_between = refl
+
+-- a cell has six tetrahedra, the last of which has the number 5
+no_seventh_tetrahedron : HasEdge 7 (0, 6) → ⊥
+no_seventh_tetrahedron h = omega (arith, h.few)
 
 -- the four tetrahedra round the edge to corner 3, from the second on
 ring_from_the_second : IsRing 3 ((4, 4) ∷ (4, 5) ∷ (0, 2) ∷ (0, 0) ∷ []) → ⊥
