@@ -2,10 +2,11 @@
 use Rattle.std.proofs.Common.{◌≡◌, ℕ, pos, negsuc, [], ◌∷◌, List, refl}
 use Rattle.box_chains.specs.Chains.{chain_within}
 use Rattle.box_chains.specs.Counts.{spans_in}
+use Rattle.fixed_ops.specs.Counts.{Counts}
 use Rattle.fixed_ops.specs.declared.operation.Op.TheVariants.{X, Y, Z, Const, Neg, Sub, Max}
 use Rattle.live_clauses.specs.declared.step.Step.{Step}
 use Rattle.view_settings.specs.Window.{Window}
-use Rattle.height_map.specs.Bound.{height_points, height_spans, near_spans, points_where, spans_where}
+use Rattle.height_map.specs.Bound.{CountsPoints, CountsSpans, height_points, height_spans, near_spans, points_where, spans_where}
 use Rattle.height_map.specs.Tops.{tops_of}
 
 -- from -1 to 1
@@ -124,3 +125,13 @@ slab_traced = refl
 side_traced : near_spans (window 2 1 9) across ≡ 3
 unfolding spans_where chain_within
 side_traced = refl
+
+-- evaluations and hulls are counted each by themselves
+abbrev counted : ℕ → ℕ → Counts
+counted points spans = record { points = points; spans = spans; corners = 300 }
+
+three_evaluations : CountsPoints 3 (counted 1 20) (counted 4 20)
+three_evaluations = refl
+
+three_hulls : CountsSpans 3 (counted 1 20) (counted 1 23)
+three_hulls = refl
