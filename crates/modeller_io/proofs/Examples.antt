@@ -1,7 +1,7 @@
 -- Counts, and what sinks and sources tell, worked out by hand.
-use Rattle.std.proofs.Common.{◌≡◌, [], ◌∷◌, None, Some, refl}
+use Rattle.std.proofs.Common.{◌≡◌, ℕ, List, [], ◌∷◌, None, Some, refl, arith}
 use Rattle.modeller_io.specs.Count.{raised}
-use Rattle.modeller_io.specs.Held.{Extends}
+use Rattle.modeller_io.specs.Held.{Extends, GainsPrefix}
 use Rattle.modeller_io.specs.SinkView.{held_with}
 use Rattle.modeller_io.specs.SourceView.{given}
 
@@ -19,6 +19,10 @@ bytes_go_last = refl
 -- a sink that told nothing before the call tells nothing after it
 sink_never_begins_to_tell : Extends None (Some []) [] → ⊥
 sink_never_begins_to_tell h = h
+
+-- of two bytes the first alone is a front
+first_byte_is_a_front : GainsPrefix (λ (held : List ℕ). Some held) (1 ∷ []) (1 ∷ 2 ∷ []) (2 ∷ 3 ∷ [])
+first_byte_is_a_front = record { count = 1; within = omega arith; gained = refl }
 
 -- what fits exactly is told, and what is longer by one byte is not
 room_is_filled : held_with 3 (Some (1 ∷ 2 ∷ [])) (3 ∷ []) ≡ Some (1 ∷ 2 ∷ 3 ∷ [])

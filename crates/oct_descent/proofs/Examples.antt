@@ -1,13 +1,14 @@
 -- The work of grids, computed on lists that were worked out by hand.
-use Rattle.std.proofs.Common.{◌≡◌, ℕ, suc, pos, negsuc, true, false, [], ◌∷◌, List, refl}
+use Rattle.std.proofs.Common.{◌≡◌, ℕ, suc, pos, negsuc, true, false, [], ◌∷◌, List, refl, ap, arith}
 use Rattle.std.specs.Prelude.{Some}
+use Rattle.fixed_ops.specs.Counts.{Counts, no_counts, risen}
 use Rattle.fixed_ops.specs.declared.operation.Op.{Op}
 use Rattle.fixed_ops.specs.declared.operation.Op.TheVariants.{X, Y, Z, Add, Const, Max, Neg}
 use Rattle.kuhn_cells.specs.Triangles.{point}
 use Rattle.live_clauses.specs.declared.step.Step.{Step}
 use Rattle.view_settings.specs.Boxes.{Indices}
 use Rattle.view_settings.specs.Window.{Window}
-use Rattle.oct_descent.specs.Bound.{greatest, least, long_spans_in, mesh_least, mesh_long_spans, mesh_points, mesh_spans, spans_in}
+use Rattle.oct_descent.specs.Bound.{CountsAtLeast, CountsHullsAtLeast, greatest, least, long_spans_in, mesh_least, mesh_long_spans, mesh_points, mesh_spans, spans_in}
 use Rattle.oct_descent.specs.GridValues.{grid_of, grid_value, is_border}
 use Rattle.oct_descent.specs.Ways.{is_open_by, meets_border, way_within}
 
@@ -222,3 +223,23 @@ border_box_stays_open = refl
 
 box_outside_is_closed : is_open_by 5 (cell 2 4 3) (Some false) ≡ false
 box_outside_is_closed = refl
+
+-- evaluations and hulls are counted each by themselves, and what is too little is not enough
+abbrev counted : ℕ → ℕ → Counts
+counted points spans = record { points = points; spans = spans; corners = 300 }
+
+four_evaluations : CountsAtLeast 4 no_counts (counted 4 3)
+four_evaluations = record { by = counted 4 3; many = omega arith; rises = refl }
+
+five_evaluations : CountsAtLeast 5 no_counts (counted 4 30) → ⊥
+five_evaluations h =
+    let points : 4 ≡ risen 0 h.by.points = ap (λ (counts : Counts). counts.points) h.rises in
+    omega (arith, h.many, points)
+
+four_hulls : CountsHullsAtLeast 4 no_counts (counted 3 4)
+four_hulls = record { by = counted 3 4; many = omega arith; rises = refl }
+
+five_hulls : CountsHullsAtLeast 5 no_counts (counted 30 4) → ⊥
+five_hulls h =
+    let spans : 4 ≡ risen 0 h.by.spans = ap (λ (counts : Counts). counts.spans) h.rises in
+    omega (arith, h.many, spans)

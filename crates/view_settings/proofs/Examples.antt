@@ -1,5 +1,5 @@
 -- Places and boxes, computed on views that were worked out by hand, and which settings verbs take.
-use Rattle.std.proofs.Common.{◌≡◌, ℕ, pos, negsuc, List, [], ◌∷◌, None, Some, Ok, Err, true, false, refl}
+use Rattle.std.proofs.Common.{◌≡◌, ℕ, pos, negsuc, List, [], ◌∷◌, None, Some, Ok, Err, true, false, refl, arith}
 use Rattle.std.specs.Prelude.{codes}
 use Rattle.view_settings.specs.declared.lattice.Axis.TheVariants as axes
 use Rattle.view_settings.specs.declared.lattice.Lattice.TheVariants.{Raster, Height, Grid}
@@ -10,7 +10,7 @@ use Rattle.view_settings.specs.declared.setting.Setting.{Setting}
 use Rattle.view_settings.specs.declared.setting.Value.TheVariants.{Raw, Count}
 use Rattle.view_settings.specs.declared.verb.Verb.TheVariants.{Render, Count as Counts, Height as Heights, Mesh, Text, Replay, Forge}
 use Rattle.view_settings.specs.declared.word_fault.WordReason.TheVariants.{OutOfRange}
-use Rattle.view_settings.specs.Boxes.{middle, one_sample}
+use Rattle.view_settings.specs.Boxes.{Indices, IsBox, middle, one_sample}
 use Rattle.view_settings.specs.Kinds.{kind_of}
 use Rattle.view_settings.specs.Names.{name_called}
 use Rattle.view_settings.specs.Places.{place_of, raster_point}
@@ -162,6 +162,22 @@ each_setting_sets_its_own = refl
 -- of 17 indices from 3 on the lower half has 9
 lower_half_has_the_odd_index : middle 3 20 ≡ 12
 lower_half_has_the_odd_index = refl
+
+-- a box has an index on each axis
+abbrev sides_to : ℕ → ℕ → ℕ → Indices
+sides_to x1 y1 z1 = record { x0 = 3; x1 = x1; y0 = 5; y1 = y1; z0 = 7; z1 = z1 }
+
+one_index_on_each : IsBox (sides_to 4 6 8)
+one_index_on_each = record { x = omega arith; y = omega arith; z = omega arith }
+
+none_along_x : IsBox (sides_to 3 6 8) → ⊥
+none_along_x h = omega (arith, h.x)
+
+none_along_y : IsBox (sides_to 4 5 8) → ⊥
+none_along_y h = omega (arith, h.y)
+
+none_along_z : IsBox (sides_to 4 6 7) → ⊥
+none_along_z h = omega (arith, h.z)
 
 -- an image of one pixel is the box of the one index 0 on each axis
 lone_pixel : root_of (counted 1) Raster ≡ one_sample
