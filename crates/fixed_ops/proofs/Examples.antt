@@ -1,7 +1,16 @@
--- Steps and counts of work, worked out by hand.
-use Rattle.std.proofs.Common.{◌≡◌, ℤ, pos, negsuc, [], ◌∷◌, refl}
-use Rattle.fixed_ops.specs.Counts.{Counts, joined, plus, times}
-use Rattle.fixed_ops.specs.Points.{Point, step_value}
+-- Steps, counts of work, numbers, cuts, numerals and roots, worked out by hand.
+use Rattle.std.proofs.Common.{◌≡◌, ◌≤◌, ℕ, ℤ, pos, negsuc, true, false, Some, [], ◌∷◌, refl, ap, arith, inl, inr}
+use Rattle.std.specs.Prelude.{codes}
+use Rattle.std.proofs.lemmas.Int.{ints}
+use Rattle.fixed_ops.proofs.DigitLaws.{digits_from_test}
+use Rattle.fixed_ops.specs.Counts.{Counts, IsAtMost, RisesAtMost, corners_of, joined, no_counts, plus, points_of, risen, spans_of, times}
+use Rattle.fixed_ops.specs.Cut.{cut_of}
+use Rattle.fixed_ops.specs.Laws.{IsClamped, IsOverZero}
+use Rattle.fixed_ops.specs.Numerals.{cut_magnitude, is_unsigned_numeral, nearest_raw, numeral, unsigned_raw}
+use Rattle.fixed_ops.specs.Points.{IsRawPoint, Point, step_value}
+use Rattle.fixed_ops.specs.Raw.{IsInside, IsRaw}
+use Rattle.fixed_ops.specs.Root.{IsRawRoot, IsRoot}
+use Rattle.fixed_ops.specs.Spelling.{IsDot, IsSign, IsSpelling, Spelling, spelled, spelling_value}
 use Rattle.fixed_ops.specs.declared.operation.Op.{Op}
 use Rattle.fixed_ops.specs.declared.operation.Op.TheVariants.{X, Y, Z, Const, Sub}
 
@@ -16,14 +25,147 @@ steps : step X ∷ step Y ∷ step Z ∷ step Const ∷ step Sub ∷ [] ≡
     pos 1 ∷ pos 2 ∷ pos 3 ∷ pos 7 ∷ negsuc 0 ∷ []
 steps = refl
 
+-- each coordinate of a raw point is raw
+raw_coordinates : (p : Point) → IsRawPoint p → IsRaw p.x × IsRaw p.y × IsRaw p.z
+raw_coordinates p raw = (raw.x, raw.y, raw.z)
+
+-- ---- counts of work
+
+abbrev counts : ℕ → ℕ → ℕ → Counts
+counts points spans corners = record { points = points; spans = spans; corners = corners }
+
 abbrev work : Counts
-work = record { points = 1; spans = 2; corners = 5 }
+work = counts 1 2 5
 
 -- each count by itself
-work_twice_and_once : plus (times 2 work) work ≡ record { points = 3; spans = 6; corners = 15 }
+work_twice_and_once : plus (times 2 work) work ≡ counts 3 6 15
 work_twice_and_once = refl
 
+-- work is made of its evaluations, hulls and corners, and no work comes before it
+work_by_kinds : plus (plus (points_of 1) (spans_of 2)) (corners_of 5) ≡ work
+work_by_kinds = refl
+
+work_alone : joined no_counts work ≡ work
+work_alone = refl
+
 -- a count that is full stands still, and the others rise
-one_count_is_full : joined (record { points = 18446744073709551614; spans = 4; corners = 7 }) work ≡
-    record { points = 18446744073709551615; spans = 6; corners = 12 }
-one_count_is_full = refl
+points_are_full : joined (counts 18446744073709551615 4 7) work ≡ counts 18446744073709551615 6 12
+points_are_full = refl
+
+others_are_full : joined (counts 8 18446744073709551614 18446744073709551611) work
+    ≡ counts 9 18446744073709551615 18446744073709551615
+others_are_full = refl
+
+-- each count is at most as much, and none is more
+as_much : IsAtMost work work
+as_much = record { points = omega arith; spans = omega arith; corners = omega arith }
+
+no_more : (points spans corners : ℕ) → IsAtMost (counts points spans corners) work
+    → (points ≤ 1) × (spans ≤ 2) × (corners ≤ 5)
+no_more points spans corners most = (most.points, most.spans, most.corners)
+
+-- a tally rises by less than so much work, and not by one corner more
+rises : RisesAtMost (counts 10 20 30) (counts 11 21 34) work
+rises = record {
+  by = counts 1 1 4;
+  within = record { points = omega arith; spans = omega arith; corners = omega arith };
+  rises = refl;
+}
+
+six_corners : RisesAtMost no_counts (counts 1 2 6) work → ⊥
+six_corners rise =
+    let risen_by : 6 ≡ risen 0 rise.by.corners = ap (λ c. c.corners) rise.rises in
+    omega (arith, rise.within.corners, risen_by)
+
+-- ---- numbers
+
+-- the first number below 0 is inside, and 0 is not
+inside_below_zero : IsInside (negsuc 0)
+inside_below_zero = refl
+
+outside_at_zero : IsInside (pos 0) → ⊥
+outside_at_zero inside = let same : false ≡ true = inside in (cc)
+
+-- a number in range stays, and one beyond either end is brought back to it
+in_range : (r : ℤ) → IsClamped (negsuc 4) r → r ≡ negsuc 4
+in_range r is = is.within (omega (arith, ints), omega (arith, ints))
+
+above_range : (r : ℤ) → IsClamped (pos 4611686018427387904) r → r ≡ pos 4611686018427387903
+above_range r is = is.above (omega (arith, ints))
+
+below_range : (r : ℤ) → IsClamped (negsuc 4611686018427387903) r → r ≡ negsuc 4611686018427387902
+below_range r is = is.below (omega (arith, ints))
+
+-- divided by 0, the numbers next to 0 give the ends
+one_over_zero : (r : ℤ) → IsOverZero (pos 1) r → r ≡ pos 4611686018427387903
+one_over_zero r is = is.positive (omega (arith, ints))
+
+minus_one_over_zero : (r : ℤ) → IsOverZero (negsuc 0) r → r ≡ negsuc 4611686018427387902
+minus_one_over_zero r is = is.negative (omega (arith, ints))
+
+-- ---- cuts
+
+-- two below 0 and one above: the cut lies at 43690.67 parts, and the part is left out
+cut_rounds_down : cut_of (negsuc 1) (pos 1) ≡ 43690
+cut_rounds_down = refl
+
+-- ---- numerals
+
+-- Half a raw number is 1.16415321826934814453125e-10. The 28th place after the point tells on which side of it a
+-- numeral lies, and the 29th place does not.
+below_half : numeral (codes "1164153218269348144.9e-28") ≡ Some (pos 0)
+unfolding cut_magnitude is_unsigned_numeral nearest_raw unsigned_raw
+below_half = refl
+
+above_half : numeral (codes "1164153218269348145e-28") ≡ Some (pos 1)
+unfolding cut_magnitude is_unsigned_numeral nearest_raw unsigned_raw
+above_half = refl
+
+abbrev parts : Spelling
+parts = record { sign = codes "-"; whole = codes "12"; point = codes "."; fraction = codes "5"; exponent = codes "e-1" }
+
+parts_in_turn : spelled parts ≡ codes "-12.5e-1"
+parts_in_turn = refl
+
+value_of_parts : spelling_value parts ≡ negsuc 5368709119
+unfolding cut_magnitude nearest_raw
+value_of_parts = refl
+
+-- digits may stand on one side of the point alone
+no_whole_digits : IsSpelling (record parts { whole = [] })
+no_whole_digits = record {
+  sign = inr (inr refl);
+  whole = digits_from_test [] refl;
+  point = inr refl;
+  fraction = digits_from_test (codes "5") refl;
+  digit = omega arith;
+  exponent = refl;
+}
+
+-- either sign or none, and a point or none
+signs : IsSign [] × IsSign (codes "+") × IsSign (codes "-")
+signs = (inl refl, inr (inl refl), inr (inr refl))
+
+points : IsDot [] [] × IsDot (codes ".") (codes "5")
+points = (inl (refl, refl), inr refl)
+
+-- ---- roots
+
+three_of_fifteen : IsRoot 15 3
+three_of_fifteen = (omega arith, omega arith)
+
+three_of_sixteen : IsRoot 16 3 → ⊥
+three_of_sixteen root = omega (arith, root.1)
+
+four_of_fifteen : IsRoot 15 4 → ⊥
+four_of_fifteen root = omega (arith, root.0)
+
+-- the root of the raw number 1 is the raw number 2^16, and below 0 each root is 0
+root_of_one : IsRawRoot (pos 1) (pos 65536)
+root_of_one = (65536, refl, (omega arith, omega arith))
+
+each_root_of_one : (r : ℤ) → IsRawRoot (pos 1) r → (k : ℕ) × (r ≡ pos k) × IsRoot 4294967296 k
+each_root_of_one r root = root
+
+root_below_zero : (r : ℤ) → IsRawRoot (negsuc 0) r → r ≡ pos 0
+root_below_zero r root = root
