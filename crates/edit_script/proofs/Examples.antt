@@ -1,6 +1,7 @@
 -- A small script, worked out by hand: which lines say commands, and on which of them memory may be wanted.
 use Rattle.std.proofs.Common.{◌≡◌, ℕ, pos, negsuc, true, false, Some, Ok, Err, List, [], ◌∷◌, refl, arith}
-use Rattle.std.specs.Prelude.{codes}
+use Rattle.std.specs.Prelude.{◌≢◌, codes}
+use Rattle.std.proofs.lemmas.Int.{ints}
 use Rattle.fixed_ops.specs.Numerals.{cut_magnitude, is_unsigned_numeral, nearest_raw, unsigned_raw}
 use Rattle.fixed_ops.specs.declared.operation.Op.TheVariants as ops
 use Rattle.solid_model.specs.declared.edit.Edit.TheVariants as edits
@@ -9,6 +10,7 @@ use Rattle.view_settings.specs.Window.{Window, has_room}
 use Rattle.edit_script.specs.Commands.{IsCommand}
 use Rattle.edit_script.specs.Marks.{before_mark, mark_ends}
 use Rattle.edit_script.specs.declared.command.Command.TheVariants.{Edit, Height, Mesh, Render, Stray, Text}
+use Rattle.edit_script.specs.declared.script_fault.ScriptFault.{ScriptFault}
 use Rattle.edit_script.specs.declared.script_reason.ScriptReason.TheVariants.{UnknownCommand, NoMemory}
 use Rattle.edit_script.specs.Scripts.{script_read, IsCommandLine, RefusesScript}
 
@@ -46,6 +48,18 @@ memory_before_it = record { refused = λ other. absurd (other refl); no_memory =
 
 no_memory_on_it : RefusesScript refused (record { line = 3; reason = NoMemory }) → ⊥
 no_memory_on_it refuses = let less = refuses.no_memory refl in absurd (omega (arith, less))
+
+-- the line right after the mark says a command
+line_next_to_the_mark : IsCommandLine refused 2
+line_next_to_the_mark = record { mark = 0; marked = refl; after = omega arith; says = refl }
+
+-- the line and the reason that are told are those of the line that is refused
+refused_so : RefusesScript refused (record { line = 3; reason = UnknownCommand })
+refused_so = record { refused = λ other. refl; no_memory = λ is. (cc) }
+
+told_so : (fault : ScriptFault) → fault.reason ≢ NoMemory → RefusesScript refused fault
+    → script_read refused ≡ Err fault
+told_so fault other refuses = refuses.refused other
 
 -- the model is what stands before the mark line, and the commands what stands after it
 ends_of_the_mark : mark_ends script ≡ Some (8, 11)
@@ -97,9 +111,25 @@ draws_of_a_script : script_read (codes "%%\nrender w=3\nheight h=4 d=5\nmesh n=6
 unfolding setting_of has_room
 draws_of_a_script = refl
 
--- what an edit names is a name, and a map that is too wide may not be drawn
+-- a stray line and the text keep nothing
+kept_by_none : IsCommand (Stray 5) × IsCommand Text
+kept_by_none = (tt, tt)
+
+-- what an edit names is a name, and each draw keeps to its own limits
 cut_of_no_name : IsCommand (Edit 3 (edits.Cut [])) → ⊥
 cut_of_no_name is = (cc)
 
 wide_map : IsCommand (Height (record window { w = 1025 })) → ⊥
 wide_map is = absurd (omega (arith, is.1.w))
+
+flat_map : IsCommand (Height (record window { d = 0 })) → ⊥
+flat_map is = absurd (omega (arith, is.0.d.some))
+
+no_columns : IsCommand (Render (record window { w = 0 })) → ⊥
+no_columns is = absurd (omega (arith, is.w.some))
+
+many_cells : IsCommand (Mesh (record window { n = 257 })) → ⊥
+many_cells is = absurd (omega (arith, is.0.n.few))
+
+small_cells : IsCommand (Mesh (record window { x1 = negsuc 4290772992 })) → ⊥
+small_cells is = absurd (omega (arith, ints, is.1.x))
