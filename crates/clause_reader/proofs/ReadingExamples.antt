@@ -1,15 +1,21 @@
 -- The definitions of reading, computed on texts that were worked out by hand: each reason once, and what is read.
-use Rattle.std.proofs.Common.{◌≡◌, ℕ, pos, nat_le, List, [], ◌∷◌, ◌++◌, length, None, Some, Ok, Err, true, false, refl, arith}
+use Rattle.std.proofs.Common.{◌≡◌, ℕ, pos, nat_le, List, [], ◌∷◌, ◌++◌, length, None, Some, Result, Ok, Err, true, false, refl, ap, arith}
 use Rattle.std.specs.Prelude.{codes, negsuc}
+use Rattle.std.proofs.lemmas.List.Elements.{All-head}
+use Rattle.std.proofs.lemmas.List.Sums.{AllPass-from_list_all}
 use Rattle.fixed_ops.specs.declared.operation.Op.TheVariants.{X, Const, Neg, Sub}
 use Rattle.fixed_ops.specs.Numerals.{is_unsigned_numeral, unsigned_raw, nearest_raw, cut_magnitude}
 use Rattle.solid_model.specs.declared.clause.Clause.{Clause}
 use Rattle.solid_model.specs.Clauses.{place_of}
-use Rattle.clause_reader.specs.declared.form_fault.FormFault.TheVariants.{BadName}
-use Rattle.clause_reader.specs.declared.text_reason.TextReason.TheVariants.{NoOperation, UnknownOperation, WrongArity, BadNumeral, UnknownName, DoubleName, TooMany, Empty}
-use Rattle.clause_reader.specs.Forms.{form_read}
+use Rattle.solid_model.specs.Names.{is_blank}
+use Rattle.clause_reader.specs.declared.form_fault.FormFault.TheVariants.{BadName, WrongArity as FormWrongArity, NoMemory as FormNoMemory}
+use Rattle.clause_reader.specs.declared.text_fault.TextFault.{TextFault}
+use Rattle.clause_reader.specs.declared.text_reason.TextReason.TheVariants.{NoOperation, UnknownOperation, WrongArity, BadNumeral, UnknownName, DoubleName, TooMany, Empty, NoMemory}
+use Rattle.clause_reader.specs.Forms.{form_read, GivesForm}
 use Rattle.clause_reader.specs.Lines.{lines_of, tokens_of, line_of}
-use Rattle.clause_reader.specs.Reading.{clauses_with, clause_of, text_read, MayWantMemory}
+use Rattle.clause_reader.specs.Reading.{clauses_with, clause_of, text_read, GivesModel, MayWantMemory}
+use Rattle.clause_reader.specs.Scan.{line_tokens}
+use Rattle.clause_reader.specs.Tokens.{IsTokenAt}
 
 -- blank lines and comments say nothing, names become places, and the last line may lack its line feed
 three_clauses : text_read (codes "# c\n\nx var-x\n r\tconst -1 \nd sub r x")
@@ -100,3 +106,96 @@ blanks_part_tokens = refl
 
 line_ends_before_the_feed : line_of (codes "a b\nc") ≡ codes "a b"
 line_ends_before_the_feed = refl
+
+-- an argument too many is told before a bad numeral
+form_of_too_many : form_read (codes "const" ∷ codes "x" ∷ codes "y" ∷ []) ≡ Err FormWrongArity
+form_of_too_many = refl
+
+-- a constant has no operands, and its number may begin no comment
+form_of_constant : form_read (codes "const" ∷ codes "-1" ∷ [])
+    ≡ Ok (record { op = Const; args = []; value = negsuc 4294967295 })
+unfolding is_unsigned_numeral unsigned_raw nearest_raw cut_magnitude
+form_of_constant = refl
+
+-- an operand that is a numeral is a name all the same
+form_of_numeral : form_read (codes "neg" ∷ codes "1" ∷ []) ≡ Ok (record { op = Neg; args = codes "1" ∷ []; value = pos 0 })
+form_of_numeral = refl
+
+-- reading gives the very form and the very fault, and wants memory for what is accepted alone
+abbrev neg_of : List ℕ → List (List ℕ)
+neg_of name = codes "neg" ∷ name ∷ []
+
+form_with_a_bad_name : GivesForm (neg_of (codes "#x")) (Ok (record { op = Neg; args = codes "#x" ∷ []; value = pos 0 })) → ⊥
+form_with_a_bad_name gives = cc
+
+other_fault : GivesForm (neg_of (codes "#x")) (Err FormWrongArity) → ⊥
+other_fault gives = let fault = gives.0 (λ e. cc) in (cc)
+
+memory_for_a_form : GivesForm (neg_of (codes "x")) (Err FormNoMemory)
+memory_for_a_form = (λ differs. absurd (differs refl), λ e. refl)
+
+no_memory_for_a_bad_name : GivesForm (neg_of (codes "#x")) (Err FormNoMemory) → ⊥
+no_memory_for_a_bad_name gives = let accepted : false ≡ true = gives.1 refl in (cc)
+
+-- and so with a model
+other_model : GivesModel (codes "x var-x") (Ok []) → ⊥
+other_model gives = cc
+
+abbrev line_told : Result (List Clause) TextFault → ℕ
+line_told (Ok clauses) = 0
+line_told (Err fault) = fault.line
+
+other_line : GivesModel (codes "x var-x y") (Err (record { line = 2; reason = WrongArity })) → ⊥
+other_line gives = by (ap line_told (gives.0 (λ e. cc)))
+  where
+    by : ◌≡◌ {A = ℕ} 1 2 → ⊥
+    by lines = omega (arith, lines)
+
+memory_for_a_model : GivesModel (codes "x var-x") (Err (record { line = 1; reason = NoMemory }))
+memory_for_a_model =
+    (λ differs. absurd (differs refl), λ e. record { numbered = omega arith; says = refl; good = refl })
+
+no_memory_for_a_refusal : GivesModel (codes "x var-x y") (Err (record { line = 1; reason = NoMemory })) → ⊥
+no_memory_for_a_refusal gives = let good : false ≡ true = (gives.1 refl).good in (cc)
+
+-- an unknown name is told at the limit too
+unknown_at_the_limit : (clauses : List Clause) → place_of clauses (codes "y") ≡ None
+    → clauses_with clauses (codes "q" ∷ codes "neg" ∷ codes "y" ∷ []) ≡ Err UnknownName
+unknown_at_the_limit clauses unknown = rw unknown refl
+
+-- the tokens of the first line alone
+tokens_of_the_first_line : line_tokens (codes " a\tb\nc") ≡ codes "a" ∷ codes "b" ∷ []
+tokens_of_the_first_line = refl
+
+-- ---- where a token stands: from place 2 on, after two blanks, up to the next blank
+abbrev some_tokens : List ℕ
+some_tokens = codes "ab  cd e"
+
+token_after_blanks : IsTokenAt some_tokens 2 4 6
+token_after_blanks = record {
+  after = omega arith;
+  some = omega arith;
+  within = omega arith;
+  gap = AllPass-from_list_all is_blank (codes "  ") refl;
+  token = refl;
+  longest = refl;
+}
+
+-- what stands before is no token, nor are blanks, a part of a token, and two with a blank between them
+token_before : IsTokenAt some_tokens 4 0 2 → ⊥
+token_before is = omega (arith, is.after)
+
+token_without_bytes : IsTokenAt some_tokens 2 4 4 → ⊥
+token_without_bytes is = omega (arith, is.some)
+
+token_behind_the_end : IsTokenAt some_tokens 7 7 9 → ⊥
+token_behind_the_end is = omega (arith, is.within)
+
+token_after_another : IsTokenAt some_tokens 1 4 6 → ⊥
+token_after_another is = let blank : false ≡ true = All-head (λ byte. is_blank byte ≡ true) 98 (codes "  ") is.gap in (cc)
+
+two_tokens_are_not_one : IsTokenAt some_tokens 2 4 8 → ⊥
+two_tokens_are_not_one is = let token : false ≡ true = is.token in (cc)
+
+token_is_not_cut : IsTokenAt some_tokens 2 4 5 → ⊥
+token_is_not_cut is = let ends : true ≡ false = is.longest in (cc)
