@@ -111,7 +111,7 @@ line_ends_before_the_feed = refl
 form_of_too_many : form_read (codes "const" ∷ codes "x" ∷ codes "y" ∷ []) ≡ Err FormWrongArity
 form_of_too_many = refl
 
--- a constant has no operands, and its number may begin no comment
+-- a constant has a number and no operands
 form_of_constant : form_read (codes "const" ∷ codes "-1" ∷ [])
     ≡ Ok (record { op = Const; args = []; value = negsuc 4294967295 })
 unfolding is_unsigned_numeral unsigned_raw nearest_raw cut_magnitude
@@ -125,7 +125,8 @@ form_of_numeral = refl
 abbrev neg_of : List ℕ → List (List ℕ)
 neg_of name = codes "neg" ∷ name ∷ []
 
-form_with_a_bad_name : GivesForm (neg_of (codes "#x")) (Ok (record { op = Neg; args = codes "#x" ∷ []; value = pos 0 })) → ⊥
+form_with_a_bad_name : GivesForm (neg_of (codes "#x")) (Ok (record { op = Neg; args = codes "#x" ∷ []; value = pos 0 }))
+    → ⊥
 form_with_a_bad_name gives = cc
 
 other_fault : GivesForm (neg_of (codes "#x")) (Err FormWrongArity) → ⊥
@@ -181,7 +182,7 @@ token_after_blanks = record {
   longest = refl;
 }
 
--- what stands before is no token, nor are blanks, a part of a token, and two with a blank between them
+-- what stands before the place, blanks, a part of a token and two of them are no token there
 token_before : IsTokenAt some_tokens 4 0 2 → ⊥
 token_before is = omega (arith, is.after)
 

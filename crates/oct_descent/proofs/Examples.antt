@@ -1,9 +1,9 @@
 -- The work of grids, computed on lists that were worked out by hand.
 use Rattle.std.proofs.Common.{◌≡◌, ℕ, suc, pos, negsuc, true, false, [], ◌∷◌, List, refl, ap, arith}
-use Rattle.std.specs.Prelude.{Some}
+use Rattle.std.specs.Prelude.{None, Some}
 use Rattle.fixed_ops.specs.Counts.{Counts, no_counts, risen}
 use Rattle.fixed_ops.specs.declared.operation.Op.{Op}
-use Rattle.fixed_ops.specs.declared.operation.Op.TheVariants.{X, Y, Z, Add, Const, Max, Neg}
+use Rattle.fixed_ops.specs.declared.operation.Op.TheVariants.{X, Y, Z, Add, Const, Max, Min, Neg}
 use Rattle.kuhn_cells.specs.Triangles.{point}
 use Rattle.live_clauses.specs.declared.step.Step.{Step}
 use Rattle.view_settings.specs.Boxes.{Indices}
@@ -126,6 +126,27 @@ other_half_long : mesh_long_spans (window 2) other_half ≡ 2
 unfolding long_spans_in way_within
 other_half_long = refl
 
+-- The lesser of x and y, over three cells along each axis. Where y is from a third on it is x alone, so
+-- cells there receive one step, and the others three. Where x is too, they are decided outside.
+abbrev lesser : List Step
+lesser = step X 0 0 ∷ step Y 0 0 ∷ step Min 0 1 ∷ []
+
+lesser_points : mesh_points (window 3) lesser ≡ 156
+unfolding mesh_points way_within
+lesser_points = refl
+
+lesser_least : mesh_least (window 3) lesser ≡ 132
+unfolding mesh_least way_within
+lesser_least = refl
+
+lesser_spans : mesh_spans (window 3) lesser ≡ 87
+unfolding spans_in way_within
+lesser_spans = refl
+
+lesser_long : mesh_long_spans (window 3) lesser ≡ 24
+unfolding long_spans_in way_within
+lesser_long = refl
+
 -- the least of some numbers, wherever it stands
 least_first : least (2 ∷ 7 ∷ 5 ∷ []) ≡ 2
 least_first = refl
@@ -214,7 +235,10 @@ cell_first_along_z = refl
 cell_last_along_z : meets_border 5 (cell 2 3 4) ≡ true
 cell_last_along_z = refl
 
--- a box that is decided inside stays open there alone
+-- an undecided box stays open anywhere, and one that is decided inside stays open there alone
+undecided_box_stays_open : is_open_by 5 (cell 1 2 3) None ≡ true
+undecided_box_stays_open = refl
+
 inner_box_is_closed : is_open_by 5 (cell 1 2 3) (Some true) ≡ false
 inner_box_is_closed = refl
 
