@@ -1,5 +1,6 @@
 -- Hulls and choices, computed over regions that were worked out by hand.
-use Rattle.std.proofs.Common.{◌≡◌, ◌∙◌, ℤ, pos, negsuc, [], ◌∷◌, List, ap, refl}
+use Rattle.std.proofs.Common.{◌≡◌, ◌∙◌, ℕ, ℤ, pos, negsuc, [], ◌∷◌, List, ap, refl, arith}
+use Rattle.fixed_ops.specs.Counts.{Counts, no_counts, risen}
 use Rattle.fixed_ops.specs.Operations.{op_result}
 use Rattle.fixed_ops.specs.declared.operation.Op.TheVariants.{X, Y, Z, Const, Neg, Sub, Min, Max}
 use Rattle.interval_ops.specs.Hulls.{between}
@@ -8,6 +9,7 @@ use Rattle.interval_ops.specs.declared.region.Region.{Region}
 use Rattle.live_clauses.specs.declared.step.Step.{Step}
 use Rattle.choice_trace.specs.Hulls.{choices_over, tape_hull}
 use Rattle.choice_trace.specs.Meaning.{StandForPoint, StandsForResults}
+use Rattle.choice_trace.specs.Work.{RisesWithin}
 
 -- x from one number to another, y from 2 to 3, and z from 5 to 7
 abbrev region : ℤ → ℤ → Region
@@ -68,3 +70,25 @@ coordinates = record { x = refl; y = refl; z = refl }
 -- the number 5 stands for what 7 less 2 is
 difference : StandsForResults (λ a v. a ≡ v) Sub (pos 7) (pos 2) (pos 5)
 difference = λ u v first second. ap (op_result Sub (pos 7)) second ∙ ap (λ w. op_result Sub w v) first
+
+-- a tally that rises by 4 evaluations rises by no fewer and by no more
+abbrev counted : ℕ → ℕ → Counts
+counted points spans = record { points = points; spans = spans; corners = 0 }
+
+rise_of_four : RisesWithin no_counts (counted 4 3) (counted 4 2) (counted 4 9)
+rise_of_four = record {
+  by = counted 4 3;
+  enough = record { points = omega arith; spans = omega arith; corners = omega arith };
+  within = record { points = omega arith; spans = omega arith; corners = omega arith };
+  rises = refl;
+}
+
+rise_of_five : RisesWithin no_counts (counted 4 3) (counted 5 2) (counted 9 9) → ⊥
+rise_of_five h =
+    let points : 4 ≡ risen 0 h.by.points = ap (λ (counts : Counts). counts.points) h.rises in
+    omega (arith, h.enough.points, points)
+
+rise_of_three : RisesWithin no_counts (counted 4 3) (counted 1 2) (counted 3 9) → ⊥
+rise_of_three h =
+    let points : 4 ≡ risen 0 h.by.points = ap (λ (counts : Counts). counts.points) h.rises in
+    omega (arith, h.within.points, points)

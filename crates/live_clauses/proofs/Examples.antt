@@ -1,0 +1,73 @@
+-- Lists of steps, their values, and what choices leave of them, worked out by hand.
+use Rattle.std.proofs.Common.{◌≡◌, ℕ, ℤ, pos, ◌≤◌, List, [], ◌∷◌, length, refl, arith}
+use Rattle.fixed_ops.specs.Points.{Point}
+use Rattle.fixed_ops.specs.Raw.{IsRaw}
+use Rattle.fixed_ops.specs.declared.operation.Op.{Op}
+use Rattle.fixed_ops.specs.declared.operation.Op.TheVariants.{X, Y, Z, Neg, Sub, Min}
+use Rattle.interval_ops.specs.declared.choice.Choice.TheVariants.{Left, Right, Both}
+use Rattle.live_clauses.specs.declared.step.Step.{Step}
+use Rattle.live_clauses.specs.Choices.{AreChoices, AreRight}
+use Rattle.live_clauses.specs.Live.{live_of}
+use Rattle.live_clauses.specs.Steps.{IsStepAt, IsTape, tape_value, values}
+
+abbrev step : Op → ℕ → ℕ → Step
+step op a b = record { op = op; a = a; b = b; value = pos 0 }
+
+-- the lesser of x and y, less z
+abbrev lesser : List Step
+lesser = step X 0 0 ∷ step Y 0 0 ∷ step Min 0 1 ∷ step Z 0 0 ∷ step Sub 2 3 ∷ []
+
+abbrev at : ℤ → ℤ → ℤ → Point
+at x y z = record { x = x; y = y; z = z }
+
+values_in_order : values (at (pos 5) (pos 3) (pos 1)) lesser ≡ pos 5 ∷ pos 3 ∷ pos 3 ∷ pos 1 ∷ pos 2 ∷ []
+values_in_order = refl
+
+last_value : tape_value (at (pos 5) (pos 3) (pos 1)) lesser ≡ pos 2
+last_value = refl
+
+-- where one operand is chosen, the other is not needed, nor is the minimum
+right_alone : live_of lesser (Both ∷ Both ∷ Right ∷ Both ∷ Both ∷ []) ≡ step Y 0 0 ∷ step Z 0 0 ∷ step Sub 0 1 ∷ []
+right_alone = refl
+
+left_alone : live_of lesser (Both ∷ Both ∷ Left ∷ Both ∷ Both ∷ []) ≡ step X 0 0 ∷ step Z 0 0 ∷ step Sub 0 1 ∷ []
+left_alone = refl
+
+-- a choice is right only where the step has the value of the operand that it chooses
+wrong_left : AreRight (at (pos 5) (pos 3) (pos 1)) lesser (Both ∷ Both ∷ Left ∷ []) → ⊥
+wrong_left right = let value : pos 3 ≡ pos 5 = right.left 2 (step Min 0 1) refl refl in (cc)
+
+wrong_right : AreRight (at (pos 3) (pos 5) (pos 1)) lesser (Both ∷ Both ∷ Right ∷ []) → ⊥
+wrong_right right = let value : pos 3 ≡ pos 5 = right.right 2 (step Min 0 1) refl refl in (cc)
+
+-- a coordinate chooses no operand, and a difference none
+coordinate_chooses : AreChoices lesser (Left ∷ []) → ⊥
+coordinate_chooses are = let choice : Left ≡ Both = are 0 (step X 0 0) refl (λ e. cc) (λ e. cc) in (cc)
+
+difference_chooses : AreChoices lesser (Both ∷ Both ∷ Left ∷ Both ∷ Right ∷ []) → ⊥
+difference_chooses are = let choice : Right ≡ Both = are 4 (step Sub 2 3) refl (λ e. cc) (λ e. cc) in (cc)
+
+-- what a list and its steps keep
+no_list_is_empty : IsTape [] → ⊥
+no_list_is_empty is = omega (arith, is.some)
+
+no_list_has_more : (steps : List Step) → IsTape steps → length steps ≤ 65535
+no_list_has_more steps is = is.few
+
+step_of_itself : IsStepAt 1 (step Neg 1 0) → ⊥
+step_of_itself is = omega (arith, is.fits.first (omega arith))
+
+step_of_the_one_before : IsStepAt 1 (step Neg 0 0)
+step_of_the_one_before = record {
+  raw = (record { le = tt }, record { le = tt });
+  fits = record {
+    first = λ some. omega arith;
+    second = λ some. omega (arith, some);
+    no_first = λ none. refl;
+    no_second = λ few. refl;
+    no_value = λ other. refl;
+  };
+}
+
+numbers_are_raw : (place : ℕ) (s : Step) → IsStepAt place s → IsRaw s.value
+numbers_are_raw place s is = is.raw
