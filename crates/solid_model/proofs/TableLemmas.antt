@@ -1,9 +1,10 @@
 -- What the set of names tells of the clauses, how far a loop over them has come, and how both change together.
-use Rattle.std.proofs.Common.{◌≡◌, ℕ, zero, suc, ◌<◌, ◌≤◌, ◌⊎◌, inl, inr, Bool, true, false, cond, not, ltb, nat_le, List, [], ◌∷◌, ◌++◌, length, map, take, drop, set, get_or, Some, None, is_some, slice_get, refl, ap, sym, subst, ◌∙◌, arith}
-use Rattle.std.specs.List.{insert, list_any, position_or_len, remove}
+use Rattle.std.proofs.Common.{◌≡◌, ℕ, zero, suc, ◌+◌, ◌-◌, ◌<◌, ◌≤◌, ◌⊎◌, inl, inr, Bool, true, false, cond, not, ltb, nat_le, List, [], ◌∷◌, ◌++◌, length, map, take, drop, set, get_or, Some, None, is_some, slice_get, refl, ap, sym, subst, ◌∙◌, arith}
+use Rattle.std.specs.List.{insert, list_any, position, position_or_len, remove}
+use Rattle.std.specs.Option.{option_map}
 use Rattle.std.proofs.lemmas.Bool.{cases_lt}
 use Rattle.std.proofs.lemmas.Bool.Decides.{nat_tests}
-use Rattle.std.proofs.lemmas.List.{length-map, length-set, map-set, set-get_or}
+use Rattle.std.proofs.lemmas.List.{length-map, length-set, map-set, set-get_or, take_rest}
 use Rattle.std.proofs.lemmas.List.Edits.{length-insert, length-remove}
 use Rattle.std.proofs.lemmas.List.Sums.{prefix_len-le-length}
 use Rattle.std.proofs.lemmas.Option.{slice_get_within}
@@ -14,11 +15,11 @@ use Rattle.indexmap.specs.IndexMap.{move_index}
 use Rattle.fixed_ops.specs.Arity.{arity_of}
 use Rattle.solid_model.specs.declared.clause.Clause.{Clause}
 use Rattle.solid_model.specs.Clauses.{place_of, names_of, AreInOrder}
-use Rattle.solid_model.specs.Surgery.{moved}
+use Rattle.solid_model.specs.Surgery.{down, moved, reads, up}
 use Rattle.solid_model.specs.Tables.{IsTable}
 use Rattle.solid_model.specs.declared.push_fault.PushFault.TheVariants.{DoubleName}
 use Rattle.solid_model.specs.Pushing.{push_fault}
-use Rattle.solid_model.proofs.NamePlaces.{map-cut, map-put}
+use Rattle.solid_model.proofs.NamePlaces.{down-le, map-cut, map-put, up-less}
 use Rattle.solid_model.proofs.Places.{list_any-by_place, list_any-no_position, place_of-names, position-any}
 use Rattle.solid_model.proofs.SurgeryLemmas.{name_there}
 use Rattle.solid_model.proofs.SurgeryModels.{names-moved}
@@ -57,6 +58,84 @@ all-mapped {A = A} f xs ys i past so_far = so_far ∙ whole xs i past
     whole [] (suc k) le = refl
     whole (z ∷ zs) zero le = absurd (omega (arith, le))
     whole (z ∷ zs) (suc k) le = ap (λ t. f z ∷ t) (whole zs k (omega (arith, le)))
+
+-- where a front of a list is as it is mapped, the list is that front mapped and the rest
+pub front-stays : {A : Type 0} (f : A → A) (xs : List A) (n : ℕ) → ((k : ℕ) (x : A) → k < n → slice_get xs k ≡ Some x → f x ≡ x)
+    → xs ≡ map f (take n xs) ++ drop n xs
+front-stays f [] zero same = refl
+front-stays f [] (suc n) same = refl
+front-stays f (x ∷ xs) zero same = refl
+front-stays f (x ∷ xs) (suc n) same =
+    rw (same 0 x (omega arith) refl) (ap (λ t. x ∷ t) (front-stays f xs n (λ k y h e. same (suc k) y (omega (arith, h)) e)))
+
+-- operands that do not move leave a clause as it is
+unmoved : (to : ℕ → ℕ) (c : Clause) → (0 < arity_of c.op → to c.a ≡ c.a) → (1 < arity_of c.op → to c.b ≡ c.b) → moved to c ≡ c
+unmoved to c first second =
+    ap (λ (n : ℕ). record { name = c.name; op = c.op; a = n; b = cond (nat_le 2 (arity_of c.op)) (to c.b) c.b; value = c.value }) (by (nat_le 1 (arity_of c.op)) refl (λ h. first (grind (arith, nat_tests))))
+    ∙ ap (λ (n : ℕ). record { name = c.name; op = c.op; a = c.a; b = n; value = c.value }) (by (nat_le 2 (arity_of c.op)) refl (λ h. second (grind (arith, nat_tests))))
+  where
+    by : {test : Bool} {m n : ℕ} (b : Bool) → test ≡ b → (test ≡ true → m ≡ n) → cond test m n ≡ n
+    by true is same = rw is (same is)
+    by false is same = rw is refl
+
+-- up to a place no operand moves for a clause that is put in there, or taken out
+pub front-up : (clauses : List Clause) (at : ℕ) → AreInOrder clauses → clauses ≡ map (moved (up at)) (take at clauses) ++ drop at clauses
+front-up clauses at order =
+    front-stays (moved (up at)) clauses at (λ k c h there.
+    let stands = order k c there in
+    unmoved (up at) c (λ e. up-less at c.a (omega (arith, h, stands.fits.first e))) (λ e. up-less at c.b (omega (arith, h, stands.fits.second e))))
+
+pub front-down : (clauses : List Clause) (at : ℕ) → AreInOrder clauses → clauses ≡ map (moved (down at)) (take at clauses) ++ drop at clauses
+front-down clauses at order =
+    front-stays (moved (down at)) clauses at (λ k c h there.
+    let stands = order k c there in
+    unmoved (down at) c (λ e. down-le at c.a (omega (arith, h, stands.fits.first e))) (λ e. down-le at c.b (omega (arith, h, stands.fits.second e))))
+
+-- where no element of a front passes, the first that passes is that of the rest
+pub position-later : {A : Type 0} (p : A → Bool) (xs : List A) (n : ℕ) → n ≤ length xs → ((k : ℕ) (x : A) → k < n → slice_get xs k ≡ Some x → p x ≡ false)
+    → position p xs ≡ option_map (λ k. n + k) (position p (drop n xs))
+position-later {A = A} p xs n within none =
+    rw (later xs n within none) (by (position_or_len p (drop n xs)) (length (drop n xs)) (length xs) (rest xs n within))
+  where
+    later : (ys : List A) (m : ℕ) → m ≤ length ys → ((k : ℕ) (y : A) → k < m → slice_get ys k ≡ Some y → p y ≡ false)
+        → position_or_len p ys ≡ m + position_or_len p (drop m ys)
+    later ys zero le not_there = omega arith
+    later [] (suc m) le not_there = absurd (omega (arith, le))
+    later (y ∷ ys) (suc m) le not_there =
+        let there = later ys m (omega (arith, le)) (λ k z h e. not_there (suc k) z (omega (arith, h)) e) in
+        rw (not_there 0 y (omega arith) refl) (omega (arith, there))
+
+    rest : (ys : List A) (m : ℕ) → m ≤ length ys → m + length (drop m ys) ≡ length ys
+    rest ys zero le = omega arith
+    rest [] (suc m) le = absurd (omega (arith, le))
+    rest (y ∷ ys) (suc m) le = let all = rest ys m (omega (arith, le)) in omega (arith, all)
+
+    by : (i few all : ℕ) → n + few ≡ all → cond (ltb (n + i) all) (Some (n + i)) None ≡ option_map (λ k. n + k) (cond (ltb i few) (Some i) None)
+    by i few all long = fits (ltb i few) (grind (arith, nat_tests))
+      where
+        fits : (b : Bool) → ltb (n + i) all ≡ b → cond (ltb (n + i) all) (Some (n + i)) None ≡ option_map (λ k. n + k) (cond b (Some i) None)
+        fits true is = rw is refl
+        fits false is = rw is refl
+
+-- no clause up to a place reads it
+pub unread-before : (clauses : List Clause) (at k : ℕ) (c : Clause) → AreInOrder clauses → k < at + 1 → slice_get clauses k ≡ Some c → reads at c ≡ false
+unread-before clauses at k c order h there =
+    let stands = order k c there in
+    by (cases_lt 0 (arity_of c.op)) (cases_lt 1 (arity_of c.op)) (λ e. omega (arith, h, stands.fits.first e)) (λ e. omega (arith, h, stands.fits.second e))
+  where
+    by : (0 < arity_of c.op) ⊎ (arity_of c.op ≤ 0) → (1 < arity_of c.op) ⊎ (arity_of c.op ≤ 1) → (0 < arity_of c.op → c.a < at) → (1 < arity_of c.op → c.b < at)
+        → reads at c ≡ false
+    by (inl one) (inl two) first second = let before = first one in let after = second two in grind (arith, nat_tests)
+    by (inl one) (inr few) first second = let before = first one in grind (arith, nat_tests)
+    by (inr none) (inl two) first second = absurd (omega (arith, none, two))
+    by (inr none) (inr few) first second = grind (arith, nat_tests)
+
+-- the first clause that reads a place is the first of the later ones, which are told as a slice of all
+pub first-later : (clauses all : List Clause) (at : ℕ) → AreInOrder clauses → at < length clauses → all ≡ clauses
+    → position (reads at) clauses ≡ option_map (λ k. at + 1 + k) (position (reads at) (take (length all - (at + 1)) (drop (at + 1) all)))
+first-later clauses all at order within same =
+    rw (same, take_rest clauses (at + 1))
+    (position-later (reads at) clauses (at + 1) (omega (arith, within)) (λ k c h there. unread-before clauses at k c order h there))
 
 -- the operands of a clause stand before the greatest place
 pub operands-few : (clauses : List Clause) (place : ℕ) (c : Clause) → AreInOrder clauses → length clauses ≤ 65535 → slice_get clauses place ≡ Some c

@@ -29,12 +29,12 @@ impl Clause {
         (operands < 1 || self.a < place) && (operands < 2 || self.b < place)
     }
 
-    // Whether the clause at a place is an operand.
+    // Whether the clause at a place is an operand. The places are asked first: they tell most clauses
+    // apart from the place.
     pub(crate) fn reads(&self, place: u32) -> bool
         ensures { result ≡ reads place self.now }
     {
-        let operands = arity(self.op);
-        (operands >= 1 && self.a == place) || (operands >= 2 && self.b == place)
+        (self.a == place && arity(self.op) >= 1) || (self.b == place && arity(self.op) >= 2)
     }
 
     // Moves the operands for a clause that is put in at a place.

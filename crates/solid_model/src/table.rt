@@ -146,6 +146,7 @@ impl Table {
 
     // Takes out the clause of this name.
     pub(crate) fn cut(&mut self, name: Name) -> Result<(), EditFault>
+        requires in_order { AreInOrder self.old }
         ensures ok { OnOk result (taken_out self.old name ≡ Ok self.new) }
         ensures fault { IfErr result (λ fault. taken_out self.old name ≡ Err fault) }
         ensures memory { IfErr result (λ fault. fault ≢ EditFault.NoMemory) }
@@ -255,18 +256,24 @@ impl Table {
         Ok(())
     }
 
-    // The place of the first clause that has the clause at a place as an operand.
+    // The place of the first clause that has the clause at a place as an operand. Only a later one
+    // can have it.
     fn first_user(&self, at: u32) -> Option<usize>
+        requires in_order { AreInOrder self.now }
+        requires there { at < length self.now }
         ensures place { result ≡ position (reads at) self.now }
         ensures within { IfSome result (λ user. user < length self.now) }
         ensures few { length self.now ≤ 65535 }
     {
-        self.clauses.iter().position(|clause| clause.reads(at))
+        let later = at as usize + 1;
+        let user = first_reader(&self.clauses[later..], at)?;
+        Some(later + user)
     }
 
     // Takes out the clause at a place, and moves the operands of the others.
     fn remove(&mut self, at: u32)
-        requires { at < length self.old }
+        requires in_order { AreInOrder self.old }
+        requires there { at < length self.old }
         ensures { self.new ≡ remove (map (moved (down at)) self.old) at }
     {
         lower(&mut self.clauses, at);
@@ -275,22 +282,36 @@ impl Table {
     }
 }
 
-// Moves the operands of all clauses for one that is put in at a place.
+// Which of these clauses is the first that has the clause at a place as an operand.
+#[inline]
+fn first_reader(clauses: &[Clause], at: u32) -> Option<usize>
+    ensures place { result ≡ position (reads at) clauses.now }
+    ensures within { IfSome result (λ reader. reader < length clauses.now) }
+{
+    clauses.iter().position(|clause| clause.reads(at))
+}
+
+// Moves the operands of all clauses for one that is put in at a place. Those before it have theirs
+// before it, where nothing moves.
 fn raise(clauses: &mut [Clause], at: u32)
     requires in_order { AreInOrder clauses.old }
     requires few { length clauses.old ≤ 65535 }
+    requires there { at < length clauses.old }
     ensures { clauses.new ≡ map (moved (up at)) clauses.old }
 {
-    for clause in clauses.iter_mut() {
-        clause.raise(at);
+    for place in at as usize..clauses.len() {
+        clauses[place].raise(at);
     }
 }
 
-// Moves the operands of all clauses for one that is taken out at a place.
+// Moves the operands of all clauses for one that is taken out at a place. Those before it stay as
+// they are.
 fn lower(clauses: &mut [Clause], at: u32)
+    requires in_order { AreInOrder clauses.old }
+    requires there { at < length clauses.old }
     ensures { clauses.new ≡ map (moved (down at)) clauses.old }
 {
-    for clause in clauses.iter_mut() {
-        clause.lower(at);
+    for place in at as usize..clauses.len() {
+        clauses[place].lower(at);
     }
 }

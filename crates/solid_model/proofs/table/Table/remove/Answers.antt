@@ -16,12 +16,15 @@ the_clauses c =
     let made : c.remove.new.self.items ≡ remove (take c.self.inside.clauses.len (room ++ drop (length room) clauses)) c.args.at = grind (arith, common_steps) in
     made ∙ ap (λ cs. remove cs c.args.at) (written_back room clauses c.self.inside.clauses.len long ∙ moved_all)
 
+pub lower-requires-clause-in_order : goal.lower-requires-clause-in_order
+lower-requires-clause-in_order c = rw (c.deref_mut.ensures.value, c.self.view_is) c.requires.in_order
+
 pub invariant_of-self : goal.invariant_of-self
 invariant_of-self c =
     let clauses = c.self.inside.clauses.items in
     let names = c.self.inside.names.keys in
     let keys : c.shift_remove_index.new.self.keys ≡ remove names c.args.at = grind (arith, common_steps) in
-    let within : c.args.at < length clauses = rw c.self.view_is c.requires in
+    let within : c.args.at < length clauses = rw c.self.view_is c.requires.there in
     rw (the_clauses c, keys) (IsTable-remove (down c.args.at) clauses names c.args.at c.self.invariant within)
 
 pub returns : goal.returns
