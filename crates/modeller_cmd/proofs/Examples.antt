@@ -1,11 +1,12 @@
 -- The definitions of a run, computed on words, texts and views that were worked out by hand.
-use Rattle.std.proofs.Common.{◌≡◌, ℕ, zero, suc, true, false, pos, negsuc, ◌+◌, List, [], ◌∷◌, ◌++◌, length, map, take, Option, Some, None, Err, refl, subst, sym, ap, ◌∙◌, arith}
-use Rattle.std.specs.Prelude.{codes, slice_get, slice_index_or, IsTrue, ℤ}
+use Rattle.std.proofs.Common.{◌≡◌, ℕ, zero, suc, true, false, pos, negsuc, ◌+◌, ◌*◌, ◌^◌, inl, inr, List, [], ◌∷◌, ◌++◌, length, map, take, Option, Some, None, Err, refl, subst, sym, ap, ◌∙◌, arith}
+use Rattle.std.specs.Prelude.{◌≤◌, ◌⊎◌, codes, slice_get, slice_index_or, IsTrue, ℤ}
 use Rattle.std.proofs.lemmas.List.Elements.{All-head}
 use Rattle.std.specs.Fmt.{digits}
 use Rattle.std.proofs.lemmas.Bool.{le-ltb, lt-ltb}
 use Rattle.box_chains.specs.Chains.{chain_within}
 use Rattle.box_chains.specs.Counts.{points_in, spans_in}
+use Rattle.box_chains.specs.Tallied.{CountsAtMost, CountsExactly}
 use Rattle.clause_reader.specs.Reading.{text_read}
 use Rattle.clause_reader.specs.declared.text_reason.TextReason.TheVariants as text
 use Rattle.edit_script.specs.declared.script_reason.ScriptReason.TheVariants as script
@@ -17,14 +18,14 @@ use Rattle.fixed_ops.specs.declared.operation.Op.TheVariants as op
 use Rattle.height_map.specs.Bound.{points_where}
 use Rattle.modeller_io.specs.Count.{last_count}
 use Rattle.view_settings.specs.Setting.{setting_of}
-use Rattle.view_settings.specs.Window.{Window}
+use Rattle.view_settings.specs.Window.{Window, has_room}
 use Rattle.view_settings.specs.declared.job.Job.{Job}
 use Rattle.view_settings.specs.declared.forge.Forge.{Forge as Wanted}
-use Rattle.view_settings.specs.declared.job.Job.TheVariants.{Count, Forge, Height, Render}
+use Rattle.view_settings.specs.declared.job.Job.TheVariants.{Count, Forge, Height, Mesh, Render}
 use Rattle.view_settings.specs.declared.word_fault.WordReason.TheVariants as word
 use Rattle.modeller_cmd.specs.Asking.{asks_nothing, input_told, reads_nothing}
-use Rattle.modeller_cmd.specs.Endings.{GainsParts, IsAnswer, IsRead, IsRefusal, IsUnwritten, IsWorked, NoFault, ReadsWhole, TakesLine, Tells}
-use Rattle.modeller_cmd.specs.Frames.{frame_header, refused_line}
+use Rattle.modeller_cmd.specs.Endings.{CountsForSome, GainsParts, IsAnswer, IsRead, IsRefusal, IsUnwritten, IsWorked, NoFault, ReadsWhole, TakesLine, Tells}
+use Rattle.modeller_cmd.specs.Frames.{frame_header, frame_of, refused_line}
 use Rattle.modeller_cmd.specs.declared.frame_kind.FrameKind.TheVariants as frames
 use Rattle.solid_model.specs.declared.edit.EditFault.TheVariants as fault
 use Rattle.edit_session.specs.Heights.{heights_of}
@@ -33,19 +34,23 @@ use Rattle.modeller_cmd.specs.Output.{Output, WithOutput, input_limit, made, mod
 use Rattle.modeller_cmd.specs.Parts.{AreExact, Part, bytes_of_parts, work_of_parts}
 use Rattle.modeller_cmd.specs.Playing.{Played, Stopped}
 use Rattle.modeller_cmd.specs.Statuses.{number_of}
-use Rattle.modeller_cmd.specs.Stopping.{StopsAt, StopsIn, WantsMemory, WritesSomething}
-use Rattle.modeller_cmd.specs.Forging.{forge_text}
-use Rattle.fixed_ops.specs.Counts.{Counts, no_counts}
+use Rattle.modeller_cmd.specs.SoundTexts.{HasSoundFrame, MeshFramesAreSound, MeshesAreSound}
+use Rattle.modeller_cmd.specs.Stopping.{StopsAt, StopsIn, StopsPlay, StopsRun, WantsMemory, WritesSomething}
+use Rattle.modeller_cmd.specs.Stops.{status_at}
+use Rattle.modeller_cmd.specs.Forging.{forge_text, forged_clauses}
+use Rattle.fixed_ops.specs.Counts.{Counts, no_counts, risen}
 use Rattle.solid_model.specs.declared.clause.Clause.{Clause}
 use Rattle.solid_model.specs.declared.edit.Edit.TheVariants as edits
 use Rattle.edit_script.specs.declared.command.Command.{Command}
 use Rattle.edit_script.specs.declared.command.Command.TheVariants as commands
 use Rattle.clause_reader.specs.declared.text_fault.TextFault.{TextFault}
-use Rattle.modeller_cmd.specs.Replays.{replayed, standing}
-use Rattle.edit_session.specs.Work.{no_work}
+use Rattle.modeller_cmd.specs.Replays.{parts_at, replayed, standing}
+use Rattle.edit_session.specs.SoundTexts.{IsSoundText}
+use Rattle.edit_session.specs.Work.{CountsWithin, CountsWork, no_work}
 use Rattle.modeller_cmd.specs.declared.refusal.Refusal.TheVariants as refusal
 use Rattle.modeller_cmd.specs.declared.status.Status.{Status}
 use Rattle.modeller_cmd.specs.declared.status.Status.TheVariants as status
+use Rattle.modeller_cmd.specs.declared.stop.Stop.{Stop}
 use Rattle.modeller_cmd.specs.declared.stop.Stop.TheVariants as stop
 
 -- the window from -1 to 1 with so many columns and rows, at this raw height
@@ -577,3 +582,203 @@ forged_lines = refl
 -- forging gives one part, whose work is exact
 forging_is_exact : (wanted : Wanted) (input : List ℕ) → map (λ part. part.exact) (output_as (made (Forge wanted) input)).parts ≡ true ∷ []
 forging_is_exact wanted input = refl
+
+-- each stop ends a run with its own status
+statuses_of_stops : map status_at (stop.Refused refusal.TooLong ∷ stop.ReadFault ∷ stop.WriteFault ∷ stop.NoMemory ∷ [])
+    ≡ status.TooLong ∷ status.ReadFault ∷ status.WriteFault ∷ status.NoMemory ∷ []
+statuses_of_stops = refl
+
+-- an input has at most 8 MiB: such a one is read whole, and one byte more is not
+limit_is_8_mib : input_limit ≡ 8 * 2 ^ 20
+limit_is_8_mib = refl
+
+limit_is_read_whole : (input : List ℕ) → length input ≡ input_limit → ReadsWhole (λ (s : List ℕ). Some s) input []
+limit_is_read_whole input full = (refl, omega (arith, full))
+
+above_limit_is_not : (input : List ℕ) → length input ≡ input_limit + 1 → ReadsWhole (λ (s : List ℕ). Some s) input [] → ⊥
+above_limit_is_not input more whole = let few : length input ≤ input_limit = whole.1 in omega (arith, more, few)
+
+-- what is forged is known where the source tells nothing
+forging_is_known : WithOutput (λ (s : List ℕ). None) [] (codes "forge" ∷ codes "solids=7" ∷ []) (λ output. output.status ≡ status.Done)
+unfolding digits setting_of
+forging_is_known = refl
+
+-- one disc that is out of sight, of the seed 0: all its clauses are looked at, once
+disc_out_of_sight : output_as (made (Forge (record { seed = 0; solids = 1; view = record (window 1 1 (pos 0)) { x0 = pos 21474836480; x1 = pos 25769803776 } })) [])
+    ≡ done (codes "clauses 12\ninside 0\npoints 0\nspans 12\nplain 12\n") 0 12 12
+unfolding digits points_in spans_in chain_within forged_clauses
+disc_out_of_sight = refl
+
+-- the mesh of a text: eight points of a grid of one cell
+mesh_of_a_text : map (λ part. part.work.plain) (output_as (made (Mesh (record (window 3 2 (pos 0)) { n = 1 })) (codes "x var-x\ny var-y"))).parts ≡ 16 ∷ []
+mesh_of_a_text = refl
+
+-- a frame bears the name of what it shows
+frames_have_names : map (λ part. take 5 part.bytes) drawn_of_two ≡ codes "@ ren" ∷ codes "@ hei" ∷ codes "@ mes" ∷ []
+unfolding replayed
+frames_have_names = refl
+
+-- the notes are told that a script is refused, and why
+script_is_told : Tells (codes "replay" ∷ []) (Some (codes "x var-x\n")) status.BadScript (λ line. line ≡ codes "modeller: script line 0: NoMark\n")
+unfolding digits
+script_is_told = record { fault = record { line = 0; reason = script.NoMark }; told = refl; given = refl }
+
+-- a tally rises by the work of some input, and where the words are refused by none
+abbrev risen_by : ℕ → ℕ → ℕ → Counts
+risen_by points spans corners = record { points = points; spans = spans; corners = corners }
+
+some_input_counts : CountsForSome (codes "count" ∷ codes "w=3" ∷ codes "h=1" ∷ []) no_counts (risen_by 3 1 4)
+unfolding digits points_in spans_in chain_within setting_of CountsWithin
+some_input_counts = record {
+  input = codes "x var-x";
+  few = omega arith;
+  work = record { by = risen_by 3 1 4; few = record { points = omega arith; spans = omega arith; corners = omega arith }; rises = refl };
+  plain = record { by = 3; few = omega arith; rises = refl };
+}
+
+refused_words_count_none : CountsForSome (codes "draw" ∷ []) no_counts (risen_by 1 0 0) → ⊥
+unfolding CountsWithin
+refused_words_count_none some =
+    let work : CountsAtMost 0 0 no_counts (risen_by 1 0 0) = some.work in
+    let points : 1 ≡ risen 0 work.by.points = ap (λ (counts : Counts). counts.points) work.rises in
+    omega (arith, work.few.points, points)
+
+-- the work of an exact part that was written is counted
+picture_is_exact : AreExact (picture ∷ [])
+unfolding AreExact
+picture_is_exact zero d less = refl
+picture_is_exact (suc k) d less = absurd (omega (arith, less))
+
+uncounted_part : Played (λ (s : List ℕ). Some s) (λ s. 0) [] picture.bytes no_counts no_counts (picture ∷ []) → ⊥
+unfolding CountsWork
+uncounted_part played =
+    let counts : CountsExactly 9 3 no_counts no_counts = played.counted picture_is_exact in
+    let points : 0 ≡ risen 0 9 = ap (λ (counts : Counts). counts.points) counts.rises in
+    omega (arith, points)
+
+-- a part that was played, with exactly its work, and one that a fault of the sink stopped behind its first byte
+picture_is_played : Played (λ (s : List ℕ). Some s) (λ s. 0) [] picture.bytes no_counts (risen_by 9 3 12) (picture ∷ [])
+unfolding CountsWork CountsWithin
+picture_is_played = record {
+  gained = refl;
+  no_fault = refl;
+  counted = λ exact. record { corners = 12; few = omega arith; rises = refl };
+  at_most = record { by = risen_by 9 3 12; few = record { points = omega arith; spans = omega arith; corners = omega arith }; rises = refl };
+  plain = record { by = 9; few = omega arith; rises = refl };
+}
+
+abbrev busy : Part
+busy = record (idle (codes "ab")) { work = record { points = 1; spans = 2; plain = 3 } }
+
+front_is_left : Stopped (λ (s : List ℕ). Some s) (λ s. length s) [] (codes "a") no_counts (risen_by 1 2 8) (busy ∷ []) stop.WriteFault
+unfolding CountsWithin
+front_is_left = record {
+  front = λ is. record { count = 1; within = omega arith; gained = refl };
+  whole = λ is. cc;
+  write_fault = λ is. refl;
+  no_write_fault = λ other. absurd (other refl);
+  at_most = record { by = risen_by 1 2 8; few = record { points = omega arith; spans = omega arith; corners = omega arith }; rises = refl };
+  plain = record { by = 1; few = omega arith; rises = refl };
+  grew = record { bytes = codes "a"; gained = refl };
+}
+
+-- no fault of the sink is passed over, and under one no other bytes are left
+fault_is_not_played : Played (λ (s : List ℕ). Some s) (λ s. length s) [] (codes "a") no_counts no_counts (idle (codes "a") ∷ []) → ⊥
+fault_is_not_played played = let same : 1 ≡ 0 = played.no_fault in omega (arith, same)
+
+fault_is_not_memory : Stopped (λ (s : List ℕ). Some s) (λ s. length s) [] (codes "a") no_counts no_counts (idle (codes "a") ∷ []) stop.NoMemory → ⊥
+fault_is_not_memory stopped = let same : 1 ≡ 0 = stopped.no_write_fault (λ is. cc) in omega (arith, same)
+
+other_bytes_are_left : Stopped (λ (s : List ℕ). Some s) (λ s. last_count) [] (codes "b") no_counts no_counts (idle (codes "ab") ∷ []) stop.WriteFault → ⊥
+other_bytes_are_left stopped =
+    other_bytes_are_no_front (record { front = stopped.front refl; whole = λ none. absurd (omega (arith, none.1)) })
+
+-- a fault of the sink stops no edit that is accepted
+edit_meets_no_fault : StopsIn (λ (s : List ℕ). Some s) (λ s. last_count) [] [] no_counts no_counts two (commands.Edit 4 (edits.Cut (codes "f"))) stop.WriteFault → ⊥
+edit_meets_no_fault stops = accepted_edit_writes_nothing (stops.writes refl)
+
+-- under such a fault the image of a frame was counted, and nothing is left but a front of the frame
+abbrev drawing : Command
+drawing = commands.Render (window 3 1 (pos 0))
+
+drawing_is_exact : AreExact (parts_at two drawing)
+unfolding AreExact
+drawing_is_exact zero d less = refl
+drawing_is_exact (suc k) d less = absurd (omega (arith, less))
+
+uncounted_frame : StopsIn (λ (s : List ℕ). Some s) (λ s. last_count) [] [] no_counts no_counts two drawing stop.WriteFault → ⊥
+unfolding CountsWork points_in spans_in chain_within
+uncounted_frame stops =
+    let counts : CountsExactly 6 2 no_counts no_counts = stops.counted refl drawing_is_exact in
+    let points : 0 ≡ risen 0 6 = ap (λ (counts : Counts). counts.points) counts.rises in
+    omega (arith, points)
+
+bytes_of_no_frame : StopsIn (λ (s : List ℕ). Some s) (λ s. last_count) [] (codes "b") no_counts no_counts two commands.Text stop.WriteFault → ⊥
+bytes_of_no_frame stops = let front = stops.stopped.front refl in by front.count front.gained
+  where
+    by : (count : ℕ) → codes "b" ≡ take count (bytes_of_parts (parts_at two commands.Text)) → ⊥
+    by zero same = (cc)
+    by (suc count) same = let byte : 98 ≡ 64 = ap (λ s. slice_index_or s 0 0) same in absurd (omega (arith, byte))
+
+-- half a frame is written of no script that wants memory
+half_a_frame : StopsRun (λ (s : List ℕ). Some s) (λ s. 0) [] (codes "@") no_counts no_counts (codes "replay" ∷ []) (codes "x var-x\n%%\ntext\n") status.NoMemory → ⊥
+unfolding digits replayed standing
+half_a_frame run = by run.stop run.is (run.play refl)
+  where
+    at : (earlier : List Command) (command : Command) (later : List Command) → commands.Text ∷ [] ≡ earlier ++ command ∷ later
+        → (between : List ℕ) (counts : Counts) → Played (λ (s : List ℕ). Some s) (λ s. 0) [] between no_counts counts (replayed (take 1 two) earlier)
+        → StopsIn (λ (s : List ℕ). Some s) (λ s. 0) between (codes "@") counts no_counts (standing (take 1 two) earlier) command stop.NoMemory → ⊥
+    at [] command later split between counts played stops =
+        let none : between ≡ [] = played.gained in
+        let some : codes "@" ≡ between = stops.unwritten refl in
+        (cc)
+    at (first ∷ []) command later split between counts played stops = (cc)
+    at (first ∷ second ∷ earlier) command later split between counts played stops = (cc)
+
+    by : (why : Stop) → status.NoMemory ≡ status_at why
+        → StopsPlay (λ (s : List ℕ). Some s) (λ s. 0) [] (codes "@") no_counts no_counts (codes "x var-x\n%%\ntext\n") why → ⊥
+    by (stop.Refused (refusal.Words fault)) is play = (cc)
+    by (stop.Refused refusal.TooLong) is play = (cc)
+    by (stop.Refused (refusal.Model fault)) is play = (cc)
+    by (stop.Refused (refusal.Script fault)) is play = (cc)
+    by stop.ReadFault is play = (cc)
+    by stop.WriteFault is play = (cc)
+    by stop.NoMemory is play = either (play (take 1 two) (commands.Text ∷ []) refl refl)
+      where
+        either : ((codes "@" ≡ []) × (no_counts ≡ no_counts))
+            ⊎ StopsAt (λ (s : List ℕ). Some s) (λ s. 0) [] (codes "@") no_counts no_counts (take 1 two) (commands.Text ∷ []) stop.NoMemory → ⊥
+        either (inl none) = let same : codes "@" ≡ [] = none.0 in (cc)
+        either (inr stops) = at stops.earlier stops.command stops.later stops.split stops.between stops.counts stops.played stops.stops
+
+-- the text of a mesh that is written is told to be sound, and so is that of a frame: of what stands where it comes
+abbrev cells : ℕ → Window
+cells n = record (window 512 512 (pos 0)) { n = n }
+
+mesh_is_told_sound : MeshesAreSound (codes "mesh" ∷ codes "n=3" ∷ []) (codes "x var-x")
+    → IsSoundText (cells 3) (take 1 two) (bytes_of_parts (output_of (codes "mesh" ∷ codes "n=3" ∷ []) (codes "x var-x")).parts)
+unfolding digits setting_of has_room
+mesh_is_told_sound sound = sound (cells 3) (take 1 two) refl refl refl
+
+abbrev meshed : List ℕ
+meshed = codes "x var-x\n%%\nadd f neg x\nmesh n=3\ntext\n"
+
+abbrev added : Command
+added = commands.Edit 3 (edits.Add (codes "f") (record { op = op.Neg; args = codes "x" ∷ []; value = pos 0 }))
+
+frame_is_told_sound : MeshFramesAreSound (codes "replay" ∷ []) meshed
+    → HasSoundFrame (cells 3) two (replayed (take 1 two) (added ∷ [])) (replayed_of meshed).parts
+unfolding digits setting_of has_room standing
+frame_is_told_sound sound = sound (take 1 two) (added ∷ []) (commands.Text ∷ []) (cells 3) refl refl refl refl
+
+-- the frame of a mesh stands behind what the commands before it write, and bears its name
+text_is_no_mesh : (view : Window) (clauses : List Clause)
+    → HasSoundFrame view clauses (idle (codes "a") ∷ []) (idle (codes "a") ∷ idle (codes "@ text 1\nb") ∷ []) → ⊥
+unfolding digits
+text_is_no_mesh view clauses has =
+    let same : idle (codes "@ text 1\nb") ≡ has.frame = cc in
+    let bytes : codes "@ text 1\nb" ≡ frame_of frames.Mesh has.text = ap (λ (part : Part). part.bytes) same ∙ has.bytes in
+    let byte : 116 ≡ 109 = ap (λ s. slice_index_or s 2 0) bytes in
+    omega (arith, byte)
+
+text_of_a_frame_is_sound : (view : Window) (clauses : List Clause) (before parts : List Part) (has : HasSoundFrame view clauses before parts) → IsSoundText view clauses has.text
+text_of_a_frame_is_sound view clauses before parts has = has.sound

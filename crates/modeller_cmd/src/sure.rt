@@ -1,15 +1,16 @@
 // A run none of whose reads and writes can fail.
-ghost use Rattle.std.specs.Prelude.{◌≡◌, ◌≢◌, ◌+◌, ◌⊎◌, false, true, IfSome, Some};
+ghost use Rattle.std.specs.Prelude.{◌≡◌, ◌≢◌, ◌+◌, ◌<◌, ◌⊎◌, ◌↔◌, false, true, IfSome, IsErr, Some};
+ghost use Rattle.modeller_io.specs.Count.{RoseBy, last_count};
 ghost use Rattle.modeller_io.specs.Held.{Extends};
 ghost use Rattle.modeller_io.specs.Took.{LosesAtMost};
 ghost use Rattle.view_settings.specs.Words.{bytes_of};
 ghost use Rattle.edit_session.specs.Work.{CountsWithin, CountsWork, PointsRiseAtMost};
-ghost use Rattle.modeller_cmd.specs.Asking.{asks_nothing, input_told};
+ghost use Rattle.modeller_cmd.specs.Asking.{asked, asks_nothing, input_told};
 ghost use Rattle.modeller_cmd.specs.Endings.{GainsParts, IsRead, IsRefusal, IsUnwritten, IsWorked, ReadsWhole, TakesLine, Tells};
 ghost use Rattle.modeller_cmd.specs.Output.{WithOutput, input_limit, output_of};
 ghost use Rattle.modeller_cmd.specs.Parts.{AreExact, bytes_of_parts, work_of_parts};
 ghost use Rattle.modeller_cmd.specs.Stopping.{StopsRun};
-ghost use Rattle.modeller_cmd.specs.declared.status.Status.TheVariants.{Done, NoMemory, Usage};
+ghost use Rattle.modeller_cmd.specs.declared.status.Status.TheVariants.{Done, NoMemory, TooLong, Usage};
 
 use crate::{Status, run};
 use fixed_ops::Tally;
@@ -28,12 +29,17 @@ pub fn run_surely(
 ) -> Status
     ensures answer { (result ≡ (output_of (bytes_of words.now) source.old.rest).status)
         ⊎ (result ≡ NoMemory) }
+    ensures usage { (result ≡ Usage) ↔ IsErr (asked (bytes_of words.now)) }
     ensures done { result ≡ Done
         → Extends out.old.held out.new.held
         (bytes_of_parts (output_of (bytes_of words.now) source.old.rest).parts) }
     ensures silent { result ≡ Done → notes.new ≡ notes.old }
     ensures read { asks_nothing (bytes_of words.now) ≡ false → IsRead result
         → ReadsWhole (λ s. Some s.rest) source.old source.new }
+    ensures too_long { result ≡ TooLong
+        → RoseBy (λ s. s.taken) source.old source.new (input_limit + 1) }
+    ensures too_long_there { source.new.taken ≡ source.old.taken + (input_limit + 1)
+        → source.new.taken < last_count → result ≡ TooLong }
     ensures unread { result ≡ Usage → source.new ≡ source.old }
     ensures unasked { asks_nothing (bytes_of words.now) ≡ true → source.new ≡ source.old }
     ensures lost { result ≢ Usage → LosesAtMost (λ s. Some s.rest) (λ s. s.taken) source.old
