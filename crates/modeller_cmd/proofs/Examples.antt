@@ -31,7 +31,7 @@ use Rattle.solid_model.specs.declared.edit.EditFault.TheVariants as fault
 use Rattle.edit_session.specs.Heights.{heights_of}
 use Rattle.modeller_cmd.specs.Notes.{line_of}
 use Rattle.modeller_cmd.specs.Output.{Output, WithOutput, input_limit, made, model_bytes, output_as, output_of, parts_after}
-use Rattle.modeller_cmd.specs.Parts.{AreExact, Part, bytes_of_parts, work_of_parts}
+use Rattle.modeller_cmd.specs.Parts.{AreExact, Part, bytes_of_parts, exact_work_of, work_of_parts}
 use Rattle.modeller_cmd.specs.Playing.{Played, Stopped}
 use Rattle.modeller_cmd.specs.Statuses.{number_of}
 use Rattle.modeller_cmd.specs.SoundTexts.{HasSoundFrame, MeshFramesAreSound, MeshesAreSound}
@@ -656,6 +656,18 @@ uncounted_part played =
     let points : 0 ≡ risen 0 9 = ap (λ (counts : Counts). counts.points) counts.rises in
     omega (arith, points)
 
+-- beside a part whose work is a bound the work of an exact one is counted all the same
+abbrev bounded : Part
+bounded = record (idle (codes "m")) { exact = false; work = record { points = 50; spans = 40; plain = 70 } }
+
+work_of_the_exact : exact_work_of (bounded ∷ picture ∷ bounded ∷ []) ≡ picture.work
+work_of_the_exact = refl
+
+uncounted_beside : Played (λ (s : List ℕ). Some s) (λ s. 0) [] (bounded.bytes ++ picture.bytes) no_counts (risen_by 8 3 0) (bounded ∷ picture ∷ []) → ⊥
+uncounted_beside played =
+    let points : 8 ≡ risen 0 played.least.by.points = ap (λ (counts : Counts). counts.points) played.least.rises in
+    omega (arith, played.least.points, points)
+
 -- a part that was played, with exactly its work, and one that a fault of the sink stopped behind its first byte
 picture_is_played : Played (λ (s : List ℕ). Some s) (λ s. 0) [] picture.bytes no_counts (risen_by 9 3 12) (picture ∷ [])
 unfolding CountsWork CountsWithin
@@ -663,6 +675,7 @@ picture_is_played = record {
   gained = refl;
   no_fault = refl;
   counted = λ exact. record { corners = 12; few = omega arith; rises = refl };
+  least = record { by = risen_by 9 3 12; points = omega arith; spans = omega arith; rises = refl };
   at_most = record { by = risen_by 9 3 12; few = record { points = omega arith; spans = omega arith; corners = omega arith }; rises = refl };
   plain = record { by = 9; few = omega arith; rises = refl };
 }

@@ -16,13 +16,13 @@ use Rattle.solid_model.specs.declared.edit.Edit.{Edit}
 use Rattle.solid_model.specs.declared.edit.EditFault.{EditFault as Fault}
 use Rattle.solid_model.specs.declared.edit.EditFault.TheVariants as EditFault
 use Rattle.modeller_cmd.specs.Endings.{GainsParts, IsWorkStop}
-use Rattle.modeller_cmd.specs.Parts.{AreExact, Part, bytes_of_parts, work_of_parts}
-use Rattle.modeller_cmd.specs.Playing.{Played, Stopped}
+use Rattle.modeller_cmd.specs.Parts.{AreExact, Part, bytes_of_parts, exact_work_of, work_of_parts}
+use Rattle.modeller_cmd.specs.Playing.{CountsLeast, Played, Stopped}
 use Rattle.modeller_cmd.specs.Replays.{clauses_after, parts_at, refusal}
 use Rattle.modeller_cmd.specs.declared.stop.Stop.{Stop}
 use Rattle.modeller_cmd.specs.declared.stop.Stop.TheVariants.{Refused, ReadFault, WriteFault, NoMemory}
 use Rattle.modeller_cmd.proofs.Gaining.{Extends-none, Gains-then, GainsPrefix-after, Grew-after, Grew-gains, Grew-prefix, RoseBy-after, on-ok}
-use Rattle.modeller_cmd.proofs.WorkSums.{bytes-append, exact-left, exact-right, exact-then, plain-more, plain-then, within-more, within-then, work-append}
+use Rattle.modeller_cmd.proofs.WorkSums.{bytes-append, exact-append, exact-left, exact-right, exact-then, least-none, least-part, least-then, plain-more, plain-then, within-more, within-then, work-append}
 
 -- nothing was played
 pub played-none : {K : Type 0} (held : K → Option (List ℕ)) (faults : K → ℕ) (out : K) (counts : Counts) → Played held faults out out counts counts []
@@ -30,6 +30,7 @@ played-none held faults out counts = record {
   gained = Extends-none (held out);
   no_fault = refl;
   counted = λ _. work-none counts;
+  least = least-none counts;
   at_most = within-none counts no_work;
   plain = plain-none counts 0;
 }
@@ -44,6 +45,8 @@ played-then held faults a b c s t u ps qs first next =
       no_fault = next.no_fault ∙ first.no_fault;
       counted = λ exact. subst (CountsWork s u) work
           (exact-then s t u (work_of_parts ps) (work_of_parts qs) (first.counted (exact-left ps qs exact)) (next.counted (exact-right ps qs exact)));
+      least = subst (CountsLeast s u) (sym (exact-append ps qs))
+          (least-then s t u (exact_work_of ps) (exact_work_of qs) first.least next.least);
       at_most = subst (CountsWithin s u) work
           (within-then s t u (work_of_parts ps) (work_of_parts qs) first.at_most next.at_most);
       plain = subst (λ w. PointsRiseAtMost s u w.plain) work
@@ -145,6 +148,7 @@ module _ {K : Type 0} (held : K → Option (List ℕ)) (faults : K → ℕ) (bef
     gained = subst (Gains held before after) one-bytes gained;
     no_fault = stands;
     counted = λ all. subst (CountsWork s t) (sym one-work) (exact (all 0 part (omega arith)));
+    least = least-part s t part exact few;
     at_most = subst (CountsWithin s t) (sym one-work) few;
     plain = subst (λ w. PointsRiseAtMost s t w.plain) (sym one-work) plain;
   }

@@ -1,5 +1,5 @@
 -- The parts of what a run writes, and the work that each takes.
-use Rattle.std.specs.Prelude.{ℕ, Bool, true, false, IsTrue, List, All, [], ◌∷◌, ◌++◌}
+use Rattle.std.specs.Prelude.{ℕ, Bool, true, false, IsTrue, List, All, [], ◌∷◌, ◌++◌, if◌then◌else◌}
 use Rattle.clause_reader.specs.ModelText.{model_text}
 use Rattle.edit_session.specs.Heights.{heights_of}
 use Rattle.edit_session.specs.Images.{image_of}
@@ -24,6 +24,12 @@ bytes_of_parts (part ∷ parts) = part.bytes ++ bytes_of_parts parts
 abbrev pub work_of_parts : List Part → Work
 work_of_parts [] = no_work
 work_of_parts (part ∷ parts) = both part.work (work_of_parts parts)
+
+-- the work of those parts that take exactly theirs
+abbrev pub exact_work_of : List Part → Work
+exact_work_of [] = no_work
+exact_work_of (part ∷ parts) =
+    both (if part.exact then part.work else no_work) (exact_work_of parts)
 
 -- all the parts take exactly their work
 unfoldable pub AreExact : List Part → Type 0

@@ -11,8 +11,8 @@ ghost use Rattle.view_settings.specs.Words.{bytes_of};
 ghost use Rattle.modeller_cmd.specs.Endings.{CountsForSome, Ends, GainsParts, IsAnswer, IsRead, IsRefusal, IsServeStop, IsTold, IsUnwritten, IsWorkStop, IsWorked, Makes, NoFault, ReadsWhole, TakesLine, Tells, status_after};
 ghost use Rattle.modeller_cmd.specs.Notes.{line_of};
 ghost use Rattle.modeller_cmd.specs.Output.{WithOutput, input_limit, made, outcome, output_as};
-ghost use Rattle.modeller_cmd.specs.Parts.{AreExact, bytes_of_parts, work_of_parts};
-ghost use Rattle.modeller_cmd.specs.Playing.{Played, Stopped};
+ghost use Rattle.modeller_cmd.specs.Parts.{AreExact, bytes_of_parts, exact_work_of, work_of_parts};
+ghost use Rattle.modeller_cmd.specs.Playing.{CountsLeast, Played, Stopped};
 ghost use Rattle.modeller_cmd.specs.Asking.{asked, asks_nothing, input_told, reads_nothing};
 ghost use Rattle.modeller_cmd.specs.SoundTexts.{MeshFramesAreSound, MeshesAreSound};
 ghost use Rattle.modeller_cmd.specs.Stopping.{StopsPlay, StopsRun};
@@ -117,6 +117,9 @@ pub fn run<S: Source, K: Sink, N: Sink>(
     ensures counted { IsWorked (bytes_of words.now) result
         → WithOutput S.rest source.old (bytes_of words.now) (λ output.
         AreExact output.parts → CountsWork tally.old tally.new (work_of_parts output.parts)) }
+    ensures least { result ≡ Status.Done
+        → WithOutput S.rest source.old (bytes_of words.now) (λ output.
+        CountsLeast tally.old tally.new (exact_work_of output.parts)) }
     ensures uncounted { IsRefusal result → tally.new ≡ tally.old }
     ensures work { WithOutput S.rest source.old (bytes_of words.now) (λ output.
         CountsWithin tally.old tally.new (work_of_parts output.parts)) }
@@ -192,6 +195,8 @@ fn perform<S: Source, K: Sink>(
     ensures counted { IsWorked (bytes_of words.now) (status_after result)
         → WithOutput S.rest source.old (bytes_of words.now) (λ output.
         AreExact output.parts → CountsWork tally.old tally.new (work_of_parts output.parts)) }
+    ensures least { IsOk result → WithOutput S.rest source.old (bytes_of words.now) (λ output.
+        CountsLeast tally.old tally.new (exact_work_of output.parts)) }
     ensures uncounted { IsRefusal (status_after result) → tally.new ≡ tally.old }
     ensures work { WithOutput S.rest source.old (bytes_of words.now) (λ output.
         CountsWithin tally.old tally.new (work_of_parts output.parts)) }
@@ -282,6 +287,7 @@ fn serve<K: Sink>(
 }
 
 // Does a job on an input, and writes what it makes when all of it is made.
+#[tactic(auto, using(crate::proofs::Outcomes::least_of_job))]
 fn serve_at_once<K: Sink>(
     alloc: Global,
     job: &Job,

@@ -5,7 +5,7 @@ use Rattle.view_settings.specs.declared.job.Job.TheVariants.{Mesh}
 use Rattle.modeller_cmd.specs.Output.{made, output_as}
 use Rattle.modeller_cmd.specs.Playing.{Stopped}
 use Rattle.modeller_cmd.specs.declared.stop.Stop.TheVariants.{NoMemory}
-use Rattle.modeller_cmd.proofs.Outcomes.{made_bytes}
+use Rattle.modeller_cmd.proofs.Outcomes.{least_of_job, made_bytes}
 use Rattle.modeller_cmd.proofs.Plays.{memory-other, stopped-before, stops-with, work-other}
 use Rattle.modeller_cmd.proofs.mesh.serve_mesh.Goals as goal
 
@@ -36,6 +36,7 @@ returns-clause-played g c =
       gained = subst (Gains g.K.Sink.held c.args.out.now c.write_pieces.new.out) (c.in_ok-text.ensures ∙ whole) c.in_ok-write_pieces.ensures.ok;
       no_fault = c.in_ok-write_pieces.ensures.no_fault;
       counted = λ exact. absurd (c.in_ok-mesh.ensures.inexact exact);
+      least = least_of_job (Mesh c.args.view.now) c.args.input.now c.args.tally.now c.mesh_of_input.new.tally (λ is. cc) (λ exact. absurd (c.in_ok-mesh.ensures.inexact exact)) c.in_ok-mesh.ensures.at_most;
       at_most = c.in_ok-mesh.ensures.at_most;
       plain = c.in_ok-mesh.ensures.plain;
     }
