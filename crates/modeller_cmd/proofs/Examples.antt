@@ -706,6 +706,25 @@ other_bytes_are_left : Stopped (λ (s : List ℕ). Some s) (λ s. last_count) []
 other_bytes_are_left stopped =
     other_bytes_are_no_front (record { front = stopped.front refl; whole = λ none. absurd (omega (arith, none.1)) })
 
+-- such a fault is counted once, nothing beyond the work is, and no byte is lost
+fault_is_counted_once : Stopped (λ (s : List ℕ). Some s) (λ s. 0) [] (codes "a") no_counts no_counts (idle (codes "a") ∷ []) stop.WriteFault → ⊥
+fault_is_counted_once stopped = let rose : 0 ≡ 1 = stopped.write_fault refl in omega (arith, rose)
+
+more_than_the_work : Stopped (λ (s : List ℕ). Some s) (λ s. last_count) [] [] no_counts (risen_by 0 3 0) (busy ∷ []) stop.WriteFault → ⊥
+unfolding CountsWithin
+more_than_the_work stopped =
+    let work : CountsAtMost 1 2 no_counts (risen_by 0 3 0) = stopped.at_most in
+    let spans : 3 ≡ risen 0 work.by.spans = ap (λ (counts : Counts). counts.spans) work.rises in
+    omega (arith, work.few.spans, spans)
+
+more_than_plain : Stopped (λ (s : List ℕ). Some s) (λ s. last_count) [] [] no_counts (risen_by 4 0 0) (busy ∷ []) stop.WriteFault → ⊥
+more_than_plain stopped =
+    let points : 4 ≡ risen 0 stopped.plain.by = stopped.plain.rises in
+    omega (arith, stopped.plain.few, points)
+
+bytes_are_lost : Stopped (λ (s : List ℕ). Some s) (λ s. 0) (codes "ab") (codes "a") no_counts no_counts [] stop.NoMemory → ⊥
+bytes_are_lost stopped = let same : codes "a" ≡ codes "ab" ++ stopped.grew.bytes = stopped.grew.gained in (cc)
+
 -- a fault of the sink stops no edit that is accepted
 edit_meets_no_fault : StopsIn (λ (s : List ℕ). Some s) (λ s. last_count) [] [] no_counts no_counts two (commands.Edit 4 (edits.Cut (codes "f"))) stop.WriteFault → ⊥
 edit_meets_no_fault stops = accepted_edit_writes_nothing (stops.writes refl)
