@@ -114,7 +114,8 @@ end-ends d v s is e = rw (chain-ends d v s is e) refl
 abbrev pub half_visit : Descent → Visit → Indices → Visit
 half_visit d v half = record { box = half; list = handed_on d v }
 
--- sums over the samples of a box, from those over its halves, where the sums of the halves are equal to it at their samples
+-- sums over the samples of a box, from those over its halves, where the sums of the halves are
+-- equal to it at their samples
 sum-over_halves : (d : Descent) (v : Visit) (f : Sample → ℕ) (g : Indices → Sample → ℕ) → HalvesPart
     → ((half : Indices) (s : Sample) → Contains (halves_of d.leaf v.box) half → LiesIn half s
     → f s ≡ g half s)

@@ -63,8 +63,8 @@ chain_within zero d v s = []
 chain_within (suc n) d v s =
     v ∷ (if is_split d v then chain_within n d (next_visit d v s) s else [])
 
--- The boxes on the way to a sample, from a box that holds it: that box, and where it is split the boxes from the half
--- that holds the sample on. So the last of them is decided or a leaf.
+-- The boxes on the way to a sample, from a box that holds it: that box, and where it is split the
+-- boxes from the half that holds the sample on. So the last of them is decided or a leaf.
 abbrev pub chain : Descent → Visit → Sample → List Visit
 chain d v s = chain_within (sides v.box) d v s
 

@@ -7,8 +7,8 @@ use Rattle.view_settings.specs.Spans.{root_of}
 use Rattle.box_chains.specs.Chains.{Descent, Visit, chain, chain_end, decision, handed_on}
 use Rattle.box_chains.specs.Sums.{Sample, sum_in}
 
--- the evaluations that a sample takes in the last box on the way to it: none where that is decided, and else one
--- for each step of the list that it hands on
+-- the evaluations that a sample takes in the last box on the way to it: none where that is decided,
+-- and else one for each step of the list that it hands on
 abbrev pub end_cost : Descent → Visit → ℕ
 end_cost d v = by (decision d v)
   where
@@ -32,8 +32,8 @@ is_first b s = s.i == b.x0 && (s.j == b.y0 && s.k == b.z0)
 abbrev pub first_lengths : Sample → List Visit → ℕ
 first_lengths s visits = sum_by (λ v. if is_first v.box s then length v.list else 0) visits
 
--- The steps that are traced over a box and the boxes below it: the lengths of the lists that they receive. A box is on
--- the way to each of its samples, and is counted at the first.
+-- The steps that are traced over a box and the boxes below it: the lengths of the lists that they
+-- receive. A box is on the way to each of its samples, and is counted at the first.
 unfoldable pub spans_in : Descent → Visit → ℕ
 spans_in d v = sum_in v.box (λ s. first_lengths s (chain d v s))
 

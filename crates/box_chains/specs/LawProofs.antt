@@ -22,7 +22,9 @@ pub points_add_up_is : Lawful → PointsAddUp
 points_add_up_is laws d v some is = by (is_split d v) refl
   where
     by : (t : Bool) → is_split d v ≡ t
-        → points_in d v ≡ cond t (sum_by (λ half. points_in d (half_visit d v half)) (halves_of d.leaf v.box)) (size v.box * end_cost d v)
+        → points_in d v
+        ≡ cond t (sum_by (λ half. points_in d (half_visit d v half)) (halves_of d.leaf v.box))
+        (size v.box * end_cost d v)
     by false e = points-end d v is e
     by true e = points-split d v some is laws.halves e
 
@@ -30,7 +32,9 @@ pub spans_add_up_is : Lawful → SpansAddUp
 spans_add_up_is laws d v some is = by (is_split d v) refl
   where
     by : (t : Bool) → is_split d v ≡ t
-        → spans_in d v ≡ length v.list + cond t (sum_by (λ half. spans_in d (half_visit d v half)) (halves_of d.leaf v.box)) 0
+        → spans_in d v
+        ≡ length v.list
+        + cond t (sum_by (λ half. spans_in d (half_visit d v half)) (halves_of d.leaf v.box)) 0
     by false e = omega (arith, spans-end d v is e)
     by true e = spans-split d v some is laws.halves e
 

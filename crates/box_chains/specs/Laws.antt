@@ -11,12 +11,14 @@ use Rattle.box_chains.specs.SumLaws.{size}
 use Rattle.box_chains.specs.Sums.{LiesIn, Sample}
 use Rattle.box_chains.specs.ValueLaws.{IsVisit, sample_point}
 
--- the way to a sample goes on from a box that is split into the half that holds the sample, and ends elsewhere
+-- the way to a sample goes on from a box that is split into the half that holds the sample, and
+-- ends elsewhere
 abbrev pub ChainsGoOn : Type 0
 ChainsGoOn = (d : Descent) (v : Visit) (s : Sample) → 0 < d.leaf → IsBox v.box → LiesIn v.box s
     → chain d v s ≡ v ∷ (if is_split d v then chain d (next_visit d v s) s else [])
 
--- the evaluations of a box that is split are those of its halves, and those of another are its cost at each sample
+-- the evaluations of a box that is split are those of its halves, and those of another are its cost
+-- at each sample
 abbrev pub PointsAddUp : Type 0
 PointsAddUp = (d : Descent) (v : Visit) → 0 < d.leaf → IsBox v.box
     → points_in d v ≡ (if is_split d v then sum_by (λ half. points_in d (half_visit d v half))
@@ -38,8 +40,9 @@ abbrev pub SpansAreBounded : Type 0
 SpansAreBounded = (d : Descent) (v : Visit) → 0 < d.leaf → IsVisit d v
     → spans_in d v ≤ size v.box * (sides v.box * length v.list)
 
--- The last box on the way to a sample tells whether the sample is inside: by its decision, or by the value of the
--- list that it hands on, which is the value of the list that the first box receives.
+-- The last box on the way to a sample tells whether the sample is inside: by its decision, or by
+-- the value of the list that it hands on, which is the value of the list that the first box
+-- receives.
 pub record IsTold (d : Descent) (v : Visit) (s : Sample) : Type 0 where
   pub decided : (inside : Bool) → decision d (chain_end d v s) ≡ Some inside
       → is_inside (tape_value (sample_point d s) v.list) ≡ inside
@@ -56,8 +59,8 @@ pub record IsOnWay (d : Descent) (v w : Visit) : Type 0 where
   pub lies : LiesIn v.box sample
   pub on : Contains (chain d v sample) w
 
--- There is a list of exactly the boxes on the ways to the samples, none of them twice, and the lists that they receive are
--- together as long as the steps that are traced.
+-- There is a list of exactly the boxes on the ways to the samples, none of them twice, and the
+-- lists that they receive are together as long as the steps that are traced.
 pub record CountsBoxesOnce (d : Descent) (v : Visit) : Type 0 where
   pub boxes : List Visit
   pub different : AllPairs (λ a b. a.box ≢ b.box) boxes

@@ -21,4 +21,6 @@ sum_along low high f = sum_by f (range_with_len low (high - low))
 
 -- the sum of f over the samples of a box
 abbrev pub sum_in : Indices → (Sample → ℕ) → ℕ
-sum_in b f = sum_along b.z0 b.z1 (λ k. sum_along b.y0 b.y1 (λ j. sum_along b.x0 b.x1 (λ i. f (record { i = i; j = j; k = k }))))
+sum_in b f =
+    sum_along b.z0 b.z1 (λ k. sum_along b.y0 b.y1 (λ j. sum_along b.x0 b.x1 (λ i.
+    f (record { i = i; j = j; k = k }))))

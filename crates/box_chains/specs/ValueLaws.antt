@@ -1,4 +1,5 @@
--- What a box shows of its samples: the list that it hands on has their values, and a decision is right of them.
+-- What a box shows of its samples: the list that it hands on has their values, and a decision is
+-- right of them.
 use Rattle.std.proofs.Common.{◌≡◌, ℕ, ◌<◌, ◌≤◌, ℤ, Bool, length, arith}
 use Rattle.std.specs.Prelude.{Some}
 use Rattle.std.proofs.lemmas.Int.{ints}

@@ -121,7 +121,8 @@ pub points-below : (laws : Lawful) (d : Descent) (v : Visit) → 0 < d.leaf → 
     → points_in d v ≤ size v.box * length v.list
 points-below laws d v some is = points-below-within (sides v.box) laws d v some is (omega arith)
 
--- what the end of a sample's chain is: a box with the sample that is not split, whose list has the sample's value
+-- what the end of a sample's chain is: a box with the sample that is not split, whose list has the
+-- sample's value
 pub record IsEnd (d : Descent) (v : Visit) (s : Sample) (end : Visit) : Type 0 where
   pub visit : IsVisit d end
   pub lies : LiesIn end.box s
@@ -179,8 +180,8 @@ one-more s t u n some is =
     let all : s * (suc t * n) ≡ s * n + s * (t * n) = grind arith in
     rw is (omega (arith, once, all))
 
--- The steps that are traced over a box and those below it are bounded: each sample lies in fewer boxes than there are
--- sides.
+-- The steps that are traced over a box and those below it are bounded: each sample lies in fewer
+-- boxes than there are sides.
 spans-below-within : (n : ℕ) (laws : Lawful) (d : Descent) (v : Visit) → 0 < d.leaf → IsVisit d v
     → sides v.box ≤ n → spans_in d v ≤ size v.box * (sides v.box * length v.list)
 spans-below-within zero laws d v some is few =

@@ -49,8 +49,9 @@ number_of (token ∷ others) = unwrap_or (numeral token) (pos 0)
 abbrev pub parts_of : Op → List (List ℕ) → Parts
 parts_of op args = record { op = op; args = operands op args; value = number_of (numerals op args) }
 
--- The form that tokens say, or the first fault that they have, in this order: no operation stands there, the word
--- names none, its arguments are not as many as it takes, a constant's is no numeral, an operand begins a comment.
+-- The form that tokens say, or the first fault that they have, in this order: no operation stands
+-- there, the word names none, its arguments are not as many as it takes, a constant's is no
+-- numeral, an operand begins a comment.
 abbrev pub form_read : List (List ℕ) → Result Parts FormFault
 form_read [] = Err NoOperation
 form_read (word ∷ args) = on_operation (operation_of word)
@@ -63,8 +64,8 @@ form_read (word ∷ args) = on_operation (operation_of word)
         else if list_any begins_comment (operands op args) then Err BadName
         else Ok (parts_of op args)
 
--- what reading a form gives: the form that its tokens say, or the very fault that they have, or want of memory for
--- the form that they say
+-- what reading a form gives: the form that its tokens say, or the very fault that they have, or
+-- want of memory for the form that they say
 abbrev pub GivesForm : List (List ℕ) → Result Parts FormFault → Type 0
 GivesForm tokens (Ok form) = form_read tokens ≡ Ok form
 GivesForm tokens (Err fault) =

@@ -1,4 +1,5 @@
--- What the lines of a text and the tokens of a line are: how they stand in it, with no reader in these relations.
+-- What the lines of a text and the tokens of a line are: how they stand in it, with no reader in
+-- these relations.
 use Rattle.std.specs.Prelude.{◌≡◌, ◌≢◌, ◌↔◌, ℕ, ◌<◌, List, [], ◌∷◌, ◌++◌, length, slice_index, All, IsTrue, IsFalse, ◌==◌, if◌then◌else◌}
 use Rattle.std.specs.List.{flat_map}
 use Rattle.solid_model.specs.Names.{is_blank}
@@ -42,7 +43,8 @@ abbrev pub EndsToken : List ℕ → Type 0
 EndsToken [] = Unit {0}
 EndsToken (byte ∷ others) = IsTrue (is_blank byte)
 
--- the line is some blanks or none, then the token, a longest run of bytes that are no blanks, and then the rest
+-- the line is some blanks or none, then the token, a longest run of bytes that are no blanks, and
+-- then the rest
 pub record HasFirstToken (line token rest : List ℕ) : Type 0 where
   pub gap : List ℕ
   pub parts : line ≡ gap ++ (token ++ rest)

@@ -15,13 +15,17 @@ lines_first (byte ∷ rest) lt = by (is_feed byte) lt (λ h. lines_first rest h)
   where
     by : (t : Bool) → cond (not t) (1 + position_or_len is_feed rest) 0 < length (byte ∷ rest)
         → (position_or_len is_feed rest < length rest
-        → lines_of rest ≡ take (position_or_len is_feed rest) rest ∷ lines_of (drop (position_or_len is_feed rest + 1) rest))
+        → lines_of rest
+        ≡ take (position_or_len is_feed rest) rest
+        ∷ lines_of (drop (position_or_len is_feed rest + 1) rest))
         → cond t ([] ∷ lines_of rest) (onto_first byte (lines_of rest))
-        ≡ take (cond (not t) (1 + position_or_len is_feed rest) 0) (byte ∷ rest) ∷ lines_of (drop (cond (not t) (1 + position_or_len is_feed rest) 0 + 1) (byte ∷ rest))
+        ≡ take (cond (not t) (1 + position_or_len is_feed rest) 0) (byte ∷ rest)
+        ∷ lines_of (drop (cond (not t) (1 + position_or_len is_feed rest) 0 + 1) (byte ∷ rest))
     by true h later = refl
     by false h later =
         let e : 1 + position_or_len is_feed rest ≡ suc (position_or_len is_feed rest) = omega arith in
-        let f : suc (position_or_len is_feed rest) + 1 ≡ suc (position_or_len is_feed rest + 1) = omega arith in
+        let f : suc (position_or_len is_feed rest) + 1 ≡ suc (position_or_len is_feed rest + 1) =
+        omega arith in
         rw (later (omega arith), e, f) refl
 
 -- a text without one is one line
@@ -37,10 +41,13 @@ lines_last (byte ∷ []) lt e = by (is_feed byte) e
 lines_last (byte ∷ next ∷ others) lt e =
     by (is_feed byte) e (λ h. lines_last (next ∷ others) (omega arith) h)
   where
-    by : (t : Bool) → suc (length (next ∷ others)) ≡ cond (not t) (1 + position_or_len is_feed (next ∷ others)) 0
+    by : (t : Bool)
+        → suc (length (next ∷ others))
+        ≡ cond (not t) (1 + position_or_len is_feed (next ∷ others)) 0
         → (length (next ∷ others) ≡ position_or_len is_feed (next ∷ others)
         → lines_of (next ∷ others) ≡ (next ∷ others) ∷ [])
-        → cond t ([] ∷ lines_of (next ∷ others)) (onto_first byte (lines_of (next ∷ others))) ≡ (byte ∷ next ∷ others) ∷ []
+        → cond t ([] ∷ lines_of (next ∷ others)) (onto_first byte (lines_of (next ∷ others)))
+        ≡ (byte ∷ next ∷ others) ∷ []
     by true h later = absurd (omega arith)
     by false h later = rw (later (omega arith)) refl
 
@@ -53,7 +60,8 @@ lines_of-some text some = by (cases_lt (position_or_len is_feed text) (length te
         → lines_of text ≡ line_of text ∷ lines_of (after_line text)
     by (inl less) = lines_first text less
     by (inr more) =
-        let end : length text ≡ position_or_len is_feed text = omega (arith, prefix_len-le-length (λ byte. not (is_feed byte)) text) in
+        let end : length text ≡ position_or_len is_feed text =
+        omega (arith, prefix_len-le-length (λ byte. not (is_feed byte)) text) in
         let whole : line_of text ≡ text = take_all (position_or_len is_feed text) text more in
         let nothing : after_line text ≡ [] = drop_all (position_or_len is_feed text + 1) text (omega arith) in
         rw (whole, nothing) (lines_last text some end)

@@ -12,7 +12,8 @@ onto_first byte (first ∷ others) = (byte ∷ first) ∷ others
 abbrev pub is_feed : ℕ → Bool
 is_feed byte = byte == 10
 
--- The lines of a text, which a line feed ends. What stands after the last one is a line too, where it is not empty.
+-- The lines of a text, which a line feed ends. What stands after the last one is a line too, where
+-- it is not empty.
 abbrev pub lines_of : List ℕ → List (List ℕ)
 lines_of [] = []
 lines_of (byte ∷ rest) =

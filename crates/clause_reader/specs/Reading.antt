@@ -25,7 +25,8 @@ abbrev pub place_or_zero : List Clause → List (List ℕ) → ℕ → ℕ
 place_or_zero clauses names k =
     option_map_or (λ name. option_map_or (λ place. place) (place_of clauses name) 0) (slice_get names k) 0
 
--- the clause of this name, operation and arguments: each operand replaced by the place of the clause that it names
+-- the clause of this name, operation and arguments: each operand replaced by the place of the
+-- clause that it names
 abbrev pub clause_of : List Clause → List ℕ → Op → List (List ℕ) → Clause
 clause_of clauses name op args = record {
   name = name;
@@ -35,9 +36,10 @@ clause_of clauses name op args = record {
   value = number_of (numerals op args);
 }
 
--- The clauses with the one that a line's tokens say, or the first reason to refuse the line, in this order: no
--- operation stands after the name, the word names none, the arguments are not as many as it takes, a constant's is no
--- numeral, an operand names no clause before it, the name stands already, there are 65,535 clauses.
+-- The clauses with the one that a line's tokens say, or the first reason to refuse the line, in
+-- this order: no operation stands after the name, the word names none, the arguments are not as
+-- many as it takes, a constant's is no numeral, an operand names no clause before it, the name
+-- stands already, there are 65,535 clauses.
 abbrev pub clauses_with : List Clause → List (List ℕ) → Result (List Clause) TextReason
 clauses_with clauses [] = Err NoOperation
 clauses_with clauses (name ∷ []) = Err NoOperation
@@ -67,7 +69,8 @@ line_read clauses line =
 abbrev pub lines_read : List Clause → ℕ → List (List ℕ) → Result (List Clause) TextFault
 lines_read clauses number [] = Ok clauses
 lines_read clauses number (line ∷ lines) =
-    on_result (line_read clauses line) (λ new. lines_read new (number + 1) lines) (λ reason. Err (record { line = number; reason = reason }))
+    on_result (line_read clauses line) (λ new. lines_read new (number + 1) lines)
+    (λ reason. Err (record { line = number; reason = reason }))
 
 -- the line 0, where there is no clause
 abbrev pub unless_empty : Result (List Clause) TextFault → Result (List Clause) TextFault
@@ -89,8 +92,8 @@ pub record MayWantMemory (text : List ℕ) (line : ℕ) : Type 0 where
   pub says : is_clause (tokens_of (slice_index_or (lines_of text) (line - 1) [])) ≡ true
   pub good : IsGoodUpTo text line
 
--- what reading a text gives: the model that it says, or the very line and reason for which it is refused, or want of
--- memory on a line that says a clause, up to which no line is refused
+-- what reading a text gives: the model that it says, or the very line and reason for which it is
+-- refused, or want of memory on a line that says a clause, up to which no line is refused
 abbrev pub GivesModel : List ℕ → Result (List Clause) TextFault → Type 0
 GivesModel text (Ok model) = text_read text ≡ Ok model
 GivesModel text (Err fault) =

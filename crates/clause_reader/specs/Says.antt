@@ -27,7 +27,8 @@ pub record IsSaidAt (lines : List (ℕ × List (List ℕ))) (clauses : List Clau
 abbrev pub AreSaid : List (ℕ × List (List ℕ)) → List Clause → Type 0
 AreSaid lines clauses = (k : ℕ) → k < length clauses → IsSaidAt lines clauses k
 
--- the text says these clauses and has no defect: there are some, one for each clause line, and each is what its line says
+-- the text says these clauses and has no defect: there are some, one for each clause line, and each
+-- is what its line says
 pub record Reads (text : List ℕ) (clauses : List Clause) : Type 0 where
   pub some : 0 < length clauses
   pub as_many : length clauses ≡ length (clause_lines text)
@@ -39,7 +40,8 @@ pub record SaysNothing (text : List ℕ) (line : ℕ) (reason : TextReason) : Ty
   pub zero : line ≡ 0
   pub empty : reason ≡ Empty
 
--- the clause line of this number is refused for this reason, after the clauses that the clause lines before it say
+-- the clause line of this number is refused for this reason, after the clauses that the clause
+-- lines before it say
 pub record HasDefect (text : List ℕ) (line : ℕ) (reason : TextReason) : Type 0 where
   pub before : List Clause
   pub said : AreSaid (clause_lines text) before

@@ -13,7 +13,8 @@ abbrev pub EndsRun : List ℕ → Type 0
 EndsRun [] = Unit {0}
 EndsRun (byte ∷ others) = IsFalse (is_token_byte byte)
 
--- from one place on only blanks stand up to a start, and from there on a token, the longest run of its bytes, up to an end
+-- from one place on only blanks stand up to a start, and from there on a token, the longest run of
+-- its bytes, up to an end
 pub record IsTokenAt (bytes : List ℕ) (from start end : ℕ) : Type 0 where
   pub after : from ≤ start
   pub some : start < end

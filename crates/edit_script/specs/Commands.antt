@@ -132,10 +132,11 @@ abbrev pub keyword_read : ℕ → Option Keyword → List (List ℕ) → Result 
 keyword_read line None tokens = Err UnknownCommand
 keyword_read line (Some keyword) tokens = after_keyword line keyword tokens
 
--- The command that the tokens of the line of this number say, or the lowest reason to refuse it, in this order: the
--- first token is no command; too few follow it; the name of a new clause begins with `#`; the operation is none; its
--- arguments are not as many as it takes, or a token follows the last of another command; the argument of a constant
--- is no numeral; the settings of a draw have a fault.
+-- The command that the tokens of the line of this number say, or the lowest reason to refuse it, in
+-- this order: the first token is no command; too few follow it; the name of a new clause begins
+-- with `#`; the operation is none; its arguments are not as many as it takes, or a token follows
+-- the last of another command; the argument of a constant is no numeral; the settings of a draw
+-- have a fault.
 abbrev pub command_read : ℕ → List (List ℕ) → Result Command ScriptReason
 command_read line [] = Err UnknownCommand
 command_read line (word ∷ tokens) = keyword_read line (keyword_named word) tokens
@@ -143,7 +144,8 @@ command_read line (word ∷ tokens) = keyword_read line (keyword_named word) tok
 -- the command of a line, or none where it is blank or a comment
 abbrev pub line_read : ℕ → List (List ℕ) → Result (Option Command) ScriptReason
 line_read line tokens =
-    if is_clause tokens then on_result (command_read line tokens) (λ command. Ok (Some command)) (λ reason. Err reason)
+    if is_clause tokens
+    then on_result (command_read line tokens) (λ command. Ok (Some command)) (λ reason. Err reason)
     else Ok None
 
 -- what a command always keeps: its edit is one, and what it draws may be drawn of its view

@@ -19,14 +19,15 @@ is_mark (token ∷ next ∷ others) = false
 abbrev pub mark_place : List ℕ → Option ℕ
 mark_place input = position (λ line. is_mark (tokens_of line)) (lines_of input)
 
--- where the line at a place begins: the lines before it with a line feed each are so long; and where the input ends,
--- which the last line feed may lack
+-- where the line at a place begins: the lines before it with a line feed each are so long; and
+-- where the input ends, which the last line feed may lack
 abbrev pub line_start : List ℕ → ℕ → ℕ
 line_start input place = min (length (ended (take place (lines_of input)))) (length input)
 
 -- where the first mark line begins, and where the line after it does
 abbrev pub mark_ends : List ℕ → Option (ℕ × ℕ)
-mark_ends input = option_map (λ place. (line_start input place, line_start input (place + 1))) (mark_place input)
+mark_ends input =
+    option_map (λ place. (line_start input place, line_start input (place + 1))) (mark_place input)
 
 -- the text of the model in an input: what stands before the first mark line, or all of it where there is none
 abbrev pub before_mark : List ℕ → List ℕ

@@ -32,8 +32,8 @@ ScriptsAreExact =
     (input : List ℕ) (commands : List Command)
     → (script_read input ≡ Ok commands) ↔ SaysCommands input commands
 
--- reading answers a line and a reason exactly where the input has no mark line, or this line is the first that is
--- refused
+-- reading answers a line and a reason exactly where the input has no mark line, or this line is the
+-- first that is refused
 abbrev pub RefusalsAreExact : Type 0
 RefusalsAreExact =
     (input : List ℕ) (fault : ScriptFault)

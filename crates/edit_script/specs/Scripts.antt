@@ -10,8 +10,8 @@ use Rattle.edit_script.specs.declared.script_reason.ScriptReason.TheVariants.{No
 use Rattle.edit_script.specs.Commands.{command_read}
 use Rattle.edit_script.specs.Marks.{mark_place}
 
--- the lines after the mark line at a place that are neither blank nor comments, each as its number among all lines of
--- the input and its tokens
+-- the lines after the mark line at a place that are neither blank nor comments, each as its number
+-- among all lines of the input and its tokens
 abbrev pub command_lines : List ℕ → ℕ → List (ℕ × List (List ℕ))
 command_lines input mark =
     filter (λ line. is_clause line.1) (drop (mark + 1) (numbered_lines input))
@@ -27,7 +27,8 @@ abbrev pub all_or_first : {A E : Type 0} → List (Result A E) → Result (List 
 all_or_first [] = Ok []
 all_or_first (result ∷ results) =
     on_result result
-    (λ value. on_result (all_or_first results) (λ values. Ok (value ∷ values)) (λ fault. Err fault)) (λ fault. Err fault)
+    (λ value. on_result (all_or_first results) (λ values. Ok (value ∷ values)) (λ fault. Err fault))
+    (λ fault. Err fault)
 
 -- the commands after the mark line, or line 0 where there is none
 abbrev pub commands_after : List ℕ → Option ℕ → Result (List Command) ScriptFault
@@ -45,8 +46,8 @@ pushed commands (Ok (Some command)) = Ok (commands ++ command ∷ [])
 pushed commands (Ok None) = Ok commands
 pushed commands (Err reason) = Err reason
 
--- a fault of an input: the very line and reason for which it is refused, or want of memory on a line up to which no
--- line is refused
+-- a fault of an input: the very line and reason for which it is refused, or want of memory on a
+-- line up to which no line is refused
 pub record RefusesScript (input : List ℕ) (fault : ScriptFault) : Type 0 where
   pub refused : fault.reason ≢ NoMemory → script_read input ≡ Err fault
   pub no_memory : fault.reason ≡ NoMemory

@@ -69,7 +69,9 @@ nearest_raw q = min ((2 * q * 2 ^ 32 + 10 ^ 28) / (2 * 10 ^ 28)) (2 ^ 62 - 1)
 
 -- the raw number of a numeral without a sign
 unfoldable pub unsigned_raw : List ℕ → ℕ
-unsigned_raw body = nearest_raw (cut_magnitude (whole_part body) (fraction_part body) (signed_digits_value 10 (drop 1 (exponent_part body))))
+unsigned_raw body =
+    nearest_raw (cut_magnitude (whole_part body) (fraction_part body)
+    (signed_digits_value 10 (drop 1 (exponent_part body))))
 
 -- the raw number that a sign and a size mean
 abbrev pub with_sign : Bool → ℕ → ℤ

@@ -31,13 +31,14 @@ points_where test d v = sum_in v.box (λ s. if test s then cost d v s else 0)
 abbrev pub has_some : (Sample → Bool) → Indices → Bool
 has_some test b = nat_lt 0 (sum_in b (λ s. if test s then 1 else 0))
 
--- the lengths of the lists of those boxes that have a sample as their first, and some sample that passes a test
+-- the lengths of the lists of those boxes that have a sample as their first, and some sample that
+-- passes a test
 abbrev pub lengths_where : (Sample → Bool) → Sample → List Visit → ℕ
 lengths_where test s visits =
     sum_by (λ v. if has_some test v.box && is_first v.box s then length v.list else 0) visits
 
--- The steps that are traced over those boxes that have some sample that passes a test, of a box and the boxes below
--- it. Each is counted at its first sample.
+-- The steps that are traced over those boxes that have some sample that passes a test, of a box and
+-- the boxes below it. Each is counted at its first sample.
 unfoldable pub spans_where : (Sample → Bool) → Descent → Visit → ℕ
 spans_where test d v = sum_in v.box (λ s. lengths_where test s (chain d v s))
 
@@ -45,16 +46,16 @@ spans_where test d v = sum_in v.box (λ s. lengths_where test s (chain d v s))
 abbrev pub is_near : Window → List Step → Sample → Bool
 is_near view list s = nat_le (top_of view list s.i s.j) (s.k + 1)
 
--- what a height map takes at most: the evaluations of the samples that do not lie behind a top, and the steps that are
--- traced over all boxes
+-- what a height map takes at most: the evaluations of the samples that do not lie behind a top, and
+-- the steps that are traced over all boxes
 abbrev pub height_points : Window → List Step → ℕ
 height_points view list = points_where (is_near view list) (layered view) (whole view list)
 
 abbrev pub height_spans : Window → List Step → ℕ
 height_spans view list = spans_in (layered view) (whole view list)
 
--- the steps that a height map takes: those that are traced over the boxes on the ways to the samples that do not lie
--- behind a top
+-- the steps that a height map takes: those that are traced over the boxes on the ways to the
+-- samples that do not lie behind a top
 abbrev pub near_spans : Window → List Step → ℕ
 near_spans view list = spans_where (is_near view list) (layered view) (whole view list)
 
@@ -71,7 +72,8 @@ halves_traced test d list halves = sum_by (λ half. spans_where test d (visit ha
 -- the work that an undecided box takes that hands on a list, but for its own trace
 abbrev pub open_points : (Sample → Bool) → Descent → Indices → List Step → ℕ
 open_points test d b list =
-    if is_long d.leaf b then halves_points test d list (halves_of d.leaf b) else sum_in b (λ s. if test s then length list else 0)
+    if is_long d.leaf b then halves_points test d list (halves_of d.leaf b)
+    else sum_in b (λ s. if test s then length list else 0)
 
 abbrev pub open_spans : Descent → Indices → List Step → ℕ
 open_spans d b list = if is_long d.leaf b then halves_spans d list (halves_of d.leaf b) else 0

@@ -37,11 +37,13 @@ pub record Changes (covers : ℕ → Bool) (becomes : ℕ → ℕ → ℕ) (befo
 abbrev pub lifted : ℕ → ℕ → ℕ
 lifted new old = if old == 0 then new else old
 
--- the top of a column, once the samples of a box are looked at: the one that it has, or else the one that they give
+-- the top of a column, once the samples of a box are looked at: the one that it has, or else the
+-- one that they give
 abbrev pub leaf_top : Window → List Step → Indices → ℕ → ℕ → ℕ
 leaf_top view list b p old = lifted (top_among view list b.z0 b.z1 (p % view.w) (p / view.w)) old
 
--- the column of a sample has no top, and the sample does not lie behind the one that the samples of the box give
+-- the column of a sample has no top, and the sample does not lie behind the one that the samples of
+-- the box give
 abbrev pub is_open : Window → List Step → Indices → List ℕ → Sample → Bool
 is_open view list b tops s = get_or tops (s.j * view.w + s.i) 0 == 0
     && nat_le (top_among view list b.z0 b.z1 s.i s.j) (s.k + 1)

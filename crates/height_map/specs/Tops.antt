@@ -13,12 +13,13 @@ abbrev pub greatest : List ℕ → ℕ
 greatest [] = 0
 greatest (n ∷ ns) = max n (greatest ns)
 
--- whether the value of a list is inside at sample k, from the far end on, of the column at i, from the left on, in row
--- j, from the top on
+-- whether the value of a list is inside at sample k, from the far end on, of the column at i, from
+-- the left on, in row j, from the top on
 abbrev pub inside : Window → List Step → ℕ → ℕ → ℕ → Bool
 inside view list i j k = is_inside (tape_value (point_of view Height i j k) list)
 
--- 1 plus the greatest index from low on, below high, of a sample of a column that is inside, or 0 where there is none
+-- 1 plus the greatest index from low on, below high, of a sample of a column that is inside, or 0
+-- where there is none
 abbrev pub top_among : Window → List Step → ℕ → ℕ → ℕ → ℕ → ℕ
 top_among view list low high i j =
     greatest (map (λ k. if inside view list i j k then k + 1 else 0) (range_with_len low (high - low)))

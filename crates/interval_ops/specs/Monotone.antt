@@ -25,7 +25,8 @@ div_le m n d h = le-div (m / suc d) n (suc d) (omega arith) (omega (arith, div-m
 pub div_ge : (n d e : ℕ) → d ≤ e → n / suc e ≤ n / suc d
 div_ge n d e h =
     let q = n / suc e in
-    let le : q * suc d ≤ q * suc e = mul-le-mul {n₁ = q} {m₁ = suc d} {n₂ = q} {m₂ = suc e} (omega arith) (omega arith) in
+    let le : q * suc d ≤ q * suc e =
+    mul-le-mul {n₁ = q} {m₁ = suc d} {n₂ = q} {m₂ = suc e} (omega arith) (omega arith) in
     le-div q n (suc d) (omega arith) (omega (arith, le, div-mul-le_self n (suc e)))
 
 pub floor_div_le : (s t : ℤ) (d : ℕ) → s ≤ℤ t → floor_div s (suc d) ≤ℤ floor_div t (suc d)
@@ -42,7 +43,14 @@ floor_root_le : (m n : ℕ) → m ≤ n → floor_root m ≤ floor_root n
 floor_root_le m n h =
     let r = floor_root_is_root m in
     let s = floor_root_is_root n in
-    ⊎_elim (λ (lt : floor_root n < floor_root m). absurd (omega (arith, mul-le-mul {n₁ = floor_root n + 1} {m₁ = floor_root n + 1} {n₂ = floor_root m} {m₂ = floor_root m} (omega arith) (omega arith), r.0, s.1)))
+    ⊎_elim (λ (lt : floor_root n < floor_root m).
+    absurd (omega (
+      arith,
+      mul-le-mul {n₁ = floor_root n + 1} {m₁ = floor_root n + 1}
+          {n₂ = floor_root m} {m₂ = floor_root m} (omega arith) (omega arith),
+      r.0,
+      s.1,
+    )))
     (λ (le : floor_root m ≤ floor_root n). le)
     (cases_lt (floor_root n) (floor_root m))
 

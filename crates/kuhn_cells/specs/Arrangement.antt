@@ -27,7 +27,9 @@ inside_count pattern = length (inside_ones pattern)
 
 -- the one that differs from the other three stands first, or else the inside ones before the outside ones
 abbrev pub grouped : List Bool → List ℕ
-grouped pattern = if inside_count pattern == 3 then outside_ones pattern ++ inside_ones pattern else inside_ones pattern ++ outside_ones pattern
+grouped pattern =
+    if inside_count pattern == 3 then outside_ones pattern ++ inside_ones pattern
+    else inside_ones pattern ++ outside_ones pattern
 
 -- the last two of four, exchanged
 abbrev pub turned : List ℕ → List ℕ

@@ -18,4 +18,7 @@ every p = both (λ a. both (λ b. both (λ c. both (λ d. p a b c d))))
 pub every_at : (p : Bool → Bool → Bool → Bool → Bool) → every p ≡ true → (a b c d : Bool)
     → p a b c d ≡ true
 every_at p h a b c d =
-    both_at (λ d. p a b c d) (both_at (λ c. both (λ d. p a b c d)) (both_at (λ b. both (λ c. both (λ d. p a b c d))) (both_at (λ a. both (λ b. both (λ c. both (λ d. p a b c d)))) h a) b) c) d
+    both_at (λ d. p a b c d)
+    (both_at (λ c. both (λ d. p a b c d))
+    (both_at (λ b. both (λ c. both (λ d. p a b c d)))
+    (both_at (λ a. both (λ b. both (λ c. both (λ d. p a b c d)))) h a) b) c) d

@@ -21,13 +21,15 @@ corner_place mask =
 -- the six orders of the axes x, y and z, one for each tetrahedron
 abbrev pub orders : List (List ℕ)
 orders =
-    (1 ∷ 2 ∷ 4 ∷ []) ∷ (1 ∷ 4 ∷ 2 ∷ []) ∷ (2 ∷ 1 ∷ 4 ∷ []) ∷ (2 ∷ 4 ∷ 1 ∷ []) ∷ (4 ∷ 1 ∷ 2 ∷ []) ∷ (4 ∷ 2 ∷ 1 ∷ []) ∷ []
+    (1 ∷ 2 ∷ 4 ∷ []) ∷ (1 ∷ 4 ∷ 2 ∷ [])
+    ∷ (2 ∷ 1 ∷ 4 ∷ []) ∷ (2 ∷ 4 ∷ 1 ∷ [])
+    ∷ (4 ∷ 1 ∷ 2 ∷ []) ∷ (4 ∷ 2 ∷ 1 ∷ []) ∷ []
 
 abbrev pub order_of : ℕ → List ℕ
 order_of tetra = get_or orders tetra []
 
--- the corners v0 to v3 of a tetrahedron: the first is the cell's lowest, and each next one lies one step further
--- along the next axis
+-- the corners v0 to v3 of a tetrahedron: the first is the cell's lowest, and each next one lies one
+-- step further along the next axis
 abbrev pub corner : ℕ → ℕ → ℕ
 corner tetra which = sum (take which (order_of tetra))
 

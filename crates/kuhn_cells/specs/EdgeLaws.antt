@@ -116,8 +116,8 @@ parting inside cell tetra i j few fi fj parted apart =
       above = omega arith;
     }
 
--- Which edges of the arranged corners are drawn by how many corners are inside: their ends are two of the four
--- corners, of which one is inside.
+-- Which edges of the arranged corners are drawn by how many corners are inside: their ends are two
+-- of the four corners, of which one is inside.
 is_parted : List Bool → List ℕ → ℕ → ℕ → Bool
 is_parted pattern ks i j =
     let a = get_or ks i 0 in

@@ -27,7 +27,8 @@ is_inside_at g p = is_inside (value_at g p)
 -- something at each place of a block of so many places along each axis, by z, then by y, then by x
 abbrev pub over_block : {A : Type 0} → ℕ → ℕ → ℕ → (GridPoint → List A) → List A
 over_block nx ny nz at =
-    flat_map (λ z. flat_map (λ y. flat_map (λ x. at (point x y z)) (range_with_len 0 nx)) (range_with_len 0 ny)) (range_with_len 0 nz)
+    flat_map (λ z. flat_map (λ y. flat_map (λ x. at (point x y z)) (range_with_len 0 nx))
+    (range_with_len 0 ny)) (range_with_len 0 nz)
 
 -- the ends of an edge
 abbrev pub lower : EdgeKey → GridPoint
@@ -36,9 +37,12 @@ lower e = point e.x e.y e.z
 abbrev pub upper : EdgeKey → GridPoint
 upper e = further (lower e) e.dir
 
--- the edges of a grid, by z, y and x of their lower points and then by direction: both ends are points of the grid
+-- the edges of a grid, by z, y and x of their lower points and then by direction: both ends are
+-- points of the grid
 abbrev pub edges : Grid → List EdgeKey
-edges g = filter (λ e. is_point g (upper e)) (over_block (g.x + 1) (g.y + 1) (g.z + 1) (λ p. map (edge_from p) (range_with_len 1 7)))
+edges g =
+    filter (λ e. is_point g (upper e))
+    (over_block (g.x + 1) (g.y + 1) (g.z + 1) (λ p. map (edge_from p) (range_with_len 1 7)))
 
 -- exactly one end of an edge is inside
 abbrev pub is_mixed : (GridPoint → Bool) → EdgeKey → Bool

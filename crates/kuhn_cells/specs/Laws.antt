@@ -12,14 +12,15 @@ use Rattle.kuhn_cells.specs.Faces.{all_triangles, cell_triangles, number_among}
 use Rattle.kuhn_cells.specs.Grids.{Grid, is_inside_at, is_mixed, is_point, upper, vertices}
 use Rattle.kuhn_cells.specs.Triangles.{GridPoint}
 
--- the sign of a tetrahedron, which is that of its order of the axes, is that of the determinant of the ways from
--- v0 to v1, v2 and v3
+-- the sign of a tetrahedron, which is that of its order of the axes, is that of the determinant of
+-- the ways from v0 to v1, v2 and v3
 abbrev pub SignsAreDeterminants : Type 0
 SignsAreDeterminants =
     (tetra : ℕ) → tetra < 6 → corner_determinant (corner tetra 0) (corner tetra 1) (corner tetra 2)
     (corner tetra 3) ≡ (if is_negative tetra then negsuc 0 else pos 1)
 
--- however the corners of a tetrahedron lie, the determinant of the ways from a to b, c and d is positive: it is 1
+-- however the corners of a tetrahedron lie, the determinant of the ways from a to b, c and d is
+-- positive: it is 1
 abbrev pub ArrangementsArePositive : Type 0
 ArrangementsArePositive =
     (tetra : ℕ) (v0 v1 v2 v3 : Bool) → tetra < 6 → let corners =

@@ -4,8 +4,8 @@ use Rattle.kuhn_cells.specs.Arrangement.{positions}
 use Rattle.kuhn_cells.specs.Corners.{corner, corner_place}
 use Rattle.kuhn_cells.specs.Vectors.{Vector, determinant, way}
 
--- A tetrahedron of a cell has an edge of a direction that starts at a corner. Both are told by a pair of the corner and
--- the tetrahedron's number.
+-- A tetrahedron of a cell has an edge of a direction that starts at a corner. Both are told by a
+-- pair of the corner and the tetrahedron's number.
 pub record HasEdge (dir : ℕ) (m : ℕ × ℕ) : Type 0 where
   pub few : m.1 < 6
   pub start : Contains (map (corner m.1) positions) m.0
@@ -20,11 +20,12 @@ corners_off dir m =
 abbrev pub from_start : ℕ × ℕ → ℕ → Vector
 from_start m c = way (corner_place m.0) (corner_place c)
 
--- the two corners off the edge, as the tetrahedron lies between them where one turns round the edge, counterclockwise seen
--- from its upper end
+-- the two corners off the edge, as the tetrahedron lies between them where one turns round the
+-- edge, counterclockwise seen from its upper end
 abbrev pub sides : ℕ → ℕ × ℕ → Vector × Vector
 sides dir m =
-    let r = from_start m (get_or (corners_off dir m) 0 0) in let s = from_start m (get_or (corners_off dir m) 1 0) in
+    let r = from_start m (get_or (corners_off dir m) 0 0) in
+    let s = from_start m (get_or (corners_off dir m) 1 0) in
     if int_lt (pos 0) (determinant (corner_place dir) r s) then (r, s) else (s, r)
 
 -- one after another, and the first after the last
@@ -36,8 +37,9 @@ abbrev pub in_turn : {A : Type 0} → List A → List (A × A)
 in_turn [] = []
 in_turn (a ∷ bs) = follow_on a a bs
 
--- All tetrahedra round an edge of a direction, each once, as one turns round it, counterclockwise seen from its upper end:
--- each one ends at the side where the next begins. The first has the least number.
+-- All tetrahedra round an edge of a direction, each once, as one turns round it, counterclockwise
+-- seen from its upper end: each one ends at the side where the next begins. The first has the least
+-- number.
 pub record IsRing (dir : ℕ) (ms : List (ℕ × ℕ)) : Type 0 where
   pub edges : All (HasEdge dir) ms
   pub all : (m : ℕ × ℕ) → HasEdge dir m → Contains ms m

@@ -27,20 +27,23 @@ edge_from p dir = record { x = p.x; y = p.y; z = p.z; dir = dir }
 abbrev pub edge_between : GridPoint → ℕ → ℕ → EdgeKey
 edge_between cell a b = edge_from (further cell (min a b)) (max a b - min a b)
 
--- The triangles of the arranged corners a, b, c and d by how many of the four are inside. Seen from the outside
--- each runs counterclockwise.
+-- The triangles of the arranged corners a, b, c and d by how many of the four are inside. Seen from
+-- the outside each runs counterclockwise.
 abbrev pub triangles_among : (ℕ → ℕ → EdgeKey) → ℕ → ℕ → ℕ → ℕ → ℕ → List Triple
 triangles_among edge count a b c d =
     if count == 1 then record { a = edge a b; b = edge a c; c = edge a d } ∷ []
     else (if count == 3 then record { a = edge a b; b = edge a d; c = edge a c } ∷ []
-    else (if count == 2 then record { a = edge a c; b = edge a d; c = edge b d } ∷ record { a = edge a c; b = edge b d; c = edge b c } ∷ []
+    else (if count == 2
+    then record { a = edge a c; b = edge a d; c = edge b d }
+    ∷ record { a = edge a c; b = edge b d; c = edge b c } ∷ []
     else []))
 
 -- the triangles of a tetrahedron of a cell, where some of its corners v0 to v3 are inside
 abbrev pub triangles_by : GridPoint → ℕ → List Bool → List Triple
 triangles_by cell tetra pattern =
     let corners = arrangement tetra pattern in
-    triangles_among (edge_between cell) (inside_count pattern) (get_or corners 0 0) (get_or corners 1 0) (get_or corners 2 0) (get_or corners 3 0)
+    triangles_among (edge_between cell) (inside_count pattern)
+    (get_or corners 0 0) (get_or corners 1 0) (get_or corners 2 0) (get_or corners 3 0)
 
 -- the same, where a test says which corners of the cell are inside
 abbrev pub triangles_in : GridPoint → ℕ → (ℕ → Bool) → List Triple

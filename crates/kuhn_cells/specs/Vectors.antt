@@ -13,7 +13,9 @@ way p q = record { x = q.x -ℤ p.x; y = q.y -ℤ p.y; z = q.z -ℤ p.z }
 -- the determinant of three vectors: it is positive where they turn as the axes x, y and z do
 abbrev pub determinant : Vector → Vector → Vector → ℤ
 determinant u v w =
-    ((u.x *ℤ ((v.y *ℤ w.z) -ℤ (v.z *ℤ w.y))) -ℤ (u.y *ℤ ((v.x *ℤ w.z) -ℤ (v.z *ℤ w.x)))) +ℤ (u.z *ℤ ((v.x *ℤ w.y) -ℤ (v.y *ℤ w.x)))
+    ((u.x *ℤ ((v.y *ℤ w.z) -ℤ (v.z *ℤ w.y)))
+    -ℤ (u.y *ℤ ((v.x *ℤ w.z) -ℤ (v.z *ℤ w.x))))
+    +ℤ (u.z *ℤ ((v.x *ℤ w.y) -ℤ (v.y *ℤ w.x)))
 
 -- the determinant of the ways from the first of four places to the others
 abbrev pub determinant_at : Vector → Vector → Vector → Vector → ℤ

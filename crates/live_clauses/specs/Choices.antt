@@ -21,8 +21,8 @@ AreChoices steps choices = (place : ℕ) (step : Step)
     → slice_get steps place ≡ Some step → step.op ≢ Min → step.op ≢ Max
     → choice_at choices place ≡ Both
 
--- Choices are right at a point where each step that chooses its left operand has that operand's value there, and
--- each that chooses its right operand has that one's.
+-- Choices are right at a point where each step that chooses its left operand has that operand's
+-- value there, and each that chooses its right operand has that one's.
 pub record AreRight (p : Point) (steps : List Step) (choices : List Choice) : Type 0 where
   pub left : (place : ℕ) (step : Step) → slice_get steps place ≡ Some step
       → choice_at choices place ≡ Left → value_at p steps place ≡ value_at p steps step.a

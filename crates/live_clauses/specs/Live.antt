@@ -18,10 +18,13 @@ chosen Both left right own = own
 abbrev pub represented : ℕ → List Step → List Choice → ℕ → ℕ
 represented zero steps choices place = place
 represented (suc turns) steps choices place =
-    chosen (choice_at choices place) (represented turns steps choices (step_at steps place).a) (represented turns steps choices (step_at steps place).b) place
+    chosen (choice_at choices place)
+    (represented turns steps choices (step_at steps place).a)
+    (represented turns steps choices (step_at steps place).b) place
 
--- The representative of a step: that of its left operand under Left, that of its right operand under Right, and
--- the step itself under Both. Operands stand before their step, so as many turns as its place are enough.
+-- The representative of a step: that of its left operand under Left, that of its right operand
+-- under Right, and the step itself under Both. Operands stand before their step, so as many turns
+-- as its place are enough.
 abbrev pub representative : List Step → List Choice → ℕ → ℕ
 representative steps choices place = represented place steps choices place
 
@@ -86,7 +89,9 @@ renumbered new step = record {
 abbrev pub live_below : List Step → List Choice → ℕ → List Step
 live_below steps choices zero = []
 live_below steps choices (suc place) =
-    live_below steps choices place ++ (if is_kept steps choices place then renumbered (new_place steps choices) (step_at steps place) ∷ [] else [])
+    live_below steps choices place
+    ++ (if is_kept steps choices place
+    then renumbered (new_place steps choices) (step_at steps place) ∷ [] else [])
 
 -- the live list: all live steps, in their order, numbered anew, with representatives for operands
 abbrev pub live_of : List Step → List Choice → List Step

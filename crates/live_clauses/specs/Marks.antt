@@ -47,9 +47,10 @@ AreNumbers upto steps choices numbers = (place : ℕ) → place < upto
     → is_needed steps choices place ≡ true
     → slice_index numbers place ≡ new_place steps choices place
 
--- What a walk up a list has done before a place: the needed steps there have their numbers, the others still their
--- marks, and the live ones are copied.
-pub record IsNumbered (at : ℕ) (steps : List Step) (choices : List Choice) (held : List ℕ) (new : List Step) : Type 0 where
+-- What a walk up a list has done before a place: the needed steps there have their numbers, the
+-- others still their marks, and the live ones are copied.
+pub record IsNumbered (at : ℕ) (steps : List Step) (choices : List Choice)
+    (held : List ℕ) (new : List Step) : Type 0 where
   pub numbers : AreNumbers at steps choices held
   pub marks : AreMarks at steps choices held
   pub copied : new ≡ live_below steps choices at

@@ -25,7 +25,8 @@ pub record IsTape (steps : List Step) : Type 0 where
 -- the value of a step at a point, from the values of the steps before it
 abbrev pub value_after : Point → List ℤ → Step → ℤ
 value_after p earlier step =
-    step_value step.op p step.value (slice_index_or earlier step.a (pos 0)) (slice_index_or earlier step.b (pos 0))
+    step_value step.op p step.value
+    (slice_index_or earlier step.a (pos 0)) (slice_index_or earlier step.b (pos 0))
 
 -- the values of all steps at a point, in their order
 abbrev pub values : Point → List Step → List ℤ

@@ -24,8 +24,8 @@ pub record IsTriangle (f : Face) : Type 0 where
   pub bc : f.b ≡ f.c → ⊥
   pub ca : f.c ≡ f.a → ⊥
 
--- A mesh is closed, and its faces are turned alike, where each directed edge occurs in one place only, and so does
--- the same edge in the other direction.
+-- A mesh is closed, and its faces are turned alike, where each directed edge occurs in one place
+-- only, and so does the same edge in the other direction.
 pub record IsClosed (faces : List Face) : Type 0 where
   pub triangles : All IsTriangle faces
   pub once : All (λ e. occurrences (directed_edges faces) e.0 e.1 ≡ 1) (directed_edges faces)

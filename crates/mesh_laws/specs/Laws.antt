@@ -21,8 +21,8 @@ HaveOneCycle = (g : Grid) → IsFramed g → IsManifold (length (vertices g)) (f
 abbrev pub Separates : Type 0
 Separates = (g : Grid) → IsFramed g → IsSeparating g (vertices g) (faces g)
 
--- Two vertices have different places on the lattice. Where the raw places of the points of the grid rise by at least
--- 65536, they also have different raw places and different lines.
+-- Two vertices have different places on the lattice. Where the raw places of the points of the grid
+-- rise by at least 65536, they also have different raw places and different lines.
 pub record LieApart (g : Grid) (e f : EdgeKey) : Type 0 where
   pub lattice : lattice_place g e ≢ lattice_place g f
   pub raw : (places : RawPlaces) → AreAllApart g places

@@ -3,9 +3,12 @@ use Rattle.std.specs.Prelude.{◌≡◌, ℕ, ◌==◌, ◌<◌, ◌≤◌, List
 use Rattle.kuhn_cells.specs.Faces.{Face}
 use Rattle.mesh_laws.specs.Closed.{occurrences}
 
--- the arc that a triangle leaves opposite one of its three different corners: it runs from the next one to the last
+-- the arc that a triangle leaves opposite one of its three different corners: it runs from the next
+-- one to the last
 abbrev pub arcs_at : ℕ → ℕ → ℕ → ℕ → List (ℕ × ℕ)
-arcs_at u a b c = if a == u then (b, c) ∷ [] else (if b == u then (c, a) ∷ [] else (if c == u then (a, b) ∷ [] else []))
+arcs_at u a b c =
+    if a == u then (b, c) ∷ []
+    else (if b == u then (c, a) ∷ [] else (if c == u then (a, b) ∷ [] else []))
 
 -- the arcs that the faces of a vertex leave opposite it
 abbrev pub arcs : List Face → ℕ → List (ℕ × ℕ)
@@ -20,8 +23,8 @@ abbrev pub cycle_arcs : List ℕ → List (ℕ × ℕ)
 cycle_arcs [] = []
 cycle_arcs (v ∷ vs) = arcs_on v v vs
 
--- The faces of a vertex make one fan that closes round it: the arcs opposite it are exactly those of one cycle through
--- three different vertices at least.
+-- The faces of a vertex make one fan that closes round it: the arcs opposite it are exactly those
+-- of one cycle through three different vertices at least.
 pub record HasFan (faces : List Face) (u : ℕ) : Type 0 where
   pub cycle : List ℕ
   pub long : 3 ≤ length cycle

@@ -12,14 +12,15 @@ use Rattle.kuhn_cells.specs.Vectors.{Vector}
 -- the way from the lower of two points to the vertex between them, in parts of 65536 of the edge
 abbrev pub share_between : Grid → GridPoint → GridPoint → ℕ
 share_between g low high =
-    if is_inside_at g low then cut_of (value_at g low) (value_at g high) else 65536 - cut_of (value_at g high) (value_at g low)
+    if is_inside_at g low then cut_of (value_at g low) (value_at g high)
+    else 65536 - cut_of (value_at g high) (value_at g low)
 
 -- the same, of an edge that has exactly one inside end
 abbrev pub share : Grid → EdgeKey → ℕ
 share g e = share_between g (lower e) (upper e)
 
--- The place of a vertex on the lattice that has 65536 steps to a cell along each axis: the lower end of its edge, and
--- from there the share along each axis of the edge's direction.
+-- The place of a vertex on the lattice that has 65536 steps to a cell along each axis: the lower
+-- end of its edge, and from there the share along each axis of the edge's direction.
 abbrev pub lattice_place : Grid → EdgeKey → Vector
 lattice_place g e =
     record {
@@ -39,12 +40,13 @@ inner_of g p q = if is_inside_at g p then p else q
 abbrev pub inner_end : Grid → EdgeKey → GridPoint
 inner_end g e = inner_of g (lower e) (upper e)
 
--- Where a vertex lies between the raw places of the lower and of the upper end of its edge along an axis that the edge
--- runs along, by the share of the way: rounded down.
+-- Where a vertex lies between the raw places of the lower and of the upper end of its edge along an
+-- axis that the edge runs along, by the share of the way: rounded down.
 abbrev pub between : ℤ → ℤ → ℕ → ℤ
 between p q t = p +ℤ floor_div ((q -ℤ p) *ℤ pos t) 65536
 
--- the raw place of a vertex along an axis: index and steps are those of its edge's lower end and of its direction
+-- the raw place of a vertex along an axis: index and steps are those of its edge's lower end and of
+-- its direction
 abbrev pub raw_along : List ℤ → ℕ → ℕ → ℕ → ℤ
 raw_along places index steps t =
     let at = λ (k : ℕ). get_or places k (pos 0) in

@@ -24,7 +24,8 @@ axes = says (codes "x") X [] ∷ says (codes "y") Y [] ∷ []
 abbrev pub of_disc : List ℕ → ℕ → List ℕ
 of_disc letter i = letter ++ decimal i
 
--- the clauses of the disc of a number alone: the square of the distance from its centre, less that of its radius
+-- the clauses of the disc of a number alone: the square of the distance from its centre, less that
+-- of its radius
 abbrev pub circle : ℕ → ℤ → ℤ → ℤ → List Named
 circle i x y radius =
     constant (of_disc (codes "a") i) x

@@ -2,7 +2,8 @@
 use Rattle.std.specs.Prelude.{◌≡◌, ℕ, ◌+◌, ◌-◌, ◌*◌, ◌<◌, ◌≤◌, ◌⊎◌, List, All, ◌∷◌, length, decimal}
 use Rattle.solid_model.specs.declared.clause.Clause.{Clause}
 
--- a name of a letter and the number of a disc, which is an earlier one, or the same and then the letter is an earlier one
+-- a name of a letter and the number of a disc, which is an earlier one, or the same and then the
+-- letter is an earlier one
 pub record IsEarlier (name : List ℕ) (letter disc : ℕ) : Type 0 where
   pub own_letter : ℕ
   pub own_disc : ℕ
@@ -13,8 +14,8 @@ pub record IsEarlier (name : List ℕ) (letter disc : ℕ) : Type 0 where
 abbrev pub IsBefore : ℕ → ℕ → List ℕ → Type 0
 IsBefore letter disc name = (length name ≡ 1) ⊎ IsEarlier name letter disc
 
--- the names so far come before that of a letter and a disc, and each disc has at most 12 clauses, of which the first is
--- named by the letter 97, which is `a`
+-- the names so far come before that of a letter and a disc, and each disc has at most 12 clauses,
+-- of which the first is named by the letter 97, which is `a`
 pub record IsNext (clauses : List Clause) (letter disc : ℕ) : Type 0 where
   pub letters : 97 ≤ letter
   pub few : length clauses ≤ 2 + 12 * disc + (letter - 97)

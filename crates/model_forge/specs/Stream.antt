@@ -1,4 +1,5 @@
--- The stream of numbers of a seed: a linear congruential one, of which each number is the upper half of a state.
+-- The stream of numbers of a seed: a linear congruential one, of which each number is the upper
+-- half of a state.
 use Rattle.std.specs.Prelude.{ℕ, ◌+◌, ◌*◌, ◌/◌, ◌%◌, ◌^◌}
 use Prim.Native.Nat.{zero, suc}
 

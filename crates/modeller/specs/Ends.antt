@@ -7,8 +7,8 @@ use Rattle.modeller_cmd.specs.declared.status.Status.TheVariants.{NoMemory}
 use Rattle.modeller.specs.declared.end.End.{End}
 use Rattle.modeller.specs.declared.end.End.TheVariants.{Ran, Wordless}
 
--- The number that the program ends with: that of a run's status, or, where it has not run, that of want of memory
--- where its words need more than there is, and else 1, which no status has.
+-- The number that the program ends with: that of a run's status, or, where it has not run, that of
+-- want of memory where its words need more than there is, and else 1, which no status has.
 abbrev pub number_of_end : End → ℕ
 number_of_end (Ran status) = number_of status
 number_of_end (Wordless OutOfMemory) = number_of NoMemory

@@ -71,15 +71,15 @@ pub record CountsForSome (words : List (List ℕ)) (before after : Counts) : Typ
   pub plain : PointsRiseAtMost before after (work_of_parts (output_of words input).parts).plain
 
 -- a sink that tells what it holds grew by the first of these parts, each of them whole
-pub record GainsParts {K : Type 0} (held : K
-    → Option (List ℕ)) (before after : K) (parts : List Part) : Type 0 where
+pub record GainsParts {K : Type 0} (held : K → Option (List ℕ))
+    (before after : K) (parts : List Part) : Type 0 where
   pub count : ℕ
   pub within : count ≤ length parts
   pub gained : Gains held before after (bytes_of_parts (take count parts))
 
 -- The notes took a line from its front on, and all of it where they counted no fault.
-pub record TakesLine {N : Type 0} (faults : N → ℕ) (held : N
-    → Option (List ℕ)) (before after : N) (line : List ℕ) : Type 0 where
+pub record TakesLine {N : Type 0} (faults : N → ℕ) (held : N → Option (List ℕ))
+    (before after : N) (line : List ℕ) : Type 0 where
   pub front : GainsPrefix held before after line
   pub whole : NoFault faults before after → Gains held before after line
 

@@ -13,8 +13,8 @@ abbrev pub Gains : {K : Type 0} → (K → Option (List ℕ)) → K → K → Li
 Gains held before after bytes = Extends (held before) (held after) bytes
 
 -- it grew by a front of these bytes
-pub record GainsPrefix {K : Type 0} (held : K
-    → Option (List ℕ)) (before after : K) (bytes : List ℕ) : Type 0 where
+pub record GainsPrefix {K : Type 0} (held : K → Option (List ℕ))
+    (before after : K) (bytes : List ℕ) : Type 0 where
   pub count : ℕ
   pub within : count ≤ length bytes
   pub gained : Gains held before after (take count bytes)

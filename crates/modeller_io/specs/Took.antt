@@ -9,8 +9,8 @@ Loses rest before after bytes = Consumes (rest before) (rest after) bytes
 
 -- The source lost some bytes from its front, at most so many, and counted them. Where it tells
 -- nothing, the count alone is said.
-pub record LosesAtMost {S : Type 0} (rest : S → Option (List ℕ)) (taken : S
-    → ℕ) (before after : S) (most : ℕ) : Type 0 where
+pub record LosesAtMost {S : Type 0} (rest : S → Option (List ℕ)) (taken : S → ℕ)
+    (before after : S) (most : ℕ) : Type 0 where
   pub bytes : List ℕ
   pub within : length bytes ≤ most
   pub lost : Loses rest before after bytes

@@ -12,8 +12,8 @@ abbrev pub write_faults : {W : Type 0} → WriteSink W → ℕ
 write_faults sink = sink.faults
 
 -- where the writer tells what it holds, that grew by a front of these bytes, once
-pub record TookFront {W : Type 0} (contents : W
-    → Option (List ℕ)) (before after : W) (bytes : List ℕ) : Type 0 where
+pub record TookFront {W : Type 0} (contents : W → Option (List ℕ))
+    (before after : W) (bytes : List ℕ) : Type 0 where
   pub count : ℕ
   pub within : count ≤ length bytes
   pub appended : Appends (contents before) (contents after) (take count bytes)

@@ -12,8 +12,9 @@ use Rattle.view_settings.specs.Boxes.{Indices}
 use Rattle.view_settings.specs.Window.{Window}
 use Rattle.oct_descent.specs.Ways.{gridded, is_working, way, way_end, whole}
 
--- The steps that are traced over a box of cells and the boxes below it: the lengths of the lists that the boxes on the
--- ways to its cells receive. A box is on the way to each of its cells, and is counted at the first.
+-- The steps that are traced over a box of cells and the boxes below it: the lengths of the lists
+-- that the boxes on the ways to its cells receive. A box is on the way to each of its cells, and is
+-- counted at the first.
 unfoldable pub spans_in : Descent → Visit → ℕ
 spans_in d v = sum_in v.box (λ s. first_lengths s (way d v s))
 
@@ -30,8 +31,8 @@ long_lengths d s visits =
 unfoldable pub long_spans_in : Descent → Visit → ℕ
 long_spans_in d v = sum_in v.box (λ s. long_lengths d s (way d v s))
 
--- What the boxes of a grid take at least: each box of more than one cell on the way to a cell is traced. A cell alone
--- need not be, where its known corners tell enough.
+-- What the boxes of a grid take at least: each box of more than one cell on the way to a cell is
+-- traced. A cell alone need not be, where its known corners tell enough.
 abbrev pub mesh_long_spans : Window → List Step → ℕ
 mesh_long_spans view list = long_spans_in (gridded view) (whole view list)
 
@@ -61,14 +62,15 @@ working_length view list cell =
 -- the lengths of the lists that those working cells receive that have a point as a corner
 abbrev pub lengths_at : Window → List Step → GridPoint → List ℕ
 lengths_at view list p =
-    over_block view.n view.n view.n (λ cell. if has_corner cell p then working_length view list cell ∷ [] else [])
+    over_block view.n view.n view.n
+    (λ cell. if has_corner cell p then working_length view list cell ∷ [] else [])
 
 -- the box of all points of a grid of n cells along each axis
 abbrev pub points_of_grid : ℕ → Indices
 points_of_grid n = record { x0 = 0; x1 = n + 1; y0 = 0; y1 = n + 1; z0 = 0; z1 = n + 1 }
 
--- What the points of a grid take at most: each one the length of the longest list that a working cell receives that
--- has it as a corner.
+-- What the points of a grid take at most: each one the length of the longest list that a working
+-- cell receives that has it as a corner.
 unfoldable pub mesh_points : Window → List Step → ℕ
 mesh_points view list =
     sum_in (points_of_grid view.n) (λ s. greatest (lengths_at view list (point s.i s.j s.k)))
@@ -79,7 +81,8 @@ least [] = 0
 least (n ∷ []) = n
 least (n ∷ m ∷ ns) = min n (least (m ∷ ns))
 
--- the lengths of the lists that those working cells receive that have a point as a corner, and none for another cell
+-- the lengths of the lists that those working cells receive that have a point as a corner, and none
+-- for another cell
 abbrev pub working_lengths : Window → List Step → GridPoint → List ℕ
 working_lengths view list p =
     over_block view.n view.n view.n (λ cell.
@@ -87,8 +90,8 @@ working_lengths view list p =
     then length (way_end (gridded view) (whole view list) (sample_of cell)).list ∷ []
     else [])
 
--- What the points of a grid take at least: each corner of a working cell the length of the shortest list that a
--- working cell receives that has it as a corner.
+-- What the points of a grid take at least: each corner of a working cell the length of the shortest
+-- list that a working cell receives that has it as a corner.
 unfoldable pub mesh_least : Window → List Step → ℕ
 mesh_least view list =
     sum_in (points_of_grid view.n) (λ s. least (working_lengths view list (point s.i s.j s.k)))

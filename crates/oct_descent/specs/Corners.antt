@@ -42,9 +42,11 @@ pub record ShowsCorner (t : PointValues) (p : GridPoint) (inside : Bool) : Type 
 
 -- those of the first corners of a cell that are known are all inside, or all outside
 abbrev pub AllShow : PointValues → GridPoint → ℕ → Bool → Type 0
-AllShow t p count inside = (c : ℕ) (v : ℤ) → c < count → known_at t (further p c) ≡ Some v → is_inside v ≡ inside
+AllShow t p count inside = (c : ℕ) (v : ℤ) → c < count
+    → known_at t (further p c) ≡ Some v → is_inside v ≡ inside
 
--- What the known corners of a cell show: whether all are known, and whether some known one is inside, and some outside.
+-- What the known corners of a cell show: whether all are known, and whether some known one is
+-- inside, and some outside.
 pub record IsSeen (t : PointValues) (p : GridPoint) (seen : Seen) : Type 0 where
   pub all : seen.all ≡ true → (c : ℕ) → c < 8 → is_known (known_at t (further p c)) ≡ true
   pub lacks : seen.all ≡ false → LacksCorner t p

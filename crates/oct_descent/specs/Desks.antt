@@ -15,8 +15,8 @@ use Rattle.oct_descent.specs.Tables.{AreRight, Charges, IsDue, IsEnough, Pays, P
 use Rattle.oct_descent.specs.Ways.{gridded}
 use Rattle.oct_descent.specs.declared.desk.Desk.{Desk}
 
--- The box is one of the grid's, whose points these are, and there is room for the list. What is known of the points that
--- the box covers are the list's grid values.
+-- The box is one of the grid's, whose points these are, and there is room for the list. What is
+-- known of the points that the box covers are the list's grid values.
 pub record MayLook (desk : Desk) (b : Indices) (list : List Step) (t : PointValues) : Type 0 where
   pub lattice : desk.places.lattice ≡ lattices.Grid
   pub visit_is : IsVisit (gridded desk.places.view) (visit b list)

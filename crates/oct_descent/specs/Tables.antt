@@ -10,8 +10,8 @@ use Rattle.view_settings.specs.Boxes.{Indices}
 use Rattle.oct_descent.specs.Bound.{CountsAtLeast, points_of_grid, spans_in}
 use Rattle.oct_descent.specs.Ways.{Covers, cell_box, is_working, way_end}
 
--- the values that are known of some points: a mark and a value for each place, where a value counts where its mark is
--- true
+-- the values that are known of some points: a mark and a value for each place, where a value counts
+-- where its mark is true
 pub record Marks : Type 0 where
   pub known : List Bool
   pub values : List ℤ
@@ -20,14 +20,16 @@ pub record Marks : Type 0 where
 abbrev pub read : Marks → ℕ → Option ℤ
 read b place = if get_or b.known place false then Some (get_or b.values place (pos 0)) else None
 
--- The values that are known of the points of a grid of n cells along each axis, in bricks of eight points along each
--- axis. Of each brick, by z, then by y, then by x, stands as which one it is kept, from 1 on, and 0 where it is not.
+-- The values that are known of the points of a grid of n cells along each axis, in bricks of eight
+-- points along each axis. Of each brick, by z, then by y, then by x, stands as which one it is
+-- kept, from 1 on, and 0 where it is not.
 pub record PointValues : Type 0 where
   pub n : ℕ
   pub places : List ℕ
   pub kept : Marks
 
--- So many marks and values are those of whole bricks, and each brick that is kept has a place of its own among them.
+-- So many marks and values are those of whole bricks, and each brick that is kept has a place of
+-- its own among them.
 pub record AreKept (places : List ℕ) (marks values : ℕ) : Type 0 where
   pub whole : marks % 512 ≡ 0
   pub enough : marks ≤ values
@@ -90,8 +92,8 @@ pub record Sets (p : GridPoint) (v : ℤ) (before after : PointValues) : Type 0 
       → known_at after q ≡ (if same_point p q then Some v else known_at before q)
 
 -- a point of a box that was not known gets its value
-pub record IsNew (g : GridPoint
-    → ℤ) (b : Indices) (before after : PointValues) (p : GridPoint) : Type 0 where
+pub record IsNew (g : GridPoint → ℤ) (b : Indices)
+    (before after : PointValues) (p : GridPoint) : Type 0 where
   pub unknown : known_at before p ≡ None
   pub covered : Covers b p
   pub value : known_at after p ≡ Some (g p)
@@ -120,11 +122,13 @@ AreSettled g b t = (s : Sample) → LiesIn b s → AllKnown t (cell_box s) ⊎ I
 
 -- the sum of a number over the points that are not known
 abbrev pub left : (GridPoint → ℕ) → PointValues → ℕ
-left f t = sum_in (points_of_grid t.n) (λ s. if is_known (known_at t (point s.i s.j s.k)) then 0 else f (point s.i s.j s.k))
+left f t =
+    sum_in (points_of_grid t.n)
+    (λ s. if is_known (known_at t (point s.i s.j s.k)) then 0 else f (point s.i s.j s.k))
 
 -- no more evaluations are counted than the points take that become known, and at most so many hulls
-pub record Charges (f : GridPoint
-    → ℕ) (spans : ℕ) (before after : PointValues) (told now : Counts) : Type 0 where
+pub record Charges (f : GridPoint → ℕ) (spans : ℕ)
+    (before after : PointValues) (told now : Counts) : Type 0 where
   pub points : ℕ
   pub enough : points + left f after ≤ left f before
   pub counts : CountsAtMost points spans told now
@@ -140,8 +144,8 @@ ChargesBox d v before after told now =
     (f : GridPoint → ℕ) → IsEnough f d v → Charges f (spans_in d v) before after told now
 
 -- no fewer evaluations are counted than the points take that become known
-pub record Pays (f : GridPoint
-    → ℕ) (before after : PointValues) (told now : Counts) : Type 0 where
+pub record Pays (f : GridPoint → ℕ)
+    (before after : PointValues) (told now : Counts) : Type 0 where
   pub points : ℕ
   pub due : left f before ≤ points + left f after
   pub counts : CountsAtLeast points told now

@@ -33,8 +33,8 @@ abbrev pub meets_border : ℕ → Indices → Bool
 meets_border n b =
     (b.x0 == 0 || b.x1 == n) || ((b.y0 == 0 || b.y1 == n) || (b.z0 == 0 || b.z1 == n))
 
--- A box stays open where it is undecided, and also where it is decided inside and covers a point of the outermost
--- layer, which is outside all the same.
+-- A box stays open where it is undecided, and also where it is decided inside and covers a point of
+-- the outermost layer, which is outside all the same.
 abbrev pub is_open_by : ℕ → Indices → Option Bool → Bool
 is_open_by n b None = true
 is_open_by n b (Some true) = meets_border n b
@@ -51,8 +51,9 @@ unfoldable pub way_within : ℕ → Descent → Visit → Sample → List Visit
 way_within zero d v s = []
 way_within (suc n) d v s = v ∷ (if is_cut d v then way_within n d (next_visit d v s) s else [])
 
--- The boxes on the way to a cell, from a box on that holds it: that box, and where it is split the boxes from the half
--- with the cell on. Each half receives what is live of the list that the box receives.
+-- The boxes on the way to a cell, from a box on that holds it: that box, and where it is split the
+-- boxes from the half with the cell on. Each half receives what is live of the list that the box
+-- receives.
 abbrev pub way : Descent → Visit → Sample → List Visit
 way d v s = way_within (sides v.box) d v s
 

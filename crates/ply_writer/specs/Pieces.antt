@@ -10,7 +10,8 @@ pub record Stage : Type 0 where
   pub piece : List ℕ
   pub rest : List ℕ
 
--- what the next piece needs: a block of its length, in which the last piece starts, and vertices that lie in the grid
+-- what the next piece needs: a block of its length, in which the last piece starts, and vertices
+-- that lie in the grid
 pub record CanGoOn (w : Window) (vertices : List Vertex) (block : List ℕ) (start : ℕ) : Type 0 where
   pub full : length block ≡ BLOCK
   pub within : start ≤ BLOCK

@@ -30,14 +30,17 @@ pub record IsDrawnAt (view : Window) (list : List Step) (at : ℕ) (b : Indices)
   pub received : List Step
   pub visit_is : IsVisit (raster view) (visit b received)
   pub values : HasValues view b received list
-  pub stands : StandsAt (nodes_of (raster view) (whole view list)) (nodes_of (raster view) (visit b received)) at
+  pub stands : StandsAt (nodes_of (raster view) (whole view list))
+      (nodes_of (raster view) (visit b received)) at
 
 -- the nodes of some halves of a box that hands on a list stand from a place on
-pub record AreDrawnAt (view : Window) (list : List Step) (at : ℕ) (b : Indices) (halves : List Indices) : Type 0 where
+pub record AreDrawnAt (view : Window) (list : List Step) (at : ℕ) (b : Indices)
+    (halves : List Indices) : Type 0 where
   pub live : List Step
   pub visit_is : IsVisit (raster view) (visit b live)
   pub values : HasValues view b live list
-  pub stands : StandsAt (nodes_of (raster view) (whole view list)) (halves_nodes (raster view) live halves) at
+  pub stands : StandsAt (nodes_of (raster view) (whole view list))
+      (halves_nodes (raster view) live halves) at
 
 -- how many nodes a node stands for: itself and those below its box
 abbrev pub count_of : Node → ℕ

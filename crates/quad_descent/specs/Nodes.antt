@@ -22,12 +22,14 @@ bits_of tests = fold (λ bits test. 2 * bits + (if test then 1 else 0)) 0 tests
 -- whether the samples in row j of a box are inside by a list, from the left on
 abbrev pub insides : Window → Lattice → List Step → Indices → ℕ → List Bool
 insides view lattice list b j =
-    map (λ i. is_inside (tape_value (point_of view lattice i j b.z0) list)) (range_with_len b.x0 (b.x1 - b.x0))
+    map (λ i. is_inside (tape_value (point_of view lattice i j b.z0) list))
+    (range_with_len b.x0 (b.x1 - b.x0))
 
 -- the rows of a leaf, each as a number, in eight places of which the last may be empty
 abbrev pub rows_of : Window → Lattice → List Step → Indices → List ℕ
 rows_of view lattice list b =
-    map (λ r. if nat_lt r (b.y1 - b.y0) then bits_of (insides view lattice list b (b.y0 + r)) else 0) (range_with_len 0 8)
+    map (λ r. if nat_lt r (b.y1 - b.y0) then bits_of (insides view lattice list b (b.y0 + r)) else 0)
+    (range_with_len 0 8)
 
 -- what is kept of a leaf
 abbrev pub leaf_node : Descent → Visit → List Node
@@ -43,12 +45,14 @@ box_nodes d v below (Some true) = Inside ∷ []
 box_nodes d v below (Some false) = Outside ∷ []
 box_nodes d v below None = if is_long d.leaf v.box then split_node below else leaf_node d v
 
--- The nodes of a box and of the boxes below it: whether it is decided inside or outside, the rows of an undecided leaf,
--- or the nodes of its halves, one half after the other.
+-- The nodes of a box and of the boxes below it: whether it is decided inside or outside, the rows
+-- of an undecided leaf, or the nodes of its halves, one half after the other.
 unfoldable pub nodes_within : ℕ → Descent → Visit → List Node
 nodes_within zero d v = []
 nodes_within (suc n) d v =
-    box_nodes d v (flat_map (λ half. nodes_within n d (half_visit d v half)) (halves_of d.leaf v.box)) (decision d v)
+    box_nodes d v
+    (flat_map (λ half. nodes_within n d (half_visit d v half)) (halves_of d.leaf v.box))
+    (decision d v)
 
 abbrev pub nodes_of : Descent → Visit → List Node
 nodes_of d v = nodes_within (sides v.box) d v
@@ -66,7 +70,8 @@ halves_spans d list halves = sum_by (λ half. spans_in d (visit half list)) halv
 -- the nodes and the work of an undecided box that hands on a list, but for its own trace
 abbrev pub open_nodes : Descent → Indices → List Step → List Node
 open_nodes d b list =
-    if is_long d.leaf b then split_node (halves_nodes d list (halves_of d.leaf b)) else Leaf (rows_of d.view d.lattice list b) ∷ []
+    if is_long d.leaf b then split_node (halves_nodes d list (halves_of d.leaf b))
+    else Leaf (rows_of d.view d.lattice list b) ∷ []
 
 abbrev pub open_points : Descent → Indices → List Step → ℕ
 open_points d b list =

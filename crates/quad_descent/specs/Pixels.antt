@@ -7,8 +7,8 @@ use Rattle.live_clauses.specs.declared.step.Step.{Step}
 use Rattle.view_settings.specs.Places.{raster_point}
 use Rattle.view_settings.specs.Window.{Window}
 
--- the byte of the pixel in column i, from the left on, and row j, from the top on: 255 where the value of the whole
--- list there is inside, and 0 elsewhere
+-- the byte of the pixel in column i, from the left on, and row j, from the top on: 255 where the
+-- value of the whole list there is inside, and 0 elsewhere
 abbrev pub pixel_at : Window → List Step → ℕ → ℕ → ℕ
 pixel_at view list i j = if is_inside (tape_value (raster_point view i j) list) then 255 else 0
 

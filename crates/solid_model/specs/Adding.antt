@@ -10,7 +10,8 @@ use Rattle.solid_model.specs.Clauses.{place_of}
 use Rattle.solid_model.specs.Parts.{Parts}
 use Rattle.solid_model.specs.Pushing.{push_fault}
 
--- the place that an operand's name stands for, 0 where the form has no such operand, or None where it names no clause
+-- the place that an operand's name stands for, 0 where the form has no such operand, or None where
+-- it names no clause
 abbrev pub operand : List Clause → List (List ℕ) → ℕ → Option ℕ
 operand clauses args k = option_map_or (place_of clauses) (slice_get args k) (Some 0)
 
@@ -37,4 +38,5 @@ with_clause clauses clause (Some fault) = Err (edit_fault fault)
 -- the clauses with a new one at their end, or the first fault
 abbrev pub added : List Clause → List ℕ → Parts → Result (List Clause) EditFault
 added clauses name form =
-    option_map_or (λ clause. with_clause clauses clause (push_fault clauses name)) (clause_after clauses name form) (Err UnknownName)
+    option_map_or (λ clause. with_clause clauses clause (push_fault clauses name))
+    (clause_after clauses name form) (Err UnknownName)

@@ -31,7 +31,8 @@ before clauses name = take (place_among clauses name) clauses
 abbrev pub has_argument : List ℕ → Named → Bool
 has_argument name c = list_any (λ arg. bytes_eq name arg) c.form.args
 
--- the clause of this name gets another form, where it and each argument are named, and each argument stands before it
+-- the clause of this name gets another form, where it and each argument are named, and each
+-- argument stands before it
 abbrev pub with_form : List Named → List ℕ → Parts → Result (List Named) EditFault
 with_form clauses name form =
     if not (is_named clauses name && are_named clauses form.args) then Err UnknownName
@@ -46,8 +47,9 @@ with_last clauses name form =
     else if nat_le 65535 (length clauses) then Err Full
     else Ok (clauses ++ record { name = name; form = form } ∷ [])
 
--- a clause of this name and form goes directly before the clause of another name, where that and each argument are named,
--- the name is new, each argument stands before the other clause, and there is room
+-- a clause of this name and form goes directly before the clause of another name, where that and
+-- each argument are named, the name is new, each argument stands before the other clause, and there
+-- is room
 abbrev pub with_next : List Named → List ℕ → List ℕ → Parts → Result (List Named) EditFault
 with_next clauses next name form =
     if not (is_named clauses next && are_named clauses form.args) then Err UnknownName
@@ -56,7 +58,8 @@ with_next clauses next name form =
     else if nat_le 65535 (length clauses) then Err Full
     else Ok (insert clauses (place_among clauses next) (record { name = name; form = form }))
 
--- the clause of this name goes, where it is named, no clause has it as an argument, and it is not the only one
+-- the clause of this name goes, where it is named, no clause has it as an argument, and it is not
+-- the only one
 abbrev pub without : List Named → List ℕ → Result (List Named) EditFault
 without clauses name =
     if not (is_named clauses name) then Err UnknownName

@@ -5,8 +5,8 @@ use Rattle.solid_model.specs.declared.push_fault.PushFault.{PushFault}
 use Rattle.solid_model.specs.declared.push_fault.PushFault.TheVariants.{DoubleName, Full}
 use Rattle.solid_model.specs.Clauses.{place_of}
 
--- the first fault of a clause of this name after these clauses, if it has one: the name stands already, or there
--- are 65,535 clauses
+-- the first fault of a clause of this name after these clauses, if it has one: the name stands
+-- already, or there are 65,535 clauses
 abbrev pub push_fault : List Clause → List ℕ → Option PushFault
 push_fault clauses name =
     if is_some (place_of clauses name) then Some DoubleName

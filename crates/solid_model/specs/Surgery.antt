@@ -30,7 +30,8 @@ moved to c = record {
   value = c.value;
 }
 
--- where a place has moved to after a clause was put in at another, and after the clause at another was taken out
+-- where a place has moved to after a clause was put in at another, and after the clause at another
+-- was taken out
 abbrev pub up : ℕ → ℕ → ℕ
 up at k = if nat_le at k then k + 1 else k
 
@@ -44,7 +45,10 @@ with_clause_at clauses at c = if reads_before at c then Ok (set clauses at c) el
 -- the clause of this name with another form, or the first fault
 abbrev pub formed : List Clause → List ℕ → Parts → Result (List Clause) EditFault
 formed clauses name form =
-    option_map_or (λ at. option_map_or (with_clause_at clauses at) (clause_after clauses name form) (Err UnknownName)) (place_of clauses name) (Err UnknownName)
+    option_map_or
+    (λ at. option_map_or (with_clause_at clauses at) (clause_after clauses name form)
+    (Err UnknownName))
+    (place_of clauses name) (Err UnknownName)
 
 -- a clause of a new name put in at a place, before which its operands stand
 abbrev pub with_clause_before : List Clause → ℕ → Clause → Result (List Clause) EditFault
@@ -57,7 +61,10 @@ with_clause_before clauses at c =
 -- a clause of this name and form directly before that of another name, or the first fault
 abbrev pub put_in : List Clause → List ℕ → List ℕ → Parts → Result (List Clause) EditFault
 put_in clauses next name form =
-    option_map_or (λ at. option_map_or (with_clause_before clauses at) (clause_after clauses name form) (Err UnknownName)) (place_of clauses next) (Err UnknownName)
+    option_map_or
+    (λ at. option_map_or (with_clause_before clauses at) (clause_after clauses name form)
+    (Err UnknownName))
+    (place_of clauses next) (Err UnknownName)
 
 -- the clauses without that at a place
 abbrev pub without_clause : List Clause → ℕ → Result (List Clause) EditFault

@@ -6,7 +6,8 @@ use Rattle.solid_model.specs.declared.clause.Clause.{Clause}
 -- the value of a clause at a point, from the values of the clauses before it
 abbrev pub clause_value : Point → List ℤ → Clause → ℤ
 clause_value p earlier clause =
-    step_value clause.op p clause.value (slice_index_or earlier clause.a (pos 0)) (slice_index_or earlier clause.b (pos 0))
+    step_value clause.op p clause.value
+    (slice_index_or earlier clause.a (pos 0)) (slice_index_or earlier clause.b (pos 0))
 
 -- the values of all clauses at a point, in their order
 abbrev pub values : Point → List Clause → List ℤ

@@ -8,8 +8,9 @@ use Rattle.kuhn_cells.specs.Grids.{Grid, lower, upper, value_at, vertices}
 use Rattle.tetra_mesh.specs.declared.vertex.Vertex.{Vertex}
 use Rattle.tetra_mesh.specs.Meshes.{Triangulation}
 
--- How far from the lower point of an edge the surface cuts it, in parts of 65536 of the edge, by the values of the
--- lower and of the upper point, of which one is inside. The cut is told from the inside end on.
+-- How far from the lower point of an edge the surface cuts it, in parts of 65536 of the edge, by
+-- the values of the lower and of the upper point, of which one is inside. The cut is told from the
+-- inside end on.
 abbrev pub way_up : ℤ → ℤ → ℕ
 way_up low high = if is_inside low then cut_of low high else 65536 - cut_of high low
 

@@ -21,7 +21,8 @@ one_if b = if b then 1 else 0
 -- the binary number whose digit of weight 2 ^ k says whether corner k passes a test
 abbrev pub digits : (ℕ → Bool) → ℕ
 digits f =
-    one_if (f 0) + 2 * one_if (f 1) + 4 * one_if (f 2) + 8 * one_if (f 3) + 16 * one_if (f 4) + 32 * one_if (f 5) + 64 * one_if (f 6) + 128 * one_if (f 7)
+    one_if (f 0) + 2 * one_if (f 1) + 4 * one_if (f 2) + 8 * one_if (f 3)
+    + 16 * one_if (f 4) + 32 * one_if (f 5) + 64 * one_if (f 6) + 128 * one_if (f 7)
 
 -- which corners of a cell are inside
 unfoldable pub signs_of : CellValues → ℕ
@@ -88,7 +89,8 @@ pub record IsNumbered (cells : List CellValues) (n : ℕ) (s : Numbering) : Type
   pub small : All IsSmall s.slots.items
   pub kept : (j : ℕ) (d : CellValues) (e : Entry) → j < s.ahead
       → ((k : ℕ) → k < s.ahead → (get_or cells k d).z ≤ (get_or cells j d).z + 1)
-      → let c = get_or cells j d in get_or s.slots.items (slot_of n c.x c.y c.z) e ≡ entry_after (take j cells) c
+      → let c = get_or cells j d in
+      get_or s.slots.items (slot_of n c.x c.y c.z) e ≡ entry_after (take j cells) c
 
 -- no numbered cell lies more than one layer above z
 abbrev pub LiesBelow : List CellValues → ℕ → ℕ → Type 0
@@ -99,7 +101,8 @@ abbrev pub ReachesAbove : List CellValues → ℕ → ℕ → Type 0
 ReachesAbove cells ahead z =
     (k : ℕ) (d : CellValues) → k < length cells → (get_or cells k d).z ≤ z + 1 → k < ahead
 
--- The first cells of a list are numbered, and no numbered cell lies more than one layer above any of the others.
+-- The first cells of a list are numbered, and no numbered cell lies more than one layer above any
+-- of the others.
 pub record HasReached (cells : List CellValues) (ahead done : ℕ) : Type 0 where
   pub first : done ≤ ahead
   pub near : (j k : ℕ) (d : CellValues) → j < ahead → done ≤ k → k < length cells

@@ -29,8 +29,8 @@ abbrev pub lattice_place : Vertex → Axis → ℕ
 lattice_place v axis =
     65536 * index_along axis (lower v.key) + (if steps_along axis v.key.dir == 1 then v.t else 0)
 
--- Where a vertex lies between the raw places of the lower and of the upper point of its edge along an axis that
--- the direction has, rounded down.
+-- Where a vertex lies between the raw places of the lower and of the upper point of its edge along
+-- an axis that the direction has, rounded down.
 abbrev pub between : ℤ → ℤ → ℕ → ℤ
 between p q t = p +ℤ floor_div ((q -ℤ p) *ℤ pos t) 65536
 
@@ -38,7 +38,8 @@ between p q t = p +ℤ floor_div ((q -ℤ p) *ℤ pos t) 65536
 abbrev pub vertex_place : Window → Vertex → Axis → ℤ
 vertex_place w v axis =
     let at = place_of w Grid axis in
-    if steps_along axis v.key.dir == 1 then between (at (index_along axis (lower v.key))) (at (index_along axis (upper v.key))) v.t
+    if steps_along axis v.key.dir == 1
+    then between (at (index_along axis (lower v.key))) (at (index_along axis (upper v.key))) v.t
     else at (index_along axis (lower v.key))
 
 -- a point of the grid of a view: along each axis the points are one more than the cells
@@ -47,8 +48,8 @@ pub record IsGridPoint (w : Window) (p : GridPoint) : Type 0 where
   pub y : p.y ≤ w.n
   pub z : p.z ≤ w.n
 
--- a vertex that lies in the grid of a view: between the ends of an edge that are both points of the grid, where
--- the upper one is so only if the lower one is
+-- a vertex that lies in the grid of a view: between the ends of an edge that are both points of the
+-- grid, where the upper one is so only if the lower one is
 pub record IsPlaced (w : Window) (v : Vertex) : Type 0 where
   pub direction : IsDirection v.key.dir
   pub upper_end : IsGridPoint w (upper v.key)

@@ -30,8 +30,8 @@ HaveCells n sided = (cells : List CellValues) × AreSidesOf n cells sided
 abbrev pub OfCells : ℕ → List SidedCell → (List CellValues → Type 0) → Type 0
 OfCells n sided P = (cells : List CellValues) → AreSidesOf n cells sided → P cells
 
--- The mixed cells of a grid of n cells along each axis, whose outermost layer is outside, have these vertices and these
--- places and sides.
+-- The mixed cells of a grid of n cells along each axis, whose outermost layer is outside, have
+-- these vertices and these places and sides.
 pub record HasParts (n : ℕ) (g : Grid) (vertices : List Vertex) (sided : List SidedCell) : Type 0 where
   pub x : g.x ≡ n
   pub y : g.y ≡ n
@@ -45,4 +45,6 @@ pub record Numbers (c : SidedCell) (old new : Numbering) : Type 0 where
   pub width : new.n ≡ old.n
   pub ahead : new.ahead ≡ old.ahead + 1
   pub vertices : new.vertices ≡ old.vertices + count_ones (mask_by c.signs)
-  pub slots : new.slots.items ≡ set old.slots.items (slot_of old.n c.x c.y c.z) (record { base = old.vertices; mask = mask_by c.signs })
+  pub slots : new.slots.items
+      ≡ set old.slots.items (slot_of old.n c.x c.y c.z)
+      (record { base = old.vertices; mask = mask_by c.signs })

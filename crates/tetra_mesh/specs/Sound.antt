@@ -20,8 +20,8 @@ lattice_of v =
 abbrev pub raw_of : Window → Vertex → Vector
 raw_of w v = record { x = vertex_place w v X; y = vertex_place w v Y; z = vertex_place w v Z }
 
--- A mesh is closed, a manifold, and separates the inside points of a grid from the outside ones; no two of its vertices
--- have one lattice place.
+-- A mesh is closed, a manifold, and separates the inside points of a grid from the outside ones; no
+-- two of its vertices have one lattice place.
 pub record IsSound (g : Grid) (mesh : Triangulation) : Type 0 where
   pub closed : IsClosed mesh.faces
   pub manifold : IsManifold (length mesh.vertices) mesh.faces

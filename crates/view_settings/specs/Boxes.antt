@@ -27,13 +27,22 @@ middle low high = high - (high - low) / 2
 
 -- the halves along an axis of a side that is longer than a leaf's, the lower one first, or the box itself
 abbrev pub halves_x : ℕ → Indices → List Indices
-halves_x leaf b = if nat_lt leaf (b.x1 - b.x0) then record b { x1 = middle b.x0 b.x1 } ∷ record b { x0 = middle b.x0 b.x1 } ∷ [] else b ∷ []
+halves_x leaf b =
+    if nat_lt leaf (b.x1 - b.x0)
+    then record b { x1 = middle b.x0 b.x1 } ∷ record b { x0 = middle b.x0 b.x1 } ∷ []
+    else b ∷ []
 
 abbrev pub halves_y : ℕ → Indices → List Indices
-halves_y leaf b = if nat_lt leaf (b.y1 - b.y0) then record b { y1 = middle b.y0 b.y1 } ∷ record b { y0 = middle b.y0 b.y1 } ∷ [] else b ∷ []
+halves_y leaf b =
+    if nat_lt leaf (b.y1 - b.y0)
+    then record b { y1 = middle b.y0 b.y1 } ∷ record b { y0 = middle b.y0 b.y1 } ∷ []
+    else b ∷ []
 
 abbrev pub halves_z : ℕ → Indices → List Indices
-halves_z leaf b = if nat_lt leaf (b.z1 - b.z0) then record b { z1 = middle b.z0 b.z1 } ∷ record b { z0 = middle b.z0 b.z1 } ∷ [] else b ∷ []
+halves_z leaf b =
+    if nat_lt leaf (b.z1 - b.z0)
+    then record b { z1 = middle b.z0 b.z1 } ∷ record b { z0 = middle b.z0 b.z1 } ∷ []
+    else b ∷ []
 
 -- The halves of a box by z, then by y, then by x: each side that is longer than a leaf's is halved. It is the
 -- box alone where no side is.

@@ -8,17 +8,20 @@ use Rattle.view_settings.specs.Settings.{begun}
 use Rattle.view_settings.specs.Words.{after_words}
 
 -- each word gives one setting, after those that were taken and those of the words before it
-pub record GiveAfter (verb : Verb) (taken : List Setting) (words : List (List ℕ)) (settings : List Setting) : Type 0 where
+pub record GiveAfter (verb : Verb) (taken : List Setting)
+    (words : List (List ℕ)) (settings : List Setting) : Type 0 where
   pub as_many : length settings ≡ length words
   pub each : (k : ℕ) (word : List ℕ) (setting : Setting) → k < length words
-      → setting_of verb (taken ++ take k settings) (slice_index_or words k word) ≡ Ok (slice_index_or settings k setting)
+      → setting_of verb (taken ++ take k settings) (slice_index_or words k word)
+      ≡ Ok (slice_index_or settings k setting)
 
 -- the words of a verb give these settings
 abbrev pub Give : Verb → List (List ℕ) → List Setting → Type 0
 Give verb words settings = GiveAfter verb [] words settings
 
 -- the first word that gives none, counted from 0, and the lowest reason against it, after the settings taken
-pub record RefusesAfter (verb : Verb) (taken : List Setting) (words : List (List ℕ)) (k : ℕ) (reason : WordReason) : Type 0 where
+pub record RefusesAfter (verb : Verb) (taken : List Setting)
+    (words : List (List ℕ)) (k : ℕ) (reason : WordReason) : Type 0 where
   pub within : k < length words
   pub before : List Setting
   pub given : GiveAfter verb taken (take k words) before

@@ -29,7 +29,8 @@ parts_of word = option_map (λ at. (take at word, drop (at + 1) word)) (position
 
 -- the setting of a verb that is called so, with the values that it may have
 abbrev pub known : Verb → List ℕ → Option (Name × Kind)
-known verb text = option_and_then (λ name. option_map (λ kind. (name, kind)) (kind_of verb name)) (name_called text)
+known verb text =
+    option_and_then (λ name. option_map (λ kind. (name, kind)) (kind_of verb name)) (name_called text)
 
 -- a setting of this name was taken
 abbrev pub is_given : Name → List Setting → Bool
@@ -55,9 +56,9 @@ value_read (kinds.Count least greatest) text =
 abbrev pub once : Name → List Setting → Result Name WordReason
 once name taken = if is_given name taken then Err Twice else Ok name
 
--- The setting that a word gives after those that were taken, or the lowest reason against it. Its reasons in
--- their order: it has no `=`; the verb has no setting of this name; the name was given before; the value is none
--- of its kind; the count is out of range.
+-- The setting that a word gives after those that were taken, or the lowest reason against it. Its
+-- reasons in their order: it has no `=`; the verb has no setting of this name; the name was given
+-- before; the value is none of its kind; the count is out of range.
 unfoldable pub setting_of : Verb → List Setting → List ℕ → Result Setting WordReason
 setting_of verb taken word = do
   parts ← or_refused (parts_of word) NotASetting

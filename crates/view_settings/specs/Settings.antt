@@ -32,7 +32,8 @@ begun verb = record { verb = verb; settings = [] }
 -- the settings with the one that a word gives at their end, or the lowest reason against it
 abbrev pub after_word : Given → List ℕ → Result Given WordReason
 after_word given word =
-    setting_of given.verb given.settings word >>= λ setting. Ok (record given { settings = given.settings ++ setting ∷ [] })
+    setting_of given.verb given.settings word
+    >>= λ setting. Ok (record given { settings = given.settings ++ setting ∷ [] })
 
 -- the value that was given under a name
 abbrev pub value_given : Name → List Setting → Option Value

@@ -45,14 +45,16 @@ region_of v lattice b = record {
 }
 
 -- a place among those of the samples from the first to the last
-pub record IsPlaceAmong (v : Window) (lattice : Lattice) (axis : Axis) (first last : ℕ) (place : ℤ) : Type 0 where
+pub record IsPlaceAmong (v : Window) (lattice : Lattice) (axis : Axis)
+    (first last : ℕ) (place : ℤ) : Type 0 where
   pub index : ℕ
   pub above : first ≤ index
   pub below : index ≤ last
   pub is : place_of v lattice axis index ≡ place
 
 -- the ends are the least and the greatest of these places
-pub record IsRange (v : Window) (lattice : Lattice) (axis : Axis) (first last : ℕ) (s : Interval) : Type 0 where
+pub record IsRange (v : Window) (lattice : Lattice) (axis : Axis)
+    (first last : ℕ) (s : Interval) : Type 0 where
   pub holds : (i : ℕ) → first ≤ i → i ≤ last → Holds s (place_of v lattice axis i)
   pub least : IsPlaceAmong v lattice axis first last s.lo
   pub greatest : IsPlaceAmong v lattice axis first last s.hi
