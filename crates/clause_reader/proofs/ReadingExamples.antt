@@ -1,9 +1,9 @@
 -- The definitions of reading, computed on texts that were worked out by hand: each reason once, and what is read.
 use Rattle.std.proofs.Common.{◌≡◌, ℕ, pos, nat_le, List, [], ◌∷◌, ◌++◌, length, None, Some, Result, Ok, Err, true, false, refl, ap, arith}
-use Rattle.std.specs.Prelude.{codes, negsuc}
+use Rattle.std.specs.Prelude.{codes, map, negsuc}
 use Rattle.std.proofs.lemmas.List.Elements.{All-head}
 use Rattle.std.proofs.lemmas.List.Sums.{AllPass-from_list_all}
-use Rattle.fixed_ops.specs.declared.operation.Op.TheVariants.{X, Const, Neg, Sub}
+use Rattle.fixed_ops.specs.declared.operation.Op.TheVariants.{X, Y, Z, Const, Neg, Square, Sqrt, Abs, Add, Sub, Mul, Div, Min, Max}
 use Rattle.fixed_ops.specs.Numerals.{is_unsigned_numeral, unsigned_raw, nearest_raw, cut_magnitude}
 use Rattle.solid_model.specs.declared.clause.Clause.{Clause}
 use Rattle.solid_model.specs.Clauses.{place_of}
@@ -11,10 +11,11 @@ use Rattle.solid_model.specs.Names.{is_blank}
 use Rattle.clause_reader.specs.declared.form_fault.FormFault.TheVariants.{BadName, WrongArity as FormWrongArity, NoMemory as FormNoMemory}
 use Rattle.clause_reader.specs.declared.text_fault.TextFault.{TextFault}
 use Rattle.clause_reader.specs.declared.text_reason.TextReason.TheVariants.{NoOperation, UnknownOperation, WrongArity, BadNumeral, UnknownName, DoubleName, TooMany, Empty, NoMemory}
-use Rattle.clause_reader.specs.Forms.{form_read, GivesForm}
-use Rattle.clause_reader.specs.Lines.{lines_of, tokens_of, line_of}
+use Rattle.clause_reader.specs.Forms.{form_read, GivesForm, operation_of, operations, takes}
+use Rattle.clause_reader.specs.Lines.{begins_comment, lines_of, tokens_of, line_of}
 use Rattle.clause_reader.specs.Reading.{clauses_with, clause_of, text_read, GivesModel, MayWantMemory}
-use Rattle.clause_reader.specs.Scan.{line_tokens}
+use Rattle.clause_reader.specs.Says.{clause_lines}
+use Rattle.clause_reader.specs.Scan.{after_line, line_tokens}
 use Rattle.clause_reader.specs.Tokens.{IsTokenAt}
 
 -- blank lines and comments say nothing, names become places, and the last line may lack its line feed
@@ -200,3 +201,28 @@ two_tokens_are_not_one is = let token : false ≡ true = is.token in (cc)
 
 token_is_not_cut : IsTokenAt some_tokens 2 4 5 → ⊥
 token_is_not_cut is = let ends : true ≡ false = is.longest in (cc)
+
+-- the operations, by their words and by how many arguments they take
+each_operation_is_read : map operation_of
+    (codes "var-x" ∷ codes "var-y" ∷ codes "var-z" ∷ codes "const" ∷ codes "neg" ∷ codes "square"
+    ∷ codes "sqrt" ∷ codes "abs" ∷ codes "add" ∷ codes "sub" ∷ codes "mul" ∷ codes "div"
+    ∷ codes "min" ∷ codes "max" ∷ codes "mod" ∷ [])
+    ≡ Some X ∷ Some Y ∷ Some Z ∷ Some Const ∷ Some Neg ∷ Some Square ∷ Some Sqrt ∷ Some Abs
+    ∷ Some Add ∷ Some Sub ∷ Some Mul ∷ Some Div ∷ Some Min ∷ Some Max ∷ None ∷ []
+each_operation_is_read = refl
+
+arguments_of_each : map takes operations ≡ 0 ∷ 0 ∷ 0 ∷ 1 ∷ 1 ∷ 1 ∷ 1 ∷ 1 ∷ 2 ∷ 2 ∷ 2 ∷ 2 ∷ 2 ∷ 2 ∷ []
+arguments_of_each = refl
+
+comments : map begins_comment ([] ∷ codes "#" ∷ codes "#a" ∷ codes "a#" ∷ [])
+    ≡ false ∷ true ∷ true ∷ false ∷ []
+comments = refl
+
+-- a line is counted where it says nothing, too
+lines_that_say_a_clause : clause_lines (codes "# c\nx var-x\n\n y neg\tx")
+    ≡ (2, codes "x" ∷ codes "var-x" ∷ []) ∷ (4, codes "y" ∷ codes "neg" ∷ codes "x" ∷ []) ∷ []
+lines_that_say_a_clause = refl
+
+rest_after_the_first_line : map after_line (codes "a b\nc\nd" ∷ codes "a" ∷ codes "a\n" ∷ [])
+    ≡ codes "c\nd" ∷ [] ∷ [] ∷ []
+rest_after_the_first_line = refl

@@ -1,18 +1,23 @@
 -- A small script, worked out by hand: which lines say commands, and on which of them memory may be wanted.
 use Rattle.std.proofs.Common.{◌≡◌, ℕ, pos, negsuc, true, false, Some, Ok, Err, List, [], ◌∷◌, refl, arith}
-use Rattle.std.specs.Prelude.{◌≢◌, codes}
+use Rattle.std.specs.Prelude.{◌≢◌, codes, map, None, Option}
 use Rattle.std.proofs.lemmas.Int.{ints}
 use Rattle.fixed_ops.specs.Numerals.{cut_magnitude, is_unsigned_numeral, nearest_raw, unsigned_raw}
 use Rattle.fixed_ops.specs.declared.operation.Op.TheVariants as ops
 use Rattle.solid_model.specs.declared.edit.Edit.TheVariants as edits
 use Rattle.view_settings.specs.Setting.{setting_of}
 use Rattle.view_settings.specs.Window.{Window, has_room}
-use Rattle.edit_script.specs.Commands.{IsCommand}
+use Rattle.clause_reader.specs.Lines.{tokens_of}
+use Rattle.edit_script.specs.Commands.{Gives, IsCommand, command_read}
+use Rattle.edit_script.specs.Keywords.{keyword_named}
 use Rattle.edit_script.specs.Marks.{before_mark, mark_ends}
 use Rattle.edit_script.specs.declared.command.Command.TheVariants.{Edit, Height, Mesh, Render, Stray, Text}
+use Rattle.edit_script.specs.declared.keyword.Keyword.TheVariants as keywords
 use Rattle.edit_script.specs.declared.script_fault.ScriptFault.{ScriptFault}
-use Rattle.edit_script.specs.declared.script_reason.ScriptReason.TheVariants.{UnknownCommand, NoMemory}
-use Rattle.edit_script.specs.Scripts.{script_read, IsCommandLine, RefusesScript}
+use Rattle.edit_script.specs.declared.script_reason.ScriptReason.{ScriptReason}
+use Rattle.edit_script.specs.declared.script_reason.ScriptReason.TheVariants.{UnknownCommand, TooShort, BadName, UnknownOperation, WrongArity, BadNumeral, BadSetting, NoMemory}
+use Rattle.edit_script.specs.Reasons.{holds, reason_in}
+use Rattle.edit_script.specs.Scripts.{pushed, script_read, IsCommandLine, RefusesScript}
 
 -- the mark is line 2, line 3 is a comment, and lines 4 and 5 are commands
 abbrev script : List ℕ
@@ -67,6 +72,9 @@ ends_of_the_mark = refl
 
 model_before_the_mark : before_mark script ≡ codes "x var-x\n"
 model_before_the_mark = refl
+
+blank_line_is_no_mark : mark_ends (codes "x\n\n %%\n") ≡ Some (3, 7)
+blank_line_is_no_mark = refl
 
 all_before_no_mark : before_mark (codes "x\n%% %%\n") ≡ codes "x\n%% %%\n"
 all_before_no_mark = refl
@@ -133,3 +141,79 @@ many_cells is = absurd (omega (arith, is.0.n.few))
 
 small_cells : IsCommand (Mesh (record window { x1 = negsuc 4290772992 })) → ⊥
 small_cells is = absurd (omega (arith, ints, is.1.x))
+
+each_keyword_is_read : map keyword_named
+    (codes "set" ∷ codes "add" ∷ codes "put" ∷ codes "cut" ∷ codes "render" ∷ codes "height"
+    ∷ codes "mesh" ∷ codes "text" ∷ codes "count" ∷ [])
+    ≡ Some keywords.Set ∷ Some keywords.Add ∷ Some keywords.Put ∷ Some keywords.Cut
+    ∷ Some keywords.Render ∷ Some keywords.Height ∷ Some keywords.Mesh ∷ Some keywords.Text
+    ∷ None ∷ []
+each_keyword_is_read = refl
+
+-- the reason against a line alone
+abbrev reason_against : List ℕ → Option ScriptReason
+reason_against line = reason_in (command_read 2 (tokens_of line))
+
+short_lines : map reason_against (codes "set x" ∷ codes "add #x" ∷ codes "put x t" ∷ codes "cut" ∷ [])
+    ≡ Some TooShort ∷ Some TooShort ∷ Some TooShort ∷ Some TooShort ∷ []
+short_lines = refl
+
+new_names_that_begin_comments : map reason_against
+    (codes "add #x mod" ∷ codes "put x #t neg" ∷ codes "set #x mod" ∷ [])
+    ≡ Some BadName ∷ Some BadName ∷ Some UnknownOperation ∷ []
+new_names_that_begin_comments = refl
+
+-- a token too many is told before a bad numeral
+wrong_counts_of_tokens : map reason_against
+    (codes "set x neg" ∷ codes "add x const y z" ∷ codes "cut x y" ∷ codes "text x"
+    ∷ codes "put x t sub y" ∷ [])
+    ≡ Some WrongArity ∷ Some WrongArity ∷ Some WrongArity ∷ Some WrongArity ∷ Some WrongArity ∷ []
+wrong_counts_of_tokens = refl
+
+bad_numeral : reason_against (codes "put x t const y") ≡ Some BadNumeral
+unfolding is_unsigned_numeral
+bad_numeral = refl
+
+-- where the command or the operation is none, nothing after it is told
+other_reasons : map (λ reason. holds (codes "paint" ∷ []) reason)
+    (UnknownCommand ∷ TooShort ∷ BadSetting ∷ [])
+    ≡ true ∷ false ∷ false ∷ []
+other_reasons = refl
+
+no_arity : map (λ reason. holds (codes "set" ∷ codes "x" ∷ codes "mod" ∷ []) reason)
+    (UnknownOperation ∷ WrongArity ∷ BadNumeral ∷ [])
+    ≡ true ∷ false ∷ false ∷ []
+no_arity = refl
+
+-- each draw has the settings of its verb alone, and a fault of all of them is one of the line
+bad_settings : map reason_against
+    (codes "render n=3" ∷ codes "height w=1025" ∷ codes "mesh w=3" ∷ codes "render h=4 h=4"
+    ∷ codes "mesh n" ∷ [])
+    ≡ Some BadSetting ∷ Some BadSetting ∷ Some BadSetting ∷ Some BadSetting ∷ Some BadSetting ∷ []
+unfolding setting_of
+bad_settings = refl
+
+ends_exchanged : reason_against (codes "render x0=2") ≡ Some BadSetting
+unfolding setting_of cut_magnitude is_unsigned_numeral nearest_raw unsigned_raw
+ends_exchanged = refl
+
+-- a reader gives the very value and the very reason, and wants memory for what is accepted alone
+other_value : Gives {A = ℕ} (Ok 3) (Ok 4) → ⊥
+other_value gives = cc
+
+other_reason : Gives {A = ℕ} (Err BadNumeral) (Err WrongArity) → ⊥
+other_reason gives = let same = gives.0 (λ e. cc) in (cc)
+
+very_reason : Gives {A = ℕ} (Err BadNumeral) (Err BadNumeral)
+very_reason = (λ other. refl, λ memory. (cc))
+
+memory_for_a_value : Gives {A = ℕ} (Ok 3) (Err NoMemory)
+memory_for_a_value = (λ other. absurd (other refl), λ memory. refl)
+
+no_memory_for_a_refusal : Gives {A = ℕ} (Err BadNumeral) (Err NoMemory) → ⊥
+no_memory_for_a_refusal gives = let accepted : false ≡ true = gives.1 refl in (cc)
+
+-- a line that says no command leaves the commands as they are
+more_commands : map (λ more. pushed (Text ∷ []) more) (Ok (Some (Stray 5)) ∷ Ok None ∷ Err BadName ∷ [])
+    ≡ Ok (Text ∷ Stray 5 ∷ []) ∷ Ok (Text ∷ []) ∷ Err BadName ∷ []
+more_commands = refl

@@ -2,6 +2,7 @@ mod Examples
 mod Forging
 mod Gaining
 mod Inputs
+mod NameExamples
 mod Outcomes
 mod Playback
 mod Plays

@@ -1,6 +1,6 @@
 -- The work of grids, computed on lists that were worked out by hand.
-use Rattle.std.proofs.Common.{◌≡◌, ℕ, suc, pos, negsuc, true, false, [], ◌∷◌, List, refl, ap, arith}
-use Rattle.std.specs.Prelude.{None, Some}
+use Rattle.std.proofs.Common.{◌≡◌, ℕ, suc, pos, negsuc, true, false, [], ◌∷◌, List, map, refl, ap, arith}
+use Rattle.std.specs.Prelude.{Bool, None, Some}
 use Rattle.fixed_ops.specs.Counts.{Counts, no_counts, risen}
 use Rattle.fixed_ops.specs.declared.operation.Op.{Op}
 use Rattle.fixed_ops.specs.declared.operation.Op.TheVariants.{X, Y, Z, Add, Const, Max, Min, Neg}
@@ -9,7 +9,11 @@ use Rattle.live_clauses.specs.declared.step.Step.{Step}
 use Rattle.view_settings.specs.Boxes.{Indices}
 use Rattle.view_settings.specs.Window.{Window}
 use Rattle.oct_descent.specs.Bound.{CountsAtLeast, CountsHullsAtLeast, greatest, least, long_spans_in, mesh_least, mesh_long_spans, mesh_points, mesh_spans, spans_in}
+use Rattle.oct_descent.specs.Corners.{is_mixed, places_to, side_seen}
+use Rattle.oct_descent.specs.Fills.{point_box}
 use Rattle.oct_descent.specs.GridValues.{grid_of, grid_value, is_border}
+use Rattle.oct_descent.specs.declared.seen.Seen.{Seen}
+use Rattle.oct_descent.specs.Tables.{brick_of, is_within, same_point, slot, stand_in}
 use Rattle.oct_descent.specs.Ways.{is_open_by, meets_border, way_within}
 
 -- from -1 to 1
@@ -267,3 +271,51 @@ five_hulls : CountsHullsAtLeast 5 no_counts (counted 30 4) → ⊥
 five_hulls h =
     let spans : 4 ≡ risen 0 h.by.spans = ap (λ (counts : Counts). counts.spans) h.rises in
     omega (arith, h.many, spans)
+
+-- where the values of points stand: x first, in bricks of 8 by 8 by 8, three along each axis of 17 cells
+place_in_a_brick : slot (point 3 9 18) ≡ 139
+place_in_a_brick = refl
+
+brick_of_a_point : map (λ p. brick_of 17 p) (point 3 9 18 ∷ point 16 0 0 ∷ point 0 0 8 ∷ [])
+    ≡ 21 ∷ 2 ∷ 9 ∷ []
+brick_of_a_point = refl
+
+bricks_begin_at_one : map (λ place. stand_in place 7) (0 ∷ 1 ∷ 3 ∷ [])
+    ≡ None ∷ Some 7 ∷ Some 1031 ∷ []
+bricks_begin_at_one = refl
+
+corners_of_a_cell : map places_to (0 ∷ 1 ∷ 2 ∷ 3 ∷ 4 ∷ 5 ∷ 6 ∷ 7 ∷ [])
+    ≡ 0 ∷ 1 ∷ 8 ∷ 9 ∷ 64 ∷ 65 ∷ 72 ∷ 73 ∷ []
+corners_of_a_cell = refl
+
+points_of_five_cells : map (λ p. is_within 5 p)
+    (point 5 5 5 ∷ point 6 0 0 ∷ point 0 6 0 ∷ point 0 0 6 ∷ [])
+    ≡ true ∷ false ∷ false ∷ false ∷ []
+points_of_five_cells = refl
+
+same_along_each_axis : map (λ p. same_point p (point 1 2 3))
+    (point 1 2 3 ∷ point 0 2 3 ∷ point 1 0 3 ∷ point 1 2 0 ∷ [])
+    ≡ true ∷ false ∷ false ∷ false ∷ []
+same_along_each_axis = refl
+
+box_of_one_point : point_box (point 1 2 3) ≡ record { x0 = 1; x1 = 1; y0 = 2; y1 = 2; z0 = 3; z1 = 3 }
+box_of_one_point = refl
+
+-- sides that are seen: 0 is outside, and a corner that is not known shows none
+abbrev seen : Bool → Bool → Bool → Seen
+seen all inside outside = record { all = all; inside = inside; outside = outside }
+
+one_more_corner : map (λ corner. side_seen (seen true false false) corner)
+    (Some (negsuc 0) ∷ Some (pos 0) ∷ None ∷ [])
+    ≡ seen true true false ∷ seen true false true ∷ seen false false false ∷ []
+one_more_corner = refl
+
+sides_stay_seen : map (λ corner. side_seen (seen true true true) corner)
+    (Some (negsuc 0) ∷ Some (pos 0) ∷ None ∷ [])
+    ≡ seen true true true ∷ seen true true true ∷ seen false true true ∷ []
+sides_stay_seen = refl
+
+both_sides_are_mixed : map is_mixed
+    ((negsuc 0 ∷ pos 0 ∷ []) ∷ (negsuc 0 ∷ negsuc 4 ∷ []) ∷ (pos 0 ∷ pos 4 ∷ []) ∷ [])
+    ≡ true ∷ false ∷ false ∷ []
+both_sides_are_mixed = refl

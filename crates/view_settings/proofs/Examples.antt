@@ -1,6 +1,7 @@
 -- Places and boxes, computed on views that were worked out by hand, and which settings verbs take.
 use Rattle.std.proofs.Common.{◌≡◌, ℕ, zero, suc, pos, negsuc, ◌≤◌, List, [], ◌∷◌, None, Some, Ok, Err, true, false, refl, arith}
 use Rattle.std.specs.Prelude.{codes, ◌≤ℤ◌}
+use Rattle.std.specs.List.{IsDistinct}
 use Rattle.fixed_ops.specs.Raw.{IsRaw, greatest, least}
 use Rattle.view_settings.specs.declared.forge.Forge.{Forge as Forged}
 use Rattle.view_settings.specs.declared.job.Job.TheVariants as jobs
@@ -17,8 +18,8 @@ use Rattle.view_settings.specs.Boxes.{Indices, IsBox, middle, one_sample}
 use Rattle.view_settings.specs.Kinds.{kind_of}
 use Rattle.view_settings.specs.Names.{name_called}
 use Rattle.view_settings.specs.Places.{place_of, point_of, raster_point, steps_of}
-use Rattle.view_settings.specs.Setting.{value_read}
-use Rattle.view_settings.specs.Settings.{IsJob, forge_of, is_empty, window_of}
+use Rattle.view_settings.specs.Setting.{IsSetting, value_read}
+use Rattle.view_settings.specs.Settings.{AreSettings, IsJob, forge_of, is_empty, window_of}
 use Rattle.view_settings.specs.Spans.{IsInRoot, IsPlaceAmong, region_of, root_of}
 use Rattle.view_settings.specs.Window.{AreEnds, FitsHeight, FitsMesh, IsCount, IsWindow, Window, fits_mesh, has_room}
 
@@ -234,6 +235,14 @@ ranges_of_pixels : region_of uneven Raster (record { x0 = 1; x1 = 3; y0 = 0; y1 
     }
 ranges_of_pixels = refl
 
+ranges_of_layers : region_of uneven Height (record { x0 = 1; x1 = 3; y0 = 0; y1 = 3; z0 = 1; z1 = 4 })
+    ≡ record {
+      x = record { lo = pos 13; hi = pos 17 };
+      y = record { lo = pos 30; hi = pos 50 };
+      z = record { lo = pos 175; hi = pos 325 };
+    }
+ranges_of_layers = refl
+
 ranges_of_cells : region_of uneven Grid (record { x0 = 1; x1 = 3; y0 = 2; y1 = 5; z0 = 0; z1 = 4 })
     ≡ record {
       x = record { lo = pos 11; hi = pos 13 };
@@ -377,3 +386,29 @@ discs_have_a_window f is = is.0
 
 too_many_discs : IsJob (jobs.Forge (record { seed = 7; solids = 5001; view = uneven })) → ⊥
 too_many_discs is = omega (arith, is.1.few)
+
+most_discs : (v : Window) → IsWindow v → IsJob (jobs.Forge (record { seed = 7; solids = 5000; view = v }))
+most_discs v is = (is, record { some = omega arith; few = omega arith })
+
+-- no name is given twice, and each setting is one of the verb
+named_twice : AreSettings (record { verb = Render; settings = a_count W 3 ∷ a_count W 3 ∷ [] }) → ⊥
+unfolding IsDistinct
+named_twice are = let other : true ≡ false = are.distinct.0.0 in (cc)
+
+named_once : AreSettings (record { verb = Render; settings = a_count W 3 ∷ a_count H 3 ∷ [] })
+unfolding IsDistinct
+named_once = record {
+  each = (of_the_image W refl, (of_the_image H refl, tt));
+  distinct = ((refl, tt), (tt, tt));
+}
+  where
+    of_the_image : (name : Name) → kind_of Render name ≡ Some (kinds.Count 1 4096)
+        → IsSetting Render (a_count name 3)
+    of_the_image name taken = record {
+      kind = kinds.Count 1 4096;
+      taken = taken;
+      value = (omega arith, omega arith);
+    }
+
+setting_of_another_verb : IsSetting Render (a_count N 3) → ⊥
+setting_of_another_verb is = let taken : None ≡ Some is.kind = is.taken in (cc)

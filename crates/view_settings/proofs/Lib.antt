@@ -5,4 +5,5 @@ pub mod GivenLaws
 pub mod GrammarLaws
 pub mod NameLaws
 pub mod SpanLaws
+mod WordExamples
 pub mod WordLaws

@@ -1,0 +1,60 @@
+-- The words by which a run tells what it writes and why it stops, each once.
+use Rattle.std.proofs.Common.{◌≡◌, [], ◌∷◌, map, refl}
+use Rattle.std.specs.Prelude.{codes}
+use Rattle.clause_reader.specs.declared.text_reason.TextReason.TheVariants as text
+use Rattle.edit_script.specs.declared.script_reason.ScriptReason.TheVariants as script
+use Rattle.modeller_io.specs.declared.read_end.ReadEnd.TheVariants as end
+use Rattle.solid_model.specs.declared.edit.EditFault.TheVariants as fault
+use Rattle.view_settings.specs.declared.word_fault.WordReason.TheVariants as word
+use Rattle.modeller_cmd.specs.Frames.{fault_name, kind_name}
+use Rattle.modeller_cmd.specs.Notes.{script_reason_name, text_reason_name, word_reason_name}
+use Rattle.modeller_cmd.specs.Stops.{stop_of_end, stop_of_script, stop_of_text}
+use Rattle.modeller_cmd.specs.declared.frame_kind.FrameKind.TheVariants.{Height, Mesh, Render, Text}
+use Rattle.modeller_cmd.specs.declared.refusal.Refusal.TheVariants as refusal
+use Rattle.modeller_cmd.specs.declared.stop.Stop.TheVariants.{NoMemory, ReadFault, Refused}
+
+kinds_of_frames : map kind_name (Render ∷ Height ∷ Mesh ∷ Text ∷ [])
+    ≡ codes "render" ∷ codes "height" ∷ codes "mesh" ∷ codes "text" ∷ []
+kinds_of_frames = refl
+
+refused_edits : map fault_name (fault.UnknownName ∷ fault.DoubleName ∷ fault.NotEarlier
+    ∷ fault.InUse 3 ∷ fault.LastClause ∷ fault.Full ∷ [])
+    ≡ codes "UnknownName" ∷ codes "DoubleName" ∷ codes "NotEarlier" ∷ codes "InUse"
+    ∷ codes "LastClause" ∷ codes "Full" ∷ []
+refused_edits = refl
+
+refused_words : map word_reason_name (word.NoVerb ∷ word.UnknownVerb ∷ word.NotASetting
+    ∷ word.UnknownSetting ∷ word.Twice ∷ word.BadValue ∷ word.OutOfRange ∷ word.EmptySpan
+    ∷ word.CellTooSmall ∷ [])
+    ≡ codes "NoVerb" ∷ codes "UnknownVerb" ∷ codes "NotASetting" ∷ codes "UnknownSetting"
+    ∷ codes "Twice" ∷ codes "BadValue" ∷ codes "OutOfRange" ∷ codes "EmptySpan"
+    ∷ codes "CellTooSmall" ∷ []
+refused_words = refl
+
+refused_models : map text_reason_name (text.NoOperation ∷ text.UnknownOperation ∷ text.WrongArity
+    ∷ text.BadNumeral ∷ text.UnknownName ∷ text.DoubleName ∷ text.TooMany ∷ text.Empty ∷ [])
+    ≡ codes "NoOperation" ∷ codes "UnknownOperation" ∷ codes "WrongArity" ∷ codes "BadNumeral"
+    ∷ codes "UnknownName" ∷ codes "DoubleName" ∷ codes "TooMany" ∷ codes "Empty" ∷ []
+refused_models = refl
+
+refused_scripts : map script_reason_name (script.NoMark ∷ script.UnknownCommand ∷ script.TooShort
+    ∷ script.BadName ∷ script.UnknownOperation ∷ script.WrongArity ∷ script.BadNumeral
+    ∷ script.BadSetting ∷ [])
+    ≡ codes "NoMark" ∷ codes "UnknownCommand" ∷ codes "TooShort" ∷ codes "BadName"
+    ∷ codes "UnknownOperation" ∷ codes "WrongArity" ∷ codes "BadNumeral" ∷ codes "BadSetting" ∷ []
+refused_scripts = refl
+
+-- want of memory is no refusal, whoever tells it
+ends_of_reading : map stop_of_end (end.Failed ∷ end.TooLong ∷ end.NoMemory ∷ []) ≡ ReadFault
+    ∷ Refused refusal.TooLong ∷ NoMemory ∷ []
+ends_of_reading = refl
+
+faults_of_models : map stop_of_text (record { line = 3; reason = text.NoMemory }
+    ∷ record { line = 4; reason = text.TooMany } ∷ [])
+    ≡ NoMemory ∷ Refused (refusal.Model (record { line = 4; reason = text.TooMany })) ∷ []
+faults_of_models = refl
+
+faults_of_scripts : map stop_of_script (record { line = 3; reason = script.NoMemory }
+    ∷ record { line = 4; reason = script.BadName } ∷ [])
+    ≡ NoMemory ∷ Refused (refusal.Script (record { line = 4; reason = script.BadName })) ∷ []
+faults_of_scripts = refl
