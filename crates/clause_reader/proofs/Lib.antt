@@ -10,5 +10,6 @@ pub mod Scans
 pub mod TokenLemmas
 pub mod WriterLemmas
 mod WritingExamples
+mod WrittenExamples
 pub mod WrittenLemmas
 pub mod WrittenTokens

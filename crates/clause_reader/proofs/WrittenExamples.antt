@@ -1,0 +1,82 @@
+-- What tokens say before their names are looked up, and where a token stands, worked out by hand.
+use Rattle.std.proofs.Common.{◌≡◌, ℕ, nat_le, List, [], ◌∷◌, ◌++◌, length, None, Ok, Err, true, false, refl, arith}
+use Rattle.std.specs.Prelude.{codes, map, pos}
+use Rattle.std.proofs.lemmas.List.Sums.{AllPass-from_list_all}
+use Rattle.fixed_ops.specs.declared.operation.Op.TheVariants.{X, Const, Sub}
+use Rattle.fixed_ops.specs.Numerals.{is_unsigned_numeral}
+use Rattle.solid_model.specs.Clauses.{place_of}
+use Rattle.solid_model.specs.declared.clause.Clause.{Clause}
+use Rattle.solid_model.specs.Names.{is_blank}
+use Rattle.solid_model.specs.Parts.{Parts}
+use Rattle.clause_reader.specs.declared.form_defect.FormDefect.TheVariants.{NoOperation, UnknownOperation, WrongArity, BadNumeral}
+use Rattle.clause_reader.specs.declared.form_fault.FormFault.TheVariants as form
+use Rattle.clause_reader.specs.declared.text_reason.TextReason.TheVariants as text
+use Rattle.clause_reader.specs.Tokens.{IsTokenAt}
+use Rattle.clause_reader.specs.Written.{as_fault, as_reason, checked, extended, with_arguments}
+
+defects_of_forms : map as_fault (NoOperation ∷ UnknownOperation ∷ WrongArity ∷ BadNumeral ∷ [])
+    ≡ form.NoOperation ∷ form.UnknownOperation ∷ form.WrongArity ∷ form.BadNumeral ∷ []
+defects_of_forms = refl
+
+defects_of_lines : map as_reason (NoOperation ∷ UnknownOperation ∷ WrongArity ∷ BadNumeral ∷ [])
+    ≡ text.NoOperation ∷ text.UnknownOperation ∷ text.WrongArity ∷ text.BadNumeral ∷ []
+defects_of_lines = refl
+
+-- an operation without a number
+abbrev said : List (List ℕ) → Parts
+said args = record { op = Sub; args = args; value = pos 0 }
+
+two_operands : with_arguments Sub (codes "x" ∷ codes "1" ∷ []) ≡ Ok (said (codes "x" ∷ codes "1" ∷ []))
+two_operands = refl
+
+one_operand_of_two : with_arguments Sub (codes "x" ∷ []) ≡ Err WrongArity
+one_operand_of_two = refl
+
+no_numeral : with_arguments Const (codes "x" ∷ []) ≡ Err BadNumeral
+unfolding is_unsigned_numeral
+no_numeral = refl
+
+-- one operand that begins a comment is enough
+names_of_a_form : map (λ args. checked (Ok (said args)))
+    ((codes "x" ∷ codes "#y" ∷ []) ∷ (codes "x#" ∷ codes "y" ∷ []) ∷ [])
+    ≡ Err form.BadName ∷ Ok (said (codes "x#" ∷ codes "y" ∷ [])) ∷ []
+names_of_a_form = refl
+
+-- the column of x, under the name q
+abbrev column : Clause
+column = record { name = codes "q"; op = X; a = 0; b = 0; value = pos 0 }
+
+too_many : (clauses : List Clause) → place_of clauses (codes "q") ≡ None
+    → nat_le 65535 (length clauses) ≡ true
+    → extended clauses (codes "q") (Ok (record { op = X; args = []; value = pos 0 })) ≡ Err text.TooMany
+too_many clauses new full = rw (new, full) refl
+
+room_left : (clauses : List Clause) → place_of clauses (codes "q") ≡ None
+    → nat_le 65535 (length clauses) ≡ false
+    → extended clauses (codes "q") (Ok (record { op = X; args = []; value = pos 0 }))
+    ≡ Ok (clauses ++ column ∷ [])
+room_left clauses new room = rw (new, room) refl
+
+-- a token may stand right at the place, and reach to the end
+abbrev bytes : List ℕ
+bytes = codes "ab  cd e"
+
+token_at_the_place : IsTokenAt bytes 4 4 6
+token_at_the_place = record {
+  after = omega arith;
+  some = omega arith;
+  within = omega arith;
+  gap = AllPass-from_list_all is_blank [] refl;
+  token = refl;
+  longest = refl;
+}
+
+token_to_the_end : IsTokenAt bytes 6 7 8
+token_to_the_end = record {
+  after = omega arith;
+  some = omega arith;
+  within = omega arith;
+  gap = AllPass-from_list_all is_blank (codes " ") refl;
+  token = refl;
+  longest = tt;
+}
