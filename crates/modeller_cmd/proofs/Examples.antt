@@ -668,6 +668,11 @@ uncounted_beside played =
     let points : 8 ≡ risen 0 played.least.by.points = ap (λ (counts : Counts). counts.points) played.least.rises in
     omega (arith, played.least.points, points)
 
+fewer_hulls_beside : Played (λ (s : List ℕ). Some s) (λ s. 0) [] (bounded.bytes ++ picture.bytes) no_counts (risen_by 9 2 0) (bounded ∷ picture ∷ []) → ⊥
+fewer_hulls_beside played =
+    let spans : 2 ≡ risen 0 played.least.by.spans = ap (λ (counts : Counts). counts.spans) played.least.rises in
+    omega (arith, played.least.spans, spans)
+
 -- a part that was played, with exactly its work, and one that a fault of the sink stopped behind its first byte
 picture_is_played : Played (λ (s : List ℕ). Some s) (λ s. 0) [] picture.bytes no_counts (risen_by 9 3 12) (picture ∷ [])
 unfolding CountsWork CountsWithin
