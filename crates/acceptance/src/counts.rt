@@ -1,5 +1,6 @@
 // What the work of an image is: how many evaluations, steps that are traced over boxes, and
-// evaluations that plain evaluation takes. The numbers were worked out by hand.
+// evaluations that plain evaluation takes. The numbers were worked out by hand, or with exact
+// integers by the definitions, sample by sample.
 use crate::trial::{DISC, Trial, sink, source};
 use modeller_cmd::Status;
 use std::alloc::{AllocError, Global};
@@ -13,7 +14,10 @@ const BARS: &str =
     "x var-x\np const -0.5\nq const 0.5\na sub x p\nb abs a\nc sub x q\nd abs c\ne min b d\n\
     r const 0.25\nf sub e r";
 
-const CASES: [Case; 7] = [
+// A disc round the origin.
+const ROUND: &str = "x var-x\ny var-y\na square x\nb square y\nc add a b\nr const 0.5\nf sub c r";
+
+const CASES: [Case; 13] = [
     // A quotient whose divisor may be 0 decides nothing.
     (
         &["count", "w=8", "h=1"],
@@ -34,6 +38,13 @@ const CASES: [Case; 7] = [
     (&["count", "w=8", "h=1"], "u const 5\nx var-x", 8, 1, 16),
     // Each half has one bar, and its quarters receive the six steps of that.
     (&["count", "w=32", "h=1"], BARS, 192, 54, 320),
+    // Leaves whose samples are no multiple of eight, alone and beside others.
+    (&["count", "w=7", "h=9"], BARS, 630, 30, 630),
+    (&["count", "w=15", "h=17"], BARS, 1530, 74, 2550),
+    (&["count", "w=4095", "h=1"], BARS, 96, 246, 40950),
+    (&["count", "w=1", "h=1"], ROUND, 0, 7, 7),
+    (&["count", "w=9", "h=8"], ROUND, 504, 21, 504),
+    (&["count", "w=15", "h=17"], ROUND, 1785, 63, 1785),
 ];
 
 // The lines that tell these numbers.

@@ -133,6 +133,77 @@ fn the_nearest_sample_inside_is_the_top(rt: HostRuntime) -> Result<(), Fail> {
     Ok(())
 }
 
+// Words, a map, and its points and spans.
+type Worked = (&'static [&'static str], &'static [u8], u64, u64);
+
+// A ball before a slab. Its columns get their tops at different layers.
+const BALL: &str =
+    "x var-x\ny var-y\nz var-z\na square x\nb square y\nc add a b\nd square z\ne add c d\n\
+    r const 0.5\nf sub e r\ng const 0.75\nm add z g\nh min f m";
+
+// The points are those of the samples that do not lie behind a top, and the spans those of the
+// boxes on the ways to them.
+const WORKED: [Worked; 4] = [
+    (
+        &["height", "w=7", "h=9", "d=7"],
+        b"P5\n7 9\n7\n\
+            \x01\x01\x01\x01\x01\x01\x01\
+            \x01\x01\x01\x01\x01\x01\x01\
+            \x01\x01\x05\x05\x05\x01\x01\
+            \x01\x01\x05\x05\x05\x01\x01\
+            \x01\x04\x05\x06\x05\x04\x01\
+            \x01\x01\x05\x05\x05\x01\x01\
+            \x01\x01\x05\x05\x05\x01\x01\
+            \x01\x01\x01\x01\x01\x01\x01\
+            \x01\x01\x01\x01\x01\x01\x01",
+        4862,
+        39,
+    ),
+    (
+        &["height", "w=9", "h=8", "d=9"],
+        b"P5\n9 8\n9\n\
+            \x01\x01\x01\x01\x01\x01\x01\x01\x01\
+            \x01\x01\x01\x01\x01\x01\x01\x01\x01\
+            \x01\x01\x06\x07\x07\x07\x06\x01\x01\
+            \x01\x01\x06\x07\x07\x07\x06\x01\x01\
+            \x01\x01\x06\x07\x07\x07\x06\x01\x01\
+            \x01\x01\x06\x07\x07\x07\x06\x01\x01\
+            \x01\x01\x01\x01\x01\x01\x01\x01\x01\
+            \x01\x01\x01\x01\x01\x01\x01\x01\x01",
+        6968,
+        65,
+    ),
+    (
+        &["height", "w=2", "h=3", "d=1024"],
+        b"P5\n2 3\n1024\n\
+            \x00\x80\x00\x80\
+            \x00\x80\x00\x80\
+            \x00\x80\x00\x80",
+        57408,
+        2483,
+    ),
+    (
+        &["height", "w=3", "h=2", "d=1"],
+        b"P5\n3 2\n1\n\
+            \x01\x01\x01\
+            \x01\x01\x01",
+        0,
+        13,
+    ),
+];
+
+#[test]
+fn samples_behind_a_top_are_not_evaluated(rt: HostRuntime) -> Result<(), Fail> {
+    for (words, map, points, spans) in WORKED {
+        let mut trial = Trial::new(rt.alloc(), BALL.as_bytes())?;
+        assert_eq!(rt; trial.run(rt.alloc(), words)?, Status::Done, "{words:?}");
+        trial.assert_holds(&rt, map, b"");
+        assert_eq!(rt; trial.tally.points(), points, "{words:?}");
+        assert_eq!(rt; trial.tally.spans(), spans, "{words:?}");
+    }
+    Ok(())
+}
+
 #[test]
 fn halves_that_are_decided_are_not_evaluated(rt: HostRuntime) -> Result<(), Fail> {
     let mut trial = Trial::new(rt.alloc(), b"z var-z")?;

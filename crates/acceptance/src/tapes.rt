@@ -5,7 +5,7 @@ ghost use Rattle.fixed_ops.specs.Raw.{IsRaw};
 
 use crate::trial::DISC;
 use arrayvec::ArrayVec;
-use choice_trace::{Domain, Inputs, evaluate, trace};
+use choice_trace::{Domain, Inputs, evaluate, evaluate_lanes, trace};
 use clause_reader::read_model;
 use fixed_ops::{Fx, Op, Tally, arity, op_name, write_number};
 use interval_ops::{Choice, Region, Span};
@@ -247,5 +247,56 @@ fn a_list_has_one_value_over_each_domain(rt: HostRuntime) -> Result<(), Fail> {
     };
     let range = value_of(&tape, inputs, &mut ranges);
     assert_eq!(rt; range, Some((quarters(-10, -4), 0, 7, true)));
+    Ok(())
+}
+
+// The number of so many quarters.
+fn quarter(n: i8) -> Fx {
+    Fx::from_raw(i64::from(n) * QUARTER)
+}
+
+// What a list gives at the first L of eight numbers of x, with the work that it took.
+fn at_quarters<const L: usize>(
+    tape: &Tape,
+    quarters: [i8; 8],
+    regs: &mut [[Fx; 8]],
+) -> Option<([Fx; 8], u64)>
+    requires { L ≤ 8 }
+{
+    if regs.len() < tape.len() as usize {
+        return None;
+    }
+    let mut tally = Tally::new();
+    let zeros = [quarter(0); 8];
+    let inputs = Inputs {
+        x: quarters.map(quarter),
+        y: zeros,
+        z: zeros,
+    };
+    let row = evaluate_lanes::<L>(tape, &inputs, regs, &mut tally);
+    Some((row, tally.points()))
+}
+
+#[test]
+fn a_list_has_its_values_at_several_points_at_once(rt: HostRuntime) -> Result<(), Fail> {
+    let tape = root(rt.alloc(), SLOPES)?;
+    let zeros = [quarter(0); 8];
+    let mut regs = vec![in rt.alloc(); zeros; tape.len() as usize]?;
+    let x = [-4, -3, -2, -1, 0, 1, 2, 3];
+    // Where x is below 0 the lesser and x are 2 x - 0.5, and elsewhere -0.5.
+    let expected = [-10, -8, -6, -4, -2, -2, -2, -2];
+    let outcomes = [
+        (8, at_quarters::<8>(&tape, x, &mut regs)),
+        (4, at_quarters::<4>(&tape, x, &mut regs)),
+        (2, at_quarters::<2>(&tape, x, &mut regs)),
+        (1, at_quarters::<1>(&tape, x, &mut regs)),
+    ];
+    for (lanes, outcome) in outcomes {
+        let (row, points) = outcome.ok_or("no room")?;
+        assert_eq!(rt; points, 7 * lanes as u64);
+        for (value, quarters) in row.iter().zip(&expected).take(lanes) {
+            assert_eq!(rt; *value, quarter(*quarters));
+        }
+    }
     Ok(())
 }

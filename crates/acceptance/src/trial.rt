@@ -79,9 +79,9 @@ pub fn source(
     Ok(MemSource::new(bytes.to_vec(alloc)?, chunk, fails.to_vec(alloc)?))
 }
 
-/// A sink for 64 bytes, at most `chunk` a call, at which the calls of these numbers fail.
+/// A sink for 128 bytes, at most `chunk` a call, at which the calls of these numbers fail.
 pub fn sink(alloc: Global, chunk: u64, fails: &[u64]) -> Result<MemSink, AllocError>
     requires { 1 ≤ chunk }
 {
-    Ok(MemSink::new(chunk, fails.to_vec(alloc)?, vec![in alloc; 0; 64]?))
+    Ok(MemSink::new(chunk, fails.to_vec(alloc)?, vec![in alloc; 0; 128]?))
 }

@@ -1,2 +1,4 @@
 mod Examples
+pub mod Lanes
 pub mod Placed
+pub mod Traced

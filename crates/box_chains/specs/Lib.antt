@@ -5,6 +5,7 @@ pub mod Counts
 pub mod HalfLaws
 pub mod LawProofs
 pub mod Laws
+pub mod Outcomes
 pub mod Placing
 pub mod SumLaws
 pub mod Sums

@@ -3,10 +3,13 @@
 
 mod laws;
 mod leaves;
+mod outcome;
 mod places;
+mod rows;
 mod workspace;
 
 pub use laws::{boxes_are_counted_once, chains_go_on, layers_hold, samples_are_told, work_adds_up};
 pub use leaves::is_long;
+pub use outcome::Outcome;
 pub use places::Places;
 pub use workspace::Workspace;

@@ -1,17 +1,26 @@
 // Memory that looking at boxes needs.
-ghost use Rattle.std.specs.Prelude.{◌≡◌, ◌≤◌, drop, length, take, IfOk};
+ghost use Rattle.std.specs.List.{All};
+ghost use Rattle.arrayvec.specs.ArrayVec.{array_vec_len};
+ghost use Rattle.std.specs.Prelude.{◌≡◌, ◌+◌, ◌*◌, ◌<◌, ◌≤◌, ◌++◌, drop, length, take, IfOk, OnErr, OnOk};
 ghost use Rattle.choice_trace.specs.Hulls.{choices_over, tape_hull};
 ghost use Rattle.interval_ops.specs.Decided.{decided_of};
 ghost use Rattle.interval_ops.specs.HullCounts.{CountsHulls};
 ghost use Rattle.live_clauses.specs.Choices.{AreChoices};
-ghost use Rattle.live_clauses.specs.Live.{live_of};
+ghost use Rattle.live_clauses.specs.Live.{IsWhole, live_of};
+ghost use Rattle.view_settings.specs.Spans.{IsInRoot};
+ghost use Rattle.box_chains.specs.Outcomes.{HandsOn, outcome_of, outcomes_of};
+ghost use Rattle.box_chains.specs.Tallied.{CountsAtMost};
 
-use choice_trace::trace;
+use crate::rows::Rows;
+use crate::{Outcome, Places};
+use arrayvec::ArrayVec;
+use choice_trace::{trace, traces_are_right};
 use fixed_ops::{Fx, Tally};
-use interval_ops::{Choice, Region, Span, decided};
-use live_clauses::{Tape, live_steps_are_the_least, prune_with};
+use interval_ops::{Choice, Region, Span, decided, hull_counts};
+use live_clauses::{Tape, live_lists_are_whole, live_steps_are_the_least, prune_with};
 use std::alloc::{AllocError, Global};
 use std::marker::Model;
+use view_settings::IndexBox;
 
 /// Memory that looking at boxes needs, made once for lists of at most so many steps. Contracts see
 /// the choices of the list that was traced last, and what stood there behind them.
@@ -20,6 +29,7 @@ pub struct Workspace {
     hulls: Vec<Span>,
     choices: Vec<Choice>,
     marks: Vec<u16>,
+    rows: Rows,
 }
 
 impl Model for Workspace {
@@ -43,10 +53,12 @@ impl Workspace {
         let hulls = vec![in alloc; zero; len as usize]?;
         let choices = vec![in alloc; Choice::Both; len as usize]?;
         let marks = vec![in alloc; 0u16; len as usize]?;
+        let rows = Rows::new(alloc, len)?;
         Ok(Workspace {
             hulls,
             choices,
             marks,
+            rows,
         })
     }
 
@@ -87,10 +99,133 @@ impl Workspace {
         ensures list { IfOk result (λ list. list ≡ live_of tape.now
             (take (length tape.now) self.old)) }
         ensures shorter { IfOk result (λ list. length list ≤ length tape.now) }
+        ensures whole { IfOk result IsWhole }
         ensures same { self.new ≡ self.old }
     {
         live_steps_are_the_least();
+        live_lists_are_whole();
         let len = tape.len() as usize;
         prune_with(alloc, tape, &self.choices[..len], &mut self.marks)
+    }
+
+    /// What tracing a list over boxes that receive it tells of each of them, in their order. The list
+    /// is traced once over each box, and handed on as it is where no step chooses an operand. AllocError: there is no memory for a shorter list, and no more
+    /// was traced than that.
+    pub fn trace_boxes(
+        &mut self,
+        alloc: Global,
+        tape: &Tape,
+        places: &Places,
+        boxes: &[IndexBox],
+        tally: &mut Tally,
+    ) -> Result<ArrayVec<Outcome, 8>, AllocError>
+        requires whole { IsWhole tape.now }
+        requires room { length tape.now ≤ length self.old }
+        requires few { length boxes.now ≤ 8 }
+        requires within { All (IsInRoot places.now.view places.now.lattice) boxes.now }
+        ensures outcomes { IfOk result (λ outcomes. outcomes.items
+            ≡ outcomes_of places.now tape.now boxes.now) }
+        ensures shorter { IfOk result
+            (λ outcomes. All (HandsOn (length tape.now)) outcomes.items) }
+        ensures room { length self.new ≡ length self.old }
+        ensures counted { OnOk result
+            (CountsHulls (length boxes.now * length tape.now) tally.old tally.new) }
+        ensures at_most { OnErr result
+            (CountsAtMost 0 (length boxes.now * length tape.now) tally.old tally.new) }
+    {
+        hull_counts();
+        let mut outcomes = ArrayVec::new();
+        let mut at = 0;
+        while at < boxes.len() {
+            at += self.trace_some(alloc, tape, places, &boxes[at..], &mut outcomes, tally)?;
+        }
+        Ok(outcomes)
+    }
+
+    // Traces a list over the first of some boxes: four at once, two, or one. Gives how many.
+    #[inline]
+    fn trace_some(
+        &mut self,
+        alloc: Global,
+        tape: &Tape,
+        places: &Places,
+        boxes: &[IndexBox],
+        outcomes: &mut ArrayVec<Outcome, 8>,
+        tally: &mut Tally,
+    ) -> Result<usize, AllocError>
+        requires whole { IsWhole tape.now }
+        requires room { length tape.now ≤ length self.old }
+        requires some { 0 < length boxes.now }
+        requires few { array_vec_len outcomes.old + length boxes.now ≤ 8 }
+        requires within { All (IsInRoot places.now.view places.now.lattice) boxes.now }
+        ensures some { IfOk result (λ count. 0 < count) }
+        ensures few { IfOk result (λ count. count ≤ length boxes.now) }
+        ensures outcomes { IfOk result (λ count. outcomes.new.items ≡ outcomes.old.items
+            ++ outcomes_of places.now tape.now (take count boxes.now)) }
+        ensures shorter { OnOk result (All (HandsOn (length tape.now)) outcomes.old.items
+            → All (HandsOn (length tape.now)) outcomes.new.items) }
+        ensures room { length self.new ≡ length self.old }
+        ensures counted { IfOk result
+            (λ count. CountsHulls (count * length tape.now) tally.old tally.new) }
+        ensures at_most { OnErr result
+            (CountsAtMost 0 (length boxes.now * length tape.now) tally.old tally.new) }
+    {
+        let fits = tape.len() as usize <= self.rows.room();
+        if fits && boxes.len() >= 4 {
+            let four = &boxes[..4];
+            self.rows.trace::<4>(
+                alloc,
+                tape,
+                places,
+                four,
+                &mut self.choices,
+                &mut self.marks,
+                outcomes,
+                tally,
+            )?;
+            Ok(4)
+        } else if fits && boxes.len() >= 2 {
+            let two = &boxes[..2];
+            self.rows.trace::<2>(
+                alloc,
+                tape,
+                places,
+                two,
+                &mut self.choices,
+                &mut self.marks,
+                outcomes,
+                tally,
+            )?;
+            Ok(2)
+        } else {
+            outcomes.push(self.trace_box(alloc, tape, places, boxes[0], tally)?);
+            Ok(1)
+        }
+    }
+
+    /// What tracing a list over a box that receives it tells. AllocError: there is no memory for a
+    /// shorter list.
+    #[inline]
+    pub fn trace_box(
+        &mut self,
+        alloc: Global,
+        tape: &Tape,
+        places: &Places,
+        b: IndexBox,
+        tally: &mut Tally,
+    ) -> Result<Outcome, AllocError>
+        requires room { length tape.now ≤ length self.old }
+        requires within { IsInRoot places.now.view places.now.lattice b }
+        ensures outcome { IfOk result (λ outcome. outcome ≡ outcome_of places.now tape.now b) }
+        ensures shorter { IfOk result (HandsOn (length tape.now)) }
+        ensures room { length self.new ≡ length self.old }
+        ensures counted { CountsHulls (length tape.now) tally.old tally.new }
+    {
+        traces_are_right();
+        match self.look(tape, places.region(b), tally) {
+            Some(true) => Ok(Outcome::Inside),
+            Some(false) => Ok(Outcome::Outside),
+            None => Ok(Outcome::Open(self.hand_on(alloc, tape)?)),
+        }
     }
 }

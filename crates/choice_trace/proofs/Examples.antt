@@ -1,12 +1,14 @@
 -- Hulls and choices, computed over regions that were worked out by hand.
-use Rattle.std.proofs.Common.{◌≡◌, ◌∙◌, ℕ, ℤ, pos, negsuc, [], ◌∷◌, List, ap, refl, arith}
+use Rattle.std.proofs.Common.{◌≡◌, ◌∙◌, ℕ, ℤ, pos, negsuc, true, false, [], ◌∷◌, List, ap, refl, arith}
 use Rattle.fixed_ops.specs.Counts.{Counts, no_counts, risen}
 use Rattle.fixed_ops.specs.Operations.{op_result}
 use Rattle.fixed_ops.specs.declared.operation.Op.TheVariants.{X, Y, Z, Const, Neg, Sub, Min, Max}
 use Rattle.interval_ops.specs.Hulls.{between}
+use Rattle.interval_ops.specs.Spans.{all_numbers}
 use Rattle.interval_ops.specs.declared.choice.Choice.TheVariants.{Left, Right, Both}
 use Rattle.interval_ops.specs.declared.region.Region.{Region}
 use Rattle.live_clauses.specs.declared.step.Step.{Step}
+use Rattle.choice_trace.specs.Halves.{flag_in, lane, region_in}
 use Rattle.choice_trace.specs.Hulls.{choices_over, tape_hull}
 use Rattle.choice_trace.specs.Meaning.{StandForPoint, StandsForResults}
 use Rattle.choice_trace.specs.Work.{RisesWithin}
@@ -62,6 +64,27 @@ lesser_choices = refl
 
 lesser_hull : tape_hull (region (pos 0) (pos 1)) lesser ≡ between (pos 8589934592) (pos 12884901888)
 lesser_hull = refl
+
+-- of two rows of choices, the second lane and one that the first row lacks
+second_lane : lane 1 ((Left ∷ Right ∷ []) ∷ (Both ∷ Left ∷ Right ∷ []) ∷ []) ≡ Right ∷ Left ∷ []
+second_lane = refl
+
+third_lane : lane 2 ((Left ∷ Right ∷ []) ∷ (Both ∷ Left ∷ Right ∷ []) ∷ []) ≡ Both ∷ Right ∷ []
+third_lane = refl
+
+-- the second of two regions, and what stands behind them
+second_region : region_in (region (pos 0) (pos 1) ∷ region (pos 2) (pos 3) ∷ []) 1 ≡ region (pos 2) (pos 3)
+second_region = refl
+
+no_region : region_in (region (pos 0) (pos 1) ∷ region (pos 2) (pos 3) ∷ []) 2 ≡ record { x = all_numbers; y = all_numbers; z = all_numbers }
+no_region = refl
+
+-- the flag of the second lane, and one that is not there
+second_flag : flag_in (false ∷ true ∷ []) 1 ≡ true
+second_flag = refl
+
+no_flag : flag_in (true ∷ true ∷ []) 2 ≡ false
+no_flag = refl
 
 -- three numbers stand for the point with just these coordinates
 coordinates : StandForPoint (λ a v. a ≡ v) (record { x = pos 1; y = pos 2; z = pos 3 }) (record { x = pos 1; y = pos 2; z = pos 3 })

@@ -1,5 +1,7 @@
 mod Elements
 mod Examples
+mod HalfRows
 mod HullLists
+mod Rows
 mod StepHulls
 mod Traces

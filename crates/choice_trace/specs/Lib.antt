@@ -1,6 +1,9 @@
+pub mod Halves
 pub mod Hulls
+pub mod Lanes
 pub mod Laws
 pub mod Meaning
 pub mod PointLaws
+pub mod SpanLaws
 pub mod Work
 pub mod WorkLaws

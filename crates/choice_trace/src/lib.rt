@@ -4,12 +4,16 @@
 
 mod domain;
 mod evaluator;
+mod halves;
 mod inputs;
+mod lanes;
 mod laws;
 mod tracer;
 
 pub use domain::Domain;
 pub use evaluator::evaluate;
+pub use halves::{Halves, trace_halves};
 pub use inputs::Inputs;
+pub use lanes::evaluate_lanes;
 pub use laws::{hulls_of_steps, traces_are_right, work_of_steps};
 pub use tracer::trace;

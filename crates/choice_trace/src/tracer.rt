@@ -7,8 +7,9 @@ ghost use Rattle.live_clauses.specs.Choices.{AreChoices, AreRight};
 ghost use Rattle.live_clauses.specs.Steps.{IsStepAt, tape_value};
 ghost use Rattle.choice_trace.specs.Hulls.{AreOperands, IsIn, choices_over, tape_hull};
 
+use crate::laws::span_laws;
 use fixed_ops::{Op, Tally};
-use interval_ops::{Choice, Region, Span, choose, span_apply};
+use interval_ops::{Choice, Region, Span, choose, hull_counts, span_apply};
 use live_clauses::{Step, Tape};
 
 /// The hull of a list over a region, with the choice of each step, which is right at every point of
@@ -33,6 +34,9 @@ pub fn trace(
         ≡ drop (length tape.now) choices.old }
     ensures counted { CountsHulls (length tape.now) tally.old tally.new }
 {
+    // The laws that the hulls, the choices and their counts rest on.
+    span_laws();
+    hull_counts();
     // The ends of a range are in order.
     let _ends = (region.x.lo(), region.y.lo(), region.z.lo());
     let steps = tape.steps();

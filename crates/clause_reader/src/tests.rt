@@ -20,7 +20,7 @@ fn reads_a_disc(rt: HostRuntime) -> Result<(), Fail> {
     for at in 0..7u32 {
         let (name, op, a, b) = cases[at as usize];
         let clause = model.clause(at);
-        assert_eq!(rt; clause.name.bytes(), name);
+        assert_eq!(rt; clause.name, name);
         assert_eq!(rt; clause.op, op, "at {at}");
         assert_eq!(rt; clause.a, a, "at {at}");
         assert_eq!(rt; clause.b, b, "at {at}");

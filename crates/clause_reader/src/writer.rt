@@ -3,11 +3,12 @@ ghost use Rattle.std.specs.Prelude.{◌≡◌, ◌<◌, ◌∷◌, ◌++◌, len
 ghost use Rattle.fixed_ops.specs.NumberTexts.{number_text};
 ghost use Rattle.solid_model.specs.Clauses.{IsClauseAt};
 ghost use Rattle.solid_model.specs.Named.{name_at};
+ghost use Rattle.solid_model.specs.Seen.{clause_seen};
 ghost use Rattle.clause_reader.specs.ModelText.{arguments, clause_line, model_text, spaced};
 
 use arrayvec::ArrayVec;
 use fixed_ops::{Fx, Op, arity, op_name, write_number};
-use solid_model::{Clause, Model};
+use solid_model::{ClauseRef, Model};
 use std::alloc::{AllocError, Global};
 
 /// The text of a model: a line for each clause, with its name, its operation and its arguments, a
@@ -29,7 +30,7 @@ fn push_clause(text: &mut Vec<u8>, model: &Model, at: u32) -> Result<(), AllocEr
         text.new.items ≡ text.old.items ++ clause_line model.now clause)) }
 {
     let clause = model.clause(at);
-    text.extend_from_slice(clause.name.bytes())?;
+    text.extend_from_slice(clause.name)?;
     push_token(text, op_name(clause.op))?;
     push_arguments(text, model, clause, at)?;
     Ok(text.push(b'\n')?)
@@ -39,13 +40,14 @@ fn push_clause(text: &mut Vec<u8>, model: &Model, at: u32) -> Result<(), AllocEr
 fn push_arguments(
     text: &mut Vec<u8>,
     model: &Model,
-    clause: &Clause,
+    clause: ClauseRef<'_>,
     at: u32,
 ) -> Result<(), AllocError>
     requires before { at < length model.now }
-    requires clause { IsClauseAt at clause.now }
+    requires clause { IsClauseAt at (clause_seen clause) }
     ensures { OnOk result
-        (text.new.items ≡ text.old.items ++ spaced (arguments model.now clause.now)) }
+        (text.new.items ≡ text.old.items ++ spaced (arguments model.now
+        (clause_seen clause.entry))) }
 {
     match clause.op {
         Op::Const => push_number(text, clause.value),
@@ -67,7 +69,7 @@ fn push_name(text: &mut Vec<u8>, model: &Model, place: u32) -> Result<(), AllocE
     requires { place < length model.now }
     ensures { OnOk result (text.new.items ≡ text.old.items ++ 32 ∷ name_at model.now place) }
 {
-    push_token(text, model.clause(place).name.bytes())
+    push_token(text, model.clause(place).name)
 }
 
 // Appends a number after a space.

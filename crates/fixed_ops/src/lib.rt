@@ -24,7 +24,7 @@ pub use number_text::{write_number, write_raw};
 pub use numeral::{BadNumeral, read_numeral, read_raw};
 pub use op_names::{op_name, read_op};
 pub use operation::{Op, arity};
-pub use tally::{Tally, count_span};
+pub use tally::{Tally, count_points, count_span};
 
 #[cfg(test)]
 mod tests;

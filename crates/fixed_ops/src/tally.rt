@@ -90,3 +90,11 @@ pub fn count_span(tally: &mut Tally)
 {
     tally.spans = tally.spans.saturating_add(1);
 }
+
+/// Counts so many more evaluations at points.
+#[inline]
+pub fn count_points(tally: &mut Tally, count: u64)
+    ensures { RisesBy tally.old tally.new (points_of count) }
+{
+    tally.points = tally.points.saturating_add(count);
+}

@@ -16,13 +16,6 @@ Changes-none c f xs none = record { same = refl; each = λ p h. by (c p) p h ref
     by true p h e = sym (none p h e)
     by false p h e = refl
 
--- other places that are the same ones
-pub Changes-same : (c d : ℕ → Bool) (f : ℕ → ℕ → ℕ) (xs ys : List ℕ) → ((p : ℕ) → p < length xs → c p ≡ d p) → Changes c f xs ys → Changes d f xs ys
-Changes-same c d f xs ys agree changed = record {
-  same = changed.same;
-  each = λ p h. changed.each p h ∙ ap (λ t. cond t (f p (get_or xs p 0)) (get_or xs p 0)) (agree p h);
-}
-
 -- the same numbers there
 pub Changes-numbers : (c : ℕ → Bool) (f g : ℕ → ℕ → ℕ) (xs ys : List ℕ) → ((p : ℕ) → p < length xs → c p ≡ true → f p (get_or xs p 0) ≡ g p (get_or xs p 0)) → Changes c f xs ys → Changes c g xs ys
 Changes-numbers c f g xs ys agree changed = record {
@@ -101,33 +94,6 @@ tests-apart x0 i j c q e = grind (arith, nat_tests, e)
 pub column-apart : (w i j p : ℕ) (b : Indices) → i < w → (p == j * w + i) ≡ true → covers w (record b { x1 = i; y0 = j; y1 = j + 1 }) p ≡ false
 column-apart w i j p b narrow e = tests-apart b.x0 i j (p % w) (p / w) (sym (place-is w i j p narrow) ∙ e)
 
--- one more row
-tests-row : (x0 x1 y0 j c q : ℕ) → y0 ≤ j
-    → (nat_le x0 c && (nat_lt c x1 && (nat_le y0 q && nat_lt q (j + 1)))) ≡ ((nat_le x0 c && (nat_lt c x1 && (nat_le j q && nat_lt q (j + 1)))) || (nat_le x0 c && (nat_lt c x1 && (nat_le y0 q && nat_lt q j))))
-tests-row x0 x1 y0 j c q above = grind (arith, nat_tests)
-
-pub covers-row : (w j p : ℕ) (b : Indices) → b.y0 ≤ j → covers w (record b { y1 = j + 1 }) p ≡ (covers w (record b { y0 = j; y1 = j + 1 }) p || covers w (record b { y1 = j }) p)
-covers-row w j p b above = tests-row b.x0 b.x1 b.y0 j (p % w) (p / w) above
-
-tests-rows : (x0 x1 y0 j c q : ℕ) → (nat_le x0 c && (nat_lt c x1 && (nat_le j q && nat_lt q (j + 1)))) ≡ true → (nat_le x0 c && (nat_lt c x1 && (nat_le y0 q && nat_lt q j))) ≡ false
-tests-rows x0 x1 y0 j c q e = grind (arith, nat_tests, e)
-
-pub row-apart : (w j p : ℕ) (b : Indices) → covers w (record b { y0 = j; y1 = j + 1 }) p ≡ true → covers w (record b { y1 = j }) p ≡ false
-row-apart w j p b e = tests-rows b.x0 b.x1 b.y0 j (p % w) (p / w) e
-
--- no column
-tests-no_columns : (x0 c : ℕ) (t : Bool) → (nat_le x0 c && (nat_lt c x0 && t)) ≡ false
-tests-no_columns x0 c t = grind (arith, nat_tests)
-
-tests-no_rows : (y0 q : ℕ) (s t : Bool) → (s && (t && (nat_le y0 q && nat_lt q y0))) ≡ false
-tests-no_rows y0 q s t = grind (arith, nat_tests)
-
-pub no-columns : (w p : ℕ) (b : Indices) → covers w (record b { x1 = b.x0 }) p ≡ false
-no-columns w p b = tests-no_columns b.x0 (p % w) (nat_le b.y0 (p / w) && nat_lt (p / w) b.y1)
-
-pub no-rows : (w p : ℕ) (b : Indices) → covers w (record b { y1 = b.y0 }) p ≡ false
-no-rows w p b = tests-no_rows b.y0 (p / w) (nat_le b.x0 (p % w)) (nat_lt (p % w) b.x1)
-
 -- the row and the column of a place of a box
 pub record IsCell (w : ℕ) (b : Indices) (p : ℕ) : Type 0 where
   pub column : (b.x0 ≤ p % w) × (p % w < b.x1)
@@ -165,13 +131,6 @@ pub column-changed : (w i j : ℕ) (b : Indices) (f : ℕ → ℕ → ℕ) (xs y
 column-changed w i j b f xs ys zs narrow above first second =
     Changes-then (covers w (record b { x1 = i; y0 = j; y1 = j + 1 })) (λ p. p == j * w + i) (covers w (record b { x1 = i + 1; y0 = j; y1 = j + 1 })) f xs ys zs
     (λ p h. covers-column w i j p b narrow above) (λ p e. column-apart w i j p b narrow e) first second
-
--- and one more row of a box
-pub row-changed : (w j : ℕ) (b : Indices) (f : ℕ → ℕ → ℕ) (xs ys zs : List ℕ) → b.y0 ≤ j
-    → Changes (covers w (record b { y1 = j })) f xs ys → Changes (covers w (record b { y0 = j; y1 = j + 1 })) f ys zs → Changes (covers w (record b { y1 = j + 1 })) f xs zs
-row-changed w j b f xs ys zs above first second =
-    Changes-then (covers w (record b { y1 = j })) (covers w (record b { y0 = j; y1 = j + 1 })) (covers w (record b { y1 = j + 1 })) f xs ys zs
-    (λ p h. covers-row w j p b above) (λ p e. row-apart w j p b e) first second
 
 pub lifted-none : (new old : ℕ) → old ≡ 0 → lifted new old ≡ new
 lifted-none new old e = rw (eq-eqb old 0 e) refl

@@ -3,6 +3,7 @@ pub mod ChangeLaws
 pub mod Drawn
 pub mod Evaluated
 mod Examples
+pub mod Layers
 pub mod Leaves
 pub mod Maps
 pub mod Stacks

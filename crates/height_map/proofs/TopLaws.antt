@@ -1,12 +1,10 @@
 -- How tops are those of parts of a column.
-use Rattle.std.proofs.Common.{◌≡◌, ℕ, zero, suc, ◌+◌, ◌-◌, ◌*◌, ◌<◌, ◌≤◌, Bool, true, false, cond, map, refl, sym, ap, ◌∙◌, ◌⊎◌, inl, inr, arith}
+use Rattle.std.proofs.Common.{◌≡◌, ℕ, zero, suc, ◌+◌, ◌-◌, ◌<◌, ◌≤◌, Bool, true, false, cond, map, refl, sym, ap, ◌∙◌, ◌⊎◌, inl, inr, arith}
 use Rattle.std.specs.Prelude.{max, nat_le, ◌==◌, ◌&&◌}
 use Rattle.std.specs.List.{range_with_len}
-use Rattle.std.proofs.lemmas.Bool.{cases_lt, cond-false, cond-true, le-leb, lt-leb, ne_eqb}
-use Rattle.box_chains.specs.Sums.{sum_along}
+use Rattle.std.proofs.lemmas.Bool.{cases_lt, le-leb, lt-leb, ne_eqb}
 use Rattle.height_map.specs.Columns.{lifted}
 use Rattle.height_map.specs.Tops.{greatest}
-use Rattle.box_chains.specs.SumLaws.{along-parts, along-same, upto-const}
 use Rattle.height_map.proofs.ChangeLaws.{lifted-none, lifted-some}
 
 abbrev item : (ℕ → Bool) → ℕ → ℕ
@@ -101,20 +99,9 @@ best-none f low high none = best-same f (λ k. false) low high none ∙ upto-non
 pub best-empty : (f : ℕ → Bool) (low : ℕ) → best f low low ≡ 0
 best-empty f low = best-none f low low (λ k l h. absurd (omega (arith, l, h)))
 
-best-one : (f : ℕ → Bool) (k : ℕ) → best f k (k + 1) ≡ item f k
+-- one number alone
+pub best-one : (f : ℕ → Bool) (k : ℕ) → best f k (k + 1) ≡ cond (f k) (k + 1) 0
 best-one f k = let count : k + 1 - k ≡ 1 = omega arith in ap (upto f k) count ∙ omega arith
-
--- the samples before a nearest one that is inside
-pub best-found : (f : ℕ → Bool) (low k high : ℕ) → low ≤ k → k < high → best f (k + 1) high ≡ 0 → f k ≡ true → best f low high ≡ k + 1
-best-found f low k high below above none is =
-    let one = best-one f k ∙ ap (λ t. cond {A = ℕ} t (k + 1) 0) is in
-    omega (arith, best-parts f low k high below (omega (arith, above)), best-parts f k (k + 1) high (omega arith) (omega (arith, above)), one, none, best-le f low k below)
-
--- and one more that is not
-pub best-missed : (f : ℕ → Bool) (k high : ℕ) → k < high → best f (k + 1) high ≡ 0 → f k ≡ false → best f k high ≡ 0
-best-missed f k high above none is =
-    let one = best-one f k ∙ ap (λ t. cond {A = ℕ} t (k + 1) 0) is in
-    omega (arith, best-parts f k (k + 1) high (omega arith) (omega (arith, above)), one, none)
 
 -- a top that a nearer part of a column gives stays, whatever the rest of it gives
 pub lifted-twice : (f : ℕ → Bool) (low mid high old : ℕ) → low ≤ mid → mid ≤ high → lifted (best f low mid) (lifted (best f mid high) old) ≡ lifted (best f low high) old
@@ -166,15 +153,3 @@ open-same f low mid high end k zero new below above beyond from under is =
     by (inr some) =
         ap (λ t. t && nat_le (best f mid high) (k + 1)) (ne_eqb (best f high end) 0 (λ e. omega (arith, some, e)))
         ∙ sym (lt-leb (best f low end) (k + 1) (omega (arith, first, second, some, under)))
-
--- what evaluating a column from the nearest sample on takes, until one is inside
-pub found-sum : (low m high c : ℕ) → low ≤ m → m < high → sum_along low high (λ k. cond (nat_le (m + 1) (k + 1)) c 0) ≡ (high - m) * c
-found-sum low m high c below above =
-    let g : ℕ → ℕ = λ k. cond (nat_le (m + 1) (k + 1)) c 0 in
-    let parts = along-parts low m high g below (omega (arith, above)) in
-    let far = along-same low m g (λ k. 0) (λ k l h. cond-false (nat_le (m + 1) (k + 1)) c 0 (lt-leb (m + 1) (k + 1) (omega (arith, h)))) in
-    let near = along-same m high g (λ k. c) (λ k l h. cond-true (nat_le (m + 1) (k + 1)) c 0 (le-leb (m + 1) (k + 1) (omega (arith, l)))) in
-    omega (arith, parts, far, near, upto-const low (m - low) 0, upto-const m (high - m) c)
-
-pub missed-sum : (low high c : ℕ) → sum_along low high (λ k. cond (nat_le 0 (k + 1)) c 0) ≡ (high - low) * c
-missed-sum low high c = along-same low high (λ k. cond (nat_le 0 (k + 1)) c 0) (λ k. c) (λ k l h. cond-true (nat_le 0 (k + 1)) c 0 (le-leb 0 (k + 1) (omega arith))) ∙ upto-const low (high - low) c

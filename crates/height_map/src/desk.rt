@@ -8,13 +8,13 @@ use std::alloc::{AllocError, Global};
 use view_settings::{Lattice, View};
 
 /// What drawing needs beside the tops, made once a map: the columns of a row, the places of the
-/// samples, memory for looking at boxes, and a number for each step of a list.
+/// samples, memory for looking at boxes, and eight numbers for each step of a list.
 #[derive(Debug, Drop)]
 pub struct Desk {
     pub w: u32,
     pub places: Places,
     pub room: Workspace,
-    pub values: Vec<Fx>,
+    pub values: Vec<[Fx; 8]>,
 }
 
 impl Desk {
@@ -24,7 +24,8 @@ impl Desk {
     {
         let places = Places::new(alloc, view, Lattice::Height)?;
         let room = Workspace::new(alloc, len)?;
-        let values = vec![in alloc; Fx::from_raw(0); len as usize]?;
+        let zeros = [Fx::from_raw(0); 8];
+        let values = vec![in alloc; zeros; len as usize]?;
         Ok(Desk {
             w: view.w,
             places,

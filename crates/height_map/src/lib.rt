@@ -2,10 +2,12 @@
 //! nearest to the viewer, who looks down along z.
 #![tactic(auto)]
 
+mod column;
 mod columns;
 mod desk;
 mod drawing;
 mod laws;
+mod layer;
 mod leaf;
 mod top_map;
 

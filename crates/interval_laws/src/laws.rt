@@ -1,6 +1,6 @@
 // Laws over the definitions of hulls and choices. The functions compute nothing: what they ensure
 // is the law. Each reads an end of its spans, which says that the ends are raw numbers in order.
-ghost use Rattle.interval_laws.specs.Laws.{Attains, Includes, KeepsChoice, Shrinks};
+ghost use Rattle.interval_laws.specs.Laws.{Attains, ChoicesAreKept, ChosenOnesWin, ChosenWins, EndsAreAttained, HullsShrink, Includes, InclusionHolds, KeepsChoice, Shrinks};
 
 use fixed_ops::{Fx, Op};
 use interval_ops::Span;
@@ -31,9 +31,22 @@ pub fn shrinking(op: Op, a: Span, b: Span, c: Span, d: Span)
 }
 
 /// Where `u` lies in `a` and `v` in `b`, and the choice over `a` and `b` is an operand, the result
-/// on `u` and `v` is that operand.
+/// on `u` and `v` is that operand, and it wins: the first of a minimum is at most the second, and
+/// the second less than the first; the first of a maximum is at least the second, and the second
+/// greater than the first.
 #[inline]
-#[tactic(auto, using(crate::specs::LawProofs::choice_keeps))]
+#[tactic(auto, using(crate::proofs::LawProofs::choice_keeps, crate::proofs::LawProofs::chosen_wins))]
 pub fn choice_kept(op: Op, a: Span, b: Span, u: Fx, v: Fx)
-    ensures { KeepsChoice op a b u v }
+    ensures kept { KeepsChoice op a b u v }
+    ensures wins { ChosenWins op a b u v }
+{}
+
+/// The same laws, of all spans and all numbers at once.
+#[inline]
+pub fn laws_of_spans()
+    ensures inclusion { InclusionHolds }
+    ensures attained { EndsAreAttained }
+    ensures shrinking { HullsShrink }
+    ensures kept { ChoicesAreKept }
+    ensures wins { ChosenOnesWin }
 {}

@@ -4,4 +4,4 @@
 
 mod laws;
 
-pub use laws::{attained, choice_kept, inclusion, shrinking};
+pub use laws::{attained, choice_kept, inclusion, laws_of_spans, shrinking};

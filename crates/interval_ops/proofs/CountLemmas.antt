@@ -1,30 +1,42 @@
 -- Corners that are counted one after another.
-use Rattle.std.specs.Prelude.{◌≡◌, ℕ, ◌+◌}
-use Rattle.std.proofs.Common.{ap, ◌∙◌, arith, subst}
+use Rattle.std.specs.Prelude.{◌≡◌, ℕ, ◌+◌, ◌<ℤ◌, int_le, ◌&&◌}
+use Rattle.std.proofs.Common.{Bool, true, false, cond, pos, refl, ap, ◌∙◌, subst, zero-add, arith}
+use Rattle.std.proofs.lemmas.Int.{ints}
 use Rattle.fixed_ops.specs.Counts.{Counts, joined, corners_of, spans_of, plus, RisesBy, IsAtMost, RisesAtMost}
-use Rattle.fixed_ops.specs.CountLaws.{RisesBy-then, RisesAtMost-exactly, RisesAtMost-none}
+use Rattle.fixed_ops.specs.CountLaws.{RisesBy-none, RisesBy-then, RisesAtMost-exactly, RisesAtMost-none}
 use Rattle.interval_ops.specs.HullCounts.{CountsHulls, hulls_of}
+use Rattle.interval_ops.specs.Spans.{Interval}
 
 -- a corner after another
 pub two_corners : (before mid after : Counts) → mid ≡ joined before (corners_of 1) → after ≡ joined mid (corners_of 1) → after ≡ joined before (corners_of 2)
 two_corners before mid after p q = RisesBy-then before mid after (corners_of 1) (corners_of 1) p q
 
--- two corners are at most four
-pub few_corners : (before after : Counts) → after ≡ joined before (corners_of 2) → RisesAtMost before after (corners_of 4)
-few_corners before after p =
+-- four corners, one after another
+pub four_corners : (t u v w x : Counts) → u ≡ joined t (corners_of 1) → v ≡ joined u (corners_of 1) → w ≡ joined v (corners_of 1) → x ≡ joined w (corners_of 1) → x ≡ joined t (corners_of 4)
+four_corners t u v w x p q r s =
+    RisesBy-then t v x (corners_of 2) (corners_of 2) (two_corners t u v p q) (two_corners v w x r s)
+
+-- where nothing is counted, no corner is
+pub no_corners : (counts : Counts) → counts ≡ joined counts (corners_of 0)
+no_corners counts = RisesBy-none counts
+
+-- none, two or four corners are at most four
+pub none_few : (counts : Counts) → RisesAtMost counts counts (corners_of 4)
+none_few counts = RisesAtMost-none counts (corners_of 4)
+
+pub two_few : (before after : Counts) → after ≡ joined before (corners_of 2) → RisesAtMost before after (corners_of 4)
+two_few before after p =
     record { by = corners_of 2; within = record { points = omega arith; spans = omega arith; corners = omega arith }; rises = p }
 
--- four corners, one after another
-pub four_corners : (t u v w x : Counts) → u ≡ joined t (corners_of 1) → v ≡ joined u (corners_of 1) → w ≡ joined v (corners_of 1) → x ≡ joined w (corners_of 1) → RisesAtMost t x (corners_of 4)
-four_corners t u v w x p q r s =
-    RisesAtMost-exactly t x (corners_of 4)
-    (RisesBy-then t v x (corners_of 2) (corners_of 2) (two_corners t u v p q) (two_corners v w x r s))
+pub four_few : (before after : Counts) → after ≡ joined before (corners_of 4) → RisesAtMost before after (corners_of 4)
+four_few before after p = RisesAtMost-exactly before after (corners_of 4) p
 
--- no corner is at most four
-pub no_corners : (counts : Counts) → RisesAtMost counts counts (corners_of 4)
-no_corners counts = RisesAtMost-none counts (corners_of 4)
+-- a hull and its corners
+pub hull_counted : (before mid after : Counts) (corners : ℕ) → mid ≡ joined before (spans_of 1) → after ≡ joined mid (corners_of corners) → after ≡ joined before (hulls_of 1 corners)
+hull_counted before mid after corners p q =
+    subst (λ n. after ≡ joined before (hulls_of 1 n)) (zero-add corners) (RisesBy-then before mid after (spans_of 1) (corners_of corners) p q)
 
--- corners and nothing else
+-- a hull and four corners at most
 only_corners : (by : Counts) → IsAtMost by (corners_of 4) → plus (spans_of 1) by ≡ hulls_of 1 by.corners
 only_corners by le =
     let p : 0 + by.points ≡ 0 = omega arith in
@@ -33,10 +45,17 @@ only_corners by le =
     ∙ ap (λ (n : ℕ). record { points = 0; spans = n; corners = 0 + by.corners }) s
     ∙ ap (λ (n : ℕ). record { points = 0; spans = 1; corners = n }) (omega arith)
 
--- a hull and its corners
-pub hull_counted : (before mid after : Counts) → mid ≡ joined before (spans_of 1) → RisesAtMost mid after (corners_of 4) → CountsHulls 1 before after
-hull_counted before mid after p rise = record {
+pub hull_few : (before mid after : Counts) → mid ≡ joined before (spans_of 1) → RisesAtMost mid after (corners_of 4) → CountsHulls 1 before after
+hull_few before mid after p rise = record {
   corners = rise.by.corners;
   few = omega arith;
   rises = subst (λ (by : Counts). RisesBy before after by) (only_corners rise.by rise.within) (RisesBy-then before mid after (spans_of 1) rise.by p rise.rises);
 }
+
+-- a divisor below 0 is not 0
+pub two_below : (b : Interval) → b.hi <ℤ pos 0 → ◌≡◌ {A = ℕ} (cond (int_le (pos 0) b.hi && int_le b.lo (pos 0)) 0 2) 2
+two_below b below = ap (λ (t : Bool). cond (t && int_le b.lo (pos 0)) 0 2) (not_above (int_le (pos 0) b.hi) refl)
+  where
+    not_above : (t : Bool) → t ≡ int_le (pos 0) b.hi → t ≡ false
+    not_above true is = absurd (grind (arith, ints))
+    not_above false is = refl

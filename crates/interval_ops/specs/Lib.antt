@@ -1,11 +1,7 @@
 pub mod Choices
 pub mod Decided
-pub mod HullCountLaws
 pub mod HullCounts
-pub mod HullLaws
 pub mod Hulls
 pub mod Laws
-pub mod Monotone
-pub mod QuotientOrder
 pub mod Shapes
 pub mod Spans

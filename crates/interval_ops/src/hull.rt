@@ -1,8 +1,8 @@
 // What an operation makes of two spans.
 ghost use Rattle.std.specs.Prelude.{◌≡◌, ◌≤ℤ◌, ◌<ℤ◌, pos};
-ghost use Rattle.fixed_ops.specs.Counts.{corners_of, RisesAtMost};
+ghost use Rattle.fixed_ops.specs.Counts.{corners_of, RisesAtMost, RisesBy};
 ghost use Rattle.fixed_ops.specs.Operations.{op_result};
-ghost use Rattle.interval_ops.specs.HullCounts.{CountsHulls};
+ghost use Rattle.interval_ops.specs.HullCounts.{CountsHulls, hull_corners, hulls_of};
 ghost use Rattle.interval_ops.specs.Hulls.{IsHull, between, hull_above, hull_below, hull_of, hull_of_even};
 ghost use Rattle.interval_ops.specs.Shapes.{IsEven, IsRising};
 
@@ -12,24 +12,27 @@ use fixed_ops::{Fx, Op, Tally, corner, count_span, is_inside, lt};
 
 /// The hull of an operation over two spans: the least and the greatest of its results on a value
 /// of `a` and a value of `b`. It is all numbers for a division whose divisor may be 0, and `a` for
-/// a coordinate or a constant. Counted as one hull and at most four corners.
-#[inline]
-#[tactic(auto, using(crate::specs::HullLaws::hull_is, crate::proofs::CountLemmas::hull_counted))]
+/// a coordinate or a constant. Counted as one hull and the corners that it takes: two, but four for
+/// a product, and none for a coordinate, a constant or a division whose divisor may be 0.
+#[inline(always)]
+#[tactic(auto, using(crate::proofs::HullLaws::hull_is, crate::proofs::CountLemmas::hull_counted, crate::proofs::CountLemmas::hull_few))]
 pub fn span_apply(op: Op, a: Span, b: Span, tally: &mut Tally) -> Span
     ensures value { result ≡ hull_of op a b }
     ensures hull { IsHull op a b result }
     ensures counted { CountsHulls 1 tally.old tally.new }
+    ensures corners { RisesBy tally.old tally.new (hulls_of 1 (hull_corners op a b)) }
 {
     count_span(tally);
     hull(op, a, b, tally)
 }
 
 // The hull of an operation, with its corners counted.
-#[inline]
-#[tactic(auto, using(crate::proofs::CountLemmas::no_corners, crate::proofs::CountLemmas::few_corners))]
+#[inline(always)]
+#[tactic(auto, using(crate::proofs::CountLemmas::no_corners, crate::proofs::CountLemmas::none_few, crate::proofs::CountLemmas::two_few, crate::proofs::CountLemmas::four_few))]
 fn hull(op: Op, a: Span, b: Span, tally: &mut Tally) -> Span
     ensures value { result ≡ hull_of op a b }
-    ensures counted { RisesAtMost tally.old tally.new (corners_of 4) }
+    ensures counted { RisesBy tally.old tally.new (corners_of (hull_corners op a b)) }
+    ensures few { RisesAtMost tally.old tally.new (corners_of 4) }
 {
     match op {
         Op::X | Op::Y | Op::Z | Op::Const => a,
@@ -48,31 +51,31 @@ fn hull(op: Op, a: Span, b: Span, tally: &mut Tally) -> Span
 
 // The hull of the opposite.
 #[inline]
-#[tactic(auto, using(crate::specs::Monotone::opposite_falls, crate::proofs::CountLemmas::few_corners))]
+#[tactic(auto, using(crate::proofs::Monotone::opposite_falls))]
 fn opposite(a: Span, b: Span, tally: &mut Tally) -> Span
     ensures value { result ≡ hull_of Op.Neg a b }
-    ensures counted { RisesAtMost tally.old tally.new (corners_of 4) }
+    ensures counted { RisesBy tally.old tally.new (corners_of 2) }
 {
     from_to(Op::Neg, (a.hi(), b.lo()), (a.lo(), b.lo()), tally)
 }
 
 // The hull of an operation that rises with each operand.
 #[inline]
-#[tactic(auto, using(crate::specs::Monotone::rises, crate::proofs::CountLemmas::few_corners))]
+#[tactic(auto, using(crate::proofs::Monotone::rises))]
 fn rising(op: Op, a: Span, b: Span, tally: &mut Tally) -> Span
     requires { IsRising op }
     ensures value { result ≡ between (op_result op a.lo b.lo) (op_result op a.hi b.hi) }
-    ensures counted { RisesAtMost tally.old tally.new (corners_of 4) }
+    ensures counted { RisesBy tally.old tally.new (corners_of 2) }
 {
     from_to(op, (a.lo(), b.lo()), (a.hi(), b.hi()), tally)
 }
 
 // The hull of a difference, whose least result has the greatest subtrahend.
 #[inline]
-#[tactic(auto, using(crate::specs::Monotone::difference_rises, crate::proofs::CountLemmas::few_corners))]
+#[tactic(auto, using(crate::proofs::Monotone::difference_rises))]
 fn difference(a: Span, b: Span, tally: &mut Tally) -> Span
     ensures value { result ≡ hull_of Op.Sub a b }
-    ensures counted { RisesAtMost tally.old tally.new (corners_of 4) }
+    ensures counted { RisesBy tally.old tally.new (corners_of 2) }
 {
     from_to(Op::Sub, (a.lo(), b.hi()), (a.hi(), b.lo()), tally)
 }
@@ -80,11 +83,11 @@ fn difference(a: Span, b: Span, tally: &mut Tally) -> Span
 // The hull of an operation that is as great on either side of 0, rises away from it, and is 0
 // there.
 #[inline]
-#[tactic(auto, using(crate::specs::Monotone::even_above, crate::proofs::CountLemmas::two_corners, crate::proofs::CountLemmas::few_corners))]
+#[tactic(auto, using(crate::proofs::Monotone::even_above, crate::proofs::CountLemmas::two_corners))]
 fn even(op: Op, a: Span, tally: &mut Tally) -> Span
     requires { IsEven op }
     ensures value { result ≡ hull_of_even a (op_result op a.lo a.lo) (op_result op a.hi a.hi) }
-    ensures counted { RisesAtMost tally.old tally.new (corners_of 4) }
+    ensures counted { RisesBy tally.old tally.new (corners_of 2) }
 {
     let first = corner(op, a.lo(), a.lo(), tally);
     let last = corner(op, a.hi(), a.hi(), tally);
@@ -120,7 +123,7 @@ fn least_of_even(a: Span, first: Fx, last: Fx) -> Fx
 #[tactic(auto, using(crate::proofs::CountLemmas::four_corners))]
 fn product(a: Span, b: Span, tally: &mut Tally) -> Span
     ensures value { result ≡ hull_of Op.Mul a b }
-    ensures counted { RisesAtMost tally.old tally.new (corners_of 4) }
+    ensures counted { RisesBy tally.old tally.new (corners_of 4) }
 {
     let p = corner(Op::Mul, a.lo(), b.lo(), tally);
     let q = corner(Op::Mul, a.lo(), b.hi(), tally);
@@ -131,10 +134,11 @@ fn product(a: Span, b: Span, tally: &mut Tally) -> Span
 
 // The hull of a quotient: all numbers where the divisor may be 0.
 #[inline]
-#[tactic(auto, using(crate::proofs::CountLemmas::no_corners, crate::proofs::CountLemmas::few_corners))]
+#[tactic(auto, using(crate::proofs::CountLemmas::no_corners, crate::proofs::CountLemmas::two_below, crate::proofs::CountLemmas::none_few, crate::proofs::CountLemmas::two_few))]
 fn quotient(a: Span, b: Span, tally: &mut Tally) -> Span
     ensures value { result ≡ hull_of Op.Div a b }
-    ensures counted { RisesAtMost tally.old tally.new (corners_of 4) }
+    ensures counted { RisesBy tally.old tally.new (corners_of (hull_corners Op.Div a b)) }
+    ensures few { RisesAtMost tally.old tally.new (corners_of 4) }
 {
     if is_inside(b.hi()) {
         quotient_below(a, b, tally)
@@ -148,11 +152,11 @@ fn quotient(a: Span, b: Span, tally: &mut Tally) -> Span
 // The hull of a quotient by divisors above 0: the dividend's ends, each by the divisor that takes
 // it furthest.
 #[inline]
-#[tactic(auto, using(crate::specs::QuotientOrder::above_ordered, crate::proofs::CountLemmas::few_corners))]
+#[tactic(auto, using(crate::proofs::QuotientOrder::above_ordered))]
 fn quotient_above(a: Span, b: Span, tally: &mut Tally) -> Span
     requires { pos 0 <ℤ b.lo }
     ensures value { result ≡ hull_above a b }
-    ensures counted { RisesAtMost tally.old tally.new (corners_of 4) }
+    ensures counted { RisesBy tally.old tally.new (corners_of 2) }
 {
     let low = by_sign(a.lo(), b.lo(), b.hi());
     let high = by_sign(a.hi(), b.hi(), b.lo());
@@ -161,11 +165,11 @@ fn quotient_above(a: Span, b: Span, tally: &mut Tally) -> Span
 
 // The hull of a quotient by divisors below 0.
 #[inline]
-#[tactic(auto, using(crate::specs::QuotientOrder::below_ordered, crate::proofs::CountLemmas::few_corners))]
+#[tactic(auto, using(crate::proofs::QuotientOrder::below_ordered))]
 fn quotient_below(a: Span, b: Span, tally: &mut Tally) -> Span
     requires { b.hi <ℤ pos 0 }
     ensures value { result ≡ hull_below a b }
-    ensures counted { RisesAtMost tally.old tally.new (corners_of 4) }
+    ensures counted { RisesBy tally.old tally.new (corners_of 2) }
 {
     let low = by_sign(a.hi(), b.lo(), b.hi());
     let high = by_sign(a.lo(), b.hi(), b.lo());

@@ -13,7 +13,7 @@ mod span;
 pub use choice::{Choice, choose};
 pub use decision::decided;
 pub use hull::span_apply;
-pub use laws::hulls;
+pub use laws::{hull_counts, hulls};
 pub use region::Region;
 pub use span::Span;
 

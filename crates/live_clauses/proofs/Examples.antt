@@ -1,5 +1,5 @@
 -- Lists of steps, their values, and what choices leave of them, worked out by hand.
-use Rattle.std.proofs.Common.{◌≡◌, ℕ, ℤ, pos, ◌≤◌, List, [], ◌∷◌, length, refl, arith}
+use Rattle.std.proofs.Common.{◌≡◌, ℕ, ◌+◌, ℤ, pos, ◌≤◌, List, [], ◌∷◌, length, refl, ap, arith}
 use Rattle.fixed_ops.specs.Points.{Point}
 use Rattle.fixed_ops.specs.Raw.{IsRaw}
 use Rattle.fixed_ops.specs.declared.operation.Op.{Op}
@@ -7,7 +7,8 @@ use Rattle.fixed_ops.specs.declared.operation.Op.TheVariants.{X, Y, Z, Neg, Sub,
 use Rattle.interval_ops.specs.declared.choice.Choice.TheVariants.{Left, Right, Both}
 use Rattle.live_clauses.specs.declared.step.Step.{Step}
 use Rattle.live_clauses.specs.Choices.{AreChoices, AreRight}
-use Rattle.live_clauses.specs.Live.{live_of}
+use Rattle.live_clauses.specs.Live.{live_of, IsWhole}
+use Rattle.live_clauses.specs.Meanings.{Meaning, MeanTheirChoices, ReadsItsOperands, meanings, tape_meaning}
 use Rattle.live_clauses.specs.Steps.{IsStepAt, IsTape, tape_value, values}
 
 abbrev step : Op → ℕ → ℕ → Step
@@ -32,6 +33,26 @@ right_alone = refl
 
 left_alone : live_of lesser (Both ∷ Both ∷ Left ∷ Both ∷ Both ∷ []) ≡ step X 0 0 ∷ step Z 0 0 ∷ step Sub 0 1 ∷ []
 left_alone = refl
+
+-- the negation of x, where nothing needs y
+abbrev idle : List Step
+idle = step X 0 0 ∷ step Y 0 0 ∷ step Neg 0 0 ∷ []
+
+idle_is_not_whole : IsWhole idle → ⊥
+idle_is_not_whole whole = let fewer : 2 ≡ 3 = ap length whole in omega (arith, fewer)
+
+idle_left_out : live_of idle (Both ∷ Both ∷ Both ∷ []) ≡ step X 0 0 ∷ step Neg 0 0 ∷ []
+idle_left_out = refl
+
+rest_is_whole : IsWhole (step X 0 0 ∷ step Neg 0 0 ∷ [])
+rest_is_whole = refl
+
+-- each step of the lesser of x and y, less z, is needed, and so is each that a choice leaves
+lesser_is_whole : IsWhole lesser
+lesser_is_whole = refl
+
+right_is_whole : IsWhole (live_of lesser (Both ∷ Both ∷ Right ∷ Both ∷ Both ∷ []))
+right_is_whole = refl
 
 -- a choice is right only where the step has the value of the operand that it chooses
 wrong_left : AreRight (at (pos 5) (pos 3) (pos 1)) lesser (Both ∷ Both ∷ Left ∷ []) → ⊥
@@ -71,3 +92,33 @@ step_of_the_one_before = record {
 
 numbers_are_raw : (place : ℕ) (s : Step) → IsStepAt place s → IsRaw s.value
 numbers_are_raw place s is = is.raw
+
+-- how many operations with two operands a step is made by, each counted as often as it is used
+abbrev pairs_of : Op → ℤ → ℕ → ℕ → ℕ
+pairs_of Sub constant a b = a + b + 1
+pairs_of Min constant a b = a + b + 1
+pairs_of op constant a b = 0
+
+abbrev pairs : Meaning ℕ
+pairs = record { step = pairs_of; absent = 0 }
+
+pairs_in_order : meanings pairs lesser ≡ 0 ∷ 0 ∷ 1 ∷ 0 ∷ 2 ∷ []
+pairs_in_order = refl
+
+last_pairs : tape_meaning pairs lesser ≡ 2
+last_pairs = refl
+
+-- the minimum has one more than either operand, so a choice changes what a list means
+pairs_change : tape_meaning pairs (live_of lesser (Both ∷ Both ∷ Left ∷ Both ∷ Both ∷ [])) ≡ 1
+pairs_change = refl
+
+wrong_pairs : MeanTheirChoices pairs lesser (Both ∷ Both ∷ Left ∷ []) → ⊥
+wrong_pairs means = let count : 1 ≡ 0 = means.left 2 (step Min 0 1) refl refl in omega (arith, count)
+
+-- what reads an operand that the operation lacks, as a coordinate its first, means nothing by itself
+first_of : Meaning ℕ
+first_of = record { step = λ op constant a b. a; absent = 0 }
+
+reads_too_much : ReadsItsOperands first_of → ⊥
+unfolding first_of
+reads_too_much reads = let same : 0 ≡ 1 = reads.no_first X (pos 0) 0 0 1 refl in omega (arith, same)

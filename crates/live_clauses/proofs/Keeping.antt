@@ -1,4 +1,4 @@
--- The live list is a list that can be evaluated, and where the choices are right it has the old list's value.
+-- The live list is a list that can be evaluated, and where the choices are right it means what the old list means.
 use Rattle.std.proofs.Common.{◌≡◌, ℕ, zero, suc, ◌+◌, ◌-◌, ◌<◌, ◌≤◌, true, List, length, slice_get, inl, inr, refl, ap, sym, subst, ◌∙◌, arith}
 use Rattle.std.proofs.lemmas.Bool.{cases_lt, cases_Bool}
 use Rattle.std.proofs.lemmas.Bool.Decides.{Decides-ltb}
@@ -10,9 +10,10 @@ use Rattle.live_clauses.specs.declared.step.Step.{Step}
 use Rattle.live_clauses.specs.Choices.{step_at, AreChoices, AreRight}
 use Rattle.live_clauses.specs.Live.{representative, IsLive, is_needed, is_kept, kept_below, new_place, renumbered, live_below, live_of}
 use Rattle.live_clauses.specs.Live.IsLive.{Last, First, Second}
-use Rattle.live_clauses.specs.Steps.{IsStepAt, AreSteps, IsTape, value_at, tape_value}
-use Rattle.fixed_ops.specs.PointLaws.{step_value-same}
-use Rattle.live_clauses.specs.ValueLaws.{value_at-step}
+use Rattle.live_clauses.specs.MeaningLaws.{meaning_at-step, step-same}
+use Rattle.live_clauses.specs.Meanings.{Meaning, MeanTheirChoices, ReadsItsOperands, meaning_at, number_at, tape_meaning}
+use Rattle.live_clauses.specs.Steps.{IsStepAt, AreSteps, IsTape, tape_value}
+use Rattle.live_clauses.specs.ValueLaws.{number_at-reads}
 use Rattle.live_clauses.proofs.Representatives.{slice_get-step_at, step_at-stands, representative-le, representative_holds}
 use Rattle.live_clauses.proofs.Needs.{Keeps, needed_on, needed_last, hands_on_first, hands_on_second, kept_keeps, keeps_kept, representative_keeps, kept_live, live_keeps}
 use Rattle.live_clauses.proofs.Kept.{kept_below-kept, kept_below-dropped, kept_below-less, kept_below-le, length-live_below, live_below-at, kept_at, renumbered-fits}
@@ -21,7 +22,7 @@ module _ (steps : List Step) (choices : List Choice) (tape : IsTape steps) (choo
   abbrev stand : AreSteps steps
   stand = tape.each
 
-  abbrev last_kept : ℕ
+  abbrev pub last_kept : ℕ
   last_kept = representative steps choices (length steps - 1)
 
   -- what stands for an operand of a kept step is kept, and stands before it
@@ -105,39 +106,43 @@ module _ (steps : List Step) (choices : List Choice) (tape : IsTape steps) (choo
     each = live_below-stand (length steps);
   }
 
-  module _ (p : Point) (right : AreRight p steps choices) where
-    -- a step has its representative's value
-    representative-value : (place : ℕ) → place < length steps → value_at p steps (representative steps choices place) ≡ value_at p steps place
-    representative-value = representative_holds steps choices stand choose (λ place at. value_at p steps at ≡ value_at p steps place)
+  module _ {D : Type 0} (m : Meaning D) (reads : ReadsItsOperands m) (means : MeanTheirChoices m steps choices) where
+    -- a step means what its representative means
+    representative-meaning : (place : ℕ) → place < length steps → meaning_at m steps (representative steps choices place) ≡ meaning_at m steps place
+    representative-meaning = representative_holds steps choices stand choose (λ place at. meaning_at m steps at ≡ meaning_at m steps place)
         (λ place within is. refl)
-        (λ place at within is same. same ∙ sym (right.left place (step_at steps place) (slice_get-step_at steps place within) is))
-        (λ place at within is same. same ∙ sym (right.right place (step_at steps place) (slice_get-step_at steps place within) is))
+        (λ place at within is same. same ∙ sym (means.left place (step_at steps place) (slice_get-step_at steps place within) is))
+        (λ place at within is same. same ∙ sym (means.right place (step_at steps place) (slice_get-step_at steps place within) is))
 
-    -- a kept step has its old value at its number
-    kept-value : (bound place : ℕ) → place < bound → is_kept steps choices place ≡ true
-        → value_at p (live_of steps choices) (kept_below steps choices place) ≡ value_at p steps place
-    kept-value zero place less kept = absurd (omega arith)
-    kept-value (suc bound) place less kept =
+    -- a kept step means at its number what it meant
+    kept-meaning : (bound place : ℕ) → place < bound → is_kept steps choices place ≡ true
+        → meaning_at m (live_of steps choices) (kept_below steps choices place) ≡ meaning_at m steps place
+    kept-meaning zero place less kept = absurd (omega arith)
+    kept-meaning (suc bound) place less kept =
         let new = live_of steps choices in
         let old = step_at steps place in
         let within = (kept_keeps steps choices tape.some stand choose place kept).within in
         let stands = step_at-stands steps place stand within in
         let there = live_below-at steps choices (length steps) place within kept in
-        value_at-step p new (kept_below steps choices place) (renumbered (new_place steps choices) old) (live_below-stand (length steps)) there
-        ∙ step_value-same old.op p old.value _ _ _ _
+        meaning_at-step m reads new (kept_below steps choices place) (renumbered (new_place steps choices) old) (live_below-stand (length steps)) there
+        ∙ step-same m reads old.op old.value _ _ _ _
         (λ has. let first = first_kept place kept has in
         rw ((Decides-ltb 0 (arity_of old.op)).1 has)
-        (kept-value bound (representative steps choices old.a) (omega (arith, first.1)) first.0 ∙ representative-value old.a (omega (arith, stands.fits.first has))))
+        (kept-meaning bound (representative steps choices old.a) (omega (arith, first.1)) first.0 ∙ representative-meaning old.a (omega (arith, stands.fits.first has))))
         (λ has. let second = second_kept place kept has in
         rw ((Decides-ltb 1 (arity_of old.op)).1 has)
-        (kept-value bound (representative steps choices old.b) (omega (arith, second.1)) second.0 ∙ representative-value old.b (omega (arith, stands.fits.second has))))
-        ∙ sym (value_at-step p steps place old stand (slice_get-step_at steps place within))
+        (kept-meaning bound (representative steps choices old.b) (omega (arith, second.1)) second.0 ∙ representative-meaning old.b (omega (arith, stands.fits.second has))))
+        ∙ sym (meaning_at-step m reads steps place old stand (slice_get-step_at steps place within))
 
-    -- where the choices are right, the live list has the old list's value
-    pub live_of-value : tape_value p (live_of steps choices) ≡ tape_value p steps
-    live_of-value =
+    -- where each choice means what it chooses, the live list means what the old list means
+    pub live_of-meaning : tape_meaning m (live_of steps choices) ≡ tape_meaning m steps
+    live_of-meaning =
         let is : length (live_of steps choices) - 1 ≡ kept_below steps choices last_kept = omega (arith, length-live_of) in
-        rw is (kept-value (suc last_kept) last_kept (omega arith) last_keeps ∙ representative-value (length steps - 1) (omega (arith, tape.some)))
+        rw is (kept-meaning (suc last_kept) last_kept (omega arith) last_keeps ∙ representative-meaning (length steps - 1) (omega (arith, tape.some)))
+
+  -- where the choices are right at a point, it has the old list's value there
+  pub live_of-value : (p : Point) → AreRight p steps choices → tape_value p (live_of steps choices) ≡ tape_value p steps
+  live_of-value p right = live_of-meaning (number_at p) (number_at-reads p) (record { left = right.left; right = right.right })
 
 -- a live list is no longer than its list
 pub live_of-le : (steps : List Step) (choices : List Choice) → length (live_of steps choices) ≤ length steps

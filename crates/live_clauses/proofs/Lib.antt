@@ -1,3 +1,4 @@
+pub mod Again
 mod Examples
 pub mod Joined
 pub mod Keeping

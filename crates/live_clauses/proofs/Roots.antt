@@ -1,5 +1,5 @@
--- The clauses of a model are steps that no choice leaves out, and their root list has the solid's value.
-use Rattle.std.proofs.Common.{◌≡◌, ℕ, zero, suc, ◌++◌, ℤ, List, [], ◌∷◌, length, replicate, fold, slice_get, Some, inl, inr, refl, subst, ◌∙◌, arith}
+-- The clauses of a model are steps that no choice leaves out, and their root list means what they mean.
+use Rattle.std.proofs.Common.{◌≡◌, ℕ, zero, suc, ◌++◌, ℤ, List, [], ◌∷◌, length, replicate, fold, slice_get, Some, inl, inr, refl, subst, arith}
 use Rattle.std.proofs.lemmas.List.{length-map, length-replicate, get_or-replicate, get_or_past}
 use Rattle.std.proofs.lemmas.Bool.{cases_lt}
 use Rattle.std.proofs.lemmas.Option.{same_Some}
@@ -9,10 +9,11 @@ use Rattle.solid_model.specs.Clauses.{AreInOrder, IsModel}
 use Rattle.solid_model.specs.Values.{clause_value, solid_value}
 use Rattle.interval_ops.specs.declared.choice.Choice.TheVariants.{Both}
 use Rattle.live_clauses.specs.declared.step.Step.{Step}
-use Rattle.live_clauses.specs.Choices.{choice_at, AreChoices, AreRight}
+use Rattle.live_clauses.specs.Choices.{choice_at, AreChoices}
 use Rattle.live_clauses.specs.Live.{root_of}
 use Rattle.live_clauses.specs.Steps.{IsStepAt, AreSteps, IsTape, value_after, tape_value, step_of, steps_of}
-use Rattle.live_clauses.proofs.Keeping.{live_of-value}
+use Rattle.live_clauses.specs.Meanings.{Meaning, MeanTheirChoices, ReadsItsOperands, tape_meaning}
+use Rattle.live_clauses.proofs.Keeping.{live_of-meaning}
 use Rattle.live_clauses.proofs.Representatives.{left_chooses, right_chooses}
 
 -- the clause that a step comes from
@@ -46,11 +47,17 @@ all_both n place =
 pub all_both-choices : (steps : List Step) (n : ℕ) → AreChoices steps (replicate n Both)
 all_both-choices steps n = λ place step at not_min not_max. all_both n place
 
-all_both-right : (p : Point) (steps : List Step) (n : ℕ) → AreRight p steps (replicate n Both)
-all_both-right p steps n = record {
+all_both-means : {D : Type 0} (m : Meaning D) (steps : List Step) (n : ℕ) → MeanTheirChoices m steps (replicate n Both)
+all_both-means m steps n = record {
   left = λ place step at is. absurd (left_chooses _ is (all_both n place));
   right = λ place step at is. absurd (right_chooses _ is (all_both n place));
 }
+
+-- so the root list means what the list of all clauses means
+pub root_of-meaning : {D : Type 0} (m : Meaning D) → ReadsItsOperands m → (clauses : List Clause) → IsModel clauses → tape_meaning m (root_of clauses) ≡ tape_meaning m (steps_of clauses)
+root_of-meaning m reads clauses model =
+    live_of-meaning (steps_of clauses) (replicate (length clauses) Both) (steps_of-tape clauses model) (all_both-choices (steps_of clauses) (length clauses)) m reads
+    (all_both-means m (steps_of clauses) (length clauses))
 
 -- the values of the steps are those of the clauses
 values-steps_of : (p : Point) (earlier : List ℤ) (clauses : List Clause)
@@ -58,12 +65,6 @@ values-steps_of : (p : Point) (earlier : List ℤ) (clauses : List Clause)
 values-steps_of p earlier [] = refl
 values-steps_of p earlier (c ∷ clauses) = values-steps_of p (earlier ++ clause_value p earlier c ∷ []) clauses
 
-steps_of-value : (p : Point) (clauses : List Clause) → tape_value p (steps_of clauses) ≡ solid_value p clauses
+pub steps_of-value : (p : Point) (clauses : List Clause) → tape_value p (steps_of clauses) ≡ solid_value p clauses
 steps_of-value p clauses =
     rw (values-steps_of p [] clauses) (rw (length-map clauses step_of) refl)
-
-pub root_of-value : (p : Point) (clauses : List Clause) → IsModel clauses → tape_value p (root_of clauses) ≡ solid_value p clauses
-root_of-value p clauses model =
-    live_of-value (steps_of clauses) (replicate (length clauses) Both) (steps_of-tape clauses model) (all_both-choices (steps_of clauses) (length clauses)) p
-    (all_both-right p (steps_of clauses) (length clauses))
-    ∙ steps_of-value p clauses

@@ -46,7 +46,7 @@ module _ (steps : List Step) (choices : List Choice) (tape : IsTape steps) (choo
       let slow = subst (λ k. kept_below steps choices k ≤ kept_below steps choices n + (length steps - n)) rest (kept_below-slow n (length steps - n)) in
       omega (arith, all, slow, kept_below-le steps choices n)
 
-  each_kept : (place : ℕ) → place < length steps → is_kept steps choices place ≡ true
+  pub each_kept : (place : ℕ) → place < length steps → is_kept steps choices place ≡ true
   each_kept place within =
       elim (cases_Bool (is_kept steps choices place)) [
         | inl kept ↦ kept

@@ -1,5 +1,5 @@
 -- The live list of a list under choices: what its last step needs, numbered anew.
-use Rattle.std.specs.Prelude.{ℕ, zero, suc, ◌+◌, ◌-◌, ◌<◌, ◌==◌, nat_lt, Bool, true, false, ◌&&◌, ◌||◌, if◌then◌else◌, List, [], ◌∷◌, ◌++◌, length, replicate}
+use Rattle.std.specs.Prelude.{◌≡◌, ℕ, zero, suc, ◌+◌, ◌-◌, ◌<◌, ◌==◌, nat_lt, Bool, true, false, ◌&&◌, ◌||◌, if◌then◌else◌, List, [], ◌∷◌, ◌++◌, length, replicate}
 use Rattle.fixed_ops.specs.Arity.{arity_of}
 use Rattle.solid_model.specs.declared.clause.Clause.{Clause}
 use Rattle.interval_ops.specs.declared.choice.Choice.{Choice}
@@ -100,3 +100,8 @@ live_of steps choices = live_below steps choices (length steps)
 -- the root list of a solid: the live list of all its clauses where every choice is Both
 abbrev pub root_of : List Clause → List Step
 root_of clauses = live_of (steps_of clauses) (replicate (length clauses) Both)
+
+-- A list is whole where its last step needs each of its steps: shortened where no choice is made, it
+-- stays as it is.
+abbrev pub IsWhole : List Step → Type 0
+IsWhole steps = live_of steps (replicate (length steps) Both) ≡ steps

@@ -1,5 +1,7 @@
 // What always holds of the definitions that the contracts cite.
-ghost use Rattle.live_clauses.specs.Laws.{RepresentativesAreChosen, LiveStepsAreKept, LiveListsAreTapes, ChoicesKeepTheValue, RootHasTheValue};
+ghost use Rattle.live_clauses.specs.Laws.{RepresentativesAreChosen, LiveStepsAreKept, LiveListsAreTapes, ChoicesKeepTheMeaning, ChoicesKeepTheValue, MeaningsAreOfOperands, RootHasTheMeaning, RootHasTheValue, LiveListsAreWhole, RootListsAreWhole, WholeListsNeedEachStep, WholeListsStand};
+
+use fixed_ops::Fx;
 
 /// The representative of a step is that of its chosen operand, or the step itself. The steps that a
 /// live list keeps are exactly the least set that holds the representative of the last step and,
@@ -10,13 +12,36 @@ pub fn live_steps_are_the_least()
     ensures lists { LiveListsAreTapes }
 {}
 
+/// A list is whole where its last step needs each of its steps. A live list is whole, and so is a
+/// root list: shortened again, either stays as it is until an operand of one of its own steps is
+/// chosen.
+pub fn live_lists_are_whole()
+    ensures needed { WholeListsNeedEachStep }
+    ensures live { LiveListsAreWhole }
+    ensures root { RootListsAreWhole }
+    ensures stand { WholeListsStand }
+{}
+
+/// Whatever steps mean: each step means what it makes of the meanings of its operands. Where each
+/// step that chooses an operand means what that operand means, a live list means what the list means
+/// that it comes from. A root list means what the list of all clauses means.
+pub fn live_lists_keep_meanings<D>()
+    ensures steps { MeaningsAreOfOperands D }
+    ensures live { ChoicesKeepTheMeaning D }
+    ensures root { RootHasTheMeaning D }
+{}
+
 /// At each point where the choices are right, a live list has the value of the list that it comes
 /// from.
 pub fn choices_keep_the_value()
     ensures { ChoicesKeepTheValue }
-{}
+{
+    live_lists_keep_meanings::<Fx>();
+}
 
 /// At each point a root list has the value of the solid, evaluated whole.
 pub fn root_has_the_value()
     ensures { RootHasTheValue }
-{}
+{
+    live_lists_keep_meanings::<Fx>();
+}

@@ -9,7 +9,10 @@ mod shortening;
 mod step;
 mod tape;
 
-pub use laws::{choices_keep_the_value, live_steps_are_the_least, root_has_the_value};
+pub use laws::{
+    choices_keep_the_value, live_lists_are_whole, live_lists_keep_meanings,
+    live_steps_are_the_least, root_has_the_value,
+};
 pub use shortening::{prune, prune_with, root_tape};
 pub use step::Step;
 pub use tape::{Steps, Tape, same};

@@ -28,7 +28,7 @@ fn three_discs_are_drawn_and_joined(rt: HostRuntime) -> Result<(), Fail> {
     for (at, name, op, a, b, value) in cases {
         assert!(rt; at < model.len());
         let clause = model.clause(at);
-        assert_eq!(rt; clause.name.bytes(), name);
+        assert_eq!(rt; clause.name, name);
         assert_eq!(rt; clause.op, op, "at {at}");
         assert_eq!(rt; clause.a, a, "at {at}");
         assert_eq!(rt; clause.b, b, "at {at}");

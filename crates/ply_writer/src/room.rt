@@ -1,5 +1,5 @@
 // How much room the text of a mesh takes.
-ghost use Rattle.std.specs.Prelude.{◌≤◌, ◌<◌, ◌^◌, length};
+ghost use Rattle.std.specs.Prelude.{◌+◌, ◌*◌, ◌≤◌, ◌<◌, ◌^◌, length};
 ghost use Rattle.fixed_ops.specs.Raw.{IsRaw};
 
 use crate::header::HEADER;
@@ -14,6 +14,7 @@ use view_settings::View;
 pub(crate) fn room_for(mesh: &Mesh, view: &View) -> usize
     requires vertices { length mesh.now.vertices < 2 ^ 31 }
     requires faces { length mesh.now.faces < 2 ^ 31 }
+    ensures { result ≤ HEADER + 69 * length mesh.now.vertices + 65 * length mesh.now.faces }
 {
     let numbers = longer(view.x0, view.x1) + longer(view.y0, view.y1) + longer(view.z0, view.z1);
     let vertices = mesh.vertices.len();

@@ -1,15 +1,10 @@
 -- Rows of leaves as numbers.
-use Rattle.std.proofs.Common.{◌≡◌, ◌^◌, ℕ, zero, suc, ◌+◌, ◌-◌, ◌*◌, ◌<◌, ◌≤◌, Bool, true, false, cond, List, [], ◌∷◌, length, map, fold, set, refl, sym, ap, subst, ◌∙◌, arith}
+use Rattle.std.proofs.Common.{◌≡◌, ◌^◌, ℕ, zero, suc, ◌+◌, ◌*◌, ◌<◌, ◌≤◌, Bool, true, false, cond, List, [], ◌∷◌, ◌++◌, length, map, fold, set, refl, ap, ◌∙◌, arith}
 use Rattle.std.specs.Prelude.{nat_lt}
 use Rattle.std.specs.List.{range_with_len}
-use Rattle.std.proofs.Math.Pow.{pow_mono}
 use Rattle.std.proofs.lemmas.Grind.{pow_more}
-use Rattle.std.proofs.lemmas.List.FromFn.{length-map-range_with_len, map-range_with_len_more}
-use Rattle.std.proofs.lemmas.List.Sums.{fold_push}
-use Rattle.choice_trace.specs.Work.{RisesWithin}
-use Rattle.choice_trace.specs.WorkLaws.{points_are_exact}
-use Rattle.fixed_ops.specs.CountLaws.{RisesBy-then}
-use Rattle.fixed_ops.specs.Counts.{Counts, RisesBy, points_of, times}
+use Rattle.std.proofs.lemmas.List.FromFn.{map-range_with_len_more}
+use Rattle.std.proofs.lemmas.List.Sums.{fold-append, fold_push}
 use Rattle.quad_descent.specs.Nodes.{bits_of}
 
 abbrev digits : ℕ → List Bool → ℕ
@@ -38,41 +33,28 @@ digits-below bits (false ∷ tests) =
     next : (bits : ℕ) → 2 * bits + 0 + 1 + 1 ≡ 2 * bits + 2
     next bits = omega arith
 
-pub bits-small : (tests : List Bool) → length tests ≤ 7 → bits_of tests ≤ 127
-bits-small tests few =
-    let below = digits-below 0 tests in
-    let power : 2 ^ length tests ≤ 2 ^ 7 = pow_mono few in
-    omega (arith, below, power)
+-- digits behind a number
+digits-from : (bits : ℕ) (tests : List Bool) → digits bits tests ≡ bits * 2 ^ length tests + digits 0 tests
+digits-from bits [] = omega arith
+digits-from bits (true ∷ tests) =
+    let p = 2 ^ length tests in
+    let more : bits * 2 ^ suc (length tests) + p ≡ (2 * bits + 1) * p = rw (power-suc (length tests)) (grind arith) in
+    omega (arith, digits-from (2 * bits + 1) tests, digits-from 1 tests, more)
+digits-from bits (false ∷ tests) =
+    let p = 2 ^ length tests in
+    let more : bits * 2 ^ suc (length tests) ≡ (2 * bits + 0) * p = rw (power-suc (length tests)) (grind arith) in
+    omega (arith, digits-from (2 * bits + 0) tests, more)
+
+pub bits-append : (xs ys : List Bool) → bits_of (xs ++ ys) ≡ bits_of xs * 2 ^ length ys + bits_of ys
+bits-append xs ys = fold-append (λ bits test. 2 * bits + cond test 1 0) 0 xs ys ∙ digits-from (bits_of xs) ys
+
+pub bits-below : (tests : List Bool) → bits_of tests < 2 ^ length tests
+bits-below tests = let below = digits-below 0 tests in omega (arith, below)
 
 -- one more digit
 pub bits-more : (f : ℕ → Bool) (low n at : ℕ) → low + n ≡ at → bits_of (map f (range_with_len low (n + 1))) ≡ 2 * bits_of (map f (range_with_len low n)) + cond (f at) 1 0
 bits-more f low n at is =
     ap bits_of (map-range_with_len_more f low n at is) ∙ fold_push (λ bits test. 2 * bits + cond test 1 0) 0 (map f (range_with_len low n)) (f at)
-
-pub row-small : (f : ℕ → Bool) (low n : ℕ) → n ≤ 7 → bits_of (map f (range_with_len low n)) ≤ 127
-row-small f low n few = bits-small (map f (range_with_len low n)) (omega (arith, length-map-range_with_len f low n))
-
--- a row's number fits with one more digit
-pub row-fits : (f : ℕ → Bool) (low high i bits digit : ℕ) → high - low ≤ 8 → low ≤ i → i < high → bits ≡ bits_of (map f (range_with_len low (i - low))) → digit ≤ 1 → bits * 2 + digit ≤ 255
-row-fits f low high i bits digit narrow above below is few =
-    let small = row-small f low (i - low) (omega (arith, narrow, above, below)) in
-    omega (arith, small, is, few)
-
--- and has it
-pub row-more : (f : ℕ → Bool) (low i bits digit : ℕ) → low ≤ i → bits ≡ bits_of (map f (range_with_len low (i - low))) → digit ≡ cond (f i) 1 0
-    → bits * 2 + digit ≡ bits_of (map f (range_with_len low (i + 1 - low)))
-row-more f low i bits digit above is one =
-    let more = bits-more f low (i - low) i (omega (arith, above)) in
-    let next : i + 1 - low ≡ (i - low) + 1 = omega (arith, above) in
-    rw next (omega (arith, is, one, more))
-
--- one more sample is counted
-pub counted-more : (before mid after : Counts) (low i len : ℕ) → low ≤ i → RisesBy before mid (points_of ((i - low) * len))
-    → RisesWithin mid after (times len (points_of 1)) (times len (points_of 1)) → RisesBy before after (points_of ((i + 1 - low) * len))
-counted-more before mid after low i len above first second =
-    let next : (i - low) * len + len ≡ (i + 1 - low) * len = let more : i + 1 - low ≡ (i - low) + 1 = omega (arith, above) in rw more (sym (once-more (i - low) len)) in
-    subst (λ n. RisesBy before after (points_of n)) next
-    (RisesBy-then before mid after (points_of ((i - low) * len)) (points_of len) first (points_are_exact mid after len second))
 
 -- the rows of a leaf, of which so many are made
 abbrev pub rows_upto : (ℕ → ℕ) → ℕ → List ℕ
@@ -92,8 +74,3 @@ rows_set row (suc (suc (suc (suc (suc (suc (suc (suc n)))))))) h = absurd (omega
 
 pub rows-more : (row : ℕ → ℕ) (old : List ℕ) (n made : ℕ) → n < 8 → old ≡ rows_upto row n → made ≡ row n → set old n made ≡ rows_upto row (n + 1)
 rows-more row old n made few is same = ap (λ l. set l n made) is ∙ ap (λ m. set (rows_upto row n) n m) same ∙ rows_set row n few
-
--- one more row is counted
-pub counted-rows : (before mid after : Counts) (n each : ℕ) → RisesBy before mid (points_of (n * each)) → RisesBy mid after (points_of each) → RisesBy before after (points_of ((n + 1) * each))
-counted-rows before mid after n each first second =
-    subst (λ m. RisesBy before after (points_of m)) (sym (once-more n each)) (RisesBy-then before mid after (points_of (n * each)) (points_of each) first second)

@@ -4,3 +4,4 @@ mod Examples
 pub mod Leaves
 pub mod PaintLaws
 pub mod Painted
+mod Scans

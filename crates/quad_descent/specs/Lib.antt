@@ -3,6 +3,8 @@ pub mod Drawn
 pub mod Laws
 pub mod NodeLaws
 pub mod Nodes
+pub mod Opened
 pub mod Painting
 pub mod Pixels
 pub mod Raster
+pub mod Scans

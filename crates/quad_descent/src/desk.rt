@@ -1,6 +1,6 @@
 // What drawing needs beside the nodes.
-ghost use Rattle.std.specs.Prelude.{◌≡◌, length, IfOk};
-ghost use Rattle.quad_descent.specs.Desks.{IsDesk};
+ghost use Rattle.std.specs.Prelude.{◌≤◌, length, IfOk, OnOk};
+ghost use Rattle.quad_descent.specs.Desks.{IsDesk, KeepsDesk};
 
 use box_chains::{Places, Workspace};
 use fixed_ops::Fx;
@@ -8,12 +8,12 @@ use std::alloc::{AllocError, Global};
 use view_settings::{Lattice, View};
 
 /// What drawing needs beside the nodes, made once an image: the places of the samples, memory for
-/// looking at boxes, and a number for each step of a list.
+/// looking at boxes, and eight numbers for each step of a list that was evaluated.
 #[derive(Debug, Drop)]
 pub struct Desk {
     pub places: Places,
     pub room: Workspace,
-    pub values: Vec<Fx>,
+    pub values: Vec<[Fx; 8]>,
 }
 
 impl Desk {
@@ -23,11 +23,24 @@ impl Desk {
     {
         let places = Places::new(alloc, view, Lattice::Raster)?;
         let room = Workspace::new(alloc, len)?;
-        let values = vec![in alloc; Fx::from_raw(0); len as usize]?;
         Ok(Desk {
             places,
             room,
-            values,
+            values: Vec::new(alloc),
         })
+    }
+
+    /// Makes room for the numbers of a list of `len` steps. AllocError: there is no memory for it.
+    #[inline]
+    pub fn make_room(&mut self, len: u32) -> Result<(), AllocError>
+        ensures room { OnOk result (len ≤ length self.new.values.items) }
+        ensures kept { KeepsDesk self.old self.new }
+    {
+        let count = len as usize;
+        if self.values.len() < count {
+            let zeros = [Fx::from_raw(0); 8];
+            self.values.resize(count, zeros)?;
+        }
+        Ok(())
     }
 }

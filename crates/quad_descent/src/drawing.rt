@@ -3,16 +3,18 @@ ghost use Rattle.std.specs.Prelude.{◌≡◌, ◌+◌, ◌-◌, ◌*◌, ◌≤
 ghost use Rattle.box_chains.specs.Chains.{is_long as is_long_for};
 ghost use Rattle.box_chains.specs.Counts.{points_in, spans_in};
 ghost use Rattle.view_settings.specs.Boxes.{halves_of};
-ghost use Rattle.quad_descent.specs.Desks.{KeepsDesk, MayDraw};
+ghost use Rattle.live_clauses.specs.Live.{IsWhole};
+ghost use Rattle.quad_descent.specs.Desks.{KeepsDesk, MayDraw, MayOpen};
 ghost use Rattle.box_chains.specs.Chains.{visit};
 ghost use Rattle.quad_descent.specs.Nodes.{halves_nodes, halves_points, halves_spans, nodes_of, open_nodes, open_points, open_spans, split_node};
+ghost use Rattle.quad_descent.specs.Opened.{outcome_nodes, outcome_points, outcome_spans};
 ghost use Rattle.box_chains.specs.Tallied.{CountsAtMost, CountsExactly};
 ghost use Rattle.quad_descent.specs.Raster.{raster};
 
 use crate::desk::Desk;
 use crate::leaf::leaf_rows;
 use crate::node::Node;
-use box_chains::{is_long, layers_hold};
+use box_chains::{Outcome, is_long, layers_hold};
 use fixed_ops::Tally;
 use live_clauses::Tape;
 use std::alloc::{AllocError, Global};
@@ -22,7 +24,6 @@ use view_settings::{IndexBox, split};
 pub const LEAF: u32 = 8;
 
 /// Draws a box, which receives a list: adds its nodes and those of the boxes below it.
-#[cycle(drawing)]
 pub fn draw_box(
     alloc: Global,
     desk: &mut Desk,
@@ -43,13 +44,37 @@ pub fn draw_box(
     ensures kept { KeepsDesk desk.old desk.new }
 {
     layers_hold();
-    match desk.room.look(received, desk.places.region(b), tally) {
-        Some(true) => Ok(nodes.push(Node::Inside)?),
-        Some(false) => Ok(nodes.push(Node::Outside)?),
-        None => {
-            let live = desk.room.hand_on(alloc, received)?;
-            draw_undecided(alloc, desk, b, &live, nodes, tally)
-        }
+    let outcome = desk
+        .room
+        .trace_box(alloc, received, &desk.places, b, tally)?;
+    draw_outcome(alloc, desk, b, &outcome, nodes, tally)
+}
+
+// Draws a box that was traced.
+#[cycle(drawing)]
+fn draw_outcome(
+    alloc: Global,
+    desk: &mut Desk,
+    b: IndexBox,
+    outcome: &Outcome,
+    nodes: &mut Vec<Node>,
+    tally: &mut Tally,
+) -> Result<(), AllocError>
+    requires { MayOpen desk.old b outcome.now }
+    ensures nodes { OnOk result (nodes.new.items ≡ nodes.old.items ++ outcome_nodes
+        (raster desk.old.places.view) b outcome.now) }
+    ensures counted { OnOk result
+        (CountsExactly (outcome_points (raster desk.old.places.view) b outcome.now)
+        (outcome_spans (raster desk.old.places.view) b outcome.now) tally.old tally.new) }
+    ensures at_most { OnErr result
+        (CountsAtMost (outcome_points (raster desk.old.places.view) b outcome.now)
+        (outcome_spans (raster desk.old.places.view) b outcome.now) tally.old tally.new) }
+    ensures kept { KeepsDesk desk.old desk.new }
+{
+    match outcome {
+        Outcome::Inside => Ok(nodes.push(Node::Inside)?),
+        Outcome::Outside => Ok(nodes.push(Node::Outside)?),
+        Outcome::Open(live) => draw_undecided(alloc, desk, b, live, nodes, tally),
     }
 }
 
@@ -63,7 +88,8 @@ fn draw_undecided(
     nodes: &mut Vec<Node>,
     tally: &mut Tally,
 ) -> Result<(), AllocError>
-    requires { MayDraw desk.old b live.now }
+    requires may { MayDraw desk.old b live.now }
+    requires whole { IsWhole live.now }
     ensures nodes { OnOk result (nodes.new.items ≡ nodes.old.items ++ open_nodes
         (raster desk.old.places.view) b live.now) }
     ensures counted { OnOk result
@@ -77,6 +103,7 @@ fn draw_undecided(
     if is_long(b, LEAF) {
         draw_split(alloc, desk, b, live, nodes, tally)
     } else {
+        desk.make_room(live.len())?;
         let rows = leaf_rows(&desk.places, b, live, &mut desk.values, tally);
         Ok(nodes.push(Node::Leaf(rows))?)
     }
@@ -93,6 +120,7 @@ fn draw_split(
     tally: &mut Tally,
 ) -> Result<(), AllocError>
     requires may { MayDraw desk.old b live.now }
+    requires whole { IsWhole live.now }
     requires long { IsTrue (is_long_for 8 b) }
     ensures nodes { OnOk result (nodes.new.items
         ≡ nodes.old.items ++ split_node (halves_nodes (raster desk.old.places.view) live.now (halves_of 8 b))) }
@@ -111,7 +139,7 @@ fn draw_split(
     Ok(())
 }
 
-// Draws the halves of a box that is split.
+// Draws the halves of a box that is split: all of them are traced, and then drawn one by one.
 #[cycle(drawing)]
 fn draw_halves(
     alloc: Global,
@@ -122,6 +150,7 @@ fn draw_halves(
     tally: &mut Tally,
 ) -> Result<(), AllocError>
     requires may { MayDraw desk.old b live.now }
+    requires whole { IsWhole live.now }
     requires long { IsTrue (is_long_for 8 b) }
     ensures nodes { OnOk result (nodes.new.items
         ≡ nodes.old.items ++ halves_nodes (raster desk.old.places.view) live.now (halves_of 8 b)) }
@@ -133,9 +162,15 @@ fn draw_halves(
         (halves_spans (raster desk.old.places.view) live.now (halves_of 8 b)) tally.old tally.new) }
     ensures kept { KeepsDesk desk.old desk.new }
 {
+    layers_hold();
     let halves = split(b, LEAF);
-    for half in halves.as_slice() {
-        draw_box(alloc, desk, *half, live, nodes, tally)?;
+    let halves = halves.as_slice();
+    let outcomes = desk
+        .room
+        .trace_boxes(alloc, live, &desk.places, halves, tally)?;
+    let outcomes = outcomes.as_slice();
+    for at in 0..halves.len() {
+        draw_outcome(alloc, desk, halves[at], &outcomes[at], nodes, tally)?;
     }
     Ok(())
 }

@@ -12,6 +12,7 @@ mod node;
 mod painting;
 mod pixels;
 mod quad_tree;
+mod scan;
 
 pub use laws::fresh_work_is_bounded;
 pub use painting::rows;

@@ -1,9 +1,12 @@
 pub mod Examples
+pub mod ListLemmas
 pub mod ModelLemmas
+pub mod MoveLemmas
 pub mod NamePlaces
 pub mod NamedLemmas
 pub mod Places
 pub mod SurgeryLemmas
 pub mod SurgeryModels
 pub mod TableLemmas
+pub mod UseLemmas
 pub mod ValueLemmas

@@ -19,7 +19,7 @@ use Rattle.solid_model.specs.Pushing.{push_fault}
 use Rattle.solid_model.proofs.Places.{list_any-no_position, position_within}
 
 -- what stands at a place of a list with one more element
-slice_get-push : {A : Type 0} (xs : List A) (y : A) (k : ℕ) (z : A) → slice_get (xs ++ y ∷ []) k ≡ Some z → (slice_get xs k ≡ Some z) ⊎ ((k ≡ length xs) × (z ≡ y))
+pub slice_get-push : {A : Type 0} (xs : List A) (y : A) (k : ℕ) (z : A) → slice_get (xs ++ y ∷ []) k ≡ Some z → (slice_get xs k ≡ Some z) ⊎ ((k ≡ length xs) × (z ≡ y))
 slice_get-push [] y zero z e = inr (refl, (cc))
 slice_get-push [] y (suc k) z e = (cc)
 slice_get-push (x ∷ xs) y zero z e = inl e

@@ -2,11 +2,13 @@ pub mod Adding
 pub mod Clauses
 pub mod Edits
 pub mod Laws
+pub mod Moves
 pub mod Named
 pub mod Names
 pub mod Parts
 pub mod Pushing
 pub mod Refusals
+pub mod Seen
 pub mod Surgery
 pub mod Tables
 pub mod Values

@@ -2,16 +2,21 @@
 #![tactic(auto)]
 
 mod clause;
+mod clause_ref;
 mod edit;
 mod form;
 mod laws;
 mod model;
 mod model_builder;
 mod name;
+mod numbers;
 mod push_fault;
+mod row;
 mod table;
+mod uses;
 
 pub use clause::Clause;
+pub use clause_ref::ClauseRef;
 pub use edit::{Edit, EditFault};
 pub use form::Form;
 pub use laws::{edits_give_models, plain_values};

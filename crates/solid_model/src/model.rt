@@ -4,9 +4,10 @@ ghost use Rattle.solid_model.specs.Clauses.{place_of, IsClauseAt, IsModel};
 ghost use Rattle.solid_model.specs.Edits.{edited, MakesClause};
 ghost use Rattle.solid_model.specs.declared.edit.Edit.TheVariants.{Add, Cut, Put, Set};
 ghost use Rattle.solid_model.specs.Refusals.{RefusesAs, WantsMemoryFor};
+ghost use Rattle.solid_model.specs.Seen.{clause_seen};
 
 use crate::table::Table;
-use crate::{Clause, Edit, EditFault, Form, Name};
+use crate::{ClauseRef, Edit, EditFault, Form, Name};
 use std::alloc::Global;
 
 /// A solid: from 1 to 65,535 clauses of distinct names, each of whose operands stands before it.
@@ -132,10 +133,10 @@ impl Model {
 
     /// The clause at a place, whose operands stand before it.
     #[inline]
-    pub fn clause(&self, at: u32) -> &Clause
+    pub fn clause(&self, at: u32) -> ClauseRef<'_>
         requires { at < length self.now }
-        ensures clause { slice_get self.now at ≡ Some result.now }
-        ensures stands { IsClauseAt at result.now }
+        ensures clause { slice_get self.now at ≡ Some (clause_seen result) }
+        ensures stands { IsClauseAt at (clause_seen result) }
     {
         self.table.clause(at as usize)
     }

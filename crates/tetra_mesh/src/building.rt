@@ -1,5 +1,5 @@
 // Whole meshes.
-ghost use Rattle.std.specs.Prelude.{◌≡◌, ◌≤◌, [], ◌++◌, IfOk, OnOk, flat_map, length, map};
+ghost use Rattle.std.specs.Prelude.{◌≡◌, ◌*◌, ◌≤◌, [], ◌++◌, IfOk, OnOk, flat_map, length, map};
 ghost use Rattle.kuhn_cells.specs.Grids.{Grid};
 ghost use Rattle.kuhn_cells.specs.Lists.{ListsCells};
 ghost use Rattle.tetra_mesh.specs.Cuts.{mesh_of};
@@ -152,6 +152,7 @@ fn push_all_faces(
 // How many vertices cells have.
 fn vertex_count(cells: &[SidedCell]) -> usize
     requires { length cells.now ≤ 16777216 }
+    ensures { result ≤ 8 * length cells.now }
 {
     let mut count = 0;
     for cell in cells {
@@ -163,6 +164,7 @@ fn vertex_count(cells: &[SidedCell]) -> usize
 // How many faces cells have.
 fn total_face_count(cells: &[SidedCell]) -> usize
     requires { length cells.now ≤ 16777216 }
+    ensures { result ≤ 12 * length cells.now }
 {
     let mut count = 0;
     for cell in cells {

@@ -1,7 +1,6 @@
 use Rattle.std.proofs.Common.{◌≡◌, ◌∙◌, ◌-◌, ap, arith, get_or, length, subst, sym, take}
 use Rattle.std.proofs.lemmas.List.{drop-set-lt, get_or_read}
 use Rattle.fixed_ops.specs.Counts.{no_counts}
-use Rattle.interval_ops.specs.HullCountLaws.{CountsHulls-apart, CountsHulls-then}
 use Rattle.interval_ops.specs.HullCounts.{CountsHulls}
 use Rattle.interval_ops.specs.Spans.{Holds, Interval, all_numbers}
 use Rattle.interval_ops.specs.declared.choice.Choice.TheVariants.{Both}
@@ -29,7 +28,7 @@ loop-at-preserved c =
           (choice_written region steps c.loop-at.regs at step a b c.choose.result stand c.step-step.ensures.step same c.operands-a.ensures c.choose.ensures);
       hulls_rest = drop-set-lt (length steps) c.loop-at.regs at c.span_apply.result (omega arith) ∙ c.loop-at.invariant.hulls_rest;
       choices_rest = drop-set-lt (length steps) c.loop-at.choices at c.choose.result (omega arith) ∙ c.loop-at.invariant.choices_rest;
-      counted = CountsHulls-then no_counts c.loop-at.work c.span_apply.new.tally at 1 c.loop-at.invariant.counted c.span_apply.ensures.counted;
+      counted = c.hull_counts.ensures.add no_counts c.loop-at.work c.span_apply.new.tally at 1 c.loop-at.invariant.counted c.span_apply.ensures.counted;
     }
 
 pub returns-clause-hull : goal.returns-clause-hull
@@ -58,15 +57,15 @@ returns-clause-holds c = λ p inside.
     let steps = c.args.tape.now in
     let tape = c.steps-steps.ensures.tape in
     subst (λ (s : Interval). Holds s (tape_value p steps)) (sym (returns-clause-hull c))
-    (last_held c.args.region p steps (record { x = c.lo.ensures.span; y = c.lo-2.ensures.span; z = c.lo-3.ensures.span }) inside tape)
+    (last_held c.span_laws.ensures c.args.region p steps (record { x = c.lo.ensures.span; y = c.lo-2.ensures.span; z = c.lo-3.ensures.span }) inside tape)
 
 pub returns-clause-right : goal.returns-clause-right
 returns-clause-right c = λ p inside.
-    are_right c.args.region c.args.tape.now c.loop-at.choices p (record { x = c.lo.ensures.span; y = c.lo-2.ensures.span; z = c.lo-3.ensures.span })
+    are_right c.span_laws.ensures c.args.region c.args.tape.now c.loop-at.choices p (record { x = c.lo.ensures.span; y = c.lo-2.ensures.span; z = c.lo-3.ensures.span })
     c.steps-steps.ensures.tape.each (returns-clause-choices c) inside
 
 pub returns-clause-counted : goal.returns-clause-counted
 returns-clause-counted c =
     let all : c.loop-at.at ≡ length c.args.tape.now = omega (arith, c.len-len.ensures.len, ap length c.steps-steps.ensures.steps) in
-    CountsHulls-apart c.args.tally.now c.join.new.self c.loop-at.work (length c.args.tape.now)
+    c.hull_counts.ensures.join c.args.tally.now c.join.new.self c.loop-at.work (length c.args.tape.now)
     (subst (λ n. CountsHulls n no_counts c.loop-at.work) all c.loop-at.invariant.counted) c.join.ensures

@@ -1,5 +1,5 @@
 -- The law is a lemma on spans.
-use Rattle.interval_laws.specs.LawProofs.{ends_attained}
+use Rattle.interval_laws.proofs.LawProofs.{ends_attained}
 use Rattle.interval_laws.proofs.laws.attained.Goals as goal
 
 pub returns : goal.returns

@@ -1,5 +1,5 @@
 -- The law is a lemma on spans.
-use Rattle.interval_laws.specs.LawProofs.{included}
+use Rattle.interval_laws.proofs.LawProofs.{included}
 use Rattle.interval_laws.proofs.laws.inclusion.Goals as goal
 
 pub returns : goal.returns

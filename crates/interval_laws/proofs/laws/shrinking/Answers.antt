@@ -1,5 +1,5 @@
 -- The law is a lemma on spans.
-use Rattle.interval_laws.specs.LawProofs.{shrinks}
+use Rattle.interval_laws.proofs.LawProofs.{shrinks}
 use Rattle.interval_laws.proofs.laws.shrinking.Goals as goal
 
 pub returns : goal.returns

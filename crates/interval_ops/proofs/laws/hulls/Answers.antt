@@ -1,5 +1,5 @@
 -- The laws of hulls are lemmas.
-use Rattle.interval_ops.specs.HullLaws.{hull_of_is_hull, hull_once, IsSpan-hull}
+use Rattle.interval_ops.proofs.HullLaws.{hull_of_is_hull, hull_once, IsSpan-hull}
 use Rattle.interval_ops.proofs.laws.hulls.Goals as goal
 
 pub returns-clause-hold : goal.returns-clause-hold

@@ -1,50 +1,41 @@
-use Rattle.std.proofs.Common.{◌+◌, ◌-◌, ◌*◌, ◌≤◌, ℕ, ap, arith, length, subst, sym, ◌∙◌}
+use Rattle.std.proofs.Common.{◌≡◌, ◌-◌, ◌*◌, ℕ, ap, arith, length, subst, ◌∙◌}
 use Rattle.fixed_ops.specs.Counts.{RisesBy, points_of}
-use Rattle.quad_descent.specs.Nodes.{bits_of, insides}
-use Rattle.view_settings.specs.Spans.{IsInRoot}
-use Rattle.quad_descent.proofs.Leaves.{counted-rows, rows-more}
+use Rattle.quad_descent.specs.Nodes.{bits_of}
+use Rattle.quad_descent.specs.Scans.{cut, insides_upto, sample_count}
+use Rattle.quad_descent.proofs.Scans.{more-counted, rows-cut}
 use Rattle.quad_descent.proofs.leaf.leaf_rows.Goals as goal
 
-pub row_bits-requires-clause-within : goal.row_bits-requires-clause-within
-row_bits-requires-clause-within c = subst (λ b. IsInRoot c.args.places.now.view c.args.places.now.lattice b) (sym c.loop-r.invariant.same) c.requires.within
+pub returns-clause-rows : goal.returns-clause-rows
+returns-clause-rows c =
+    let places = c.args.places.now in
+    let list = c.args.list.now in
+    let last = c.tell_groups-4 in
+    let bits = last.new.scan.bits in
+    let all : last.new.scan.told ≡ sample_count c.args.b = omega (arith, last.ensures.whole, last.ensures.left) in
+    c.cut_rows.ensures ∙ ap (λ b. cut bits (b.x1 - b.x0) (b.y1 - b.y0)) c.b.view_is
+    ∙ rows-cut places.view places.lattice list c.args.b bits (last.ensures.told.bits ∙ ap (λ n. bits_of (insides_upto places.view places.lattice list c.args.b n)) all)
 
-pub row_bits-requires-clause-narrow : goal.row_bits-requires-clause-narrow
-row_bits-requires-clause-narrow c = subst (λ b. b.x1 - b.x0 ≤ 8) (sym c.loop-r.invariant.same) c.requires.narrow
-
-pub overflow_add-b-inside : goal.overflow_add-b-inside
-overflow_add-b-inside c =
-    let same = c.loop-r.invariant.same in
-    let inside = c.b-in-loop-r.view_is in
-    let first = c.b.view_is in
-    let y0 = ap (λ b. b.y0) inside in let y1 = ap (λ b. b.y1) inside in
-    let z0 = ap (λ b. b.y0) same in let z1 = ap (λ b. b.y1) same in
-    let w0 = ap (λ b. b.y0) first in let w1 = ap (λ b. b.y1) first in
-    omega (arith, y0, y1, z0, z1, w0, w1, c.loop-r-test.true, c.loop-r.auto.r-end, c.b.ranges, c.b-in-loop-r.ranges)
-
-pub row_bits-requires-clause-row : goal.row_bits-requires-clause-row
-row_bits-requires-clause-row c =
-    let same = c.loop-r.invariant.same in
-    let inside = c.b-in-loop-r.view_is in
-    let first = c.b.view_is in
-    let y0 = ap (λ b. b.y0) inside in let y1 = ap (λ b. b.y1) inside in
-    let z0 = ap (λ b. b.y0) same in let z1 = ap (λ b. b.y1) same in
-    let w0 = ap (λ b. b.y0) first in let w1 = ap (λ b. b.y1) first in
-    omega (arith, y0, y1, z0, z1, w0, w1, c.loop-r-test.true, c.loop-r.auto.r-end)
-
-pub loop-r-preserved : goal.loop-r-preserved
-loop-r-preserved c =
+pub returns-clause-counted : goal.returns-clause-counted
+returns-clause-counted c =
     let b = c.args.b in
-    let same = c.loop-r.invariant.same in
-    let y0 = ap (λ b. b.y0) c.b-in-loop-r.view_is ∙ ap (λ b. b.y0) same in
-    let row : ℕ → ℕ = λ r. bits_of (insides c.args.places.now.view c.args.places.now.lattice c.args.list.now b (b.y0 + r)) in
-    let w0 = ap (λ b. b.y0) c.b.view_is in let w1 = ap (λ b. b.y1) c.b.view_is in
-    let each = (b.x1 - b.x0) * length c.args.list.now in
-    record {
-      same = same;
-      rows = rows-more row c.loop-r.rows c.loop-r.r c.row_bits.result (omega (arith, w0, w1, c.loop-r-test.true, c.loop-r.auto.r-end, c.requires.low)) c.loop-r.invariant.rows
-          (c.row_bits.ensures.bits
-          ∙ ap (λ a. bits_of (insides c.args.places.now.view c.args.places.now.lattice c.args.list.now a (c.b-in-loop-r.inside.y0 + c.loop-r.r))) same
-          ∙ ap (λ n. bits_of (insides c.args.places.now.view c.args.places.now.lattice c.args.list.now b (n + c.loop-r.r))) y0);
-      counted = counted-rows c.args.tally.now c.loop-r.tally c.row_bits.new.tally c.loop-r.r each c.loop-r.invariant.counted
-          (subst (λ a. RisesBy c.loop-r.tally c.row_bits.new.tally (points_of ((a.x1 - a.x0) * length c.args.list.now))) same c.row_bits.ensures.counted);
-    }
+    let len = length c.args.list.now in
+    let before = c.args.tally.now in
+    let one = c.tell_groups in
+    let two = c.tell_groups-2 in
+    let three = c.tell_groups-3 in
+    let four = c.tell_groups-4 in
+    let start = c.new-scan.result.told in
+    let first : RisesBy before two.new.tally (points_of ((two.new.scan.told - start) * len)) =
+    more-counted before one.new.tally two.new.tally start one.new.scan.told (two.new.scan.told - one.new.scan.told) two.new.scan.told len
+    one.ensures.onward (omega (arith, two.ensures.onward)) one.ensures.counted two.ensures.counted in
+    let second : RisesBy before three.new.tally (points_of ((three.new.scan.told - start) * len)) =
+    more-counted before two.new.tally three.new.tally start two.new.scan.told (three.new.scan.told - two.new.scan.told) three.new.scan.told len
+    (omega (arith, one.ensures.onward, two.ensures.onward)) (omega (arith, three.ensures.onward)) first three.ensures.counted in
+    let third : RisesBy before four.new.tally (points_of ((four.new.scan.told - start) * len)) =
+    more-counted before three.new.tally four.new.tally start three.new.scan.told (four.new.scan.told - three.new.scan.told) four.new.scan.told len
+    (omega (arith, one.ensures.onward, two.ensures.onward, three.ensures.onward)) (omega (arith, four.ensures.onward)) second four.ensures.counted in
+    let all : four.new.scan.told - start ≡ (b.x1 - b.x0) * (b.y1 - b.y0) = omega (arith, c.new-scan.ensures.told, four.ensures.whole, four.ensures.left) in
+    subst (λ n. RisesBy before four.new.tally (points_of n)) (ap (λ n. n * len) all ∙ turned (b.x1 - b.x0) (b.y1 - b.y0) len) third
+  where
+    turned : (w h len : ℕ) → w * h * len ≡ h * (w * len)
+    turned w h len = grind arith

@@ -1,31 +1,16 @@
--- The set tells whether the name was there, and the new name went last in it, as the clause did in the list.
-use Rattle.std.proofs.Common.{◌≡◌, ◌<◌, false, true, length, arith}
-use Rattle.std.specs.List.{list_any}
-use Rattle.std.specs.Str.{bytes_eq}
-use Rattle.std.proofs.lemmas.Grind.{common_steps}
-use Rattle.solid_model.proofs.TableLemmas.{absent, present, no_push_fault, double_name}
+-- Behind all others a clause goes last, and no operand moves.
+use Rattle.std.proofs.Common.{◌≡◌, ◌∷◌, [], ◌++◌, length, map, ap, sym, ◌∙◌}
+use Rattle.std.specs.List.{insert}
+use Rattle.solid_model.specs.Surgery.{moved, up}
+use Rattle.solid_model.specs.Tables.{Standing}
+use Rattle.solid_model.proofs.TableLemmas.{insert-behind, length-clauses}
 use Rattle.solid_model.proofs.table.Table.push.Goals as goal
 
-pub returns-in-Ok-default-true-clause-free : goal.returns-in-Ok-default-true-clause-free
-returns-in-Ok-default-true-clause-free c =
-    let clauses = c.self.inside.clauses.items in
-    let room : length clauses < 65535 = grind (arith, common_steps) in
-    let none : list_any (λ n. bytes_eq c.in-Ok.key.items n.items) c.self.inside.names.keys ≡ false = grind (arith, common_steps) in
-    let named : c.in-Ok.key.items ≡ c.args.clause.name = grind (arith, common_steps) in
-    let new = no_push_fault clauses c.args.clause.name (rw (← named) (absent clauses _ _ c.self.invariant none)) room in
-    rw (← c.self.view_is) new
-
-pub returns-in-Ok-default-false-clause-fault : goal.returns-in-Ok-default-false-clause-fault
-returns-in-Ok-default-false-clause-fault c =
-    let clauses = c.self.inside.clauses.items in
-    let some : list_any (λ n. bytes_eq c.in-Ok.key.items n.items) c.self.inside.names.keys ≡ true = grind (arith, common_steps) in
-    let named : c.in-Ok.key.items ≡ c.args.clause.name = grind (arith, common_steps) in
-    λ h. rw (← c.self.view_is) (double_name clauses c.args.clause.name (rw (← named) (present clauses _ _ c.self.invariant some)))
-
-pub returns-in-Err-clause-no_memory : goal.returns-in-Err-clause-no_memory
-returns-in-Err-clause-no_memory c =
-    let clauses = c.self.inside.clauses.items in
-    let room : length clauses < 65535 = grind (arith, common_steps) in
-    let none : list_any (λ n. bytes_eq c.in-Ok.key.items n.items) c.self.inside.names.keys ≡ false = c.in-Err.ensures.absent in
-    let named : c.in-Ok.key.items ≡ c.args.clause.name = grind (arith, common_steps) in
-    λ h. rw (← c.self.view_is) (no_push_fault clauses c.args.clause.name (rw (← named) (absent clauses _ _ c.self.invariant none)) room)
+pub returns-clause-ok : goal.returns-clause-ok
+returns-clause-ok c =
+    let order : Standing = record { numbers = c.insert.inside.numbers.items; places = c.insert.inside.places.items } in
+    let count = c.insert.inside.count in
+    let long = ap length (sym c.insert.view_is) ∙ length-clauses order count c.insert.inside.rows.items c.insert.inside.names.keys c.insert.invariant.table in
+    let behind : insert (map (moved (up count)) c.args.self.now) count c.args.clause ≡ c.args.self.now ++ c.args.clause ∷ [] =
+    insert-behind c.args.self.now c.args.clause count c.requires.in_order long in
+    rw behind at c.insert-2.ensures.ok

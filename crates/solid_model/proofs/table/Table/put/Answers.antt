@@ -7,7 +7,14 @@ use Rattle.solid_model.specs.declared.edit.EditFault.TheVariants.{UnknownName}
 use Rattle.solid_model.specs.Adding.{clause_after}
 use Rattle.solid_model.specs.Clauses.{place_of}
 use Rattle.solid_model.specs.Surgery.{moved, reads_before, up}
+use Rattle.solid_model.proofs.TableLemmas.{operands-before}
 use Rattle.solid_model.proofs.table.Table.put.Goals as goal
+
+pub insert-requires-clause-operands : goal.insert-requires-clause-operands
+insert-requires-clause-operands c =
+    let made : clause_after c.args.self.now c.args.name c.args.form ≡ Some c.in_ok-clause.clause = grind (arith, common_steps) in
+    let before : reads_before c.in_ok-at.at c.in_ok-clause.clause ≡ true = grind (arith, common_steps) in
+    operands-before c.args.self.now c.args.name c.args.form c.in_ok-clause.clause c.in_ok-at.at c.clause_after.ensures.form made before
 
 pub returns-in_err-at-clause-fault : goal.returns-in_err-at-clause-fault
 returns-in_err-at-clause-fault c =

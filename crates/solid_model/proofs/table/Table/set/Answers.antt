@@ -1,17 +1,13 @@
--- The new clause has the name of the old one.
-use Rattle.std.proofs.Common.{◌≡◌, ◌∙◌, Some, ap, arith}
+-- The operands of the form stand before the place.
+use Rattle.std.proofs.Common.{◌≡◌, Some, true, arith}
 use Rattle.std.proofs.lemmas.Grind.{common_steps}
 use Rattle.solid_model.specs.Adding.{clause_after}
-use Rattle.solid_model.specs.Clauses.{place_of}
-use Rattle.solid_model.proofs.ModelLemmas.{Matches-clause_after}
-use Rattle.solid_model.proofs.TableLemmas.{IsTable-set}
+use Rattle.solid_model.specs.Surgery.{reads_before}
+use Rattle.solid_model.proofs.TableLemmas.{operands-before}
 use Rattle.solid_model.proofs.table.Table.set.Goals as goal
 
-pub invariant_of-self : goal.invariant_of-self
-invariant_of-self c =
-    let clauses = c.self.inside.clauses.items in
-    let clause = c.in_ok-clause.clause in
-    let made : clause_after clauses c.args.name c.args.form ≡ Some clause = grind (arith, common_steps) in
-    let named = (Matches-clause_after clauses c.args.name c.args.form clause made).name_is in
-    let there : place_of clauses c.args.name ≡ Some c.in_ok-at.at = grind (arith, common_steps) in
-    IsTable-set clauses c.self.inside.names.keys c.in_ok-at.at clause c.self.invariant (ap (place_of clauses) named ∙ there)
+pub write-requires-clause-operands : goal.write-requires-clause-operands
+write-requires-clause-operands c =
+    let made : clause_after c.args.self.now c.args.name c.args.form ≡ Some c.in_ok-clause.clause = grind (arith, common_steps) in
+    let before : reads_before c.in_ok-at.at c.in_ok-clause.clause ≡ true = grind (arith, common_steps) in
+    operands-before c.args.self.now c.args.name c.args.form c.in_ok-clause.clause c.in_ok-at.at c.clause_after.ensures.form made before

@@ -1,0 +1,93 @@
+-- Boxes whose lists are traced side by side, each in its lane.
+use Rattle.std.proofs.Common.{◌≡◌, ℕ, ◌+◌, ◌-◌, ◌<◌, ◌≤◌, List, ◌++◌, length, get_or, take, drop, map, ap, sym, ◌∙◌, arith}
+use Rattle.std.proofs.lemmas.List.{ext_get_or, get_or-map, get_or_read, length-drop, length-map, length-take, map-append, take-append-le, take-map, take_all}
+use Rattle.std.proofs.Math.Seq.{take-add}
+use Rattle.interval_ops.specs.Decided.{decided_of}
+use Rattle.interval_ops.specs.Spans.{Interval, all_numbers}
+use Rattle.interval_ops.specs.declared.choice.Choice.{Choice}
+use Rattle.interval_ops.specs.declared.choice.Choice.TheVariants.{Both}
+use Rattle.live_clauses.specs.Choices.{choice_at}
+use Rattle.live_clauses.specs.Live.{live_of}
+use Rattle.live_clauses.specs.declared.step.Step.{Step}
+use Rattle.view_settings.specs.Boxes.{Indices}
+use Rattle.std.specs.List.{range_with_len}
+use Rattle.std.proofs.lemmas.List.FromFn.{get_or-map-range_with_len, length-range_with_len}
+use Rattle.interval_ops.specs.declared.region.Region.{Region}
+use Rattle.view_settings.specs.Spans.{region_of}
+use Rattle.choice_trace.specs.Halves.{lane, region_in}
+use Rattle.choice_trace.specs.Hulls.{choices_over, hull_in, tape_hull}
+use Rattle.box_chains.specs.Outcomes.{lane_outcome, outcome_by, outcome_of, outcomes_of}
+use Rattle.box_chains.specs.Placing.{Sampling}
+use Rattle.box_chains.specs.declared.outcome.Outcome.{Outcome}
+use Rattle.box_chains.specs.declared.outcome.Outcome.TheVariants.{Outside}
+
+-- the choices of a lane that were copied to the front of others
+pub copied-lane : (l : ℕ) (rows : List (List Choice)) (copied rest : List Choice) (len : ℕ) → len ≤ length rows
+    → copied ≡ lane l (take len rows) → take len (copied ++ rest) ≡ take len (lane l rows)
+copied-lane l rows copied rest len few are =
+    let f : List Choice → Choice = λ row. choice_at row l in
+    let count : length copied ≡ len =
+    omega (arith, ap length are, length-map (take len rows) f, length-take len rows) in
+    take-append-le len copied rest (omega (arith, count)) ∙ take_all len copied (omega (arith, count)) ∙ are
+    ∙ sym (take-map f len rows)
+
+-- choices that are those of a lane one by one
+pub lane-read : (l : ℕ) (rows : List (List Choice)) (choices : List Choice) → length choices ≡ length rows
+    → ((k : ℕ) → k < length rows → get_or choices k Both ≡ get_or (lane l rows) k Both) → choices ≡ lane l rows
+lane-read l rows choices same each =
+    let f : List Choice → Choice = λ row. choice_at row l in
+    ext_get_or Both choices (lane l rows) (same ∙ sym (length-map rows f)) (λ k h. each k (omega (arith, h, same)))
+
+-- some more boxes are traced
+-- what stands behind a place
+pub rest-is : {X : Type 0} (xs : List X) (i : ℕ) → take (length xs - i) (drop i xs) ≡ drop i xs
+rest-is xs i = take_all (length xs - i) (drop i xs) (omega (arith, length-drop i xs))
+
+pub outcomes-join : (places : Sampling) (list : List Step) (boxes : List Indices) (i n : ℕ) (done new : List Outcome)
+    → done ≡ outcomes_of places list (take i boxes) → new ≡ done ++ outcomes_of places list (take n (drop i boxes))
+    → new ≡ outcomes_of places list (take (i + n) boxes)
+outcomes-join places list boxes i n done new before added =
+    let f : Indices → Outcome = outcome_of places list in
+    added ∙ ap (λ l. l ++ map f (take n (drop i boxes))) before ∙ sym (map-append f (take i boxes) (take n (drop i boxes)))
+    ∙ sym (ap (map f) (take-add i n boxes))
+
+-- what a hull that is read tells
+pub outcome-read : (list : List Step) (hulls : List Interval) (rows : List (List Choice)) (l : ℕ) (hull : Interval) (o : Outcome)
+    → l < length hulls → hull ≡ get_or hulls l hull → o ≡ outcome_by (decided_of hull) (live_of list (take (length list) (lane l rows)))
+    → o ≡ lane_outcome list hulls rows l
+outcome-read list hulls rows l hull o within is told =
+    told ∙ ap (λ h. outcome_by (decided_of h) (live_of list (take (length list) (lane l rows))))
+    (get_or_read hulls l hull within is all_numbers)
+
+-- what the hulls and the choices in all lanes tell, where each is that of its box
+pub lanes-told : (places : Sampling) (list : List Step) (boxes : List Indices) (regions : List Region) (hulls : List Interval) (rows : List (List Choice)) (n : ℕ)
+    → regions ≡ map (region_of places.view places.lattice) boxes → length boxes ≡ n
+    → ((l : ℕ) → l < n → hull_in hulls l ≡ tape_hull (region_in regions l) list)
+    → ((l : ℕ) → l < n → take (length list) (lane l rows) ≡ choices_over (region_in regions l) list)
+    → map (lane_outcome list hulls rows) (range_with_len 0 n) ≡ outcomes_of places list boxes
+lanes-told places list boxes regions hulls rows n placed count hull chosen =
+    ext_get_or Outside (map f (range_with_len 0 n)) (map g boxes)
+    (length-map (range_with_len 0 n) f ∙ length-range_with_len 0 n ∙ sym count ∙ sym (length-map boxes g))
+    (λ l h. by l (omega (arith, h, length-map (range_with_len 0 n) f, length-range_with_len 0 n)))
+  where
+    f : ℕ → Outcome
+    f = lane_outcome list hulls rows
+
+    g : Indices → Outcome
+    g = outcome_of places list
+
+    nothing : Indices
+    nothing = record { x0 = 0; x1 = 0; y0 = 0; y1 = 0; z0 = 0; z1 = 0 }
+
+    over : Region → Outcome
+    over r = outcome_by (decided_of (tape_hull r list)) (live_of list (choices_over r list))
+
+    by : (l : ℕ) → l < n → get_or (map f (range_with_len 0 n)) l Outside ≡ get_or (map g boxes) l Outside
+    by l h =
+        let region : region_in regions l ≡ region_of places.view places.lattice (get_or boxes l nothing) =
+        ap (λ rs. region_in rs l) placed ∙ get_or-map (region_of places.view places.lattice) boxes l nothing _ (omega (arith, h, count)) in
+        get_or-map-range_with_len f 0 n l l Outside h (omega arith)
+        ∙ ap (λ s. outcome_by (decided_of s) (live_of list (take (length list) (lane l rows)))) (hull l h)
+        ∙ ap (λ cs. outcome_by (decided_of (tape_hull (region_in regions l) list)) (live_of list cs)) (chosen l h)
+        ∙ ap over region
+        ∙ sym (get_or-map g boxes l nothing Outside (omega (arith, h, count)))

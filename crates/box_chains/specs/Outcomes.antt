@@ -1,0 +1,52 @@
+-- What tracing a list over boxes tells.
+use Rattle.std.specs.Prelude.{◌≡◌, ◌≤◌, ℕ, Bool, true, false, List, length, map, take, Option, Some, None}
+use Rattle.choice_trace.specs.Halves.{lane}
+use Rattle.choice_trace.specs.Hulls.{choices_over, hull_in, tape_hull}
+use Rattle.interval_ops.specs.Spans.{Interval}
+use Rattle.interval_ops.specs.declared.choice.Choice.{Choice}
+use Rattle.interval_ops.specs.declared.choice.Choice.TheVariants.{Both}
+use Rattle.live_clauses.specs.Choices.{choice_at}
+use Rattle.interval_ops.specs.Decided.{decided_of}
+use Rattle.live_clauses.specs.Live.{IsWhole, live_of}
+use Rattle.live_clauses.specs.declared.step.Step.{Step}
+use Rattle.view_settings.specs.Boxes.{Indices}
+use Rattle.view_settings.specs.Spans.{region_of}
+use Rattle.box_chains.specs.Placing.{Sampling}
+use Rattle.box_chains.specs.declared.outcome.Outcome.{Outcome}
+use Rattle.box_chains.specs.declared.outcome.Outcome.TheVariants.{Inside, Outside, Open}
+
+-- a decision as an outcome, where an undecided box hands on a list
+abbrev pub outcome_by : Option Bool → List Step → Outcome
+outcome_by (Some true) live = Inside
+outcome_by (Some false) live = Outside
+outcome_by None live = Open live
+
+-- what tracing a list over a box tells: what its hull decides, or the live list
+abbrev pub outcome_of : Sampling → List Step → Indices → Outcome
+outcome_of places list b =
+    outcome_by (decided_of (tape_hull (region_of places.view places.lattice b) list))
+    (live_of list (choices_over (region_of places.view places.lattice b) list))
+
+-- what tracing a list over some boxes tells of each
+abbrev pub outcomes_of : Sampling → List Step → List Indices → List Outcome
+outcomes_of places list boxes = map (outcome_of places list) boxes
+
+-- a list that a box may hand on: each of its steps is needed, and it has at most so many
+pub record IsHandedOn (most : ℕ) (list : List Step) : Type 0 where
+  pub few : length list ≤ most
+  pub whole : IsWhole list
+
+-- a box that hands on a list hands on such a one
+abbrev pub HandsOn : ℕ → Outcome → Type 0
+HandsOn most Inside = Unit {0}
+HandsOn most Outside = Unit {0}
+HandsOn most (Open list) = IsHandedOn most list
+
+-- what a hull in a lane tells of a list, with the choices in that lane of some rows
+abbrev pub lane_outcome : List Step → List Interval → List (List Choice) → ℕ → Outcome
+lane_outcome list hulls rows l =
+    outcome_by (decided_of (hull_in hulls l)) (live_of list (take (length list) (lane l rows)))
+
+-- no choice is of an operand
+abbrev pub ChoosesNone : List Choice → Type 0
+ChoosesNone choices = (place : ℕ) → choice_at choices place ≡ Both

@@ -1,0 +1,37 @@
+use Rattle.std.proofs.Common.{◌++◌, ap, arith, sym, ◌∙◌}
+use Rattle.quad_descent.specs.Opened.{outcome_nodes}
+use Rattle.quad_descent.specs.Raster.{raster}
+use Rattle.quad_descent.proofs.Drawn.{bounded-box, bounded-trace, counted-box, nodes-outcome, on_err, on_err-then, on_ok-then, told-one}
+use Rattle.quad_descent.proofs.drawing.draw_box.Goals as goal
+
+pub returns-in_err-outcome-clause-at_most : goal.returns-in_err-outcome-clause-at_most
+returns-in_err-outcome-clause-at_most c =
+    on_err _ _ (bounded-trace (raster c.args.desk.now.places.view) c.args.b c.args.received.now c.args.tally.now c.trace_box.new.tally (omega arith) c.requires.box
+    c.layers_hold.ensures.halves c.in_err-outcome.ensures.counted)
+
+pub returns-clause-nodes : goal.returns-clause-nodes
+returns-clause-nodes c =
+    let d = raster c.args.desk.now.places.view in
+    let told = told-one c.args.desk.now.places c.args.received.now c.args.b c.in_ok-outcome.outcome c.requires.raster c.in_ok-outcome.ensures.outcome in
+    on_ok-then c.draw_outcome.result _ _
+    (λ added. added ∙ ap (λ o. c.args.nodes.now.items ++ outcome_nodes d c.args.b o) told
+    ∙ ap (λ l. c.args.nodes.now.items ++ l) (sym (nodes-outcome d c.args.b c.args.received.now (omega arith) c.requires.box)))
+    c.draw_outcome.ensures.nodes
+
+pub returns-clause-counted : goal.returns-clause-counted
+returns-clause-counted c =
+    let d = raster c.args.desk.now.places.view in
+    let told = told-one c.args.desk.now.places c.args.received.now c.args.b c.in_ok-outcome.outcome c.requires.raster c.in_ok-outcome.ensures.outcome in
+    on_ok-then c.draw_outcome.result _ _
+    (counted-box d c.args.b c.args.received.now c.in_ok-outcome.outcome c.args.tally.now c.trace_box.new.tally c.draw_outcome.new.tally (omega arith) c.requires.box c.layers_hold.ensures.halves
+    told c.in_ok-outcome.ensures.counted)
+    c.draw_outcome.ensures.counted
+
+pub returns-clause-at_most : goal.returns-clause-at_most
+returns-clause-at_most c =
+    let d = raster c.args.desk.now.places.view in
+    let told = told-one c.args.desk.now.places c.args.received.now c.args.b c.in_ok-outcome.outcome c.requires.raster c.in_ok-outcome.ensures.outcome in
+    on_err-then c.draw_outcome.result _ _
+    (bounded-box d c.args.b c.args.received.now c.in_ok-outcome.outcome c.args.tally.now c.trace_box.new.tally c.draw_outcome.new.tally (omega arith) c.requires.box c.layers_hold.ensures.halves
+    told c.in_ok-outcome.ensures.counted)
+    c.draw_outcome.ensures.at_most

@@ -1,0 +1,7 @@
+use Rattle.solid_model.specs.Tables.{AreUnread}
+use Rattle.solid_model.proofs.table.first_reader.Given as goal
+
+abbrev pub invariant-loop-place : goal.invariant-loop-place
+invariant-loop-place l = record {
+  unread : AreUnread l.fn.numbers.items l.fn.rows.items l.number l.fn.first l.place;
+}

@@ -1,8 +1,0 @@
-use Rattle.std.proofs.Common.{◌≡◌, ◌++◌, drop, map, take}
-use Rattle.solid_model.specs.Surgery.{up, moved}
-use Rattle.solid_model.proofs.table.raise.Given as goal
-
-abbrev pub invariant-loop-place : goal.invariant-loop-place
-invariant-loop-place l = record {
-  so_far : l.clauses ≡ map (moved (up l.at)) (take l.place l.fn.clauses) ++ drop l.place l.fn.clauses;
-}

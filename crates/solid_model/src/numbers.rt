@@ -1,0 +1,38 @@
+// Numbers in an order, in which each is found at once.
+ghost use Rattle.std.specs.Prelude.{◌≡◌, ◌<◌, ◌≤◌, ◌+◌, length};
+ghost use Rattle.indexmap.specs.IndexMap.{move_index};
+ghost use Rattle.solid_model.specs.Moves.{AreDistinct, AreNoted, AreNotedBut};
+ghost use Rattle.solid_model.specs.Tables.{ArePlaces};
+
+// Moves the number at a place to another, and shifts those in between by one.
+pub(crate) fn move_number(numbers: &mut Vec<u16>, places: &mut Vec<u16>, from: usize, to: usize)
+    requires are { ArePlaces (record { numbers = numbers.old.items; places = places.old.items }) }
+    requires from { from < length numbers.old.items }
+    requires to { to < length numbers.old.items }
+    ensures are { ArePlaces (record { numbers = numbers.new.items; places = places.new.items }) }
+    ensures moved { numbers.new.items ≡ move_index numbers.old.items from to }
+{
+    let number = numbers.remove(from);
+    numbers.insert(to, number).unwrap();
+    if from < to {
+        note_places(numbers, places, from, to);
+    } else {
+        note_places(numbers, places, to, from);
+    }
+}
+
+// Notes where the numbers from a place to another stand.
+fn note_places(numbers: &Vec<u16>, places: &mut Vec<u16>, first: usize, last: usize)
+    requires few { length numbers.now.items ≤ 65535 }
+    requires distinct { AreDistinct numbers.now.items }
+    requires as_many { length places.old.items ≡ length numbers.now.items }
+    requires within { last < length numbers.now.items }
+    requires outside { AreNotedBut first (last + 1) numbers.now.items places.old.items }
+    ensures noted { AreNoted numbers.now.items places.new.items }
+    ensures length { length places.new.items ≡ length numbers.now.items }
+{
+    for place in first..last + 1 {
+        let number = numbers[place] as usize;
+        places[number] = place as u16;
+    }
+}
