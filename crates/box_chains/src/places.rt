@@ -9,7 +9,7 @@ use fixed_ops::{Fx, le};
 use interval_ops::{Region, Span};
 use std::alloc::{AllocError, Global};
 use std::marker::Model;
-use view_settings::{Axis, IndexBox, Lattice, View, sample};
+use view_settings::{Axis, IndexBox, Lattice, View, samples_along};
 
 /// The places of the samples of a lattice over a view, each worked out once.
 #[derive(Debug, Drop)]
@@ -97,25 +97,13 @@ impl Places {
 fn along(alloc: Global, view: &View, lattice: Lattice, axis: Axis) -> Result<Vec<Fx>, AllocError>
     ensures { IfOk result (λ places. places.items ≡ places_along view.now lattice axis) }
 {
-    let count = samples(view, lattice, axis);
+    let samples = samples_along(view, lattice, axis);
+    let count = samples.steps + 1;
     let mut places = Vec::with_capacity(alloc, count as usize)?;
     for i in 0..count {
-        places.push(sample(view, lattice, axis, i))?;
+        places.push(Fx::from_raw(samples.place(i)))?;
     }
     Ok(places)
-}
-
-// How many samples lie along an axis.
-fn samples(view: &View, lattice: Lattice, axis: Axis) -> u32
-    ensures { result ≡ steps_of view.now lattice axis + 1 }
-{
-    match (lattice, axis) {
-        (Lattice::Raster | Lattice::Height, Axis::X) => view.w,
-        (Lattice::Raster | Lattice::Height, Axis::Y) => view.h,
-        (Lattice::Raster, Axis::Z) => 1,
-        (Lattice::Height, Axis::Z) => view.d,
-        (Lattice::Grid, _) => view.n + 1,
-    }
 }
 
 // The last sample of a box that ends so along an axis.

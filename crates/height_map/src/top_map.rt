@@ -1,6 +1,5 @@
 // The tops of all columns.
 ghost use Rattle.std.specs.Prelude.{◌≡◌, IfOk, OnOk};
-ghost use Rattle.view_settings.specs.Spans.{root_of};
 ghost use Rattle.view_settings.specs.Window.{FitsHeight};
 ghost use Rattle.box_chains.specs.Tallied.{CountsAtMost};
 ghost use Rattle.height_map.specs.Bound.{CountsPoints, CountsSpans, height_points, height_spans, near_spans};
@@ -13,7 +12,7 @@ use fixed_ops::Tally;
 use live_clauses::Tape;
 use std::alloc::{AllocError, Global};
 use std::marker::Model;
-use view_settings::{IndexBox, Lattice, View};
+use view_settings::{Lattice, View, root};
 
 /// A height map: what lies nearest in each column of samples.
 #[derive(Debug, Drop)]
@@ -61,25 +60,11 @@ pub fn heights(
     layers_hold();
     let mut desk = Desk::new(alloc, view, list.len())?;
     let mut tops = vec![in alloc; 0u16; view.w as usize * view.h as usize]?;
-    draw_box(alloc, &mut desk, root(view), list, &mut tops, tally)?;
+    draw_box(alloc, &mut desk, root(view, Lattice::Height), list, &mut tops, tally)?;
     Ok(TopMap {
         w: view.w,
         h: view.h,
         d: view.d,
         tops,
     })
-}
-
-// The box of all samples of a height map.
-fn root(view: &View) -> IndexBox
-    ensures { result ≡ root_of view.now Lattice.Height }
-{
-    IndexBox {
-        x0: 0,
-        x1: view.w,
-        y0: 0,
-        y1: view.h,
-        z0: 0,
-        z1: view.d,
-    }
 }

@@ -1,6 +1,5 @@
 // Grids whose boxes are looked into.
 ghost use Rattle.std.specs.Prelude.{◌≡◌, IfOk, OnOk};
-ghost use Rattle.view_settings.specs.Spans.{root_of};
 ghost use Rattle.view_settings.specs.Window.{FitsMesh};
 ghost use Rattle.box_chains.specs.Tallied.{CountsAtMost};
 ghost use Rattle.oct_descent.specs.Bound.{CountsAtLeast, CountsHullsAtLeast, mesh_least, mesh_long_spans, mesh_points, mesh_spans};
@@ -12,7 +11,7 @@ use fixed_ops::Tally;
 use live_clauses::Tape;
 use std::alloc::{AllocError, Global};
 use std::marker::Model;
-use view_settings::{IndexBox, Lattice, View};
+use view_settings::{Lattice, View, root};
 
 /// The cells of the grid of a list of steps over a view, by boxes: the values of the corners of all
 /// cells that have both an inside and an outside one. Contracts see the view and the list.
@@ -54,24 +53,10 @@ pub fn cells(
 {
     let mut desk = Desk::new(alloc, view, list.len())?;
     let mut values = GridValues::new(alloc, view.n)?;
-    look_into(alloc, &mut desk, root(view), list, &mut values, tally)?;
+    look_into(alloc, &mut desk, root(view, Lattice::Grid), list, &mut values, tally)?;
     Ok(OctTree {
         view: *view,
         list: list.share()?,
         values,
     })
-}
-
-// The box of all cells of a grid.
-fn root(view: &View) -> IndexBox
-    ensures { result ≡ root_of view.now Lattice.Grid }
-{
-    IndexBox {
-        x0: 0,
-        x1: view.n,
-        y0: 0,
-        y1: view.n,
-        z0: 0,
-        z1: view.n,
-    }
 }

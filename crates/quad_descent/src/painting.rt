@@ -10,9 +10,8 @@ use crate::QuadTree;
 use crate::band::Band;
 use crate::drawing::LEAF;
 use crate::node::Node;
-use crate::quad_tree::root;
 use box_chains::layers_hold;
-use view_settings::{IndexBox, split};
+use view_settings::{IndexBox, Lattice, root, split};
 
 /// Paints the rows of an image from `row` on, as many as there are places for. They are the bytes of
 /// the pixels that evaluating the whole list at each sample gives.
@@ -23,7 +22,7 @@ pub fn rows(tree: &QuadTree, row: u32, pixels: &mut [u8])
         (length pixels.old / tree.now.view.w) }
 {
     let rows = (pixels.len() / tree.view.w as usize) as u32;
-    tree.paint_box(0, root(&tree.view), Band { row, rows }, pixels);
+    tree.paint_box(0, root(&tree.view, Lattice::Raster), Band { row, rows }, pixels);
 }
 
 impl QuadTree {

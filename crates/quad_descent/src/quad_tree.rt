@@ -1,6 +1,5 @@
 // An image by boxes.
 ghost use Rattle.std.specs.Prelude.{◌≡◌, IfOk, OnOk, OnErr};
-ghost use Rattle.view_settings.specs.Spans.{root_of};
 ghost use Rattle.box_chains.specs.Tallied.{CountsAtMost, CountsExactly};
 ghost use Rattle.quad_descent.specs.Raster.{fresh_points, fresh_spans};
 
@@ -11,7 +10,7 @@ use fixed_ops::Tally;
 use live_clauses::Tape;
 use std::alloc::{AllocError, Global};
 use std::marker::Model;
-use view_settings::{IndexBox, Lattice, View};
+use view_settings::{Lattice, View, root};
 
 /// An image of a list of steps over a view, by boxes: which of them are decided, and what the samples
 /// of undecided leaves are. Contracts see the view and the list.
@@ -55,21 +54,10 @@ pub fn draw(
 {
     let mut desk = Desk::new(alloc, view, list.len())?;
     let mut nodes = Vec::new(alloc);
-    draw_box(alloc, &mut desk, root(view), list, &mut nodes, tally)?;
+    draw_box(alloc, &mut desk, root(view, Lattice::Raster), list, &mut nodes, tally)?;
     Ok(QuadTree {
         view: *view,
         list: list.share()?,
         nodes,
     })
-}
-
-/// The box of all samples of a raster.
-pub fn root(view: &View) -> IndexBox
-    ensures { result ≡ root_of view.now Lattice.Raster }
-{
-    IndexBox {
-        x1: view.w,
-        y1: view.h,
-        ..IndexBox::default()
-    }
 }

@@ -10,7 +10,8 @@ use Rattle.view_settings.specs.declared.lattice.Axis.TheVariants as axes
 use Rattle.view_settings.specs.declared.lattice.Lattice.{Lattice}
 use Rattle.view_settings.specs.declared.lattice.Lattice.TheVariants.{Raster, Height, Grid}
 use Rattle.view_settings.specs.Laws.{RangesAreSpans, RangesHold}
-use Rattle.view_settings.specs.Places.{place_of, place_up, place_down, steps_of, way}
+use Rattle.view_settings.specs.Places.{place_of, steps_of}
+use Rattle.view_settings.specs.Samples.{place_up, place_down, way}
 use Rattle.view_settings.specs.Spans.{IsRange, last_of, range_along}
 use Rattle.view_settings.specs.Window.{Window, AreEnds, IsWindow}
 

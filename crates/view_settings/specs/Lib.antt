@@ -4,6 +4,7 @@ pub mod Kinds
 pub mod Laws
 pub mod Names
 pub mod Places
+pub mod Samples
 pub mod Setting
 pub mod Settings
 pub mod Spans

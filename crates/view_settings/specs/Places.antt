@@ -1,46 +1,50 @@
 -- Where samples lie.
-use Rattle.std.specs.Prelude.{ℕ, ◌-◌, ◌==◌, ℤ, pos, ◌+ℤ◌, ◌-ℤ◌, ◌*ℤ◌, if◌then◌else◌}
+use Rattle.std.specs.Prelude.{ℕ, ◌-◌, ℤ}
 use Rattle.fixed_ops.specs.Points.{Point}
-use Rattle.fixed_ops.specs.Raw.{floor_div}
+use Rattle.view_settings.specs.declared.axis_samples.AxisSamples.{AxisSamples}
+use Rattle.view_settings.specs.declared.course.Course.{Course}
+use Rattle.view_settings.specs.declared.course.Course.TheVariants.{Rising, Falling, Level}
 use Rattle.view_settings.specs.declared.lattice.Axis.{Axis}
 use Rattle.view_settings.specs.declared.lattice.Axis.TheVariants.{X, Y, Z}
 use Rattle.view_settings.specs.declared.lattice.Lattice.{Lattice}
 use Rattle.view_settings.specs.declared.lattice.Lattice.TheVariants.{Raster, Height, Grid}
+use Rattle.view_settings.specs.Samples.{place_on}
 use Rattle.view_settings.specs.Window.{Window}
 
--- how far a sample lies from the first, where the last of so many steps lies this far, rounded down
-abbrev pub way : ℤ → ℕ → ℕ → ℤ
-way whole steps i = if steps == 0 then pos 0 else floor_div (whole *ℤ pos i) steps
+-- the lower and the upper end of an axis of a view
+abbrev pub low_end : Window → Axis → ℤ
+low_end v X = v.x0
+low_end v Y = v.y0
+low_end v Z = v.z0
 
--- sample i of the samples that lie from low on up to high
-abbrev pub place_up : ℤ → ℤ → ℕ → ℕ → ℤ
-place_up low high steps i = low +ℤ way (high -ℤ low) steps i
+abbrev pub high_end : Window → Axis → ℤ
+high_end v X = v.x1
+high_end v Y = v.y1
+high_end v Z = v.z1
 
--- sample j of the samples that lie from high on down to low
-abbrev pub place_down : ℤ → ℤ → ℕ → ℕ → ℤ
-place_down low high steps j = high -ℤ way (high -ℤ low) steps j
+-- samples from an end of an axis to the other, so many steps in all
+abbrev pub from_end_to_end : Window → Axis → ℕ → Course → AxisSamples
+from_end_to_end v axis steps course =
+    record { low = low_end v axis; high = high_end v axis; steps = steps; course = course }
+
+-- The samples along an axis of a lattice: the rows of rasters and height maps lie from the top on down, a
+-- raster lies at one height, and all else rises.
+abbrev pub samples_along : Window → Lattice → Axis → AxisSamples
+samples_along v Raster X = from_end_to_end v X (v.w - 1) Rising
+samples_along v Raster Y = from_end_to_end v Y (v.h - 1) Falling
+samples_along v Raster Z = record { low = v.z; high = v.z; steps = 0; course = Level }
+samples_along v Height X = from_end_to_end v X (v.w - 1) Rising
+samples_along v Height Y = from_end_to_end v Y (v.h - 1) Falling
+samples_along v Height Z = from_end_to_end v Z (v.d - 1) Rising
+samples_along v Grid axis = from_end_to_end v axis v.n Rising
 
 -- how many steps lie between the first and the last sample of an axis
 abbrev pub steps_of : Window → Lattice → Axis → ℕ
-steps_of v Raster X = v.w - 1
-steps_of v Raster Y = v.h - 1
-steps_of v Raster Z = 0
-steps_of v Height X = v.w - 1
-steps_of v Height Y = v.h - 1
-steps_of v Height Z = v.d - 1
-steps_of v Grid axis = v.n
+steps_of v lattice axis = (samples_along v lattice axis).steps
 
--- the raw place of a sample: the rows of rasters and height maps lie from the top on down, all else rises
+-- the raw place of a sample
 abbrev pub place_of : Window → Lattice → Axis → ℕ → ℤ
-place_of v Raster X i = place_up v.x0 v.x1 (v.w - 1) i
-place_of v Raster Y j = place_down v.y0 v.y1 (v.h - 1) j
-place_of v Raster Z k = v.z
-place_of v Height X i = place_up v.x0 v.x1 (v.w - 1) i
-place_of v Height Y j = place_down v.y0 v.y1 (v.h - 1) j
-place_of v Height Z k = place_up v.z0 v.z1 (v.d - 1) k
-place_of v Grid X i = place_up v.x0 v.x1 v.n i
-place_of v Grid Y j = place_up v.y0 v.y1 v.n j
-place_of v Grid Z k = place_up v.z0 v.z1 v.n k
+place_of v lattice axis i = place_on (samples_along v lattice axis) i
 
 -- the point of a sample of a lattice
 abbrev pub point_of : Window → Lattice → ℕ → ℕ → ℕ → Point

@@ -2,6 +2,8 @@
 //! them.
 #![tactic(auto)]
 
+mod axis_samples;
+mod course;
 mod forge;
 mod given;
 mod index_box;
@@ -19,12 +21,14 @@ mod view;
 mod word_fault;
 mod words;
 
+pub use axis_samples::AxisSamples;
+pub use course::Course;
 pub use forge::Forge;
 pub use index_box::{IndexBox, split};
 pub use job::Job;
 pub use lattice::{Axis, Lattice};
 pub use laws::{halves_part, ranges_hold, words_are_exact};
-pub use place::{raw_place, sample};
+pub use place::{raw_place, root, sample, samples_along};
 pub use settings::Settings;
 pub use span::span_of;
 pub use verb::Verb;

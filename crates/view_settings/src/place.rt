@@ -1,11 +1,65 @@
 // Where samples lie.
-ghost use Rattle.std.specs.Prelude.{◌≡◌, ◌<◌, ◌≤◌, ◌-ℤ◌, ◌≤ℤ◌, pos};
+ghost use Rattle.std.specs.Prelude.{◌≡◌, ◌<◌, ◌≤◌};
 ghost use Rattle.fixed_ops.specs.Raw.{IsRaw};
-ghost use Rattle.view_settings.specs.Places.{place_of, steps_of, place_up, place_down, way as way_of};
+ghost use Rattle.view_settings.specs.Places.{place_of, samples_along as samples_along_of, steps_of};
+ghost use Rattle.view_settings.specs.Spans.{root_of};
 ghost use Rattle.view_settings.specs.Window.{AreEnds};
 
-use crate::{Axis, Lattice, View};
+use crate::{Axis, AxisSamples, Course, IndexBox, Lattice, View};
 use fixed_ops::Fx;
+
+/// The samples along an axis of a lattice over a view. The rows of rasters and of height maps lie
+/// from the top on down, a raster lies at one height, and all else rises.
+pub fn samples_along(view: &View, lattice: Lattice, axis: Axis) -> AxisSamples
+    ensures samples { result ≡ samples_along_of view.now lattice axis }
+    ensures ends { AreEnds result.low result.high }
+    ensures few { result.steps ≤ 4095 }
+{
+    let (low, high) = match axis {
+        Axis::X => (view.x0, view.x1),
+        Axis::Y => (view.y0, view.y1),
+        Axis::Z => (view.z0, view.z1),
+    };
+    let (steps, course) = match (lattice, axis) {
+        (Lattice::Raster | Lattice::Height, Axis::X) => (view.w - 1, Course::Rising),
+        (Lattice::Raster | Lattice::Height, Axis::Y) => (view.h - 1, Course::Falling),
+        (Lattice::Raster, Axis::Z) => {
+            return AxisSamples {
+                low: view.z,
+                high: view.z,
+                steps: 0,
+                course: Course::Level,
+            };
+        }
+        (Lattice::Height, Axis::Z) => (view.d - 1, Course::Rising),
+        (Lattice::Grid, _) => (view.n, Course::Rising),
+    };
+    AxisSamples {
+        low,
+        high,
+        steps,
+        course,
+    }
+}
+
+/// The box of all samples of a lattice over a view; of a grid, the box of all its cells.
+pub fn root(view: &View, lattice: Lattice) -> IndexBox
+    ensures { result ≡ root_of view.now lattice }
+{
+    let (x1, y1, z1) = match lattice {
+        Lattice::Raster => (view.w, view.h, 1),
+        Lattice::Height => (view.w, view.h, view.d),
+        Lattice::Grid => (view.n, view.n, view.n),
+    };
+    IndexBox {
+        x0: 0,
+        x1,
+        y0: 0,
+        y1,
+        z0: 0,
+        z1,
+    }
+}
 
 /// The raw place of sample i along an axis.
 #[inline]
@@ -14,15 +68,7 @@ pub fn raw_place(view: &View, lattice: Lattice, axis: Axis, i: u32) -> i64
     ensures place { result ≡ place_of view.now lattice axis i }
     ensures raw { IsRaw result }
 {
-    match (lattice, axis) {
-        (Lattice::Raster | Lattice::Height, Axis::X) => rising(view.x0, view.x1, view.w - 1, i),
-        (Lattice::Raster | Lattice::Height, Axis::Y) => falling(view.y0, view.y1, view.h - 1, i),
-        (Lattice::Raster, Axis::Z) => view.z,
-        (Lattice::Height, Axis::Z) => rising(view.z0, view.z1, view.d - 1, i),
-        (Lattice::Grid, Axis::X) => rising(view.x0, view.x1, view.n, i),
-        (Lattice::Grid, Axis::Y) => rising(view.y0, view.y1, view.n, i),
-        (Lattice::Grid, Axis::Z) => rising(view.z0, view.z1, view.n, i),
-    }
+    samples_along(view, lattice, axis).place(i)
 }
 
 /// The place of sample i along an axis.
@@ -32,43 +78,4 @@ pub fn sample(view: &View, lattice: Lattice, axis: Axis, i: u32) -> Fx
     ensures { result ≡ place_of view.now lattice axis i }
 {
     Fx::from_raw(raw_place(view, lattice, axis, i))
-}
-
-// Sample i of the samples that lie from low on up to high, so many steps in all.
-#[inline]
-fn rising(low: i64, high: i64, steps: u32, i: u32) -> i64
-    requires ends { AreEnds low high }
-    requires within { i ≤ steps }
-    ensures place { result ≡ place_up low high steps i }
-    ensures raw { IsRaw result }
-{
-    low + way((high - low) as u64, steps, i) as i64
-}
-
-// Sample j of the samples that lie from high on down to low, so many steps in all.
-#[inline]
-fn falling(low: i64, high: i64, steps: u32, j: u32) -> i64
-    requires ends { AreEnds low high }
-    requires within { j ≤ steps }
-    ensures place { result ≡ place_down low high steps j }
-    ensures raw { IsRaw result }
-{
-    high - way((high - low) as u64, steps, j) as i64
-}
-
-// How far sample i lies from the first, rounded down, where the last of so many steps lies this
-// far.
-#[inline]
-fn way(whole: u64, steps: u32, i: u32) -> u64
-    requires { i ≤ steps }
-    ensures way { pos result ≡ way_of (pos whole) steps i }
-    ensures short { result ≤ whole }
-{
-    if steps == 0 {
-        return 0;
-    }
-    match whole.checked_mul(u64::from(i)) {
-        Some(product) => product / u64::from(steps),
-        None => (u128::from(whole) * u128::from(i) / u128::from(steps)) as u64,
-    }
 }
