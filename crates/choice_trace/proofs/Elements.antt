@@ -6,7 +6,7 @@ use Rattle.fixed_ops.specs.Counts.{Counts, RisesBy, no_counts, plus, times}
 use Rattle.fixed_ops.specs.CountLaws.{IsAtMost-plus, RisesBy-apart, RisesBy-none, RisesBy-then, plus-times}
 use Rattle.fixed_ops.specs.Points.{Point}
 use Rattle.live_clauses.specs.Steps.{AreSteps, value_after, value_at, values}
-use Rattle.live_clauses.specs.ValueLaws.{value_at-step}
+use Rattle.live_clauses.specs.Laws.{ValuesAreOfOperands}
 use Rattle.live_clauses.specs.declared.step.Step.{Step}
 use Rattle.choice_trace.specs.Meaning.{AreRead, StandForOperands, StandsForResults}
 use Rattle.choice_trace.specs.Work.{RisesWithin}
@@ -30,11 +30,11 @@ read_more stands_for default elements values at new room read stands place h = b
         (read place (omega (arith, h, other)))
 
 -- what a step makes of its operands stands for its value in the list
-pub step_stands : {D : Type 0} (stands_for : D → ℤ → Type 0) (p : Point) (steps : List Step) (at : ℕ) (step : Step) (a b new : D)
+pub step_stands : ValuesAreOfOperands → {D : Type 0} (stands_for : D → ℤ → Type 0) (p : Point) (steps : List Step) (at : ℕ) (step : Step) (a b new : D)
     → AreSteps steps → slice_get steps at ≡ Some step → StandForOperands stands_for step.op a b (value_after p (values p steps) step)
     → StandsForResults stands_for step.op a b new → stands_for new (value_at p steps at)
-step_stands stands_for p steps at step a b new stand is operands results =
-    subst (λ v. stands_for new v) (sym (value_at-step p steps at step stand is))
+step_stands of_operands stands_for p steps at step a b new stand is operands results =
+    subst (λ v. stands_for new v) (sym (of_operands p steps stand at step is))
     (subst (λ v. stands_for new v) operands.is (results operands.left operands.right operands.for_a operands.for_b))
 
 -- a tally that stands rises by no work

@@ -5,3 +5,4 @@ mod HullLists
 mod Rows
 mod StepHulls
 mod Traces
+mod WorkLaws

@@ -14,7 +14,7 @@ use Rattle.interval_ops.specs.declared.region.Region.{Region}
 use Rattle.live_clauses.specs.Steps.{AreSteps, IsStepAt}
 use Rattle.live_clauses.specs.declared.step.Step.{Step}
 use Rattle.choice_trace.specs.Hulls.{IsIn, hull_at, hulls, step_hull}
-use Rattle.choice_trace.specs.SpanLaws.{SpansAreLawful}
+use Rattle.choice_trace.specs.Layers.{Lawful}
 use Rattle.choice_trace.specs.Laws.{AreHulls, AreRanges, HullsHold, IsStepHull, OnlyHullsHold}
 use Rattle.choice_trace.proofs.HullLists.{hull_at-step, length-hulls}
 use Rattle.choice_trace.proofs.Traces.{held}
@@ -37,7 +37,7 @@ both_before place step stands some =
     by (inl two) = stands.fits.second two
     by (inr one) = let none = stands.fits.no_second one in omega (arith, none, stands.fits.first some)
 
-module _ (laws : SpansAreLawful) where
+module _ (laws : Lawful) where
   -- each hull of a list is a span
   spans : (region : Region) (steps : List Step) → AreRanges region → AreSteps steps → (place : ℕ) → place < length steps → IsSpan (hull_at region steps place)
   spans region steps ranges stand place h =

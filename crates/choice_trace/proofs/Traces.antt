@@ -18,11 +18,10 @@ use Rattle.interval_ops.specs.declared.choice.Choice.TheVariants.{Left, Right, B
 use Rattle.interval_ops.specs.declared.region.Region.{Region}
 use Rattle.live_clauses.specs.Choices.{AreChoices, AreRight, choice_at}
 use Rattle.live_clauses.specs.Steps.{AreSteps, IsTape, tape_value, value_at}
-use Rattle.live_clauses.specs.ValueLaws.{value_at-step}
 use Rattle.live_clauses.specs.declared.step.Step.{Step}
 use Rattle.choice_trace.specs.Hulls.{AreOperands, IsIn, choice_over, choices_over, hull_after, hull_at, hulls, step_hull, tape_hull}
 use Rattle.choice_trace.specs.Laws.{AreRanges}
-use Rattle.choice_trace.specs.SpanLaws.{SpansAreLawful}
+use Rattle.choice_trace.specs.Layers.{Lawful}
 use Rattle.choice_trace.proofs.HullLists.{choice_of-same, hull_after-same, hull_at-step}
 
 -- lists with one front agree there
@@ -93,7 +92,7 @@ pub all_chosen : (region : Region) (steps : List Step) (choices : List Choice) (
 all_chosen region steps choices n e same =
     ap (λ k. take k choices) (sym e) ∙ same ∙ take_all n (choices_over region steps) (omega (arith, e, length-choices region steps))
 
-module _ (laws : SpansAreLawful) where
+module _ (laws : Lawful) where
   -- a hull holds the result on what its spans hold
   applied : (op : Op) (a b : Interval) (u v : ℤ) → SpansOver a u → SpansOver b v → SpansOver (hull_of op a b) (op_result op u v)
   applied op a b u v h k =
@@ -129,7 +128,7 @@ module _ (laws : SpansAreLawful) where
       let operand : (k : ℕ) → k < place → SpansOver (hull_at region steps k) (value_at p steps k) =
       λ k lt. held region p steps ranges inside stand n k (omega (arith, lt, h)) (get_or steps k step) (slice_get-get_or steps k step (omega (arith, lt, within))) in
       subst (λ (s : Interval). SpansOver s (value_at p steps place)) (sym (hull_at-step region steps place step stand is))
-      (subst (λ (v : ℤ). SpansOver (hull_after region (hulls region steps) step) v) (sym (value_at-step p steps place step stand is))
+      (subst (λ (v : ℤ). SpansOver (hull_after region (hulls region steps) step) v) (sym (laws.values p steps stand place step is))
       (step_over step.op region p step.value (hull_at region steps step.a) (hull_at region steps step.b) (value_at p steps step.a) (value_at p steps step.b) ranges inside stands.raw
       (λ e. operand step.a (stands.fits.first e)) (λ e. operand step.b (stands.fits.second e))))
 
@@ -182,12 +181,12 @@ module _ (laws : SpansAreLawful) where
       → take (length steps) choices ≡ choices_over region steps → IsIn region p → AreRight p steps choices
   are_right region steps choices p ranges stand same inside = record {
     left = λ place step is e.
-        value_at-step p steps place step stand is
+        laws.values p steps stand place step is
         ∙ chosen_left step.op p step.value (hull_at region steps step.a) (hull_at region steps step.b) (value_at p steps step.a) (value_at p steps step.b)
         (sym (choice_read region steps choices place step same is) ∙ e)
         (λ h. (operand place step is step.a ((stand place step is).fits.first h)).1) (λ h. (operand place step is step.b ((stand place step is).fits.second h)).1);
     right = λ place step is e.
-        value_at-step p steps place step stand is
+        laws.values p steps stand place step is
         ∙ chosen_right step.op p step.value (hull_at region steps step.a) (hull_at region steps step.b) (value_at p steps step.a) (value_at p steps step.b)
         (sym (choice_read region steps choices place step same is) ∙ e)
         (λ h. (operand place step is step.a ((stand place step is).fits.first h)).1) (λ h. (operand place step is step.b ((stand place step is).fits.second h)).1);

@@ -2,8 +2,7 @@ pub mod Halves
 pub mod Hulls
 pub mod Lanes
 pub mod Laws
+pub mod Layers
 pub mod Meaning
 pub mod PointLaws
-pub mod SpanLaws
 pub mod Work
-pub mod WorkLaws

@@ -1,5 +1,7 @@
--- Counts that rise by no less than some work and by no more than other work.
-use Rattle.fixed_ops.specs.Counts.{Counts, IsAtMost, RisesBy}
+-- What a domain counts: no less than some work for each step, and no more than other work.
+use Rattle.std.specs.Prelude.{ℕ}
+use Rattle.fixed_ops.specs.Counts.{Counts, IsAtMost, RisesBy, points_of, spans_of, times}
+use Rattle.interval_ops.specs.HullCounts.{CountsHulls, hulls_of}
 
 -- a tally rises by counts each of which is at least the first and at most the second of these
 pub record RisesWithin (before after least most : Counts) : Type 0 where
@@ -7,3 +9,15 @@ pub record RisesWithin (before after least most : Counts) : Type 0 where
   pub enough : IsAtMost least by
   pub within : IsAtMost by most
   pub rises : RisesBy before after by
+
+-- a tally that rises by at least and at most so many evaluations at points rises by exactly as many
+abbrev pub PointsAreExact : Type 0
+PointsAreExact = (before after : Counts) (n : ℕ)
+    → RisesWithin before after (times n (points_of 1)) (times n (points_of 1))
+    → RisesBy before after (points_of n)
+
+-- a tally that rises by so many hulls, of at most four corners each, counts as many hulls
+abbrev pub HullsAreExact : Type 0
+HullsAreExact = (before after : Counts) (n : ℕ)
+    → RisesWithin before after (times n (spans_of 1)) (times n (hulls_of 1 4))
+    → CountsHulls n before after

@@ -8,7 +8,7 @@ ghost use Rattle.choice_trace.specs.Work.{RisesWithin};
 
 use crate::{Domain, Inputs};
 use fixed_ops::{Op, Tally};
-use live_clauses::{Step, Tape};
+use live_clauses::{Step, Tape, values_are_of_operands};
 
 /// An element that stands for the list's value at every point that the inputs stand for. Each step
 /// is applied once, in order. `regs` has room for one element a step.
@@ -21,6 +21,7 @@ pub fn evaluate<D: Domain>(tape: &Tape, inputs: Inputs<D>, regs: &mut [D], tally
     ensures counted { RisesWithin tally.old tally.new
         (times (length tape.now) D.least) (times (length tape.now) D.most) }
 {
+    values_are_of_operands();
     let steps = tape.steps();
     let len = steps.len();
     // Counts that no other call sees stay in registers.

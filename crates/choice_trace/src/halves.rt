@@ -11,7 +11,7 @@ ghost use Rattle.choice_trace.specs.Hulls.{IsIn, choices_over, hull_in, step_hul
 ghost use Rattle.choice_trace.specs.Laws.{AreRanges};
 
 use crate::Inputs;
-use crate::laws::span_laws;
+use crate::laws::layers_hold;
 use fixed_ops::{Fx, Op, Tally};
 use interval_ops::{Choice, Region, Span, choose, hull_counts, span_apply};
 use live_clauses::{Step, Tape};
@@ -54,7 +54,7 @@ pub fn trace_halves<const L: usize>(
         ≡ drop (length tape.now) choices.old }
     ensures counted { CountsHulls (L * length tape.now) tally.old tally.new }
 {
-    span_laws();
+    layers_hold();
     hull_counts();
     in_order(regions);
     let inputs = ranges(regions);

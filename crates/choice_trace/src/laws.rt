@@ -1,19 +1,21 @@
 // What always holds of the definitions that the contracts cite.
 ghost use Rattle.choice_trace.specs.Laws.{HullsHold, OnlyHullsHold};
 ghost use Rattle.choice_trace.specs.PointLaws.{ChoicesAreOfSteps, ChoicesAreRight, ChosenOperandsWin, EachValueIsHeld, ValuesAreHeld};
-ghost use Rattle.choice_trace.specs.SpanLaws.{SpansAreLawful};
-ghost use Rattle.choice_trace.specs.WorkLaws.{HullsAreExact, PointsAreExact};
+ghost use Rattle.choice_trace.specs.Layers.{Lawful};
+ghost use Rattle.choice_trace.specs.Work.{HullsAreExact, PointsAreExact};
 
 use interval_laws::laws_of_spans;
 use interval_ops::hulls;
+use live_clauses::values_are_of_operands;
 
-// What the layers below promise of spans, in one place.
+// What the layers below promise of spans and of values, in one place.
 #[inline]
-pub(crate) fn span_laws()
-    ensures { SpansAreLawful }
+pub(crate) fn layers_hold()
+    ensures { Lawful }
 {
     hulls();
     laws_of_spans();
+    values_are_of_operands();
 }
 
 /// The hull of each step of a list over a region is the hull of all results on the values of its
@@ -23,7 +25,7 @@ pub fn hulls_of_steps()
     ensures hold { HullsHold }
     ensures only { OnlyHullsHold }
 {
-    span_laws();
+    layers_hold();
 }
 
 /// What an evaluation counts, where each step counts one evaluation at a point: exactly the length of
@@ -46,5 +48,5 @@ pub fn traces_are_right()
     ensures right { ChoicesAreRight }
     ensures wins { ChosenOperandsWin }
 {
-    span_laws();
+    layers_hold();
 }

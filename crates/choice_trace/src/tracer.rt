@@ -7,7 +7,7 @@ ghost use Rattle.live_clauses.specs.Choices.{AreChoices, AreRight};
 ghost use Rattle.live_clauses.specs.Steps.{IsStepAt, tape_value};
 ghost use Rattle.choice_trace.specs.Hulls.{AreOperands, IsIn, choices_over, tape_hull};
 
-use crate::laws::span_laws;
+use crate::laws::layers_hold;
 use fixed_ops::{Op, Tally};
 use interval_ops::{Choice, Region, Span, choose, hull_counts, span_apply};
 use live_clauses::{Step, Tape};
@@ -35,7 +35,7 @@ pub fn trace(
     ensures counted { CountsHulls (length tape.now) tally.old tally.new }
 {
     // The laws that the hulls, the choices and their counts rest on.
-    span_laws();
+    layers_hold();
     hull_counts();
     // The ends of a range are in order.
     let _ends = (region.x.lo(), region.y.lo(), region.z.lo());

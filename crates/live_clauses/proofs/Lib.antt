@@ -4,10 +4,12 @@ pub mod Joined
 pub mod Keeping
 pub mod Kept
 pub mod Links
+pub mod MeaningLaws
 pub mod Needs
 pub mod Numbering
 pub mod Representatives
 pub mod Roots
 pub mod Sameness
 pub mod Turns
+pub mod ValueLaws
 pub mod Whole

@@ -1,6 +1,6 @@
 -- What always holds of live lists and of root lists.
 use Rattle.std.specs.Prelude.{◌≡◌, ℕ, ◌<◌, ◌≤◌, ◌↔◌, IsTrue, List, length, replicate, slice_get, Some}
-use Rattle.fixed_ops.specs.Points.{Point}
+use Rattle.fixed_ops.specs.Points.{Point, step_value}
 use Rattle.solid_model.specs.declared.clause.Clause.{Clause}
 use Rattle.solid_model.specs.Clauses.{IsModel}
 use Rattle.solid_model.specs.Values.{solid_value}
@@ -10,7 +10,7 @@ use Rattle.live_clauses.specs.declared.step.Step.{Step}
 use Rattle.live_clauses.specs.Choices.{step_at, choice_at, AreChoices, AreRight}
 use Rattle.live_clauses.specs.Live.{chosen, representative, IsLive, is_kept, live_of, root_of, IsWhole}
 use Rattle.live_clauses.specs.Meanings.{Meaning, MeanTheirChoices, ReadsItsOperands, meaning_at, tape_meaning}
-use Rattle.live_clauses.specs.Steps.{AreSteps, IsTape, steps_of, tape_value}
+use Rattle.live_clauses.specs.Steps.{AreSteps, IsTape, steps_of, tape_value, value_at}
 
 -- the representative of a step is that of the operand that it chooses, or the step itself
 abbrev pub RepresentativesAreChosen : Type 0
@@ -70,6 +70,12 @@ ChoicesKeepTheMeaning D = (m : Meaning D) (steps : List Step) (choices : List Ch
 abbrev pub RootHasTheMeaning : Type 0 → Type 0
 RootHasTheMeaning D = (m : Meaning D) (clauses : List Clause) → ReadsItsOperands m → IsModel clauses
     → tape_meaning m (root_of clauses) ≡ tape_meaning m (steps_of clauses)
+
+-- each value is what its step makes of the values of its operands
+abbrev pub ValuesAreOfOperands : Type 0
+ValuesAreOfOperands = (p : Point) (steps : List Step) → AreSteps steps
+    → (place : ℕ) (step : Step) → slice_get steps place ≡ Some step → value_at p steps place
+    ≡ step_value step.op p step.value (value_at p steps step.a) (value_at p steps step.b)
 
 -- where the choices are right, a live list has the value of the list that it comes from
 abbrev pub ChoicesKeepTheValue : Type 0

@@ -2,8 +2,6 @@ pub mod Choices
 pub mod Laws
 pub mod Live
 pub mod Marks
-pub mod MeaningLaws
 pub mod Meanings
 pub mod Packed
 pub mod Steps
-pub mod ValueLaws

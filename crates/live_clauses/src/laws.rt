@@ -1,5 +1,5 @@
 // What always holds of the definitions that the contracts cite.
-ghost use Rattle.live_clauses.specs.Laws.{RepresentativesAreChosen, LiveStepsAreKept, LiveListsAreTapes, ChoicesKeepTheMeaning, ChoicesKeepTheValue, MeaningsAreOfOperands, RootHasTheMeaning, RootHasTheValue, LiveListsAreWhole, RootListsAreWhole, WholeListsNeedEachStep, WholeListsStand};
+ghost use Rattle.live_clauses.specs.Laws.{RepresentativesAreChosen, LiveStepsAreKept, LiveListsAreTapes, ChoicesKeepTheMeaning, ChoicesKeepTheValue, MeaningsAreOfOperands, RootHasTheMeaning, RootHasTheValue, LiveListsAreWhole, RootListsAreWhole, ValuesAreOfOperands, WholeListsNeedEachStep, WholeListsStand};
 
 use fixed_ops::Fx;
 
@@ -30,6 +30,14 @@ pub fn live_lists_keep_meanings<D>()
     ensures live { ChoicesKeepTheMeaning D }
     ensures root { RootHasTheMeaning D }
 {}
+
+/// At each point the value of each step is what its operation makes of the values of its operands.
+#[inline]
+pub fn values_are_of_operands()
+    ensures { ValuesAreOfOperands }
+{
+    live_lists_keep_meanings::<Fx>();
+}
 
 /// At each point where the choices are right, a live list has the value of the list that it comes
 /// from.

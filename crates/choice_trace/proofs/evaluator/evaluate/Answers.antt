@@ -24,7 +24,7 @@ loop-at-preserved g c =
     record {
       read = λ p stand.
           read_more d.stands_for c.args.inputs.x c.loop-at.regs (values p steps) at c.apply.result (omega (arith, ap length c.steps-steps.ensures.steps)) (c.loop-at.invariant.read p stand)
-          (step_stands d.stands_for p steps at step a b c.apply.result c.len-len.ensures.tape.each c.step-step.ensures.step
+          (step_stands c.values_are_of_operands.ensures d.stands_for p steps at step a b c.apply.result c.len-len.ensures.tape.each c.step-step.ensures.step
           (c.operands-a.ensures p (values p steps) at c.step-step.ensures.stands stand (c.loop-at.invariant.read p stand)) c.apply.ensures.stands);
       rest = drop-set-lt (length steps) c.loop-at.regs at c.apply.result (omega arith) ∙ c.loop-at.invariant.rest;
       counted = within_more no_counts c.loop-at.work c.apply.new.tally d.least d.most at c.loop-at.invariant.counted c.apply.ensures.counted;

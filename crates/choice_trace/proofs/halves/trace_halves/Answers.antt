@@ -64,5 +64,5 @@ returns-clause-only g c = λ l h. are_choices (region_in c.args.regions.now l) c
 
 pub returns-clause-right : goal.returns-clause-right
 returns-clause-right g c = λ l p h inside.
-    are_right c.span_laws.ensures (region_in c.args.regions.now l) c.args.tape.now (lane l c.loop-at.choices) p (c.in_order.ensures l h)
+    are_right c.layers_hold.ensures (region_in c.args.regions.now l) c.args.tape.now (lane l c.loop-at.choices) p (c.in_order.ensures l h)
     c.steps-steps.ensures.tape.each (returns-clause-choices g c l h) inside

@@ -1,4 +1,4 @@
-use Rattle.choice_trace.specs.WorkLaws.{hulls_are_exact, points_are_exact}
+use Rattle.choice_trace.proofs.WorkLaws.{hulls_are_exact, points_are_exact}
 use Rattle.choice_trace.proofs.laws.work_of_steps.Goals as goal
 
 pub returns-clause-points : goal.returns-clause-points

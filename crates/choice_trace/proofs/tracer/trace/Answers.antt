@@ -57,11 +57,11 @@ returns-clause-holds c = λ p inside.
     let steps = c.args.tape.now in
     let tape = c.steps-steps.ensures.tape in
     subst (λ (s : Interval). Holds s (tape_value p steps)) (sym (returns-clause-hull c))
-    (last_held c.span_laws.ensures c.args.region p steps (record { x = c.lo.ensures.span; y = c.lo-2.ensures.span; z = c.lo-3.ensures.span }) inside tape)
+    (last_held c.layers_hold.ensures c.args.region p steps (record { x = c.lo.ensures.span; y = c.lo-2.ensures.span; z = c.lo-3.ensures.span }) inside tape)
 
 pub returns-clause-right : goal.returns-clause-right
 returns-clause-right c = λ p inside.
-    are_right c.span_laws.ensures c.args.region c.args.tape.now c.loop-at.choices p (record { x = c.lo.ensures.span; y = c.lo-2.ensures.span; z = c.lo-3.ensures.span })
+    are_right c.layers_hold.ensures c.args.region c.args.tape.now c.loop-at.choices p (record { x = c.lo.ensures.span; y = c.lo-2.ensures.span; z = c.lo-3.ensures.span })
     c.steps-steps.ensures.tape.each (returns-clause-choices c) inside
 
 pub returns-clause-counted : goal.returns-clause-counted

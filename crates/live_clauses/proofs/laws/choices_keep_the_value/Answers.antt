@@ -1,6 +1,6 @@
 -- The value of a list at a point is a meaning, which right choices keep.
 use Rattle.live_clauses.specs.Meanings.{number_at}
-use Rattle.live_clauses.specs.ValueLaws.{number_at-reads}
+use Rattle.live_clauses.proofs.ValueLaws.{number_at-reads}
 use Rattle.live_clauses.proofs.laws.choices_keep_the_value.Goals as goal
 
 pub returns : goal.returns

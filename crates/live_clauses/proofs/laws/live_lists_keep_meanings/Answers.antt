@@ -1,5 +1,5 @@
 -- The laws of meanings are lemmas.
-use Rattle.live_clauses.specs.MeaningLaws.{meaning_at-step}
+use Rattle.live_clauses.proofs.MeaningLaws.{meaning_at-step}
 use Rattle.live_clauses.proofs.Keeping.{live_of-meaning}
 use Rattle.live_clauses.proofs.Roots.{root_of-meaning}
 use Rattle.live_clauses.proofs.laws.live_lists_keep_meanings.Goals as goal

@@ -1,7 +1,7 @@
 -- The value of a list at a point is a meaning, which a root list has of all clauses.
 use Rattle.std.proofs.Common.{◌∙◌}
 use Rattle.live_clauses.specs.Meanings.{number_at}
-use Rattle.live_clauses.specs.ValueLaws.{number_at-reads}
+use Rattle.live_clauses.proofs.ValueLaws.{number_at-reads}
 use Rattle.live_clauses.proofs.Roots.{steps_of-value}
 use Rattle.live_clauses.proofs.laws.root_has_the_value.Goals as goal
 

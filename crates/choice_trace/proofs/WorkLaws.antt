@@ -1,21 +1,8 @@
 -- What a domain counts where it counts one evaluation at a point, or one hull, for each step.
-use Rattle.std.specs.Prelude.{◌≡◌, ℕ}
-use Rattle.std.proofs.Common.{ap, arith, subst, ◌∙◌}
-use Rattle.fixed_ops.specs.Counts.{Counts, RisesBy, points_of, spans_of, times}
-use Rattle.interval_ops.specs.HullCounts.{CountsHulls, hulls_of}
-use Rattle.choice_trace.specs.Work.{RisesWithin}
-
--- a tally that rises by at least and at most so many evaluations at points rises by exactly as many
-abbrev pub PointsAreExact : Type 0
-PointsAreExact = (before after : Counts) (n : ℕ)
-    → RisesWithin before after (times n (points_of 1)) (times n (points_of 1))
-    → RisesBy before after (points_of n)
-
--- a tally that rises by so many hulls, of at most four corners each, counts as many hulls
-abbrev pub HullsAreExact : Type 0
-HullsAreExact = (before after : Counts) (n : ℕ)
-    → RisesWithin before after (times n (spans_of 1)) (times n (hulls_of 1 4))
-    → CountsHulls n before after
+use Rattle.std.proofs.Common.{◌≡◌, ℕ, ap, arith, subst, ◌∙◌}
+use Rattle.fixed_ops.specs.Counts.{Counts, RisesBy, points_of}
+use Rattle.interval_ops.specs.HullCounts.{hulls_of}
+use Rattle.choice_trace.specs.Work.{HullsAreExact, PointsAreExact}
 
 -- counts are equal where each of them is
 same_counts : (a b : Counts) → a.points ≡ b.points → a.spans ≡ b.spans → a.corners ≡ b.corners
