@@ -101,7 +101,7 @@ fn along(alloc: Global, view: &View, lattice: Lattice, axis: Axis) -> Result<Vec
     let count = samples.steps + 1;
     let mut places = Vec::with_capacity(alloc, count as usize)?;
     for i in 0..count {
-        places.push(Fx::from_raw(samples.place(i)))?;
+        places.push(samples.sample(i))?;
     }
     Ok(places)
 }

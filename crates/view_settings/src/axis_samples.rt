@@ -5,6 +5,7 @@ ghost use Rattle.view_settings.specs.Samples.{place_down, place_on, place_up, wa
 ghost use Rattle.view_settings.specs.Window.{AreEnds};
 
 use crate::Course;
+use fixed_ops::Fx;
 
 /// The samples along an axis of a lattice.
 #[derive(Clone, Copy, Debug, PartialEq, Eq)]
@@ -33,6 +34,16 @@ impl AxisSamples {
             Course::Falling => falling(self.low, self.high, self.steps, i),
             Course::Level => self.low,
         }
+    }
+
+    /// The place of sample i.
+    #[inline]
+    pub fn sample(&self, i: u32) -> Fx
+        requires ends { AreEnds self.now.low self.now.high }
+        requires within { i ≤ self.now.steps }
+        ensures { result ≡ place_on self.now i }
+    {
+        Fx::from_raw(self.place(i))
     }
 }
 

@@ -77,5 +77,5 @@ pub fn sample(view: &View, lattice: Lattice, axis: Axis, i: u32) -> Fx
     requires { i ≤ steps_of view.now lattice axis }
     ensures { result ≡ place_of view.now lattice axis i }
 {
-    Fx::from_raw(raw_place(view, lattice, axis, i))
+    samples_along(view, lattice, axis).sample(i)
 }
