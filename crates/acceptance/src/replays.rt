@@ -127,8 +127,10 @@ fn an_edit_that_is_refused_changes_nothing(rt: HostRuntime) -> Result<(), Fail> 
     Ok(())
 }
 
-// Edits that are accepted, and the text after each.
-const ACCEPTED: [(&str, &str); 7] = [
+// Edits that are accepted, and the text after each: clauses that are put in and cut at the first
+// place, at the last and between, names that come again, and uses that fall to none and rise again.
+// The texts were worked out by a program of its own, which keeps a list of lines.
+const ACCEPTED: [(&str, &str); 28] = [
     ("set b neg a", "@ text 26\na var-x\nb neg a\nc add a b\n"),
     (
         "put b d abs a",
@@ -145,6 +147,98 @@ const ACCEPTED: [(&str, &str); 7] = [
     ("cut e", "@ text 34\na var-x\nd abs a\nb neg a\nc min d b\n"),
     ("cut c", "@ text 24\na var-x\nd abs a\nb neg a\n"),
     ("cut d", "@ text 16\na var-x\nb neg a\n"),
+    (
+        "put a f const 0.5",
+        "@ text 37\nf const 0.5000000000\na var-x\nb neg a\n",
+    ),
+    (
+        "put b g sub a f",
+        "@ text 47\nf const 0.5000000000\na var-x\ng sub a f\nb neg a\n",
+    ),
+    (
+        "add h max g b",
+        "@ text 57\nf const 0.5000000000\na var-x\ng sub a f\nb neg a\nh max g b\n",
+    ),
+    (
+        "put h g2 mul g g",
+        "@ text 68\nf const 0.5000000000\na var-x\ng sub a f\nb neg a\ng2 mul g g\nh max g b\n",
+    ),
+    (
+        "cut h",
+        "@ text 58\nf const 0.5000000000\na var-x\ng sub a f\nb neg a\ng2 mul g g\n",
+    ),
+    (
+        "add h min g2 f",
+        "@ text 69\nf const 0.5000000000\na var-x\ng sub a f\nb neg a\ng2 mul g g\nh min g2 f\n",
+    ),
+    (
+        "set g sub f a",
+        "@ text 69\nf const 0.5000000000\na var-x\ng sub f a\nb neg a\ng2 mul g g\nh min g2 f\n",
+    ),
+    (
+        "cut b",
+        "@ text 61\nf const 0.5000000000\na var-x\ng sub f a\ng2 mul g g\nh min g2 f\n",
+    ),
+    (
+        "add b neg h",
+        "@ text 69\nf const 0.5000000000\na var-x\ng sub f a\ng2 mul g g\nh min g2 f\nb neg h\n",
+    ),
+    (
+        "put f k var-z",
+        "@ text 77\nk var-z\nf const 0.5000000000\na var-x\ng sub f a\ng2 mul g g\n\
+        h min g2 f\nb neg h\n",
+    ),
+    (
+        "set f neg k",
+        "@ text 64\nk var-z\nf neg k\na var-x\ng sub f a\ng2 mul g g\nh min g2 f\nb neg h\n",
+    ),
+    (
+        "set f const 2",
+        "@ text 77\nk var-z\nf const 2.0000000000\na var-x\ng sub f a\ng2 mul g g\n\
+        h min g2 f\nb neg h\n",
+    ),
+    (
+        "cut k",
+        "@ text 69\nf const 2.0000000000\na var-x\ng sub f a\ng2 mul g g\nh min g2 f\nb neg h\n",
+    ),
+    (
+        "put h k abs f",
+        "@ text 77\nf const 2.0000000000\na var-x\ng sub f a\ng2 mul g g\nk abs f\n\
+        h min g2 f\nb neg h\n",
+    ),
+    (
+        "set b add k k",
+        "@ text 79\nf const 2.0000000000\na var-x\ng sub f a\ng2 mul g g\nk abs f\n\
+        h min g2 f\nb add k k\n",
+    ),
+    (
+        "set b square g2",
+        "@ text 81\nf const 2.0000000000\na var-x\ng sub f a\ng2 mul g g\nk abs f\n\
+        h min g2 f\nb square g2\n",
+    ),
+    (
+        "cut k",
+        "@ text 73\nf const 2.0000000000\na var-x\ng sub f a\ng2 mul g g\nh min g2 f\n\
+        b square g2\n",
+    ),
+    (
+        "add k div b h",
+        "@ text 83\nf const 2.0000000000\na var-x\ng sub f a\ng2 mul g g\nh min g2 f\n\
+        b square g2\nk div b h\n",
+    ),
+    (
+        "cut k",
+        "@ text 73\nf const 2.0000000000\na var-x\ng sub f a\ng2 mul g g\nh min g2 f\n\
+        b square g2\n",
+    ),
+    (
+        "cut b",
+        "@ text 61\nf const 2.0000000000\na var-x\ng sub f a\ng2 mul g g\nh min g2 f\n",
+    ),
+    (
+        "cut h",
+        "@ text 50\nf const 2.0000000000\na var-x\ng sub f a\ng2 mul g g\n",
+    ),
 ];
 
 #[test]
@@ -156,6 +250,39 @@ fn edits_change_the_model_one_after_the_other(rt: HostRuntime) -> Result<(), Fai
         writeln!(script, "{edit}\ntext")?;
         written.push_str(text)?;
     }
+    let mut trial = trial(rt.alloc(), &script)?;
+    assert_eq!(rt; trial.run(rt.alloc(), &["replay"])?, Status::Done);
+    trial.assert_holds(&rt, written.as_bytes(), b"");
+    Ok(())
+}
+
+// Edits after which the model is what it was.
+const ROUND: &str = "put a t const 1\nset b add t t\nput c u neg b\nset b var-y\nadd v mul u c\n\
+    cut t\nput a w var-z\ncut v\nset u abs w\ncut u\ncut w\n";
+
+// Edits that are refused after ten such rounds, in the lines from 115 on.
+const REFUSED_LATER: &str = "set d var-x\nset b neg t\nset b neg c\nadd d neg u\nadd a var-z\n\
+    put w d var-x\nput a d neg v\nput b a var-z\nput b d neg c\ncut t\ncut a\ncut b\n";
+
+// What is written of them.
+const REASONS_LATER: &str = "@ refused 115 UnknownName\n@ refused 116 UnknownName\n\
+    @ refused 117 NotEarlier\n@ refused 118 UnknownName\n@ refused 119 DoubleName\n\
+    @ refused 120 UnknownName\n@ refused 121 UnknownName\n@ refused 122 DoubleName\n\
+    @ refused 123 NotEarlier\n@ refused 124 UnknownName\n@ refused 125 InUse\n\
+    @ refused 126 InUse\n";
+
+#[test]
+fn each_fault_is_told_after_a_hundred_edits(rt: HostRuntime) -> Result<(), Fail> {
+    let mut script = String::from_str(rt.alloc(), SUM)?;
+    script.push_str("%%\n")?;
+    for _ in 0..10u32 {
+        script.push_str(ROUND)?;
+    }
+    script.push_str(REFUSED_LATER)?;
+    script.push_str("text\ncut c\ncut b\ncut a\n")?;
+    let mut written = String::from_str(rt.alloc(), REASONS_LATER)?;
+    written.push_str(SUM_TEXT)?;
+    written.push_str("@ refused 130 LastClause\n")?;
     let mut trial = trial(rt.alloc(), &script)?;
     assert_eq!(rt; trial.run(rt.alloc(), &["replay"])?, Status::Done);
     trial.assert_holds(&rt, written.as_bytes(), b"");
