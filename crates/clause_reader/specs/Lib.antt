@@ -3,6 +3,7 @@ pub mod LineLaws
 pub mod LineSplits
 pub mod Lines
 pub mod ModelText
+pub mod NumberedLines
 pub mod Reading
 pub mod ReadingLaws
 pub mod Says
