@@ -1,19 +1,18 @@
 -- How the clause lines of a text are read one after the other.
-use Rattle.std.proofs.Common.{◌≡◌, ◌≢◌, ℕ, ◌+◌, ◌-◌, ◌<◌, true, false, not, List, [], ◌∷◌, ◌++◌, length, take, slice_index_or, Option, None, Some, Result, Ok, Err, IsOk, refl, ap, sym, subst, ◌∙◌, arith, append_assoc, append-nil}
+use Rattle.std.proofs.Common.{◌≡◌, ◌≢◌, ℕ, ◌+◌, ◌-◌, ◌<◌, true, List, [], ◌∷◌, ◌++◌, length, take, Option, None, Some, Result, Ok, Err, IsOk, refl, ap, sym, subst, ◌∙◌, arith, append_assoc}
 use Rattle.std.specs.Prelude.{MatchOption}
 use Rattle.std.specs.Option.{ok_or}
 use Rattle.solid_model.specs.declared.clause.Clause.{Clause}
 use Rattle.solid_model.specs.Names.{IsName}
 use Rattle.clause_reader.specs.declared.comments.Comments.TheVariants.{Skipped}
-use Rattle.clause_reader.specs.declared.text_fault.TextFault.{TextFault}
 use Rattle.clause_reader.specs.declared.text_reason.TextReason.{TextReason}
 use Rattle.clause_reader.specs.declared.text_reason.TextReason.TheVariants.{Empty, NoMemory}
-use Rattle.clause_reader.specs.Lines.{lines_of, tokens_of, is_clause}
-use Rattle.clause_reader.specs.NumberedLines.{given_from}
+use Rattle.clause_reader.specs.GivenLines.{IsGiven}
+use Rattle.clause_reader.specs.Lines.{lines_of, is_clause}
 use Rattle.clause_reader.specs.Reading.{clauses_with, on_result, lines_read, text_read, unless_empty, IsGoodUpTo, GivesModel}
 use Rattle.clause_reader.specs.Says.{clause_lines}
 use Rattle.clause_reader.specs.Tokens.{AreTokenBytes}
-use Rattle.clause_reader.proofs.LineWalk.{GivenAt, given-at}
+use Rattle.clause_reader.proofs.LineWalk.{given-lines-stand}
 use Rattle.clause_reader.proofs.Said.{said, lines_read-said, text_read-said}
 
 -- the clauses are what the first clause lines of the text say, and the others are left
@@ -54,7 +53,7 @@ reads-more text clauses new number tokens left reads ok = record {
 -- the next line says a clause
 pub says-clause : (text : List ℕ) (clauses : List Clause) (number : ℕ) (tokens : List (List ℕ)) (left : List (ℕ × List (List ℕ)))
     → Reads text clauses ((number, tokens) ∷ left) → is_clause tokens ≡ true
-says-clause text clauses number tokens left reads = (given-at Skipped (lines_of text) 1 reads.before number tokens left reads.parts).given
+says-clause text clauses number tokens left reads = (given-lines-stand Skipped 1 (lines_of text) reads.before number tokens left reads.parts).given
 
 -- so its first token is a name
 pub named : (first : List ℕ) (others : List (List ℕ)) → is_clause (first ∷ others) ≡ true → AreTokenBytes first → 0 < length first → IsName first
@@ -75,8 +74,8 @@ stop text clauses number tokens left reason reads refused no_memory = (
   },
 )
   where
-    at : GivenAt Skipped 1 (lines_of text) reads.before number tokens
-    at = given-at Skipped (lines_of text) 1 reads.before number tokens left reads.parts
+    at : IsGiven Skipped 1 (lines_of text) reads.before number tokens left
+    at = given-lines-stand Skipped 1 (lines_of text) reads.before number tokens left reads.parts
 
     good : (r : Result (List Clause) TextReason) → clauses_with clauses tokens ≡ r → IsOk r → IsGoodUpTo text number
     good (Ok new) is ok =

@@ -1,4 +1,5 @@
 pub mod Forms
+pub mod GivenLines
 pub mod LineLaws
 pub mod LineSplits
 pub mod Lines

@@ -1,5 +1,5 @@
 -- What a text says: a list of clauses, or the line on which it is refused and the reason.
-use Rattle.std.specs.Prelude.{◌≡◌, ◌≢◌, ℕ, ◌+◌, ◌-◌, ◌<◌, ◌==◌, Bool, true, false, not, nat_le, List, [], ◌∷◌, ◌++◌, length, take, Option, Some, None, is_some, is_none, slice_get, slice_index_or, Result, Ok, Err, IsOk, if◌then◌else◌}
+use Rattle.std.specs.Prelude.{◌≡◌, ◌≢◌, ℕ, ◌+◌, ◌-◌, ◌<◌, ◌==◌, Bool, true, not, nat_le, List, [], ◌∷◌, ◌++◌, length, take, Option, Some, None, is_some, is_none, slice_get, slice_index_or, Result, Ok, Err, IsOk, if◌then◌else◌}
 use Rattle.std.specs.List.{list_any}
 use Rattle.std.specs.Option.{option_map_or}
 use Rattle.fixed_ops.specs.declared.operation.Op.{Op}

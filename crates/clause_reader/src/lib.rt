@@ -21,7 +21,9 @@ mod written_form;
 pub use comments::Comments;
 pub use form::read_form;
 pub use form_fault::FormFault;
-pub use laws::{lines_and_tokens_are_exact, reading_is_exact, written_models_are_read};
+pub use laws::{
+    given_lines_stand, lines_and_tokens_are_exact, reading_is_exact, written_models_are_read,
+};
 pub use line::Line;
 pub use line_end::after_line;
 pub use lines::Lines;

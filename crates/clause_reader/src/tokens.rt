@@ -1,5 +1,5 @@
 // The tokens of a line, one after the other.
-ghost use Rattle.std.specs.Prelude.{◌≡◌, ◌<◌, [], ◌∷◌, length, IfSome, MatchOption};
+ghost use Rattle.std.specs.Prelude.{◌≡◌, ◌==◌, ◌<◌, [], ◌∷◌, length, IfSome, MatchOption};
 ghost use Rattle.clause_reader.specs.Scan.{line_tokens};
 ghost use Rattle.clause_reader.specs.Tokens.{AreTokenBytes};
 
@@ -27,9 +27,7 @@ impl<'t> Tokens<'t> {
     pub fn new(text: &'t [u8]) -> Tokens<'t>
         ensures { result ≡ line_tokens text.now }
     {
-        Tokens {
-            rest: text,
-        }
+        Tokens { rest: text }
     }
 
     /// The next token, which is some bytes that are neither blanks nor line feeds. `None`: none is
@@ -44,6 +42,14 @@ impl<'t> Tokens<'t> {
         let (token, rest) = split_token(self.rest)?;
         self.rest = rest;
         Some(token)
+    }
+
+    /// Whether no token is left.
+    #[inline]
+    pub fn is_empty(&self) -> bool
+        ensures { result ≡ (length self.now == 0) }
+    {
+        split_token(self.rest).is_none()
     }
 
     /// What is left of the line as bytes, and what stands after it.
