@@ -1,6 +1,7 @@
 mod LineExamples
 pub mod LineLemmas
 pub mod LineSteps
+pub mod LineWalk
 pub mod OpLemmas
 pub mod ReadBack
 mod ReadingExamples

@@ -1,105 +1,102 @@
--- How the lines of a text are read one after the other.
-use Rattle.std.proofs.Common.{◌≡◌, ◌≢◌, ℕ, zero, suc, ◌+◌, ◌-◌, true, List, [], ◌∷◌, ◌++◌, length, take, drop, slice_index_or, Option, None, Some, Result, Ok, Err, IsOk, refl, ap, sym, subst, ◌∙◌, arith, append-nil}
+-- How the clause lines of a text are read one after the other.
+use Rattle.std.proofs.Common.{◌≡◌, ◌≢◌, ℕ, ◌+◌, ◌-◌, ◌<◌, true, List, [], ◌∷◌, ◌++◌, length, take, Option, None, Some, Result, Ok, Err, IsOk, refl, ap, sym, subst, ◌∙◌, arith, append_assoc}
 use Rattle.std.specs.Prelude.{MatchOption}
 use Rattle.std.specs.Option.{ok_or}
-use Rattle.std.proofs.lemmas.List.{take-append-drop}
 use Rattle.solid_model.specs.declared.clause.Clause.{Clause}
+use Rattle.solid_model.specs.Names.{IsName}
+use Rattle.clause_reader.specs.declared.comments.Comments.TheVariants.{Skipped}
 use Rattle.clause_reader.specs.declared.text_reason.TextReason.{TextReason}
 use Rattle.clause_reader.specs.declared.text_reason.TextReason.TheVariants.{Empty, NoMemory}
-use Rattle.clause_reader.specs.Lines.{lines_of, tokens_of}
-use Rattle.clause_reader.specs.Reading.{is_clause, on_result, line_read, lines_read, unless_empty, IsGoodUpTo, GivesModel}
+use Rattle.clause_reader.specs.GivenLines.{IsGiven}
+use Rattle.clause_reader.specs.Lines.{lines_of, is_clause}
+use Rattle.clause_reader.specs.Reading.{clauses_with, on_result, lines_read, text_read, unless_empty, IsGoodUpTo, GivesModel}
+use Rattle.clause_reader.specs.Says.{clause_lines}
+use Rattle.clause_reader.specs.Tokens.{AreTokenBytes}
+use Rattle.clause_reader.proofs.LineWalk.{given-lines-stand}
+use Rattle.clause_reader.proofs.Said.{said, lines_read-said, text_read-said}
 
--- lines are read one after the other
-lines_read-append : (xs ys : List (List ℕ)) (clauses : List Clause) (number : ℕ)
-    → lines_read clauses number (xs ++ ys) ≡ on_result (lines_read clauses number xs) (λ new. lines_read new (number + length xs) ys) (λ fault. Err fault)
-lines_read-append [] ys clauses number = let same : number + 0 ≡ number = omega arith in rw same refl
-lines_read-append (x ∷ xs) ys clauses number = by (line_read clauses x) (λ new. lines_read-append xs ys new (number + 1))
+-- the clauses are what the first clause lines of the text say, and the others are left
+pub record Reads (text : List ℕ) (clauses : List Clause) (left : List (ℕ × List (List ℕ))) : Type 0 where
+  pub before : List (ℕ × List (List ℕ))
+  pub parts : clause_lines text ≡ before ++ left
+  pub read : said [] before ≡ Ok clauses
+
+-- clause lines are read one after the other
+said-append : (xs ys : List (ℕ × List (List ℕ))) (clauses : List Clause)
+    → said clauses (xs ++ ys) ≡ on_result (said clauses xs) (λ new. said new ys) (λ fault. Err fault)
+said-append [] ys clauses = refl
+said-append (x ∷ xs) ys clauses = by (clauses_with clauses x.1) (λ new. said-append xs ys new)
   where
     by : (r : Result (List Clause) TextReason)
-        → ((new : List Clause) → lines_read new (number + 1) (xs ++ ys) ≡ on_result (lines_read new (number + 1) xs) (λ more. lines_read more (number + 1 + length xs) ys) (λ fault. Err fault))
-        → on_result r (λ new. lines_read new (number + 1) (xs ++ ys)) (λ reason. Err (record { line = number; reason = reason }))
-        ≡ on_result (on_result r (λ new. lines_read new (number + 1) xs) (λ reason. Err (record { line = number; reason = reason }))) (λ more. lines_read more (number + suc (length xs)) ys) (λ fault. Err fault)
-    by (Ok new) later = let same : number + suc (length xs) ≡ number + 1 + length xs = omega arith in rw same (later new)
+        → ((new : List Clause) → said new (xs ++ ys) ≡ on_result (said new xs) (λ more. said more ys) (λ fault. Err fault))
+        → on_result r (λ new. said new (xs ++ ys)) (λ reason. Err (record { line = x.0; reason = reason }))
+        ≡ on_result (on_result r (λ new. said new xs) (λ reason. Err (record { line = x.0; reason = reason }))) (λ more. said more ys) (λ fault. Err fault)
+    by (Ok new) later = later new
     by (Err reason) later = refl
 
--- the lines up to a line, and after it
-record Around (lines : List (List ℕ)) (n : ℕ) (line : List ℕ) (rest : List (List ℕ)) : Type 0 where
-  more : take (n + 1) lines ≡ take n lines ++ line ∷ []
-  less : drop (n + 1) lines ≡ rest
-  long : length (take n lines) ≡ n
-
-Around-drop : (lines : List (List ℕ)) (n : ℕ) (line : List ℕ) (rest : List (List ℕ)) → drop n lines ≡ line ∷ rest → Around lines n line rest
-Around-drop [] zero line rest e = (cc)
-Around-drop [] (suc n) line rest e = (cc)
-Around-drop (x ∷ xs) zero line rest e = record { more = (cc); less = (cc); long = refl }
-Around-drop (x ∷ xs) (suc n) line rest e =
-    let a = Around-drop xs n line rest e in
-    let one : suc n + 1 ≡ suc (n + 1) = omega arith in
-    record { more = rw one (ap (λ front. x ∷ front) a.more); less = rw one a.less; long = ap suc a.long }
+-- the text says what the clause lines that are left say after the clauses so far
+says-left : (text : List ℕ) (clauses : List Clause) (left : List (ℕ × List (List ℕ))) → Reads text clauses left
+    → text_read text ≡ unless_empty (said clauses left)
+says-left text clauses left reads =
+    text_read-said text ∙ ap (λ lines. unless_empty (said [] lines)) reads.parts
+    ∙ ap unless_empty (said-append reads.before left [] ∙ rw reads.read refl)
 
 -- one line more
-after-line : (lines : List (List ℕ)) (n : ℕ) (line : List ℕ) (rest : List (List ℕ)) (clauses : List Clause) → drop n lines ≡ line ∷ rest
-    → lines_read [] 1 (take n lines) ≡ Ok clauses
-    → lines_read [] 1 (take (n + 1) lines) ≡ on_result (line_read clauses line) (λ new. Ok new) (λ reason. Err (record { line = n + 1; reason = reason }))
-after-line lines n line rest clauses e front =
-    let a = Around-drop lines n line rest e in
-    let number : 1 + length (take n lines) ≡ n + 1 = omega (arith, a.long) in
-    ap (lines_read [] 1) a.more ∙ lines_read-append (take n lines) (line ∷ []) [] 1 ∙ rw (front, number) refl
+pub reads-more : (text : List ℕ) (clauses new : List Clause) (number : ℕ) (tokens : List (List ℕ)) (left : List (ℕ × List (List ℕ)))
+    → Reads text clauses ((number, tokens) ∷ left) → clauses_with clauses tokens ≡ Ok new → Reads text new left
+reads-more text clauses new number tokens left reads ok = record {
+  before = reads.before ++ (number, tokens) ∷ [];
+  parts = reads.parts ∙ sym (append_assoc reads.before ((number, tokens) ∷ []) left);
+  read = said-append reads.before ((number, tokens) ∷ []) [] ∙ rw (reads.read, ok) refl;
+}
 
-pub advance : (lines : List (List ℕ)) (n : ℕ) (line : List ℕ) (rest : List (List ℕ)) (clauses new : List Clause) → drop n lines ≡ line ∷ rest
-    → lines_read [] 1 (take n lines) ≡ Ok clauses → line_read clauses line ≡ Ok new → (lines_read [] 1 (take (n + 1) lines) ≡ Ok new) × (drop (n + 1) lines ≡ rest)
-advance lines n line rest clauses new e front read =
-    (after-line lines n line rest clauses e front ∙ rw read refl, (Around-drop lines n line rest e).less)
+-- the next line says a clause
+pub says-clause : (text : List ℕ) (clauses : List Clause) (number : ℕ) (tokens : List (List ℕ)) (left : List (ℕ × List (List ℕ)))
+    → Reads text clauses ((number, tokens) ∷ left) → is_clause tokens ≡ true
+says-clause text clauses number tokens left reads = (given-lines-stand Skipped 1 (lines_of text) reads.before number tokens left reads.parts).given
 
--- a line that is refused
-refused-line : (lines : List (List ℕ)) (n : ℕ) (line : List ℕ) (rest : List (List ℕ)) (clauses : List Clause) (reason : TextReason) → drop n lines ≡ line ∷ rest
-    → lines_read [] 1 (take n lines) ≡ Ok clauses → line_read clauses line ≡ Err reason → lines_read [] 1 lines ≡ Err (record { line = n + 1; reason = reason })
-refused-line lines n line rest clauses reason e front read =
-    let front_read : lines_read [] 1 (take (n + 1) lines) ≡ Err (record { line = n + 1; reason = reason }) = after-line lines n line rest clauses e front ∙ rw read refl in
-    ap (lines_read [] 1) (sym (take-append-drop (n + 1) lines)) ∙ lines_read-append (take (n + 1) lines) (drop (n + 1) lines) [] 1 ∙ rw front_read refl
+-- so its first token is a name
+pub named : (first : List ℕ) (others : List (List ℕ)) → is_clause (first ∷ others) ≡ true → AreTokenBytes first → 0 < length first → IsName first
+named [] others solid bytes some = absurd (omega arith)
+named (byte ∷ bytes) others solid all some = rw solid all
 
--- what is first after some
-drop-first : {A : Type 0} (xs : List A) (n : ℕ) (y : A) (ys : List A) (other : A) → drop n xs ≡ y ∷ ys → slice_index_or xs n other ≡ y
-drop-first [] zero y ys other e = (cc)
-drop-first [] (suc n) y ys other e = (cc)
-drop-first (x ∷ xs) zero y ys other e = (cc)
-drop-first (x ∷ xs) (suc n) y ys other e = drop-first xs n y ys other e
-
-pub stop : (text : List ℕ) (n : ℕ) (line : List ℕ) (rest : List (List ℕ)) (clauses : List Clause) (reason : TextReason) → drop n (lines_of text) ≡ line ∷ rest
-    → lines_read [] 1 (take n (lines_of text)) ≡ Ok clauses
-    → (reason ≢ NoMemory → line_read clauses line ≡ Err reason) → (reason ≡ NoMemory → IsOk (line_read clauses line))
-    → is_clause (tokens_of line) ≡ true
-    → GivesModel text (Err (record { line = n + 1; reason = reason }))
-stop text n line rest clauses reason e front refused no_memory says = (
-  λ h. ap unless_empty (refused-line (lines_of text) n line rest clauses reason e front (refused h)),
+-- it is refused, or memory is wanted for it
+pub stop : (text : List ℕ) (clauses : List Clause) (number : ℕ) (tokens : List (List ℕ)) (left : List (ℕ × List (List ℕ))) (reason : TextReason)
+    → Reads text clauses ((number, tokens) ∷ left)
+    → (reason ≢ NoMemory → clauses_with clauses tokens ≡ Err reason) → (reason ≡ NoMemory → IsOk (clauses_with clauses tokens))
+    → GivesModel text (Err (record { line = number; reason = reason }))
+stop text clauses number tokens left reason reads refused no_memory = (
+  λ h. says-left text clauses ((number, tokens) ∷ left) reads ∙ rw (refused h) refl,
   λ h. record {
-    numbered = omega arith;
-    says = let same : n + 1 - 1 ≡ n = omega arith in
-        rw same (ap (λ (found : List ℕ). is_clause (tokens_of found)) (drop-first (lines_of text) n line rest [] e) ∙ says);
-    good = good (line_read clauses line) (no_memory h) (after-line (lines_of text) n line rest clauses e front);
+    numbered = omega (arith, at.numbered);
+    says = let place : number - 1 ≡ at.place = omega (arith, at.numbered) in rw place (ap is_clause at.line ∙ at.given);
+    good = good (clauses_with clauses tokens) refl (no_memory h);
   },
 )
   where
-    good : (r : Result (List Clause) TextReason) → IsOk r
-        → lines_read [] 1 (take (n + 1) (lines_of text)) ≡ on_result r (λ new. Ok new) (λ reason. Err (record { line = n + 1; reason = reason }))
-        → IsGoodUpTo text (n + 1)
-    good (Ok new) ok e = subst IsOk (sym e) refl
-    good (Err reason) ok e = (cc)
+    at : IsGiven Skipped 1 (lines_of text) reads.before number tokens left
+    at = given-lines-stand Skipped 1 (lines_of text) reads.before number tokens left reads.parts
+
+    good : (r : Result (List Clause) TextReason) → clauses_with clauses tokens ≡ r → IsOk r → IsGoodUpTo text number
+    good (Ok new) is ok =
+        let up_to : number ≡ at.place + 1 = omega (arith, at.numbered) in
+        let front : lines_read [] 1 (take number (lines_of text)) ≡ Ok new =
+        ap (λ n. lines_read [] 1 (take n (lines_of text))) up_to ∙ lines_read-said (take (at.place + 1) (lines_of text)) [] 1 ∙ ap (said []) at.up_to
+        ∙ said-append reads.before ((number, tokens) ∷ []) [] ∙ rw (reads.read, is) refl in
+        subst IsOk (sym front) refl
+    good (Err other) is ok = (cc)
 
 -- the end of the text
-pub finish : (text : List ℕ) (n : ℕ) (clauses : List Clause) (r : Option (List Clause)) → drop n (lines_of text) ≡ []
-    → lines_read [] 1 (take n (lines_of text)) ≡ Ok clauses → MatchOption r (clauses ≡ []) (λ model. (model ≡ clauses) × (clauses ≢ []))
+pub finish : (text : List ℕ) (clauses : List Clause) (r : Option (List Clause)) → Reads text clauses []
+    → MatchOption r (clauses ≡ []) (λ model. (model ≡ clauses) × (clauses ≢ []))
     → GivesModel text (ok_or r (record { line = 0; reason = Empty }))
-finish text n clauses r e front end =
-    let whole : take n (lines_of text) ≡ lines_of text = sym (append-nil (take n (lines_of text))) ∙ ap (λ rest. take n (lines_of text) ++ rest) (sym e) ∙ take-append-drop n (lines_of text) in
-    let read : lines_read [] 1 (lines_of text) ≡ Ok clauses = ap (lines_read [] 1) (sym whole) ∙ front in
-    by r end read
+finish text clauses r reads end = by r end (says-left text clauses [] reads)
   where
     some : (xs : List Clause) → xs ≢ [] → unless_empty (Ok xs) ≡ Ok xs
     some [] h = absurd (h refl)
     some (x ∷ xs) h = refl
 
-    by : (r : Option (List Clause)) → MatchOption r (clauses ≡ []) (λ model. (model ≡ clauses) × (clauses ≢ [])) → lines_read [] 1 (lines_of text) ≡ Ok clauses
+    by : (r : Option (List Clause)) → MatchOption r (clauses ≡ []) (λ model. (model ≡ clauses) × (clauses ≢ [])) → text_read text ≡ unless_empty (Ok clauses)
         → GivesModel text (ok_or r (record { line = 0; reason = Empty }))
-    by None none read = (λ h. ap unless_empty (read ∙ ap Ok none), λ h. (cc))
-    by (Some model) is read = ap unless_empty read ∙ some clauses is.1 ∙ ap Ok (sym is.0)
+    by None none read = (λ h. read ∙ ap (λ xs. unless_empty (Ok xs)) none, λ h. (cc))
+    by (Some model) is read = read ∙ some clauses is.1 ∙ ap Ok (sym is.0)

@@ -1,16 +1,18 @@
 -- Reading answers what the relations between clause lines and clauses say.
-use Rattle.std.proofs.Common.{◌≡◌, ◌≢◌, ◌↔◌, ℕ, zero, suc, ◌+◌, ◌<◌, Bool, true, false, cond, not, eqb, nat_le, is_some, List, [], ◌∷◌, ◌++◌, length, map, take, drop, ◌⊎◌, inl, inr, Option, None, Some, Result, Ok, Err, slice_get, refl, ap, sym, subst, ◌∙◌, arith, append_assoc, append-nil}
-use Rattle.std.specs.List.{range_with_len, zip, filter, list_any}
+use Rattle.std.proofs.Common.{◌≡◌, ◌≢◌, ◌↔◌, ℕ, zero, suc, ◌+◌, ◌<◌, Bool, true, false, cond, not, eqb, nat_le, is_some, List, [], ◌∷◌, ◌++◌, length, take, drop, ◌⊎◌, inl, inr, Option, None, Some, Result, Ok, Err, slice_get, refl, ap, sym, subst, ◌∙◌, arith, append_assoc, append-nil}
+use Rattle.std.specs.List.{list_any}
 use Rattle.std.proofs.lemmas.List.{drop_all}
 use Rattle.fixed_ops.specs.declared.operation.Op.{Op}
 use Rattle.solid_model.specs.declared.clause.Clause.{Clause}
 use Rattle.solid_model.specs.Clauses.{place_of}
+use Rattle.clause_reader.specs.declared.comments.Comments.TheVariants.{Skipped}
 use Rattle.clause_reader.specs.declared.text_fault.TextFault.{TextFault}
 use Rattle.clause_reader.specs.declared.text_reason.TextReason.{TextReason}
 use Rattle.clause_reader.specs.declared.text_reason.TextReason.TheVariants.{Empty, NoMemory}
 use Rattle.clause_reader.specs.Forms.{operation_of, takes, operands, numerals, is_no_numeral}
-use Rattle.clause_reader.specs.Lines.{lines_of, tokens_of}
-use Rattle.clause_reader.specs.Reading.{on_result, clause_of, clauses_with, has_unknown, is_clause, lines_read, unless_empty, text_read}
+use Rattle.clause_reader.specs.Lines.{lines_of, tokens_of, is_clause}
+use Rattle.clause_reader.specs.Reading.{on_result, clause_of, clauses_with, has_unknown, lines_read, unless_empty, text_read}
+use Rattle.clause_reader.specs.NumberedLines.{given_from}
 use Rattle.clause_reader.specs.Says.{clause_lines, AreSaid, Reads, Refuses}
 
 -- what a clause line says is one clause, at the end
@@ -35,31 +37,27 @@ clauses_with-one clauses (name ∷ word ∷ args) new e = by_operation (operatio
     by_operation (Some op) is = by_tests op _ _ _ _ _ is refl refl refl refl refl
 
 -- the clauses that clause lines say after these, or the first line that is refused
-abbrev said : List Clause → List (ℕ × List (List ℕ)) → Result (List Clause) TextFault
+abbrev pub said : List Clause → List (ℕ × List (List ℕ)) → Result (List Clause) TextFault
 said clauses [] = Ok clauses
 said clauses (line ∷ lines) =
     on_result (clauses_with clauses line.1) (λ new. said new lines) (λ reason. Err (record { line = line.0; reason = reason }))
 
--- the clause lines of lines that are numbered from this number on
-abbrev clause_lines_from : ℕ → List (List ℕ) → List (ℕ × List (List ℕ))
-clause_lines_from number lines = filter (λ line. is_clause line.1) (zip (range_with_len number (length lines)) (map tokens_of lines))
-
 -- lines that say no clause change nothing
-lines_read-said : (lines : List (List ℕ)) (clauses : List Clause) (number : ℕ)
-    → lines_read clauses number lines ≡ said clauses (clause_lines_from number lines)
+pub lines_read-said : (lines : List (List ℕ)) (clauses : List Clause) (number : ℕ)
+    → lines_read clauses number lines ≡ said clauses (given_from Skipped number lines)
 lines_read-said [] clauses number = refl
 lines_read-said (line ∷ lines) clauses number =
     by (is_clause (tokens_of line)) (clauses_with clauses (tokens_of line)) refl (λ new. lines_read-said lines new (number + 1))
   where
     by : (b : Bool) (r : Result (List Clause) TextReason) → clauses_with clauses (tokens_of line) ≡ r
-        → ((new : List Clause) → lines_read new (number + 1) lines ≡ said new (clause_lines_from (number + 1) lines))
+        → ((new : List Clause) → lines_read new (number + 1) lines ≡ said new (given_from Skipped (number + 1) lines))
         → on_result (cond b (clauses_with clauses (tokens_of line)) (Ok clauses)) (λ new. lines_read new (number + 1) lines) (λ reason. Err (record { line = number; reason = reason }))
-        ≡ said clauses (cond b ((number, tokens_of line) ∷ clause_lines_from (number + 1) lines) (clause_lines_from (number + 1) lines))
+        ≡ said clauses (cond b ((number, tokens_of line) ∷ given_from Skipped (number + 1) lines) (given_from Skipped (number + 1) lines))
     by true (Err reason) is later = rw is refl
     by true (Ok new) is later = rw is (later new)
     by false r is later = later clauses
 
-text_read-said : (text : List ℕ) → text_read text ≡ unless_empty (said [] (clause_lines text))
+pub text_read-said : (text : List ℕ) → text_read text ≡ unless_empty (said [] (clause_lines text))
 text_read-said text = ap unless_empty (lines_read-said (lines_of text) [] 1)
 
 -- the new clause at place k is what the line at place k says after the clauses before it

@@ -1,8 +1,10 @@
 pub mod Forms
+pub mod GivenLines
 pub mod LineLaws
 pub mod LineSplits
 pub mod Lines
 pub mod ModelText
+pub mod NumberedLines
 pub mod Reading
 pub mod ReadingLaws
 pub mod Says

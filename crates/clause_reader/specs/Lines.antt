@@ -1,5 +1,5 @@
 -- The lines of a text, and the tokens of a line.
-use Rattle.std.specs.Prelude.{ℕ, ◌==◌, Bool, false, List, [], ◌∷◌, if◌then◌else◌}
+use Rattle.std.specs.Prelude.{ℕ, ◌==◌, Bool, false, not, List, [], ◌∷◌, if◌then◌else◌}
 use Rattle.std.specs.List.{before_first}
 use Rattle.solid_model.specs.Names.{is_blank}
 
@@ -36,3 +36,8 @@ line_of bytes = before_first is_feed bytes
 abbrev pub begins_comment : List ℕ → Bool
 begins_comment [] = false
 begins_comment (byte ∷ rest) = byte == 35
+
+-- tokens that say a clause: some, of which the first begins no comment
+abbrev pub is_clause : List (List ℕ) → Bool
+is_clause [] = false
+is_clause (first ∷ others) = not (begins_comment first)

@@ -1,5 +1,5 @@
 -- What a text says: a list of clauses, or the line on which it is refused and the reason.
-use Rattle.std.specs.Prelude.{◌≡◌, ◌≢◌, ℕ, ◌+◌, ◌-◌, ◌<◌, ◌==◌, Bool, true, false, not, nat_le, List, [], ◌∷◌, ◌++◌, length, take, Option, Some, None, is_some, is_none, slice_get, slice_index_or, Result, Ok, Err, IsOk, if◌then◌else◌}
+use Rattle.std.specs.Prelude.{◌≡◌, ◌≢◌, ℕ, ◌+◌, ◌-◌, ◌<◌, ◌==◌, Bool, true, not, nat_le, List, [], ◌∷◌, ◌++◌, length, take, Option, Some, None, is_some, is_none, slice_get, slice_index_or, Result, Ok, Err, IsOk, if◌then◌else◌}
 use Rattle.std.specs.List.{list_any}
 use Rattle.std.specs.Option.{option_map_or}
 use Rattle.fixed_ops.specs.declared.operation.Op.{Op}
@@ -9,7 +9,7 @@ use Rattle.clause_reader.specs.declared.text_fault.TextFault.{TextFault}
 use Rattle.clause_reader.specs.declared.text_reason.TextReason.{TextReason}
 use Rattle.clause_reader.specs.declared.text_reason.TextReason.TheVariants.{NoOperation, UnknownOperation, WrongArity, BadNumeral, UnknownName, DoubleName, TooMany, Empty, NoMemory}
 use Rattle.clause_reader.specs.Forms.{operation_of, takes, operands, numerals, is_no_numeral, number_of}
-use Rattle.clause_reader.specs.Lines.{lines_of, tokens_of, begins_comment}
+use Rattle.clause_reader.specs.Lines.{lines_of, tokens_of, is_clause}
 
 -- the answer from a value, or from a fault
 abbrev pub on_result : {A E C : Type 0} → Result A E → (A → C) → (E → C) → C
@@ -54,11 +54,6 @@ clauses_with clauses (name ∷ word ∷ args) = on_operation (operation_of word)
         else if is_some (place_of clauses name) then Err DoubleName
         else if nat_le 65535 (length clauses) then Err TooMany
         else Ok (clauses ++ clause_of clauses name op args ∷ [])
-
--- tokens that say a clause: some, of which the first begins no comment
-abbrev pub is_clause : List (List ℕ) → Bool
-is_clause [] = false
-is_clause (first ∷ others) = not (begins_comment first)
 
 -- the clauses after a line, or the first reason to refuse it
 abbrev pub line_read : List Clause → List ℕ → Result (List Clause) TextReason

@@ -1,16 +1,11 @@
 -- What a text says, as relations between the lines of the text and the clauses, with no reader in them.
-use Rattle.std.specs.Prelude.{◌≡◌, ℕ, ◌+◌, ◌<◌, ◌⊎◌, List, [], length, map, filter, zip, take, slice_get, Some, Ok, Err}
-use Rattle.std.specs.List.{range_with_len}
+use Rattle.std.specs.Prelude.{◌≡◌, ℕ, ◌+◌, ◌<◌, ◌⊎◌, List, [], length, filter, take, slice_get, Some, Ok, Err}
 use Rattle.solid_model.specs.declared.clause.Clause.{Clause}
 use Rattle.clause_reader.specs.declared.text_reason.TextReason.{TextReason}
 use Rattle.clause_reader.specs.declared.text_reason.TextReason.TheVariants.{Empty}
-use Rattle.clause_reader.specs.Lines.{lines_of, tokens_of}
-use Rattle.clause_reader.specs.Reading.{is_clause, clauses_with}
-
--- the lines of a text by their tokens, each with its number, from 1 on
-abbrev pub numbered_lines : List ℕ → List (ℕ × List (List ℕ))
-numbered_lines text =
-    zip (range_with_len 1 (length (lines_of text))) (map tokens_of (lines_of text))
+use Rattle.clause_reader.specs.Lines.{is_clause}
+use Rattle.clause_reader.specs.NumberedLines.{numbered_lines}
+use Rattle.clause_reader.specs.Reading.{clauses_with}
 
 -- the lines of a text that say a clause, each as its number among all lines and its tokens
 abbrev pub clause_lines : List ℕ → List (ℕ × List (List ℕ))

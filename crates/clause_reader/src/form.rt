@@ -8,10 +8,10 @@ ghost use Rattle.clause_reader.specs.Written.{checked, names_in, parts_in};
 ghost use Rattle.solid_model.specs.Parts.{IsForm};
 ghost use Rattle.solid_model.specs.Refusals.{RefusesAs, WantsMemoryFor};
 
-use crate::FormFault;
 use crate::operands::Operands;
-use crate::tokens::begins_comment;
-use crate::written_form::{WrittenForm, split_form};
+use crate::token::begins_comment;
+use crate::written_form::{WrittenForm, form_of};
+use crate::{FormFault, Tokens};
 use solid_model::{Form, Name};
 use std::alloc::{AllocError, Global};
 
@@ -26,8 +26,8 @@ pub fn read_form(alloc: Global, rest: &[u8]) -> Result<Form, FormFault>
     ensures names { result ≡ Err FormFault.NoMemory
         → IfOk (form_read (line_tokens rest.now)) (λ form. form.args ≢ []) }
 {
-    match split_form(rest) {
-        Ok((form, _)) => make_form(alloc, form),
+    match form_of(Tokens::new(rest)) {
+        Ok(form) => make_form(alloc, form),
         Err(defect) => Err(FormFault::from(defect)),
     }
 }

@@ -1,4 +1,5 @@
 // What always holds of the definitions that the contracts cite.
+ghost use Rattle.clause_reader.specs.GivenLines.{GivenLinesStand};
 ghost use Rattle.clause_reader.specs.LineLaws.{LinesAreExact, TokensAreExact};
 ghost use Rattle.clause_reader.specs.ReadingLaws.{ReadingIsExact, RefusingIsExact, EachTextIsAnswered, NoneIsReadAndRefused, OneReading, OneRefusal, MemoryIsNoReason, EachLineAddsOne};
 ghost use Rattle.clause_reader.specs.WritingLaws.{WrittenModelsAreRead, WrittenModelsAreSaid};
@@ -26,6 +27,12 @@ pub fn reading_is_exact()
 pub fn lines_and_tokens_are_exact()
     ensures lines { LinesAreExact }
     ensures tokens { TokensAreExact }
+{}
+
+/// Each of the lines that `Lines` gives is the line of its number: those that are given before it
+/// stand before it, and the others after it.
+pub fn given_lines_stand()
+    ensures { GivenLinesStand }
 {}
 
 /// The text of a model says the very model, and is read as it: the same clauses, names and

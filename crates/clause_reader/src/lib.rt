@@ -1,26 +1,37 @@
 //! Texts of models: how one is read, line by line, why one is refused, and how one is written.
 #![tactic(auto)]
 
+mod comments;
 mod form;
 mod form_defect;
 mod form_fault;
 mod laws;
+mod line;
+mod line_end;
 mod lines;
 mod operands;
 mod reader;
 mod text_fault;
 mod text_reason;
+mod token;
 mod tokens;
 mod writer;
 mod written_form;
 
+pub use comments::Comments;
 pub use form::read_form;
 pub use form_fault::FormFault;
-pub use laws::{lines_and_tokens_are_exact, reading_is_exact, written_models_are_read};
+pub use laws::{
+    given_lines_stand, lines_and_tokens_are_exact, reading_is_exact, written_models_are_read,
+};
+pub use line::Line;
+pub use line_end::after_line;
+pub use lines::Lines;
 pub use reader::read_model;
 pub use text_fault::TextFault;
 pub use text_reason::TextReason;
-pub use tokens::next_token;
+pub use token::{begins_comment, next_token};
+pub use tokens::Tokens;
 pub use writer::write_model;
 
 #[cfg(test)]

@@ -1,9 +1,8 @@
 // Up to two arguments, as they stand in a line.
 ghost use Rattle.std.specs.Prelude.{◌≡◌, ◌<◌, length, IfNone, IfSome};
-ghost use Rattle.clause_reader.specs.Scan.{after_line, line_tokens};
 ghost use Rattle.clause_reader.specs.Written.{names_in};
 
-use crate::tokens::split_token;
+use crate::Tokens;
 
 /// Up to two tokens.
 #[derive(Clone, Copy, Debug)]
@@ -26,21 +25,19 @@ impl Operands<'_> {
     }
 }
 
-/// The tokens up to the end of the line, and what stands after them. `None`: there are more than
-/// two.
-pub(crate) fn split_operands(text: &[u8]) -> Option<(Operands<'_>, &[u8])>
-    ensures many { IfNone result (2 < length (line_tokens text.now)) }
-    ensures tokens { IfSome result (λ parts. names_in parts.0 ≡ line_tokens text.now) }
-    ensures rest { IfSome result (λ parts. after_line parts.1.now ≡ after_line text.now) }
+/// The tokens of a line. `None`: there are more than two.
+pub(crate) fn operands_of<'t>(mut tokens: Tokens<'t>) -> Option<Operands<'t>>
+    ensures many { IfNone result (2 < length tokens.entry) }
+    ensures tokens { IfSome result (λ operands. names_in operands ≡ tokens.entry) }
 {
-    let Some((first, after_first)) = split_token(text) else {
-        return Some((Operands::Zero, text));
+    let Some(first) = tokens.next() else {
+        return Some(Operands::Zero);
     };
-    let Some((second, after_second)) = split_token(after_first) else {
-        return Some((Operands::One(first), after_first));
+    let Some(second) = tokens.next() else {
+        return Some(Operands::One(first));
     };
-    match split_token(after_second) {
-        None => Some((Operands::Two(first, second), after_second)),
+    match tokens.next() {
+        None => Some(Operands::Two(first, second)),
         Some(_) => None,
     }
 }

@@ -1,18 +1,15 @@
 // A model from a text.
 ghost use Rattle.std.specs.Prelude.{◌≡◌, ◌^◌, ◌<◌, ◌∷◌, Ok, true, is_none, length, IfErr, IfOk, IfSome, OnOk};
 ghost use Rattle.solid_model.specs.Names.{IsName};
-ghost use Rattle.clause_reader.specs.Lines.{line_of};
-ghost use Rattle.clause_reader.specs.Reading.{clauses_with, has_unknown, is_clause, line_read, place_or_zero, GivesModel};
-ghost use Rattle.clause_reader.specs.Scan.{after_line, line_tokens};
+ghost use Rattle.clause_reader.specs.Reading.{clauses_with, has_unknown, place_or_zero, GivesModel};
+ghost use Rattle.clause_reader.specs.Scan.{line_tokens};
 ghost use Rattle.clause_reader.specs.Written.{extended, names_in, parts_in};
 ghost use Rattle.solid_model.specs.Parts.{IsForm};
 ghost use Rattle.solid_model.specs.Refusals.{RefusesAs, WantsMemoryFor};
 
-use crate::lines::after_line;
 use crate::operands::Operands;
-use crate::tokens::{begins_comment, split_token};
-use crate::written_form::{WrittenForm, split_form};
-use crate::{TextFault, TextReason};
+use crate::written_form::{WrittenForm, form_of};
+use crate::{Comments, Lines, TextFault, TextReason, Tokens};
 use solid_model::{Model, ModelBuilder, PushFault};
 use std::alloc::Global;
 
@@ -26,18 +23,13 @@ pub fn read_model(alloc: Global, text: &[u8]) -> Result<Model, TextFault>
     ensures { GivesModel text.now result }
 {
     let mut builder = ModelBuilder::new(alloc);
-    let mut number = 0;
-    let mut rest = text;
-    while !rest.is_empty() {
-        number += 1;
-        match read_line(&mut builder, rest) {
-            Ok(after) => rest = after,
-            Err(reason) => {
-                return Err(TextFault {
-                    line: number,
-                    reason,
-                });
-            }
+    let mut lines = Lines::new(text, Comments::Skipped);
+    while let Some(line) = lines.next() {
+        if let Err(reason) = read_clause(&mut builder, line.first, line.others) {
+            return Err(TextFault {
+                line: line.number,
+                reason,
+            });
         }
     }
     builder.finish().ok_or(TextFault {
@@ -46,45 +38,21 @@ pub fn read_model(alloc: Global, text: &[u8]) -> Result<Model, TextFault>
     })
 }
 
-// Adds the clause of the line with which a text begins, if it says one, and gives the text after
-// the line.
-fn read_line<'t>(builder: &mut ModelBuilder, text: &'t [u8]) -> Result<&'t [u8], TextReason>
-    ensures ok { OnOk result (line_read builder.old (line_of text.now) ≡ Ok builder.new) }
-    ensures rest { IfOk result (λ after. after.now ≡ after_line text.now) }
-    ensures refused { RefusesAs (line_read builder.old (line_of text.now)) TextReason.NoMemory
-        result }
-    ensures no_memory { WantsMemoryFor (line_read builder.old (line_of text.now))
-        TextReason.NoMemory result }
-    ensures says { IfErr result (λ reason. is_clause (line_tokens text.now) ≡ true) }
-{
-    match split_token(text) {
-        None => Ok(after_line(text)),
-        Some((name, rest)) if begins_comment(name) => Ok(after_line(rest)),
-        Some((name, rest)) => read_clause(builder, name, rest),
-    }
-}
-
-// Adds the clause of this name, whose operation and arguments follow in the line, and gives the
-// text after the line.
-fn read_clause<'t>(
+// Adds the clause of this name, whose operation and arguments are these tokens.
+fn read_clause(
     builder: &mut ModelBuilder,
     name: &[u8],
-    text: &'t [u8],
-) -> Result<&'t [u8], TextReason>
+    tokens: Tokens<'_>,
+) -> Result<(), TextReason>
     requires { IsName name.now }
-    ensures ok { OnOk result (clauses_with builder.old (name.now ∷ line_tokens text.now) ≡ Ok
-        builder.new) }
-    ensures rest { IfOk result (λ after. after.now ≡ after_line text.now) }
-    ensures refused { RefusesAs (clauses_with builder.old (name.now ∷ line_tokens text.now))
+    ensures ok { OnOk result (clauses_with builder.old (name.now ∷ tokens.entry) ≡ Ok builder.new) }
+    ensures refused { RefusesAs (clauses_with builder.old (name.now ∷ tokens.entry))
         TextReason.NoMemory result }
-    ensures no_memory { WantsMemoryFor (clauses_with builder.old (name.now ∷ line_tokens text.now))
+    ensures no_memory { WantsMemoryFor (clauses_with builder.old (name.now ∷ tokens.entry))
         TextReason.NoMemory result }
 {
-    match split_form(text) {
-        Ok((form, rest)) => match push_form(builder, name, form) {
-            Ok(()) => Ok(after_line(rest)),
-            Err(reason) => Err(reason),
-        },
+    match form_of(tokens) {
+        Ok(form) => push_form(builder, name, form),
         Err(defect) => Err(TextReason::from(defect)),
     }
 }

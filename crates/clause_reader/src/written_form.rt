@@ -1,12 +1,11 @@
 // An operation with its arguments, as they stand in a line.
 ghost use Rattle.std.specs.Prelude.{◌≡◌, Ok, Err, MatchResult, IfOk};
 ghost use Rattle.solid_model.specs.Parts.{IsForm};
-ghost use Rattle.clause_reader.specs.Scan.{after_line, line_tokens};
 ghost use Rattle.clause_reader.specs.Written.{names_in, parts_in, with_arguments, written};
 
+use crate::Tokens;
 use crate::form_defect::FormDefect;
-use crate::operands::{Operands, split_operands};
-use crate::tokens::split_token;
+use crate::operands::{Operands, operands_of};
 use fixed_ops::{Fx, Op, arity, raw_range, read_numeral, read_op};
 
 /// An operation, the names of its operands as they stand in a line, and the number of a constant.
@@ -17,27 +16,22 @@ pub(crate) struct WrittenForm<'t> {
     pub value: Fx,
 }
 
-/// The form that the tokens up to the end of the line say, and what stands after them.
-pub(crate) fn split_form(text: &[u8]) -> Result<(WrittenForm<'_>, &[u8]), FormDefect>
-    ensures form { MatchResult result
-        (λ parts. written (line_tokens text.now) ≡ Ok (parts_in parts.0))
-        (λ defect. written (line_tokens text.now) ≡ Err defect) }
-    ensures rest { IfOk result (λ parts. after_line parts.1.now ≡ after_line text.now) }
-    ensures is_form { IfOk result (λ parts. IsForm (parts_in parts.0)) }
+/// The form that tokens say.
+pub(crate) fn form_of<'t>(mut tokens: Tokens<'t>) -> Result<WrittenForm<'t>, FormDefect>
+    ensures form { MatchResult result (λ form. written tokens.entry ≡ Ok (parts_in form))
+        (λ defect. written tokens.entry ≡ Err defect) }
+    ensures is_form { IfOk result (λ form. IsForm (parts_in form)) }
 {
-    let Some((word, rest)) = split_token(text) else {
+    let Some(word) = tokens.next() else {
         return Err(FormDefect::NoOperation);
     };
     let Some(op) = read_op(word) else {
         return Err(FormDefect::UnknownOperation);
     };
-    let Some((arguments, rest)) = split_operands(rest) else {
+    let Some(arguments) = operands_of(tokens) else {
         return Err(FormDefect::WrongArity);
     };
-    match with_arguments(op, arguments) {
-        Ok(form) => Ok((form, rest)),
-        Err(defect) => Err(defect),
-    }
+    with_arguments(op, arguments)
 }
 
 // The form of an operation with these arguments.

@@ -8,7 +8,7 @@ use Rattle.solid_model.specs.declared.edit.Edit.TheVariants as edits
 use Rattle.view_settings.specs.Setting.{setting_of}
 use Rattle.view_settings.specs.Window.{Window, has_room}
 use Rattle.clause_reader.specs.Lines.{tokens_of}
-use Rattle.edit_script.specs.Commands.{Gives, IsCommand, command_read, line_read}
+use Rattle.edit_script.specs.Commands.{Gives, IsCommand, command_read}
 use Rattle.edit_script.specs.Keywords.{keyword_named}
 use Rattle.edit_script.specs.Marks.{before_mark, mark_ends}
 use Rattle.edit_script.specs.declared.command.Command.TheVariants.{Edit, Height, Mesh, Render, Stray, Text}
@@ -213,13 +213,10 @@ memory_for_a_value = (λ other. absurd (other refl), λ memory. refl)
 no_memory_for_a_refusal : Gives {A = ℕ} (Err BadNumeral) (Err NoMemory) → ⊥
 no_memory_for_a_refusal gives = let accepted : false ≡ true = gives.1 refl in (cc)
 
--- a line that says no command leaves the commands as they are
-more_commands : map (λ more. pushed (Text ∷ []) more) (Ok (Some (Stray 5)) ∷ Ok None ∷ Err BadName ∷ [])
-    ≡ Ok (Text ∷ Stray 5 ∷ []) ∷ Ok (Text ∷ []) ∷ Err BadName ∷ []
+-- a line that is refused adds no command
+more_commands : map (λ more. pushed (Text ∷ []) more) (Ok (Stray 5) ∷ Err BadName ∷ []) ≡ Ok (Text ∷ Stray 5 ∷ []) ∷ Err BadName ∷ []
 more_commands = refl
 
--- a comment and a blank line say no command
-lines_one_by_one : map (λ line. line_read 3 (tokens_of line))
-    (codes "cut #x" ∷ codes "# cut x" ∷ [] ∷ codes "paint x" ∷ [])
-    ≡ Ok (Some (Stray 3)) ∷ Ok None ∷ Ok None ∷ Err UnknownCommand ∷ []
+-- lines that are no comments
+lines_one_by_one : map (λ line. command_read 3 (tokens_of line)) (codes "cut #x" ∷ codes "paint x" ∷ []) ≡ Ok (Stray 3) ∷ Err UnknownCommand ∷ []
 lines_one_by_one = refl

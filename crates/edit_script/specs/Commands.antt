@@ -8,7 +8,7 @@ use Rattle.clause_reader.specs.declared.form_fault.FormFault.{FormFault}
 use Rattle.clause_reader.specs.declared.form_fault.FormFault.TheVariants as forms
 use Rattle.clause_reader.specs.Forms.{form_read}
 use Rattle.clause_reader.specs.Lines.{begins_comment}
-use Rattle.clause_reader.specs.Reading.{is_clause, on_result}
+use Rattle.clause_reader.specs.Reading.{on_result}
 use Rattle.view_settings.specs.declared.job.Job.{Job}
 use Rattle.view_settings.specs.declared.job.Job.TheVariants as jobs
 use Rattle.view_settings.specs.declared.verb.Verb.{Verb}
@@ -140,13 +140,6 @@ keyword_read line (Some keyword) tokens = after_keyword line keyword tokens
 abbrev pub command_read : ℕ → List (List ℕ) → Result Command ScriptReason
 command_read line [] = Err UnknownCommand
 command_read line (word ∷ tokens) = keyword_read line (keyword_named word) tokens
-
--- the command of a line, or none where it is blank or a comment
-abbrev pub line_read : ℕ → List (List ℕ) → Result (Option Command) ScriptReason
-line_read line tokens =
-    if is_clause tokens
-    then on_result (command_read line tokens) (λ command. Ok (Some command)) (λ reason. Err reason)
-    else Ok None
 
 -- what a command always keeps: its edit is one, and what it draws may be drawn of its view
 abbrev pub IsCommand : Command → Type 0

@@ -1,8 +1,8 @@
 -- What an input says as a script: its commands, or the line on which it is refused and the reason.
 use Rattle.std.specs.Prelude.{◌≡◌, ◌≢◌, ℕ, ◌+◌, ◌-◌, ◌<◌, true, List, [], ◌∷◌, ◌++◌, map, filter, drop, slice_index_or, Option, Some, None, Result, Ok, Err, IfErr}
-use Rattle.clause_reader.specs.Lines.{lines_of, tokens_of}
-use Rattle.clause_reader.specs.Reading.{is_clause, on_result}
-use Rattle.clause_reader.specs.Says.{numbered_lines}
+use Rattle.clause_reader.specs.Lines.{lines_of, tokens_of, is_clause}
+use Rattle.clause_reader.specs.NumberedLines.{numbered_lines}
+use Rattle.clause_reader.specs.Reading.{on_result}
 use Rattle.edit_script.specs.declared.command.Command.{Command}
 use Rattle.edit_script.specs.declared.script_fault.ScriptFault.{ScriptFault}
 use Rattle.edit_script.specs.declared.script_reason.ScriptReason.{ScriptReason}
@@ -39,11 +39,9 @@ commands_after input (Some mark) = all_or_first (map command_at (command_lines i
 abbrev pub script_read : List ℕ → Result (List Command) ScriptFault
 script_read input = commands_after input (mark_place input)
 
--- commands with that of one more line, where it says one
-abbrev pub pushed : List Command → Result (Option Command) ScriptReason
-    → Result (List Command) ScriptReason
-pushed commands (Ok (Some command)) = Ok (commands ++ command ∷ [])
-pushed commands (Ok None) = Ok commands
+-- commands with one more, where there is one
+abbrev pub pushed : List Command → Result Command ScriptReason → Result (List Command) ScriptReason
+pushed commands (Ok command) = Ok (commands ++ command ∷ [])
 pushed commands (Err reason) = Err reason
 
 -- a fault of an input: the very line and reason for which it is refused, or want of memory on a

@@ -1,20 +1,19 @@
 // Draws, and the text.
 ghost use Rattle.std.specs.Prelude.{◌≡◌, IfOk};
-ghost use Rattle.clause_reader.specs.Scan.{line_tokens};
 ghost use Rattle.edit_script.specs.Commands.{draw_read, job_or_bad, text_read, IsCommand};
 ghost use Rattle.view_settings.specs.Settings.{IsJob};
 ghost use Rattle.view_settings.specs.Words.{job_after};
 
-use crate::token::first_token;
 use crate::{Command, ScriptReason};
+use clause_reader::Tokens;
 use view_settings::{Job, Settings, Verb};
 
-/// The command that draws as this verb, whose settings follow in the line.
-pub(crate) fn read_draw(verb: Verb, text: &[u8]) -> Result<Command, ScriptReason>
-    ensures value { result ≡ draw_read verb (line_tokens text.now) }
+/// The command that draws as this verb, with these settings.
+pub(crate) fn read_draw(verb: Verb, tokens: Tokens<'_>) -> Result<Command, ScriptReason>
+    ensures value { result ≡ draw_read verb tokens.entry }
     ensures keeps { IfOk result IsCommand }
 {
-    match read_settings(verb, text)? {
+    match read_settings(verb, tokens)? {
         Job::Render(view) => Ok(Command::Render(view)),
         Job::Height(view) => Ok(Command::Height(view)),
         Job::Mesh(view) => Ok(Command::Mesh(view)),
@@ -22,18 +21,16 @@ pub(crate) fn read_draw(verb: Verb, text: &[u8]) -> Result<Command, ScriptReason
     }
 }
 
-// The job of a verb with the settings that follow in the line.
-fn read_settings(verb: Verb, text: &[u8]) -> Result<Job, ScriptReason>
-    ensures value { result ≡ job_or_bad (job_after (line_tokens text.now) verb) }
+// The job of a verb with these settings.
+fn read_settings(verb: Verb, mut tokens: Tokens<'_>) -> Result<Job, ScriptReason>
+    ensures value { result ≡ job_or_bad (job_after tokens.entry verb) }
     ensures keeps { IfOk result IsJob }
 {
     let mut settings = Settings::start(verb);
-    let mut rest = text;
-    while let Some((word, after)) = first_token(rest) {
+    while let Some(word) = tokens.next() {
         if settings.take(word).is_err() {
             return Err(ScriptReason::BadSetting);
         }
-        rest = after;
     }
     match settings.finish() {
         Ok(job) => Ok(job),
@@ -41,13 +38,14 @@ fn read_settings(verb: Verb, text: &[u8]) -> Result<Job, ScriptReason>
     }
 }
 
-/// The command of `text`, after which nothing follows in the line.
-pub(crate) fn read_text(text: &[u8]) -> Result<Command, ScriptReason>
-    ensures value { result ≡ text_read (line_tokens text.now) }
+/// The command of `text`, after which no token stands.
+pub(crate) fn read_text(tokens: Tokens<'_>) -> Result<Command, ScriptReason>
+    ensures value { result ≡ text_read tokens.entry }
     ensures keeps { IfOk result IsCommand }
 {
-    match first_token(text) {
-        None => Ok(Command::Text),
-        Some(_) => Err(ScriptReason::WrongArity),
+    if tokens.is_empty() {
+        Ok(Command::Text)
+    } else {
+        Err(ScriptReason::WrongArity)
     }
 }

@@ -7,56 +7,67 @@ ghost use Rattle.edit_script.specs.Commands.{add_read, cut_read, form_found, nam
 ghost use Rattle.solid_model.specs.Names.{IsName};
 ghost use Rattle.solid_model.specs.Parts.{IsForm};
 
-use crate::token::{begins_comment, first_token};
 use crate::{Command, ScriptReason};
-use clause_reader::{FormFault, read_form};
+use clause_reader::{FormFault, Tokens, begins_comment, read_form};
 use solid_model::{Edit, Form, Name};
 use std::alloc::Global;
 
-/// The command of `set`, whose name and form follow in the line.
-pub(crate) fn read_set(alloc: Global, line: u32, text: &[u8]) -> Result<Command, ScriptReason>
-    ensures gives { Gives (set_read line (line_tokens text.now)) result }
+/// The command of `set`, of this name and form.
+pub(crate) fn read_set(
+    alloc: Global,
+    line: u32,
+    mut tokens: Tokens<'_>,
+) -> Result<Command, ScriptReason>
+    ensures gives { Gives (set_read line tokens.entry) result }
     ensures keeps { IfOk result IsCommand }
 {
-    let Some((name, rest)) = first_token(text) else {
+    let Some(name) = tokens.next() else {
         return Err(ScriptReason::TooShort);
     };
-    let form = find_form(alloc, rest)?;
+    let form = find_form(alloc, tokens.rest())?;
     match (find_name(alloc, name)?, form) {
         (Some(name), Some(form)) => Ok(Command::Edit(line, Edit::Set(name, form))),
         _ => Ok(Command::Stray(line)),
     }
 }
 
-/// The command of `add`, whose name and form follow in the line.
-pub(crate) fn read_add(alloc: Global, line: u32, text: &[u8]) -> Result<Command, ScriptReason>
-    ensures gives { Gives (add_read line (line_tokens text.now)) result }
+/// The command of `add`, of this name and form.
+pub(crate) fn read_add(
+    alloc: Global,
+    line: u32,
+    mut tokens: Tokens<'_>,
+) -> Result<Command, ScriptReason>
+    ensures gives { Gives (add_read line tokens.entry) result }
     ensures keeps { IfOk result IsCommand }
 {
-    let Some((name, rest)) = first_token(text) else {
+    let Some(name) = tokens.next() else {
         return Err(ScriptReason::TooShort);
     };
-    check_name(name, rest)?;
-    let form = find_form(alloc, rest)?;
+    check_name(name, &tokens)?;
+    let form = find_form(alloc, tokens.rest())?;
     match (find_name(alloc, name)?, form) {
         (Some(name), Some(form)) => Ok(Command::Edit(line, Edit::Add(name, form))),
         _ => Ok(Command::Stray(line)),
     }
 }
 
-/// The command of `put`, whose two names and form follow in the line.
-pub(crate) fn read_put(alloc: Global, line: u32, text: &[u8]) -> Result<Command, ScriptReason>
-    ensures gives { Gives (put_read line (line_tokens text.now)) result }
+/// The command of `put`, of these two names and this form.
+pub(crate) fn read_put(
+    alloc: Global,
+    line: u32,
+    mut tokens: Tokens<'_>,
+) -> Result<Command, ScriptReason>
+    ensures gives { Gives (put_read line tokens.entry) result }
     ensures keeps { IfOk result IsCommand }
 {
-    let Some((next, rest)) = first_token(text) else {
+    let Some(next) = tokens.next() else {
         return Err(ScriptReason::TooShort);
     };
-    let Some((name, rest)) = first_token(rest) else {
+    let Some(name) = tokens.next() else {
         return Err(ScriptReason::TooShort);
     };
-    check_name(name, rest)?;
-    let form = find_form(alloc, rest)?;
+    check_name(name, &tokens)?;
+    let form = find_form(alloc, tokens.rest())?;
     let name = find_name(alloc, name)?;
     match (find_name(alloc, next)?, name, form) {
         (Some(next), Some(name), Some(form)) => {
@@ -66,15 +77,19 @@ pub(crate) fn read_put(alloc: Global, line: u32, text: &[u8]) -> Result<Command,
     }
 }
 
-/// The command of `cut`, whose name follows in the line.
-pub(crate) fn read_cut(alloc: Global, line: u32, text: &[u8]) -> Result<Command, ScriptReason>
-    ensures gives { Gives (cut_read line (line_tokens text.now)) result }
+/// The command of `cut`, of this name.
+pub(crate) fn read_cut(
+    alloc: Global,
+    line: u32,
+    mut tokens: Tokens<'_>,
+) -> Result<Command, ScriptReason>
+    ensures gives { Gives (cut_read line tokens.entry) result }
     ensures keeps { IfOk result IsCommand }
 {
-    let Some((name, rest)) = first_token(text) else {
+    let Some(name) = tokens.next() else {
         return Err(ScriptReason::TooShort);
     };
-    if first_token(rest).is_some() {
+    if !tokens.is_empty() {
         return Err(ScriptReason::WrongArity);
     }
     match find_name(alloc, name)? {
@@ -84,10 +99,10 @@ pub(crate) fn read_cut(alloc: Global, line: u32, text: &[u8]) -> Result<Command,
 }
 
 // Refuses a new name without an operation after it, or that begins with `#`.
-fn check_name(name: &[u8], rest: &[u8]) -> Result<(), ScriptReason>
-    ensures { result ≡ name_checked name.now (line_tokens rest.now) }
+fn check_name(name: &[u8], form: &Tokens<'_>) -> Result<(), ScriptReason>
+    ensures { result ≡ name_checked name.now form.now }
 {
-    if first_token(rest).is_none() {
+    if form.is_empty() {
         return Err(ScriptReason::TooShort);
     }
     if begins_comment(name) {

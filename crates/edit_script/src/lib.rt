@@ -11,7 +11,6 @@ mod mark;
 mod script;
 mod script_fault;
 mod script_reason;
-mod token;
 
 pub use command::Command;
 pub use laws::{inputs_are_split, reasons_are_lowest, scripts_are_exact};

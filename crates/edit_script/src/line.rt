@@ -1,73 +1,45 @@
 // The command of a line.
-ghost use Rattle.std.specs.Prelude.{◌≡◌, true, IfErr, IfOk, IfSome};
-ghost use Rattle.clause_reader.specs.Reading.{is_clause};
-ghost use Rattle.clause_reader.specs.Scan.{line_tokens};
-ghost use Rattle.edit_script.specs.Commands.{after_keyword, keyword_read, line_read, Gives, IsCommand};
-ghost use Rattle.edit_script.specs.Keywords.{keyword_named};
+ghost use Rattle.std.specs.Prelude.{◌∷◌, IfOk};
+ghost use Rattle.edit_script.specs.Commands.{after_keyword, command_read, Gives, IsCommand};
 
 use crate::draw::{read_draw, read_text};
 use crate::edit_line::{read_add, read_cut, read_put, read_set};
 use crate::keyword::{Keyword, read_keyword};
-use crate::token::{begins_comment, first_token};
 use crate::{Command, ScriptReason};
+use clause_reader::{Line, Tokens};
 use std::alloc::Global;
 use view_settings::Verb;
 
-/// The command that the line with which a text begins says, under its number. `None`: the line is
-/// blank, or a comment.
-pub(crate) fn read_line(
-    alloc: Global,
-    line: u32,
-    text: &[u8],
-) -> Result<Option<Command>, ScriptReason>
-    ensures gives { Gives (line_read line (line_tokens text.now)) result }
-    ensures keeps { IfOk result (λ found. IfSome found IsCommand) }
-    ensures some { IfOk result (λ found. IfSome found
-        (λ command. is_clause (line_tokens text.now) ≡ true)) }
-    ensures says { IfErr result (λ reason. is_clause (line_tokens text.now) ≡ true) }
-{
-    let Some((word, rest)) = first_token(text) else {
-        return Ok(None);
-    };
-    if begins_comment(word) {
-        return Ok(None);
-    }
-    match read_command(alloc, line, word, rest) {
-        Ok(command) => Ok(Some(command)),
-        Err(reason) => Err(reason),
-    }
-}
-
-// The command of this word, whose other tokens follow in the line.
-fn read_command(alloc: Global, line: u32, word: &[u8], text: &[u8]) -> Result<Command, ScriptReason>
-    ensures gives { Gives (keyword_read line (keyword_named word.now) (line_tokens text.now))
-        result }
+/// The command that a line says, which is no comment.
+pub(crate) fn read_line(alloc: Global, line: Line<'_>) -> Result<Command, ScriptReason>
+    ensures gives { Gives (command_read line.entry.number
+        (line.entry.first.now ∷ line.entry.others)) result }
     ensures keeps { IfOk result IsCommand }
 {
-    match read_keyword(word) {
+    match read_keyword(line.first) {
         None => Err(ScriptReason::UnknownCommand),
-        Some(keyword) => read_after(alloc, line, keyword, text),
+        Some(keyword) => read_after(alloc, line.number, keyword, line.others),
     }
 }
 
-// The command of this keyword, whose other tokens follow in the line.
+// The command of this keyword, after which these tokens stand.
 fn read_after(
     alloc: Global,
     line: u32,
     keyword: Keyword,
-    text: &[u8],
+    tokens: Tokens<'_>,
 ) -> Result<Command, ScriptReason>
-    ensures gives { Gives (after_keyword line keyword (line_tokens text.now)) result }
+    ensures gives { Gives (after_keyword line keyword tokens.entry) result }
     ensures keeps { IfOk result IsCommand }
 {
     match keyword {
-        Keyword::Set => read_set(alloc, line, text),
-        Keyword::Add => read_add(alloc, line, text),
-        Keyword::Put => read_put(alloc, line, text),
-        Keyword::Cut => read_cut(alloc, line, text),
-        Keyword::Render => read_draw(Verb::Render, text),
-        Keyword::Height => read_draw(Verb::Height, text),
-        Keyword::Mesh => read_draw(Verb::Mesh, text),
-        Keyword::Text => read_text(text),
+        Keyword::Set => read_set(alloc, line, tokens),
+        Keyword::Add => read_add(alloc, line, tokens),
+        Keyword::Put => read_put(alloc, line, tokens),
+        Keyword::Cut => read_cut(alloc, line, tokens),
+        Keyword::Render => read_draw(Verb::Render, tokens),
+        Keyword::Height => read_draw(Verb::Height, tokens),
+        Keyword::Mesh => read_draw(Verb::Mesh, tokens),
+        Keyword::Text => read_text(tokens),
     }
 }

@@ -4,7 +4,7 @@ ghost use Rattle.std.specs.Option.{option_map};
 ghost use Rattle.clause_reader.specs.Scan.{line_tokens};
 ghost use Rattle.edit_script.specs.Marks.{is_mark, is_sign, line_start, mark_ends, mark_place};
 
-use crate::token::{after_line, first_token};
+use clause_reader::{Tokens, after_line};
 
 /// A mark line.
 #[derive(Clone, Copy, Debug)]
@@ -56,9 +56,10 @@ pub(crate) fn find_mark(input: &[u8]) -> Option<Mark>
 fn is_mark(text: &[u8]) -> bool
     ensures { result ≡ is_mark (line_tokens text.now) }
 {
-    match first_token(text) {
+    let mut tokens = Tokens::new(text);
+    match tokens.next() {
         None => false,
-        Some((token, rest)) => is_sign(token) && first_token(rest).is_none(),
+        Some(token) => is_sign(token) && tokens.is_empty(),
     }
 }
 

@@ -1,15 +1,13 @@
 // A script from an input.
-ghost use Rattle.std.specs.Prelude.{◌≡◌, ◌≢◌, ◌^◌, ◌<◌, true, Ok, length, All, IfErr, IfOk, MatchResult, OnOk};
-ghost use Rattle.clause_reader.specs.Reading.{is_clause};
-ghost use Rattle.clause_reader.specs.Scan.{line_tokens};
-ghost use Rattle.edit_script.specs.Commands.{line_read, IsCommand};
+ghost use Rattle.std.specs.Prelude.{◌≡◌, ◌≢◌, ◌^◌, ◌<◌, ◌∷◌, Ok, length, All, IfErr, IfOk, MatchResult, OnOk};
+ghost use Rattle.edit_script.specs.Commands.{command_read, IsCommand};
 ghost use Rattle.edit_script.specs.Scripts.{pushed, script_read, IsCommandLine, RefusesScript};
 ghost use Rattle.solid_model.specs.Refusals.{RefusesAs, WantsMemoryFor};
 
 use crate::line::read_line;
 use crate::mark::find_mark;
-use crate::token::after_line;
 use crate::{Command, ScriptFault, ScriptReason};
+use clause_reader::{Comments, Line, Lines, given_lines_stand};
 use std::alloc::Global;
 
 /// The commands of an input: those of the lines after its mark, the first line whose only token is
@@ -28,39 +26,39 @@ pub fn read_script(alloc: Global, input: &[u8]) -> Result<Vec<Command>, ScriptFa
     let Some(mark) = find_mark(input) else {
         return Err(fault(0, ScriptReason::NoMark));
     };
+    given_lines_stand();
     let mut commands = Vec::new(alloc);
-    let mut line = mark.place as u32 + 1;
-    let mut rest = &input[mark.end..];
-    while !rest.is_empty() {
-        line += 1;
-        if let Err(reason) = push_line(alloc, &mut commands, line, rest) {
-            return Err(fault(line, reason));
+    let passed = mark.place as u32 + 1;
+    let mut lines = Lines::after(passed, &input[mark.end..], Comments::Skipped);
+    while let Some(line) = lines.next() {
+        let number = line.number;
+        if let Err(reason) = push_command(alloc, &mut commands, line) {
+            return Err(fault(number, reason));
         }
-        rest = after_line(rest);
     }
     Ok(commands)
 }
 
-// Adds the command of the line with which a text begins, if it says one.
-fn push_line(
+// Adds the command that a line says.
+fn push_command(
     alloc: Global,
     commands: &mut Vec<Command>,
-    line: u32,
-    text: &[u8],
+    line: Line<'_>,
 ) -> Result<(), ScriptReason>
-    ensures ok { OnOk result (pushed commands.old.items (line_read line (line_tokens text.now))
+    ensures ok { OnOk result (pushed commands.old.items
+        (command_read line.entry.number (line.entry.first.now ∷ line.entry.others))
         ≡ Ok commands.new.items) }
     ensures keeps { All IsCommand commands.old.items
         → OnOk result (All IsCommand commands.new.items) }
-    ensures refused { RefusesAs (line_read line (line_tokens text.now)) ScriptReason.NoMemory
-        result }
-    ensures no_memory { WantsMemoryFor (line_read line (line_tokens text.now))
+    ensures refused { RefusesAs
+        (command_read line.entry.number (line.entry.first.now ∷ line.entry.others))
         ScriptReason.NoMemory result }
-    ensures says { IfErr result (λ reason. is_clause (line_tokens text.now) ≡ true) }
+    ensures no_memory { WantsMemoryFor
+        (command_read line.entry.number (line.entry.first.now ∷ line.entry.others))
+        ScriptReason.NoMemory result }
 {
-    match read_line(alloc, line, text) {
-        Ok(None) => Ok(()),
-        Ok(Some(command)) => commands.push(command).map_err(|_| ScriptReason::NoMemory),
+    match read_line(alloc, line) {
+        Ok(command) => commands.push(command).map_err(|_| ScriptReason::NoMemory),
         Err(reason) => Err(reason),
     }
 }

@@ -1,36 +1,30 @@
--- Each line is read after those before it.
-use Rattle.std.proofs.Common.{◌<◌, length, ap, sym, ◌∙◌, arith}
-use Rattle.std.proofs.lemmas.Bool.{eqb-true, eqb-false}
-use Rattle.clause_reader.specs.Lines.{lines_of, line_of}
-use Rattle.clause_reader.specs.Scan.{after_line}
-use Rattle.clause_reader.specs.LineSplits.{lines_of-some, after_line-shorter, none-left}
-use Rattle.clause_reader.proofs.LineSteps.{advance, stop, finish}
+-- Each clause line is read after those before it.
+use Rattle.std.proofs.Common.{ℕ, List, ◌∷◌, subst}
+use Rattle.clause_reader.proofs.LineSteps.{Reads, reads-more, says-clause, named, stop, finish}
 use Rattle.clause_reader.proofs.reader.read_model.Goals as goal
 
-pub loop-rest-preserved : goal.loop-rest-preserved
-loop-rest-preserved c =
-    let rest = c.loop-rest.rest.now in
-    let some : 0 < length rest = omega (arith, eqb-false (length rest) 0 (sym c.is_empty.ensures ∙ c.loop-rest-test.true)) in
-    let line = c.loop-rest.invariant.behind ∙ lines_of-some rest some in
-    let step = advance (lines_of c.args.text.now) c.loop-rest.number (line_of rest) (lines_of (after_line rest)) c.loop-rest.builder _ line c.loop-rest.invariant.front c.in-Ok.ensures.ok in
-    let shorter = after_line-shorter rest some in
-    record {
-      front = step.0;
-      behind = step.1 ∙ ap lines_of (sym c.in-Ok.ensures.rest);
-      number = omega (arith, c.loop-rest.invariant.number, ap length c.in-Ok.ensures.rest);
-    }
+pub read_clause-requires : goal.read_clause-requires
+read_clause-requires c =
+    let line = c.in-Some.line in
+    let reads = subst (λ (left : List (ℕ × List (List ℕ))). Reads c.args.text.now c.loop-line.builder left) c.in-Some.ensures.next c.loop-line.invariant in
+    named line.first.now line.others (says-clause c.args.text.now c.loop-line.builder line.number (line.first.now ∷ line.others) c.next.new.self reads)
+    c.in-Some.ensures.bytes c.in-Some.ensures.some
 
 pub returns-in-Err : goal.returns-in-Err
 returns-in-Err c =
-    let rest = c.loop-rest.rest.now in
-    let some : 0 < length rest = omega (arith, eqb-false (length rest) 0 (sym c.is_empty.ensures ∙ c.loop-rest-test.true)) in
-    stop c.args.text.now c.loop-rest.number (line_of rest) (lines_of (after_line rest)) c.loop-rest.builder c.in-Err.reason
-    (c.loop-rest.invariant.behind ∙ lines_of-some rest some) c.loop-rest.invariant.front c.in-Err.ensures.refused c.in-Err.ensures.no_memory
-    c.in-Err.ensures.says
+    let line = c.in-Some.line in
+    let reads = subst (λ (left : List (ℕ × List (List ℕ))). Reads c.args.text.now c.loop-line.builder left) c.in-Some.ensures.next c.loop-line.invariant in
+    stop c.args.text.now c.loop-line.builder line.number (line.first.now ∷ line.others) c.next.new.self c.in-Err.reason reads
+    c.in-Err.ensures.refused c.in-Err.ensures.no_memory
+
+pub loop-line-preserved : goal.loop-line-preserved
+loop-line-preserved c =
+    let line = c.in-Some.line in
+    let reads = subst (λ (left : List (ℕ × List (List ℕ))). Reads c.args.text.now c.loop-line.builder left) c.in-Some.ensures.next c.loop-line.invariant in
+    reads-more c.args.text.now c.loop-line.builder c.read_clause.new.builder line.number (line.first.now ∷ line.others) c.next.new.self reads
+    c.in_default-read_clause.ensures.ok
 
 pub returns : goal.returns
 returns c =
-    let rest = c.loop-rest.rest.now in
-    let none = eqb-true (length rest) 0 (sym c.is_empty.ensures ∙ c.loop-rest-test.false) in
-    rw c.ok_or.ensures.value
-    (finish c.args.text.now c.loop-rest.number c.loop-rest.builder c.finish.result (c.loop-rest.invariant.behind ∙ none-left rest none) c.loop-rest.invariant.front c.finish.ensures)
+    let reads = subst (λ (left : List (ℕ × List (List ℕ))). Reads c.args.text.now c.loop-line.builder left) c.in_default.ensures.next.0 c.loop-line.invariant in
+    rw c.ok_or.ensures.value (finish c.args.text.now c.loop-line.builder c.finish.result reads c.finish.ensures)

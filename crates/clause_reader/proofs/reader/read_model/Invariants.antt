@@ -1,15 +1,10 @@
--- The lines so far were read, the others are those of the rest, and each took a byte at least.
-use Rattle.std.proofs.Common.{◌≡◌, ◌+◌, ◌≤◌, [], Ok, length, take, drop}
-use Rattle.clause_reader.specs.Lines.{lines_of}
-use Rattle.clause_reader.specs.Reading.{lines_read}
+-- The lines so far were read, and the others are left.
+use Rattle.std.proofs.Common.{length}
+use Rattle.clause_reader.proofs.LineSteps.{Reads}
 use Rattle.clause_reader.proofs.reader.read_model.Given as goal
 
-abbrev pub invariant-loop-rest : goal.invariant-loop-rest
-invariant-loop-rest l = record {
-  front : lines_read [] 1 (take l.number (lines_of l.text)) ≡ Ok l.builder;
-  behind : drop l.number (lines_of l.text) ≡ lines_of l.rest;
-  number : l.number + length l.rest ≤ length l.text;
-}
+abbrev pub invariant-loop-line : goal.invariant-loop-line
+invariant-loop-line l = Reads l.text l.builder l.lines
 
-abbrev pub decreases-loop-rest : goal.decreases-loop-rest
-decreases-loop-rest l = length l.rest
+abbrev pub decreases-loop-line : goal.decreases-loop-line
+decreases-loop-line l = length l.lines

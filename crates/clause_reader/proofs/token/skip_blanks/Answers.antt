@@ -3,7 +3,7 @@ use Rattle.std.proofs.Common.{drop, sym, subst}
 use Rattle.std.proofs.lemmas.List.{take_rest}
 use Rattle.clause_reader.specs.Scan.{SkipsBlanks}
 use Rattle.clause_reader.proofs.Scans.{skips-blanks}
-use Rattle.clause_reader.proofs.tokens.skip_blanks.Goals as goal
+use Rattle.clause_reader.proofs.token.skip_blanks.Goals as goal
 
 pub returns : goal.returns
 returns c =

@@ -2,7 +2,7 @@
 use Rattle.std.proofs.Common.{sym, ◌∙◌}
 use Rattle.std.proofs.lemmas.List.{take_rest}
 use Rattle.clause_reader.proofs.Scans.{token-places}
-use Rattle.clause_reader.proofs.tokens.next_token.Goals as goal
+use Rattle.clause_reader.proofs.token.next_token.Goals as goal
 
 pub returns-clause-token : goal.returns-clause-token
 returns-clause-token c =

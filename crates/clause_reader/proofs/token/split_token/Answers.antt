@@ -2,7 +2,7 @@
 use Rattle.std.proofs.Common.{◌<◌, ◌++◌, length, ap, sym, ◌∙◌, arith}
 use Rattle.std.proofs.lemmas.Bool.{eqb-true, eqb-false}
 use Rattle.clause_reader.proofs.Scans.{empty-run, no_token, no_tokens, first-token, after-token}
-use Rattle.clause_reader.proofs.tokens.split_token.Goals as goal
+use Rattle.clause_reader.proofs.token.split_token.Goals as goal
 
 pub returns-then-is_empty-clause-gap : goal.returns-then-is_empty-clause-gap
 returns-then-is_empty-clause-gap c =

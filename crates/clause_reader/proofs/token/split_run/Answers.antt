@@ -2,7 +2,7 @@
 use Rattle.std.proofs.Common.{take, drop, sym, subst}
 use Rattle.clause_reader.specs.Scan.{SplitsRun}
 use Rattle.clause_reader.proofs.Scans.{splits-run}
-use Rattle.clause_reader.proofs.tokens.split_run.Goals as goal
+use Rattle.clause_reader.proofs.token.split_run.Goals as goal
 
 pub returns : goal.returns
 returns c =
