@@ -1,6 +1,8 @@
 -- Boxes whose lists are traced side by side, each in its lane.
-use Rattle.std.proofs.Common.{◌≡◌, ℕ, ◌+◌, ◌-◌, ◌<◌, ◌≤◌, List, ◌++◌, length, get_or, take, drop, map, ap, sym, ◌∙◌, arith}
+use Rattle.std.proofs.Common.{Bool, false, ◌≡◌, ℕ, ◌+◌, ◌-◌, ◌<◌, ◌≤◌, List, ◌++◌, length, get_or, take, drop, map, ap, sym, ◌∙◌, arith}
 use Rattle.std.proofs.lemmas.List.{ext_get_or, get_or-map, get_or_read, length-drop, length-map, length-take, map-append, take-append-le, take-map, take_all}
+use Rattle.std.proofs.lemmas.Simd.{map-map}
+use Rattle.std.proofs.lemmas.List.Elements.{All-map}
 use Rattle.std.proofs.Math.Seq.{take-add}
 use Rattle.interval_ops.specs.Decided.{decided_of}
 use Rattle.interval_ops.specs.Spans.{Interval, all_numbers}
@@ -10,14 +12,15 @@ use Rattle.live_clauses.specs.Choices.{choice_at}
 use Rattle.live_clauses.specs.Live.{live_of}
 use Rattle.live_clauses.specs.declared.step.Step.{Step}
 use Rattle.view_settings.specs.Boxes.{Indices}
-use Rattle.std.specs.List.{range_with_len}
+use Rattle.std.specs.List.{All, range_with_len}
 use Rattle.std.proofs.lemmas.List.FromFn.{get_or-map-range_with_len, length-range_with_len}
 use Rattle.interval_ops.specs.declared.region.Region.{Region}
-use Rattle.view_settings.specs.Spans.{region_of}
+use Rattle.view_settings.specs.Spans.{IsInRoot, region_of}
 use Rattle.choice_trace.specs.Halves.{lane, region_in}
 use Rattle.choice_trace.specs.Hulls.{choices_over, hull_in, tape_hull}
-use Rattle.box_chains.specs.Outcomes.{lane_outcome, outcome_by, outcome_of, outcomes_of}
+use Rattle.box_chains.specs.Outcomes.{AreInRoot, asked_outcome, asked_outcomes, held_decision, held_in, lane_outcome, outcome_by, outcomes_of, plain_box}
 use Rattle.box_chains.specs.Placing.{Sampling}
+use Rattle.box_chains.specs.declared.asked_box.AskedBox.{AskedBox}
 use Rattle.box_chains.specs.declared.outcome.Outcome.{Outcome}
 use Rattle.box_chains.specs.declared.outcome.Outcome.TheVariants.{Outside}
 
@@ -43,51 +46,64 @@ lane-read l rows choices same each =
 pub rest-is : {X : Type 0} (xs : List X) (i : ℕ) → take (length xs - i) (drop i xs) ≡ drop i xs
 rest-is xs i = take_all (length xs - i) (drop i xs) (omega (arith, length-drop i xs))
 
-pub outcomes-join : (places : Sampling) (list : List Step) (boxes : List Indices) (i n : ℕ) (done new : List Outcome)
-    → done ≡ outcomes_of places list (take i boxes) → new ≡ done ++ outcomes_of places list (take n (drop i boxes))
-    → new ≡ outcomes_of places list (take (i + n) boxes)
+pub outcomes-join : (places : Sampling) (list : List Step) (boxes : List AskedBox) (i n : ℕ) (done new : List Outcome)
+    → done ≡ asked_outcomes places list (take i boxes) → new ≡ done ++ asked_outcomes places list (take n (drop i boxes))
+    → new ≡ asked_outcomes places list (take (i + n) boxes)
 outcomes-join places list boxes i n done new before added =
-    let f : Indices → Outcome = outcome_of places list in
+    let f : AskedBox → Outcome = asked_outcome places list in
     added ∙ ap (λ l. l ++ map f (take n (drop i boxes))) before ∙ sym (map-append f (take i boxes) (take n (drop i boxes)))
     ∙ sym (ap (map f) (take-add i n boxes))
 
--- what a hull that is read tells
-pub outcome-read : (list : List Step) (hulls : List Interval) (rows : List (List Choice)) (l : ℕ) (hull : Interval) (o : Outcome)
-    → l < length hulls → hull ≡ get_or hulls l hull → o ≡ outcome_by (decided_of hull) (live_of list (take (length list) (lane l rows)))
-    → o ≡ lane_outcome list hulls rows l
-outcome-read list hulls rows l hull o within is told =
-    told ∙ ap (λ h. outcome_by (decided_of h) (live_of list (take (length list) (lane l rows))))
+-- where no box is held open, this is what tracing the boxes alone tells
+pub plain-told : (places : Sampling) (list : List Step) (boxes : List Indices) → asked_outcomes places list (map plain_box boxes) ≡ outcomes_of places list boxes
+plain-told places list boxes = map-map (asked_outcome places list) plain_box boxes
+
+pub plain-in_root : (places : Sampling) (boxes : List Indices) → All (IsInRoot places.view places.lattice) boxes → AreInRoot places (map plain_box boxes)
+plain-in_root places boxes h = All-map (λ (a : AskedBox). IsInRoot places.view places.lattice a.range) plain_box boxes h
+
+-- what is told in a lane
+pub outcome-read : (list : List Step) (asked : List AskedBox) (hulls : List Interval) (rows : List (List Choice)) (l : ℕ) (hull : Interval) (box : AskedBox) (o : Outcome)
+    → l < length hulls → hull ≡ get_or hulls l hull → l < length asked → box ≡ get_or asked l box
+    → o ≡ outcome_by (held_decision box.held (decided_of hull)) (live_of list (take (length list) (lane l rows)))
+    → o ≡ lane_outcome list asked hulls rows l
+outcome-read list asked hulls rows l hull box o within is among read told =
+    told ∙ ap (λ h. outcome_by (held_decision h (decided_of hull)) (live_of list (take (length list) (lane l rows))))
+    (ap (λ a. a.held) read ∙ sym (get_or-map (λ a. a.held) asked l box false among))
+    ∙ ap (λ h. outcome_by (held_decision (held_in asked l) (decided_of h)) (live_of list (take (length list) (lane l rows))))
     (get_or_read hulls l hull within is all_numbers)
 
 -- what the hulls and the choices in all lanes tell, where each is that of its box
-pub lanes-told : (places : Sampling) (list : List Step) (boxes : List Indices) (regions : List Region) (hulls : List Interval) (rows : List (List Choice)) (n : ℕ)
-    → regions ≡ map (region_of places.view places.lattice) boxes → length boxes ≡ n
+pub lanes-told : (places : Sampling) (list : List Step) (asked : List AskedBox) (regions : List Region) (hulls : List Interval) (rows : List (List Choice)) (n : ℕ)
+    → regions ≡ map (λ a. region_of places.view places.lattice a.range) asked → length asked ≡ n
     → ((l : ℕ) → l < n → hull_in hulls l ≡ tape_hull (region_in regions l) list)
     → ((l : ℕ) → l < n → take (length list) (lane l rows) ≡ choices_over (region_in regions l) list)
-    → map (lane_outcome list hulls rows) (range_with_len 0 n) ≡ outcomes_of places list boxes
-lanes-told places list boxes regions hulls rows n placed count hull chosen =
-    ext_get_or Outside (map f (range_with_len 0 n)) (map g boxes)
-    (length-map (range_with_len 0 n) f ∙ length-range_with_len 0 n ∙ sym count ∙ sym (length-map boxes g))
+    → map (lane_outcome list asked hulls rows) (range_with_len 0 n) ≡ asked_outcomes places list asked
+lanes-told places list asked regions hulls rows n placed count hull chosen =
+    ext_get_or Outside (map f (range_with_len 0 n)) (map g asked)
+    (length-map (range_with_len 0 n) f ∙ length-range_with_len 0 n ∙ sym count ∙ sym (length-map asked g))
     (λ l h. by l (omega (arith, h, length-map (range_with_len 0 n) f, length-range_with_len 0 n)))
   where
     f : ℕ → Outcome
-    f = lane_outcome list hulls rows
+    f = lane_outcome list asked hulls rows
 
-    g : Indices → Outcome
-    g = outcome_of places list
+    g : AskedBox → Outcome
+    g = asked_outcome places list
 
-    nothing : Indices
-    nothing = record { x0 = 0; x1 = 0; y0 = 0; y1 = 0; z0 = 0; z1 = 0 }
+    nothing : AskedBox
+    nothing = plain_box (record { x0 = 0; x1 = 0; y0 = 0; y1 = 0; z0 = 0; z1 = 0 })
 
-    over : Region → Outcome
-    over r = outcome_by (decided_of (tape_hull r list)) (live_of list (choices_over r list))
+    over : Bool → Region → Outcome
+    over held r = outcome_by (held_decision held (decided_of (tape_hull r list))) (live_of list (choices_over r list))
 
-    by : (l : ℕ) → l < n → get_or (map f (range_with_len 0 n)) l Outside ≡ get_or (map g boxes) l Outside
+    by : (l : ℕ) → l < n → get_or (map f (range_with_len 0 n)) l Outside ≡ get_or (map g asked) l Outside
     by l h =
-        let region : region_in regions l ≡ region_of places.view places.lattice (get_or boxes l nothing) =
-        ap (λ rs. region_in rs l) placed ∙ get_or-map (region_of places.view places.lattice) boxes l nothing _ (omega (arith, h, count)) in
+        let among : l < length asked = omega (arith, h, count) in
+        let region : region_in regions l ≡ region_of places.view places.lattice (get_or asked l nothing).range =
+        ap (λ rs. region_in rs l) placed ∙ get_or-map (λ a. region_of places.view places.lattice a.range) asked l nothing _ among in
+        let held : held_in asked l ≡ (get_or asked l nothing).held = get_or-map (λ a. a.held) asked l nothing false among in
         get_or-map-range_with_len f 0 n l l Outside h (omega arith)
-        ∙ ap (λ s. outcome_by (decided_of s) (live_of list (take (length list) (lane l rows)))) (hull l h)
-        ∙ ap (λ cs. outcome_by (decided_of (tape_hull (region_in regions l) list)) (live_of list cs)) (chosen l h)
-        ∙ ap over region
-        ∙ sym (get_or-map g boxes l nothing Outside (omega (arith, h, count)))
+        ∙ ap (λ s. outcome_by (held_decision (held_in asked l) (decided_of s)) (live_of list (take (length list) (lane l rows)))) (hull l h)
+        ∙ ap (λ cs. outcome_by (held_decision (held_in asked l) (decided_of (tape_hull (region_in regions l) list))) (live_of list cs)) (chosen l h)
+        ∙ ap (over (held_in asked l)) region
+        ∙ ap (λ b. over b (region_of places.view places.lattice (get_or asked l nothing).range)) held
+        ∙ sym (get_or-map g asked l nothing Outside among)

@@ -1,6 +1,7 @@
 -- What tracing a list over boxes tells.
 use Rattle.std.specs.Prelude.{◌≡◌, ◌≤◌, ℕ, Bool, true, false, List, length, map, take, Option, Some, None}
-use Rattle.choice_trace.specs.Halves.{lane}
+use Rattle.std.specs.List.{All}
+use Rattle.choice_trace.specs.Halves.{flag_in, lane}
 use Rattle.choice_trace.specs.Hulls.{choices_over, hull_in, tape_hull}
 use Rattle.interval_ops.specs.Spans.{Interval}
 use Rattle.interval_ops.specs.declared.choice.Choice.{Choice}
@@ -10,8 +11,9 @@ use Rattle.interval_ops.specs.Decided.{decided_of}
 use Rattle.live_clauses.specs.Live.{IsWhole, live_of}
 use Rattle.live_clauses.specs.declared.step.Step.{Step}
 use Rattle.view_settings.specs.Boxes.{Indices}
-use Rattle.view_settings.specs.Spans.{region_of}
+use Rattle.view_settings.specs.Spans.{IsInRoot, region_of}
 use Rattle.box_chains.specs.Placing.{Sampling}
+use Rattle.box_chains.specs.declared.asked_box.AskedBox.{AskedBox}
 use Rattle.box_chains.specs.declared.outcome.Outcome.{Outcome}
 use Rattle.box_chains.specs.declared.outcome.Outcome.TheVariants.{Inside, Outside, Open}
 
@@ -26,6 +28,33 @@ abbrev pub outcome_of : Sampling → List Step → Indices → Outcome
 outcome_of places list b =
     outcome_by (decided_of (tape_hull (region_of places.view places.lattice b) list))
     (live_of list (choices_over (region_of places.view places.lattice b) list))
+
+-- a box that is held open is left undecided where all of it is inside
+abbrev pub held_decision : Bool → Option Bool → Option Bool
+held_decision false told = told
+held_decision true None = None
+held_decision true (Some true) = None
+held_decision true (Some false) = Some false
+
+-- what tracing a list over a box tells that may be held open
+abbrev pub asked_outcome : Sampling → List Step → AskedBox → Outcome
+asked_outcome places list asked =
+    outcome_by
+    (held_decision asked.held
+    (decided_of (tape_hull (region_of places.view places.lattice asked.range) list)))
+    (live_of list (choices_over (region_of places.view places.lattice asked.range) list))
+
+-- and over some such boxes
+abbrev pub asked_outcomes : Sampling → List Step → List AskedBox → List Outcome
+asked_outcomes places list asked = map (asked_outcome places list) asked
+
+-- a box that is not held open
+abbrev pub plain_box : Indices → AskedBox
+plain_box b = record { range = b; held = false }
+
+-- boxes of a lattice's samples
+abbrev pub AreInRoot : Sampling → List AskedBox → Type 0
+AreInRoot places asked = All (λ a. IsInRoot places.view places.lattice a.range) asked
 
 -- what tracing a list over some boxes tells of each
 abbrev pub outcomes_of : Sampling → List Step → List Indices → List Outcome
@@ -42,10 +71,16 @@ HandsOn most Inside = Unit {0}
 HandsOn most Outside = Unit {0}
 HandsOn most (Open list) = IsHandedOn most list
 
+-- whether the box of a lane is held open
+abbrev pub held_in : List AskedBox → ℕ → Bool
+held_in asked l = flag_in (map (λ a. a.held) asked) l
+
 -- what a hull in a lane tells of a list, with the choices in that lane of some rows
-abbrev pub lane_outcome : List Step → List Interval → List (List Choice) → ℕ → Outcome
-lane_outcome list hulls rows l =
-    outcome_by (decided_of (hull_in hulls l)) (live_of list (take (length list) (lane l rows)))
+abbrev pub lane_outcome : List Step → List AskedBox → List Interval → List (List Choice) → ℕ
+    → Outcome
+lane_outcome list asked hulls rows l =
+    outcome_by (held_decision (held_in asked l) (decided_of (hull_in hulls l)))
+    (live_of list (take (length list) (lane l rows)))
 
 -- no choice is of an operand
 abbrev pub ChoosesNone : List Choice → Type 0

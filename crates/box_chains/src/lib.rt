@@ -1,6 +1,7 @@
 //! Boxes, the lists of steps that they receive, and the chains of boxes that hold a sample.
 #![tactic(auto)]
 
+mod asked_box;
 mod laws;
 mod leaves;
 mod outcome;
@@ -8,6 +9,7 @@ mod places;
 mod rows;
 mod workspace;
 
+pub use asked_box::AskedBox;
 pub use laws::{boxes_are_counted_once, chains_go_on, layers_hold, samples_are_told, work_adds_up};
 pub use leaves::is_long;
 pub use outcome::Outcome;

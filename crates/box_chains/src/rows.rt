@@ -7,10 +7,10 @@ ghost use Rattle.interval_ops.specs.Decided.{decided_of};
 ghost use Rattle.interval_ops.specs.HullCounts.{CountsHulls};
 ghost use Rattle.live_clauses.specs.Choices.{AreChoices};
 ghost use Rattle.live_clauses.specs.Live.{IsWhole, live_of};
-ghost use Rattle.view_settings.specs.Spans.{IsInRoot, region_of};
-ghost use Rattle.box_chains.specs.Outcomes.{ChoosesNone, HandsOn, IsHandedOn, lane_outcome, outcome_by, outcomes_of};
+ghost use Rattle.view_settings.specs.Spans.{region_of};
+ghost use Rattle.box_chains.specs.Outcomes.{AreInRoot, ChoosesNone, HandsOn, IsHandedOn, asked_outcomes, held_decision, lane_outcome, outcome_by};
 
-use crate::{Outcome, Places};
+use crate::{AskedBox, Outcome, Places};
 use arrayvec::ArrayVec;
 use choice_trace::{Halves, trace_halves};
 use fixed_ops::{Fx, Tally};
@@ -18,7 +18,6 @@ use interval_ops::{Choice, Region, Span, decided};
 use live_clauses::{Tape, live_lists_are_whole, live_steps_are_the_least, prune_with};
 use std::alloc::{AllocError, Global};
 use std::marker::Model;
-use view_settings::IndexBox;
 
 // The longest list that is traced over several boxes at once. The rows of a longer one would leave
 // the processor's cache.
@@ -70,40 +69,42 @@ impl Rows {
         alloc: Global,
         tape: &Tape,
         places: &Places,
-        boxes: &[IndexBox],
+        asked: &[AskedBox],
         choices: &mut [Choice],
         marks: &mut [u16],
         outcomes: &mut ArrayVec<Outcome, 8>,
         tally: &mut Tally,
     ) -> Result<(), AllocError>
         requires lanes { L ≤ 4 }
-        requires boxes { length boxes.now ≡ L }
+        requires boxes { length asked.now ≡ L }
         requires whole { IsWhole tape.now }
         requires room { length tape.now ≤ length self.old }
         requires choices { length tape.now ≤ length choices.old }
         requires marks { length tape.now ≤ length marks.old }
         requires few { array_vec_len outcomes.old + L ≤ 8 }
-        requires within { All (IsInRoot places.now.view places.now.lattice) boxes.now }
+        requires within { AreInRoot places.now asked.now }
         ensures outcomes { OnOk result (outcomes.new.items ≡ outcomes.old.items
-            ++ outcomes_of places.now tape.now boxes.now) }
+            ++ asked_outcomes places.now tape.now asked.now) }
         ensures shorter { OnOk result (All (HandsOn (length tape.now)) outcomes.old.items
             → All (HandsOn (length tape.now)) outcomes.new.items) }
         ensures room { length self.new ≡ length self.old }
         ensures counted { CountsHulls (L * length tape.now) tally.old tally.new }
     {
-        let regions = regions_of::<L>(places, boxes);
+        let regions = regions_of::<L>(places, asked);
         let rows = self.choices.as_mut_slice();
         let halves = trace_halves(tape, &regions, &mut self.hulls, rows, tally);
-        push_outcomes(alloc, tape, &halves, rows, choices, marks, outcomes)
+        push_outcomes(
+            alloc, tape, asked, &halves, rows, choices, marks, outcomes,
+        )
     }
 }
 
 // The ranges of L boxes.
 #[inline]
-fn regions_of<const L: usize>(places: &Places, boxes: &[IndexBox]) -> [Region; L]
-    requires boxes { length boxes.now ≡ L }
-    requires within { All (IsInRoot places.now.view places.now.lattice) boxes.now }
-    ensures { result ≡ map (region_of places.now.view places.now.lattice) boxes.now }
+fn regions_of<const L: usize>(places: &Places, asked: &[AskedBox]) -> [Region; L]
+    requires boxes { length asked.now ≡ L }
+    requires within { AreInRoot places.now asked.now }
+    ensures { result ≡ map (λ a. region_of places.now.view places.now.lattice a.range) asked.now }
 {
     let zero = Span::new(Fx::from_raw(0), Fx::from_raw(0));
     let nowhere = Region {
@@ -113,7 +114,7 @@ fn regions_of<const L: usize>(places: &Places, boxes: &[IndexBox]) -> [Region; L
     };
     let mut regions = [nowhere; L];
     for l in 0..L {
-        regions[l] = places.region(boxes[l]);
+        regions[l] = places.region(asked[l].range);
     }
     regions
 }
@@ -124,6 +125,7 @@ fn regions_of<const L: usize>(places: &Places, boxes: &[IndexBox]) -> [Region; L
 fn push_outcomes<const L: usize>(
     alloc: Global,
     tape: &Tape,
+    asked: &[AskedBox],
     halves: &Halves<L>,
     rows: &[[Choice; 4]],
     choices: &mut [Choice],
@@ -132,6 +134,7 @@ fn push_outcomes<const L: usize>(
 ) -> Result<(), AllocError>
     requires lanes { L ≤ 4 }
     requires whole { IsWhole tape.now }
+    requires boxes { length asked.now ≡ L }
     requires chosen { (l : ℕ) → l < L → flag_in halves.now.chosen l ≡ false
         → ChoosesNone (take (length tape.now) (lane l rows.now)) }
     requires rows { length tape.now ≤ length rows.now }
@@ -141,25 +144,39 @@ fn push_outcomes<const L: usize>(
     requires only { (l : ℕ) → l < L
         → AreChoices tape.now (take (length tape.now) (lane l rows.now)) }
     ensures outcomes { OnOk result (outcomes.new.items ≡ outcomes.old.items
-        ++ map (lane_outcome tape.now halves.now.hulls rows.now) (range_with_len 0 L)) }
+        ++ map (lane_outcome tape.now asked.now halves.now.hulls rows.now)
+        (range_with_len 0 L)) }
     ensures shorter { OnOk result (All (HandsOn (length tape.now)) outcomes.old.items
         → All (HandsOn (length tape.now)) outcomes.new.items) }
 {
     for l in 0..L {
-        let (hull, chosen) = (halves.hulls[l], halves.chosen[l]);
-        let outcome = outcome_in_lane(alloc, tape, hull, chosen, rows, l, choices, marks)?;
+        let told = held_open(decided(halves.hulls[l]), asked[l].held);
+        let chosen = halves.chosen[l];
+        let outcome = outcome_in_lane(alloc, tape, told, chosen, rows, l, choices, marks)?;
         outcomes.push(outcome);
     }
     Ok(())
 }
 
-// What the hull of a list tells, with the choices in a lane of the rows, and whether there are any
-// of an operand. AllocError: there is no memory for a shorter list.
+// What is told of a box that may be held open, where its hull tells this.
+#[inline]
+pub(crate) fn held_open(told: Option<bool>, held: bool) -> Option<bool>
+    ensures { result ≡ held_decision held told }
+{
+    if held && told == Some(true) {
+        None
+    } else {
+        told
+    }
+}
+
+// What is told of a box, with the choices in a lane of the rows, and whether there are any of an
+// operand. AllocError: there is no memory for a shorter list.
 #[inline]
 fn outcome_in_lane(
     alloc: Global,
     tape: &Tape,
-    hull: Span,
+    told: Option<bool>,
     chosen: bool,
     rows: &[[Choice; 4]],
     l: usize,
@@ -173,11 +190,11 @@ fn outcome_in_lane(
     requires only { AreChoices tape.now (take (length tape.now) (lane l rows.now)) }
     requires whole { IsWhole tape.now }
     requires chosen { chosen ≡ false → ChoosesNone (take (length tape.now) (lane l rows.now)) }
-    ensures outcome { IfOk result (λ outcome. outcome ≡ outcome_by (decided_of hull)
+    ensures outcome { IfOk result (λ outcome. outcome ≡ outcome_by told
         (live_of tape.now (take (length tape.now) (lane l rows.now)))) }
     ensures shorter { IfOk result (HandsOn (length tape.now)) }
 {
-    match decided(hull) {
+    match told {
         Some(true) => Ok(Outcome::Inside),
         Some(false) => Ok(Outcome::Outside),
         None => {

@@ -1,18 +1,18 @@
 // Memory that looking at boxes needs.
 ghost use Rattle.std.specs.List.{All};
 ghost use Rattle.arrayvec.specs.ArrayVec.{array_vec_len};
-ghost use Rattle.std.specs.Prelude.{◌≡◌, ◌+◌, ◌*◌, ◌<◌, ◌≤◌, ◌++◌, drop, length, take, IfOk, OnErr, OnOk};
+ghost use Rattle.std.specs.Prelude.{◌≡◌, ◌+◌, ◌*◌, ◌<◌, ◌≤◌, ◌++◌, drop, length, map, take, IfOk, OnErr, OnOk};
 ghost use Rattle.choice_trace.specs.Hulls.{choices_over, tape_hull};
 ghost use Rattle.interval_ops.specs.Decided.{decided_of};
 ghost use Rattle.interval_ops.specs.HullCounts.{CountsHulls};
 ghost use Rattle.live_clauses.specs.Choices.{AreChoices};
 ghost use Rattle.live_clauses.specs.Live.{IsWhole, live_of};
 ghost use Rattle.view_settings.specs.Spans.{IsInRoot};
-ghost use Rattle.box_chains.specs.Outcomes.{HandsOn, outcome_of, outcomes_of};
+ghost use Rattle.box_chains.specs.Outcomes.{AreInRoot, HandsOn, asked_outcome, asked_outcomes, outcome_of, outcomes_of, plain_box};
 ghost use Rattle.box_chains.specs.Tallied.{CountsAtMost};
 
-use crate::rows::Rows;
-use crate::{Outcome, Places};
+use crate::rows::{Rows, held_open};
+use crate::{AskedBox, Outcome, Places};
 use arrayvec::ArrayVec;
 use choice_trace::{trace, traces_are_right};
 use fixed_ops::{Fx, Tally};
@@ -109,8 +109,8 @@ impl Workspace {
     }
 
     /// What tracing a list over boxes that receive it tells of each of them, in their order. The list
-    /// is traced once over each box, and handed on as it is where no step chooses an operand. AllocError: there is no memory for a shorter list, and no more
-    /// was traced than that.
+    /// is traced once over each box, and handed on as it is where no step chooses an operand.
+    /// AllocError: there is no memory for a shorter list, and no more was traced than that.
     pub fn trace_boxes(
         &mut self,
         alloc: Global,
@@ -133,11 +133,38 @@ impl Workspace {
         ensures at_most { OnErr result
             (CountsAtMost 0 (length boxes.now * length tape.now) tally.old tally.new) }
     {
+        let asked = plain_boxes(boxes);
+        self.trace_asked_boxes(alloc, tape, places, asked.as_slice(), tally)
+    }
+
+    /// The same of boxes that may be held open.
+    pub fn trace_asked_boxes(
+        &mut self,
+        alloc: Global,
+        tape: &Tape,
+        places: &Places,
+        asked: &[AskedBox],
+        tally: &mut Tally,
+    ) -> Result<ArrayVec<Outcome, 8>, AllocError>
+        requires whole { IsWhole tape.now }
+        requires room { length tape.now ≤ length self.old }
+        requires few { length asked.now ≤ 8 }
+        requires within { AreInRoot places.now asked.now }
+        ensures outcomes { IfOk result (λ outcomes. outcomes.items
+            ≡ asked_outcomes places.now tape.now asked.now) }
+        ensures shorter { IfOk result
+            (λ outcomes. All (HandsOn (length tape.now)) outcomes.items) }
+        ensures room { length self.new ≡ length self.old }
+        ensures counted { OnOk result
+            (CountsHulls (length asked.now * length tape.now) tally.old tally.new) }
+        ensures at_most { OnErr result
+            (CountsAtMost 0 (length asked.now * length tape.now) tally.old tally.new) }
+    {
         hull_counts();
         let mut outcomes = ArrayVec::new();
         let mut at = 0;
-        while at < boxes.len() {
-            at += self.trace_some(alloc, tape, places, &boxes[at..], &mut outcomes, tally)?;
+        while at < asked.len() {
+            at += self.trace_some(alloc, tape, places, &asked[at..], &mut outcomes, tally)?;
         }
         Ok(outcomes)
     }
@@ -149,30 +176,30 @@ impl Workspace {
         alloc: Global,
         tape: &Tape,
         places: &Places,
-        boxes: &[IndexBox],
+        asked: &[AskedBox],
         outcomes: &mut ArrayVec<Outcome, 8>,
         tally: &mut Tally,
     ) -> Result<usize, AllocError>
         requires whole { IsWhole tape.now }
         requires room { length tape.now ≤ length self.old }
-        requires some { 0 < length boxes.now }
-        requires few { array_vec_len outcomes.old + length boxes.now ≤ 8 }
-        requires within { All (IsInRoot places.now.view places.now.lattice) boxes.now }
+        requires some { 0 < length asked.now }
+        requires few { array_vec_len outcomes.old + length asked.now ≤ 8 }
+        requires within { AreInRoot places.now asked.now }
         ensures some { IfOk result (λ count. 0 < count) }
-        ensures few { IfOk result (λ count. count ≤ length boxes.now) }
+        ensures few { IfOk result (λ count. count ≤ length asked.now) }
         ensures outcomes { IfOk result (λ count. outcomes.new.items ≡ outcomes.old.items
-            ++ outcomes_of places.now tape.now (take count boxes.now)) }
+            ++ asked_outcomes places.now tape.now (take count asked.now)) }
         ensures shorter { OnOk result (All (HandsOn (length tape.now)) outcomes.old.items
             → All (HandsOn (length tape.now)) outcomes.new.items) }
         ensures room { length self.new ≡ length self.old }
         ensures counted { IfOk result
             (λ count. CountsHulls (count * length tape.now) tally.old tally.new) }
         ensures at_most { OnErr result
-            (CountsAtMost 0 (length boxes.now * length tape.now) tally.old tally.new) }
+            (CountsAtMost 0 (length asked.now * length tape.now) tally.old tally.new) }
     {
         let fits = tape.len() as usize <= self.rows.room();
-        if fits && boxes.len() >= 4 {
-            let four = &boxes[..4];
+        if fits && asked.len() >= 4 {
+            let four = &asked[..4];
             self.rows.trace::<4>(
                 alloc,
                 tape,
@@ -184,8 +211,8 @@ impl Workspace {
                 tally,
             )?;
             Ok(4)
-        } else if fits && boxes.len() >= 2 {
-            let two = &boxes[..2];
+        } else if fits && asked.len() >= 2 {
+            let two = &asked[..2];
             self.rows.trace::<2>(
                 alloc,
                 tape,
@@ -198,7 +225,7 @@ impl Workspace {
             )?;
             Ok(2)
         } else {
-            outcomes.push(self.trace_box(alloc, tape, places, boxes[0], tally)?);
+            outcomes.push(self.trace_asked_box(alloc, tape, places, asked[0], tally)?);
             Ok(1)
         }
     }
@@ -221,11 +248,52 @@ impl Workspace {
         ensures room { length self.new ≡ length self.old }
         ensures counted { CountsHulls (length tape.now) tally.old tally.new }
     {
+        let asked = AskedBox {
+            range: b,
+            held: false,
+        };
+        self.trace_asked_box(alloc, tape, places, asked, tally)
+    }
+
+    /// The same of a box that may be held open.
+    #[inline]
+    pub fn trace_asked_box(
+        &mut self,
+        alloc: Global,
+        tape: &Tape,
+        places: &Places,
+        asked: AskedBox,
+        tally: &mut Tally,
+    ) -> Result<Outcome, AllocError>
+        requires room { length tape.now ≤ length self.old }
+        requires within { IsInRoot places.now.view places.now.lattice asked.range }
+        ensures outcome { IfOk result
+            (λ outcome. outcome ≡ asked_outcome places.now tape.now asked) }
+        ensures shorter { IfOk result (HandsOn (length tape.now)) }
+        ensures room { length self.new ≡ length self.old }
+        ensures counted { CountsHulls (length tape.now) tally.old tally.new }
+    {
         traces_are_right();
-        match self.look(tape, places.region(b), tally) {
+        match held_open(self.look(tape, places.region(asked.range), tally), asked.held) {
             Some(true) => Ok(Outcome::Inside),
             Some(false) => Ok(Outcome::Outside),
             None => Ok(Outcome::Open(self.hand_on(alloc, tape)?)),
         }
     }
+}
+
+// Boxes that are not held open.
+#[inline]
+fn plain_boxes(boxes: &[IndexBox]) -> ArrayVec<AskedBox, 8>
+    requires { length boxes.now ≤ 8 }
+    ensures { result.items ≡ map plain_box boxes.now }
+{
+    let mut asked = ArrayVec::new();
+    for b in boxes {
+        asked.push(AskedBox {
+            range: *b,
+            held: false,
+        });
+    }
+    asked
 }

@@ -11,7 +11,7 @@ use Rattle.box_chains.specs.HalfLaws.{IsPart, half_with-among, halves-are_parts,
 use Rattle.box_chains.specs.Sums.{LiesIn, Sample}
 use Rattle.box_chains.specs.ValueLaws.{IsVisit, Lawful}
 use Rattle.box_chains.specs.Tallied.{CountsAtMost}
-use Rattle.box_chains.specs.TallyLaws.{most-hulls}
+use Rattle.box_chains.specs.TallyLaws.{most-hulls, most-none}
 use Rattle.choice_trace.specs.Hulls.{choices_over, tape_hull}
 use Rattle.fixed_ops.specs.CountLaws.{RisesBy-none, RisesBy-then}
 use Rattle.fixed_ops.specs.Counts.{Counts, no_counts, plus}
@@ -29,14 +29,15 @@ use Rattle.view_settings.specs.Spans.{region_of}
 use Rattle.view_settings.specs.Window.{Window}
 use Rattle.view_settings.specs.declared.lattice.Lattice.{Lattice}
 use Rattle.view_settings.specs.declared.lattice.Lattice.TheVariants as lattices
-use Rattle.oct_descent.specs.Bound.{CountsHullsAtLeast, long_spans_in, spans_in}
-use Rattle.oct_descent.specs.Corners.{ShowsCorner}
+use Rattle.oct_descent.specs.Bound.{CountsHullsAtLeast, CountsNoHull, long_spans_in, spans_in}
+use Rattle.oct_descent.specs.Corners.{AllShow, IsSeen, IsShown, ShowsCorner}
 use Rattle.oct_descent.specs.Desks.{ChargesHalves, KeepsDesk, MayLook, PaysHalves, halves_long_spans, halves_spans}
 use Rattle.oct_descent.specs.Fills.{ChargesCorners, PaysCorners}
 use Rattle.oct_descent.specs.GridValues.{grid_value}
 use Rattle.oct_descent.specs.Tables.{AllKnown, AreRight, AreSettled, AreWorked, Charges, ChargesBox, Grows, IsDue, IsEnough, IsUniform, PaysBox, PointValues, is_known}
 use Rattle.oct_descent.specs.Ways.{Covers, cell_box, gridded, is_cut, is_open, is_open_by, is_working, way_end}
 use Rattle.oct_descent.specs.declared.desk.Desk.{Desk}
+use Rattle.oct_descent.specs.declared.seen.Seen.{Seen}
 use Rattle.oct_descent.proofs.Corners.{IsOne, mask-covered, short-one}
 use Rattle.oct_descent.proofs.Covered.{corner-covered, handed-grid_value, inside-uniform, outside-uniform}
 use Rattle.oct_descent.proofs.TableLaws.{charges-hulls, charges-more, charges-most, charges-then, grows-wider, pays-most, pays-then, right-same, settled-same, settled-stays, worked-stays}
@@ -150,6 +151,21 @@ sides-open laws view v t is short right inner outer = by (is_open (gridded view)
     by false e =
         let uniform = closed-uniform laws view v s is e lies in
         absurd (false≢true (sym (shown false outer) ∙ uniform.each (corner outer.corner) (own outer.corner) ∙ sym (uniform.each (corner inner.corner) (own inner.corner)) ∙ shown true inner))
+
+-- where the known corners of a cell show how it lies, though some corner is not known, what is seen of them has both sides
+pub shown-sides : (t : PointValues) (p : GridPoint) (seen : Seen) → IsSeen t p seen → seen.all ≡ false → IsShown t p → (seen.inside ≡ true) × (seen.outside ≡ true)
+shown-sides t p seen is lacks (inl known) =
+    let corner = is.lacks lacks in
+    absurd (false≢true (sym corner.unknown ∙ known corner.corner corner.few))
+shown-sides t p seen is lacks (inr sides) = (by true seen.inside seen.inside refl sides.0 is.none_inside, by false seen.outside seen.outside refl sides.1 is.none_outside)
+  where
+    unlike : (inside : Bool) → inside ≡ not inside → ⊥
+    unlike true e = false≢true (sym e)
+    unlike false e = false≢true e
+
+    by : (inside told side : Bool) → told ≡ side → ShowsCorner t p inside → (told ≡ false → AllShow t p 8 (not inside)) → told ≡ true
+    by inside told true e shows none = e
+    by inside told false e shows none = absurd (unlike inside (sym shows.side ∙ none e shows.corner shows.value shows.few shows.known))
 
 -- what holds of each corner of each working cell of a box, and of the list that the cell receives, holds of a cell that stays open
 cell-corners : (view : Window) (v : Visit) (Q : ℕ → GridPoint → Type 0) → IsVisit (gridded view) v → is_open (gridded view) v ≡ true → is_long 1 v.box ≡ false
@@ -417,6 +433,16 @@ hulls-then told since now m n k enough first second = record {
 -- before any half is looked into
 pub traced-none : (counts : Counts) → CountsHullsAtLeast 0 counts counts
 traced-none counts = record { by = no_counts; many = omega arith; rises = RisesBy-none counts }
+
+-- evaluating at the corners of a cell traces nothing
+pub corners-untraced : (b : Indices) (len : ℕ) (before after : PointValues) (told since now : Counts) → since ≡ told → ChargesCorners b len before after since now → CountsNoHull told now
+corners-untraced b len before after told since now same corners =
+    let charged = corners (λ p. len) (λ p covers. omega arith) in
+    record { points = charged.points; counts = subst (λ c. CountsAtMost charged.points 0 c now) same charged.counts }
+
+-- and so does leaving it as it is
+pub left-untraced : (told now : Counts) → now ≡ told → CountsNoHull told now
+left-untraced told now same = record { points = 0; counts = subst (λ c. CountsAtMost 0 0 told c) (sym same) (most-none told 0 0) }
 
 -- a cell need not be traced
 pub cell-traced : (d : Descent) (v : Visit) (before after : PointValues) (told now : Counts) → IsBox v.box → is_long d.leaf v.box ≡ false → PaysBox d v before after told now

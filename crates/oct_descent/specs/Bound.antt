@@ -4,6 +4,7 @@ use Rattle.std.specs.List.{sum_by}
 use Rattle.box_chains.specs.Chains.{Descent, Visit, is_long}
 use Rattle.box_chains.specs.Counts.{first_lengths, is_first}
 use Rattle.box_chains.specs.Sums.{Sample, sum_in}
+use Rattle.box_chains.specs.Tallied.{CountsAtMost}
 use Rattle.fixed_ops.specs.Counts.{Counts, RisesBy}
 use Rattle.kuhn_cells.specs.Grids.{over_block}
 use Rattle.kuhn_cells.specs.Triangles.{GridPoint, point}
@@ -107,3 +108,8 @@ pub record CountsHullsAtLeast (spans : ℕ) (before after : Counts) : Type 0 whe
   pub by : Counts
   pub many : spans ≤ by.spans
   pub rises : RisesBy before after by
+
+-- a tally rises by evaluations alone, and by no hull
+pub record CountsNoHull (before after : Counts) : Type 0 where
+  pub points : ℕ
+  pub counts : CountsAtMost points 0 before after

@@ -1,5 +1,5 @@
 -- The corners of a cell.
-use Rattle.std.specs.Prelude.{◌≡◌, ℕ, ◌+◌, ◌*◌, ◌/◌, ◌%◌, ◌<◌, ◌≤◌, ℤ, pos, Bool, true, false, not, ◌&&◌, ◌||◌, List, length, get_or, Option, Some, None}
+use Rattle.std.specs.Prelude.{◌≡◌, ℕ, ◌+◌, ◌*◌, ◌/◌, ◌%◌, ◌<◌, ◌≤◌, ℤ, pos, Bool, true, false, not, ◌&&◌, ◌||◌, List, length, get_or, Option, Some, None, ◌⊎◌}
 use Rattle.std.specs.List.{list_any}
 use Rattle.fixed_ops.specs.Raw.{is_inside}
 use Rattle.kuhn_cells.specs.Triangles.{GridPoint, further, point}
@@ -54,6 +54,13 @@ pub record IsSeen (t : PointValues) (p : GridPoint) (seen : Seen) : Type 0 where
   pub none_inside : seen.inside ≡ false → AllShow t p 8 false
   pub outside : seen.outside ≡ true → ShowsCorner t p false
   pub none_outside : seen.outside ≡ false → AllShow t p 8 true
+
+-- The known corners of a cell show how it lies: all corners are known, or some known one is inside
+-- and some is outside.
+abbrev pub IsShown : PointValues → GridPoint → Type 0
+IsShown t p =
+    ((c : ℕ) → c < 8 → is_known (known_at t (further p c)) ≡ true)
+    ⊎ (ShowsCorner t p true × ShowsCorner t p false)
 
 -- what is seen with one more corner
 abbrev pub side_seen : Seen → Option ℤ → Seen

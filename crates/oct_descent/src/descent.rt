@@ -5,8 +5,8 @@ ghost use Rattle.box_chains.specs.Chains.{is_long as is_long_for, visit};
 ghost use Rattle.box_chains.specs.Tallied.{CountsAtMost};
 ghost use Rattle.kuhn_cells.specs.Triangles.{GridPoint, point};
 ghost use Rattle.view_settings.specs.Boxes.{halves_of};
-ghost use Rattle.oct_descent.specs.Bound.{CountsHullsAtLeast, long_spans_in};
-ghost use Rattle.oct_descent.specs.Corners.{IsSeen};
+ghost use Rattle.oct_descent.specs.Bound.{CountsHullsAtLeast, CountsNoHull, long_spans_in};
+ghost use Rattle.oct_descent.specs.Corners.{IsSeen, IsShown};
 ghost use Rattle.oct_descent.specs.Desks.{ChargesHalves, KeepsDesk, MayLook, PaysHalves, halves_long_spans};
 ghost use Rattle.oct_descent.specs.GridValues.{grid_value};
 ghost use Rattle.oct_descent.specs.Tables.{AreSettled, AreWorked, ChargesBox, Grows, PaysBox, PointValues};
@@ -99,7 +99,7 @@ fn look_into_halves(
     Ok(())
 }
 
-// Looks into a cell.
+// Looks into a cell. Nothing is traced where its known corners show how it lies.
 fn look_into_cell(
     desk: &mut Desk,
     b: IndexBox,
@@ -118,6 +118,8 @@ fn look_into_cell(
         values.new tally.old tally.new }
     ensures paid { PaysBox (gridded desk.old.places.view) (visit b received.now) values.old
         values.new tally.old tally.new }
+    ensures untraced { IsShown values.old (point b.x0 b.y0 b.z0)
+        → CountsNoHull tally.old tally.new }
     ensures kept { KeepsDesk desk.old desk.new }
 {
     layers_hold();
@@ -148,6 +150,7 @@ fn is_working(
     requires n { n ≡ desk.old.places.view.n }
     ensures open { result ≡ is_open_for (gridded desk.old.places.view) (visit b received.now) }
     ensures counted { CountsAtMost 0 (length received.now) tally.old tally.new }
+    ensures untraced { IsTrue seen.inside → IsTrue seen.outside → tally.new ≡ tally.old }
     ensures kept { KeepsDesk desk.old desk.new }
 {
     layers_hold();

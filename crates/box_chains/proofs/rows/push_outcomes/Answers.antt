@@ -5,18 +5,20 @@ use Rattle.std.proofs.lemmas.List.FromFn.{map-range_with_len_more}
 use Rattle.interval_ops.specs.Decided.{decided_of}
 use Rattle.live_clauses.specs.Live.{live_of}
 use Rattle.choice_trace.specs.Halves.{lane}
-use Rattle.box_chains.specs.Outcomes.{HandsOn, lane_outcome, outcome_by}
+use Rattle.box_chains.specs.Outcomes.{HandsOn, held_decision, lane_outcome, outcome_by}
 use Rattle.box_chains.proofs.Lanes.{outcome-read}
 use Rattle.box_chains.proofs.rows.push_outcomes.Goals as goal
 
 pub loop-l-preserved : goal.loop-l-preserved
 loop-l-preserved g c =
     let tape = c.args.tape.now in
-    let f = lane_outcome tape c.args.halves.now.hulls c.args.rows.now in
+    let f = lane_outcome tape c.args.asked.now c.args.halves.now.hulls c.args.rows.now in
     let l = c.loop-l.l in
     let new = c.in_ok-outcome.outcome in
-    let told : new ≡ f l = outcome-read tape c.args.halves.now.hulls c.args.rows.now l c.index-halves-l.result new (omega (arith, c.loop-l-test.true)) c.index-halves-l.is
-    (c.in_ok-outcome.ensures.outcome ∙ ap (λ h. outcome_by (decided_of h) (live_of tape (take (length tape) (lane l c.args.rows.now)))) (sym c.index-halves-l.is)) in
+    let told : new ≡ f l = outcome-read tape c.args.asked.now c.args.halves.now.hulls c.args.rows.now l c.index-halves-l.result c.index-asked-l.result new (omega (arith, c.loop-l-test.true)) c.index-halves-l.is (omega (arith, c.loop-l-test.true, c.requires.boxes)) c.index-asked-l.is
+    (c.in_ok-outcome.ensures.outcome ∙ ap (λ o. outcome_by o (live_of tape (take (length tape) (lane l c.args.rows.now))))
+    (c.held_open-told.ensures ∙ ap (λ a. held_decision a.held c.decided.result) (sym c.index-asked-l.is)
+    ∙ ap (held_decision c.index-asked-l.result.held) (c.decided.ensures.value ∙ ap decided_of (sym c.index-halves-l.is)))) in
     record {
       room = omega (arith, c.push.ensures.len, c.loop-l.invariant.room);
       outcomes = c.push.ensures.items ∙ ap (λ xs. xs ++ new ∷ []) c.loop-l.invariant.outcomes ∙ append_assoc c.args.outcomes.now.items (map f (range_with_len 0 l)) (new ∷ [])

@@ -1,11 +1,12 @@
-use Rattle.std.proofs.Common.{ap, arith, sym, ◌∙◌}
+use Rattle.std.proofs.Common.{ap, arith, length, refl, subst, sym, ◌∙◌}
 use Rattle.box_chains.specs.Chains.{visit}
 use Rattle.kuhn_cells.specs.Triangles.{further, point}
+use Rattle.oct_descent.specs.Corners.{IsShown}
 use Rattle.oct_descent.specs.GridValues.{grid_value}
 use Rattle.oct_descent.specs.Tables.{is_known, known_at}
 use Rattle.oct_descent.specs.Ways.{gridded}
 use Rattle.oct_descent.proofs.Corners.{all-known, short-one}
-use Rattle.oct_descent.proofs.Looks.{cell-charged, cell-paid, closed-settled, closed-worked, known-settled, look-charged, look-paid, on_ok-then}
+use Rattle.oct_descent.proofs.Looks.{cell-charged, cell-paid, closed-settled, closed-worked, corners-untraced, known-settled, left-untraced, look-charged, look-paid, on_ok-then, shown-sides}
 use Rattle.oct_descent.proofs.TableLaws.{charges-none, known-worked, pays-none}
 use Rattle.oct_descent.proofs.descent.look_into_cell.Goals as goal
 
@@ -59,3 +60,16 @@ pub returns-clause-paid : goal.returns-clause-paid
 returns-clause-paid c =
     cell-paid c.args.desk.now.places.view (visit c.args.b c.args.received.now) c.args.values.now c.fill_cell.new.values c.args.tally.now c.is_working.new.tally c.fill_cell.new.tally c.requires.may.visit_is
     (sym c.is_working.ensures.open ∙ c.if-not-is_working.false) c.requires.one c.is_working.ensures.counted c.fill_cell.ensures.paid
+
+pub returns-then-seen-clause-untraced : goal.returns-then-seen-clause-untraced
+returns-then-seen-clause-untraced c shown = left-untraced c.args.tally.now c.args.tally.now refl
+
+pub returns-then-not-is_working-clause-untraced : goal.returns-then-not-is_working-clause-untraced
+returns-then-not-is_working-clause-untraced c shown =
+    let sides = shown-sides c.args.values.now _ c.seen-seen.result c.seen-seen.ensures c.if-seen.false (subst (λ i. IsShown c.args.values.now (point i.x0 i.y0 i.z0)) (sym c.b.view_is) shown) in
+    left-untraced c.args.tally.now c.is_working.new.tally (c.is_working.ensures.untraced sides.0 sides.1)
+
+pub returns-clause-untraced : goal.returns-clause-untraced
+returns-clause-untraced c shown =
+    let sides = shown-sides c.args.values.now _ c.seen-seen.result c.seen-seen.ensures c.if-seen.false (subst (λ i. IsShown c.args.values.now (point i.x0 i.y0 i.z0)) (sym c.b.view_is) shown) in
+    corners-untraced c.args.b (length c.args.received.now) c.args.values.now c.fill_cell.new.values c.args.tally.now c.is_working.new.tally c.fill_cell.new.tally (c.is_working.ensures.untraced sides.0 sides.1) c.fill_cell.ensures.counted

@@ -8,7 +8,7 @@ returns-clause-outcomes g c =
     let halves = c.trace_halves-halves in
     on_ok-then c.push_outcomes.result _ _
     (λ added. added ∙ ap (λ xs. c.args.outcomes.now.items ++ xs)
-    (lanes-told c.args.places.now c.args.tape.now c.args.boxes.now c.regions_of-regions.result halves.result.hulls halves.new.choices g.row.L
+    (lanes-told c.args.places.now c.args.tape.now c.args.asked.now c.regions_of-regions.result halves.result.hulls halves.new.choices g.row.L
     c.regions_of-regions.ensures c.requires.boxes halves.ensures.hulls
     halves.ensures.choices))
     c.push_outcomes.ensures.outcomes

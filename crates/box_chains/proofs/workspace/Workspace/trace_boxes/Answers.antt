@@ -1,26 +1,15 @@
-use Rattle.std.proofs.Common.{◌-◌, ◌*◌, ◌++◌, ◌∙◌, length, take, ap, subst, arith}
-use Rattle.std.proofs.lemmas.List.{length-drop}
-use Rattle.box_chains.specs.Outcomes.{outcomes_of}
-use Rattle.box_chains.specs.Tallied.{CountsAtMost}
-use Rattle.box_chains.proofs.Lanes.{outcomes-join, rest-is}
-use Rattle.box_chains.proofs.Traced.{hulls-begun, hulls-more, on_err}
+use Rattle.std.proofs.Common.{◌≡◌, ◌∙◌, ap, sym, subst}
+use Rattle.std.proofs.lemmas.Result.{IfOk-weaker}
+use Rattle.box_chains.specs.Outcomes.{AreInRoot, asked_outcomes, outcomes_of}
+use Rattle.box_chains.proofs.Lanes.{plain-in_root, plain-told}
 use Rattle.box_chains.proofs.workspace.Workspace.trace_boxes.Goals as goal
 
-pub returns-in_err-at-clause-at_most : goal.returns-in_err-at-clause-at_most
-returns-in_err-at-clause-at_most c =
-    on_err _ _ (hulls-begun c.args.tally.now c.loop-at.tally c.trace_some.new.tally c.loop-at.at (length c.args.boxes.now - c.loop-at.at) (length c.args.boxes.now) (length c.args.tape.now)
-    (omega (arith, c.loop-at.invariant.within)) c.loop-at.invariant.counted
-    (subst (λ n. CountsAtMost 0 (n * length c.args.tape.now) c.loop-at.tally c.trace_some.new.tally) (ap length (rest-is c.args.boxes.now c.loop-at.at) ∙ length-drop c.loop-at.at c.args.boxes.now) c.in_err-at.ensures.at_most))
+pub trace_asked_boxes-requires-clause-within : goal.trace_asked_boxes-requires-clause-within
+trace_asked_boxes-requires-clause-within c =
+    subst (AreInRoot c.args.places.now) (sym (c.as_slice.ensures.value ∙ c.plain_boxes-asked.ensures)) (plain-in_root c.args.places.now c.args.boxes.now c.requires.within)
 
-pub loop-at-preserved : goal.loop-at-preserved
-loop-at-preserved c =
-    let rest = length-drop c.loop-at.at c.args.boxes.now in
-    record {
-      within = omega (arith, c.loop-at.invariant.within, c.in_ok-at.ensures.few, ap length (rest-is c.args.boxes.now c.loop-at.at), rest);
-      room = c.in_ok-at.ensures.room ∙ c.loop-at.invariant.room;
-      outcomes = outcomes-join c.args.places.now c.args.tape.now c.args.boxes.now c.loop-at.at c.in_ok-at.field-0 c.loop-at.outcomes.items c.trace_some.new.outcomes.items
-          c.loop-at.invariant.outcomes
-          (c.in_ok-at.ensures.outcomes ∙ ap (λ rest. c.loop-at.outcomes.items ++ outcomes_of c.args.places.now c.args.tape.now (take c.in_ok-at.field-0 rest)) (rest-is c.args.boxes.now c.loop-at.at));
-      shorter = c.in_ok-at.ensures.shorter c.loop-at.invariant.shorter;
-      counted = hulls-more c.hull_counts.ensures.add c.args.tally.now c.loop-at.tally c.trace_some.new.tally c.loop-at.at c.in_ok-at.field-0 (length c.args.tape.now) c.loop-at.invariant.counted c.in_ok-at.ensures.counted;
-    }
+pub returns-clause-outcomes : goal.returns-clause-outcomes
+returns-clause-outcomes c =
+    let made = c.as_slice.ensures.value ∙ c.plain_boxes-asked.ensures in
+    IfOk-weaker c.trace_asked_boxes.result (λ o. o.items ≡ asked_outcomes c.args.places.now c.args.tape.now c.as_slice.result.now) (λ o. o.items ≡ outcomes_of c.args.places.now c.args.tape.now c.args.boxes.now)
+    (λ o told. told ∙ ap (asked_outcomes c.args.places.now c.args.tape.now) made ∙ plain-told c.args.places.now c.args.tape.now c.args.boxes.now) c.trace_asked_boxes.ensures.outcomes
