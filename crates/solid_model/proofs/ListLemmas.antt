@@ -185,3 +185,13 @@ set-last xs y k long = subst (λ n. set (xs ++ y ∷ []) n y ≡ xs ++ y ∷ [])
     here : (zs : List _) → set (zs ++ y ∷ []) (length zs) y ≡ zs ++ y ∷ []
     here [] = refl
     here (z ∷ zs) = ap (λ ws. z ∷ ws) (here zs)
+
+-- the last element taken out again
+pub swap-end : {A : Type 0} (xs : List A) (y d : A) (at : ℕ) → at ≡ length xs → swap_remove (xs ++ y ∷ []) at d ≡ xs
+swap-end xs y d at is =
+    let long : length (xs ++ y ∷ []) - 1 ≡ length xs = omega (arith, length-append xs (y ∷ [])) in
+    rw (long, get_or-append_seam xs y [] d, is) (front xs)
+  where
+    front : (zs : List _) → take (length zs) (set (zs ++ y ∷ []) (length zs) y) ≡ zs
+    front [] = refl
+    front (z ∷ zs) = ap (λ ws. z ∷ ws) (front zs)

@@ -14,9 +14,14 @@ use Rattle.solid_model.specs.declared.row.Row.{Row}
 use Rattle.solid_model.specs.Clauses.{AreInOrder}
 use Rattle.solid_model.specs.Surgery.{reads}
 use Rattle.solid_model.specs.Tables.{clause_of, clauses_of, no_row, row_of, row_reads, row_uses, standing_rows, AreCounted, IsTable, Standing}
-use Rattle.solid_model.proofs.ListLemmas.{get-front, get-set, get-take, in-front, map-but-one, position-none, take-front}
+use Rattle.solid_model.proofs.ListLemmas.{get-front, get-set, get-take, in-front, map-but-one, position-none}
 use Rattle.solid_model.proofs.NamePlaces.{map-alike, map-cut, map-put}
-use Rattle.solid_model.proofs.TableLemmas.{front-removed, front-stood, grown, number-within, reader-is, row-is, row-kept}
+use Rattle.solid_model.proofs.Rewrites.{row-kept}
+use Rattle.solid_model.proofs.Readers.{reader-is}
+use Rattle.solid_model.proofs.Lookups.{number-within, row-is}
+use Rattle.solid_model.proofs.Growth.{grown, standing-grown}
+use Rattle.solid_model.proofs.Departures.{front-removed}
+use Rattle.solid_model.proofs.Arrivals.{front-stood}
 
 some-same : {A : Type 0} {x y : A} → Some x ≡ Some y → x ≡ y
 some-same e = (cc)
@@ -186,15 +191,15 @@ module _ (order : Standing) (count : ℕ) (rows : List Row) (names : List (Vec �
       ∙ reads-not (row_of rows is.item) n (omega (arith, few, none)))
 
   -- the counts with one more number, which no row has
-  pub counted-grown : (row : Row) → AreCounted (length (grown order count rows names t).numbers) (standing_rows (grown order count rows names t) count (rows ++ row ∷ [])) (uses ++ 0 ∷ [])
-  counted-grown row = record {
+  pub counted-grown : AreCounted (length (grown order).numbers) (standing_rows (grown order) count (rows ++ no_row ∷ [])) (uses ++ 0 ∷ [])
+  counted-grown = record {
     as_many = omega (arith, counted.as_many, length-append uses (0 ∷ []), length-append order.numbers (length order.numbers ∷ []));
     each = λ n less. elim (cases_lt n (length order.numbers)) [
       | inl before ↦
           get_or_append_left uses (0 ∷ []) 0 n (omega (arith, before, counted.as_many)) ∙ counted.each n before ∙ ap (sum_by (row_uses n)) (sym same)
       | inr le ↦
           let is : length uses ≡ n = omega (arith, le, less, counted.as_many, length-append order.numbers (length order.numbers ∷ [])) in
-          subst (λ k. get_or (uses ++ 0 ∷ []) k 0 ≡ sum_by (row_uses n) (standing_rows (grown order count rows names t) count (rows ++ row ∷ []))) is
+          subst (λ k. get_or (uses ++ 0 ∷ []) k 0 ≡ sum_by (row_uses n) (standing_rows (grown order) count (rows ++ no_row ∷ []))) is
           (get_or-append_seam uses 0 [] 0
           ∙ sym (ap (sum_by (row_uses n)) same ∙ sum-none (row_uses n) (standing_rows order count rows) (λ k r e.
           let f = in-front (row_of rows) order.numbers count k r e in
@@ -204,9 +209,5 @@ module _ (order : Standing) (count : ℕ) (rows : List Row) (names : List (Vec �
     ];
   }
     where
-      same : standing_rows (grown order count rows names t) count (rows ++ row ∷ []) ≡ standing_rows order count rows
-      same =
-          ap (map (row_of (rows ++ row ∷ []))) (take-front order.numbers (length order.numbers ∷ []) count t.within)
-          ∙ map-alike (row_of (rows ++ row ∷ [])) (row_of rows) (take count order.numbers) (λ k n e.
-          let got = get-take order.numbers count k n e in
-          get_or_append_left rows (row ∷ []) no_row n (omega (arith, number-within order count rows names t k n got.1, t.rows_are)))
+      same : standing_rows (grown order) count (rows ++ no_row ∷ []) ≡ standing_rows order count rows
+      same = standing-grown order count rows names t

@@ -1,6 +1,7 @@
 -- How a table keeps clauses: by numbers, which stand in an order.
 use Rattle.std.specs.Prelude.{◌≡◌, ℕ, ◌<◌, ◌≤◌, ◌+◌, ◌==◌, nat_le, pos, Bool, true, false, ◌&&◌, ◌||◌, List, [], length, map, sum_by, take, slice_get, slice_index_or, Some, if◌then◌else◌}
 use Rattle.std.specs.Global.{Vec}
+use Rattle.std.specs.List.{position}
 use Rattle.fixed_ops.specs.declared.operation.Op.TheVariants.{X}
 use Rattle.fixed_ops.specs.Arity.{arity_of}
 use Rattle.solid_model.specs.declared.clause.Clause.{Clause}
@@ -80,8 +81,8 @@ abbrev pub AreUnread : List ℕ → List Row → ℕ → ℕ → ℕ → Type 0
 AreUnread numbers rows number first end = (place user : ℕ) → first ≤ place → place < end
     → slice_get numbers place ≡ Some user → row_reads number (row_of rows user) ≡ false
 
--- Numbers with a name and a row each, of which a count stand as clauses. The names are distinct, also those of
--- numbers that stand no more, and no operand is past the numbers.
+-- Numbers with a name and a row each, of which a count stand as clauses. The names are distinct, also those
+-- of numbers that stand no more, and no operand is past the numbers.
 pub record IsTable (order : Standing) (count : ℕ) (rows : List Row) (names : List (Vec ℕ)) : Type 0 where
   pub places : ArePlaces order
   pub within : count ≤ length order.numbers
@@ -93,6 +94,11 @@ pub record IsTable (order : Standing) (count : ℕ) (rows : List Row) (names : L
       → row.b < length order.numbers
   pub distinct : (i j : ℕ) (x y : Vec ℕ) → slice_get names i ≡ Some x → slice_get names j ≡ Some y
       → x.items ≡ y.items → i ≡ j
+
+-- a number has this name
+pub record HasName (names : List (Vec ℕ)) (name : List ℕ) (number : ℕ) : Type 0 where
+  pub known : number < length names
+  pub is : label_of names number ≡ name
 
 -- what the clauses that stand say, in order
 abbrev pub standing_rows : Standing → ℕ → List Row → List Row
@@ -107,10 +113,27 @@ row_uses number row =
 -- how often each of the numbers below a count is an operand of some rows
 pub record AreCounted (total : ℕ) (standing : List Row) (uses : List ℕ) : Type 0 where
   pub as_many : length uses ≡ total
-  pub each : (number : ℕ) → number < total → slice_index_or uses number 0 ≡ sum_by (row_uses number) standing
+  pub each : (number : ℕ) → number < total
+      → slice_index_or uses number 0 ≡ sum_by (row_uses number) standing
 
--- a table of which each number's uses are counted
-pub record IsCountedTable (order : Standing) (count : ℕ) (rows : List Row) (names : List (Vec ℕ)) (uses : List ℕ)
-    : Type 0 where
-  pub table : IsTable order count rows names
-  pub counted : AreCounted (length order.numbers) (standing_rows order count rows) uses
+-- for each number 0, or the place of the first of some rows that has it as an operand
+abbrev pub AreFirstUsers : List Row → List ℕ → Type 0
+AreFirstUsers standing users = (number : ℕ) → 0 < slice_index_or users number 0
+    → position (row_reads number) standing ≡ Some (slice_index_or users number 0)
+
+-- what a table keeps: numbers in an order, how many of them stand as clauses, and the row and name of each
+pub record Kept : Type 0 where
+  pub order : Standing
+  pub count : ℕ
+  pub rows : List Row
+  pub names : List (Vec ℕ)
+
+-- its clauses
+abbrev pub clauses_in : Kept → List Clause
+clauses_in kept = clauses_of kept.order kept.count kept.rows kept.names
+
+-- each number's uses are counted, and each first user that is told is one
+pub record IsKept (kept : Kept) (uses told : List ℕ) : Type 0 where
+  pub table : IsTable kept.order kept.count kept.rows kept.names
+  pub counted : AreCounted (length kept.order.numbers) (standing_rows kept.order kept.count kept.rows) uses
+  pub users : AreFirstUsers (standing_rows kept.order kept.count kept.rows) told

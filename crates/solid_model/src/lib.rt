@@ -13,6 +13,7 @@ mod numbers;
 mod push_fault;
 mod row;
 mod table;
+mod users;
 mod uses;
 
 pub use clause::Clause;

@@ -5,6 +5,7 @@ ghost use Rattle.solid_model.specs.Edits.{edited, MakesClause};
 ghost use Rattle.solid_model.specs.declared.edit.Edit.TheVariants.{Add, Cut, Put, Set};
 ghost use Rattle.solid_model.specs.Refusals.{RefusesAs, WantsMemoryFor};
 ghost use Rattle.solid_model.specs.Seen.{clause_seen};
+ghost use Rattle.solid_model.specs.Tables.{clauses_in};
 
 use crate::table::Table;
 use crate::{ClauseRef, Edit, EditFault, Form, Name};
@@ -21,12 +22,13 @@ impl std::marker::Model for Model {
     ghost use Rattle.std.specs.Prelude.{List};
     ghost use Rattle.solid_model.specs.declared.clause.Clause.{Clause};
     ghost use Rattle.solid_model.specs.Clauses.{IsModel};
+    ghost use Rattle.solid_model.specs.Tables.{clauses_in};
 
     ghost Value = { List Clause };
 
-    ghost view = { λ m. m.table };
+    ghost view = { λ m. clauses_in m.table };
 
-    ghost invariant = { λ m. IsModel m.table };
+    ghost invariant = { λ m. IsModel (clauses_in m.table) };
 }
 
 impl Model {
@@ -116,8 +118,8 @@ impl Model {
     // The model of a table, whose clauses are one.
     #[inline]
     pub(crate) fn of(table: Table) -> Model
-        requires { IsModel table }
-        ensures { result ≡ table }
+        requires { IsModel (clauses_in table) }
+        ensures { result ≡ clauses_in table }
     {
         Model { table }
     }

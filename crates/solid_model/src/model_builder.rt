@@ -20,12 +20,13 @@ impl std::marker::Model for ModelBuilder {
     ghost use Rattle.std.specs.Prelude.{List};
     ghost use Rattle.solid_model.specs.declared.clause.Clause.{Clause};
     ghost use Rattle.solid_model.specs.Clauses.{AreClauses};
+    ghost use Rattle.solid_model.specs.Tables.{clauses_in};
 
     ghost Value = { List Clause };
 
-    ghost view = { λ b. b.table };
+    ghost view = { λ b. clauses_in b.table };
 
-    ghost invariant = { λ b. AreClauses b.table };
+    ghost invariant = { λ b. AreClauses (clauses_in b.table) };
 }
 
 impl ModelBuilder {

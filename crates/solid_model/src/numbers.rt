@@ -1,8 +1,42 @@
 // Numbers in an order, in which each is found at once.
-ghost use Rattle.std.specs.Prelude.{◌≡◌, ◌<◌, ◌≤◌, ◌+◌, length};
+ghost use Rattle.std.specs.Prelude.{◌≡◌, ◌<◌, ◌≤◌, ◌+◌, [], ◌∷◌, ◌++◌, length, OnErr, OnOk};
 ghost use Rattle.indexmap.specs.IndexMap.{move_index};
 ghost use Rattle.solid_model.specs.Moves.{AreDistinct, AreNoted, AreNotedBut};
-ghost use Rattle.solid_model.specs.Tables.{ArePlaces};
+ghost use Rattle.solid_model.specs.Tables.{no_row, ArePlaces};
+
+use crate::row::Row;
+use std::alloc::AllocError;
+
+// Makes one number more, which stands behind all others, and whose row says nothing. After an `Err`
+// all is as it was.
+pub(crate) fn grow(
+    numbers: &mut Vec<u16>,
+    places: &mut Vec<u16>,
+    rows: &mut Vec<Row>,
+    uses: &mut Vec<u32>,
+) -> Result<(), AllocError>
+    requires few { length numbers.old.items < 65535 }
+    ensures numbers { OnOk result (numbers.new.items
+        ≡ numbers.old.items ++ length numbers.old.items ∷ []) }
+    ensures places { OnOk result (places.new.items
+        ≡ places.old.items ++ length numbers.old.items ∷ []) }
+    ensures rows { OnOk result (rows.new.items ≡ rows.old.items ++ no_row ∷ []) }
+    ensures uses { OnOk result (uses.new.items ≡ uses.old.items ++ 0 ∷ []) }
+    ensures err { OnErr result ((numbers.new.items ≡ numbers.old.items)
+        × (places.new.items ≡ places.old.items) × (rows.new.items ≡ rows.old.items)
+        × (uses.new.items ≡ uses.old.items)) }
+{
+    numbers.reserve(1)?;
+    places.reserve(1)?;
+    rows.reserve(1)?;
+    uses.reserve(1)?;
+    let number = numbers.len() as u16;
+    numbers.push(number).unwrap();
+    places.push(number).unwrap();
+    rows.push(Row::empty()).unwrap();
+    uses.push(0).unwrap();
+    Ok(())
+}
 
 // Moves the number at a place to another, and shifts those in between by one.
 pub(crate) fn move_number(numbers: &mut Vec<u16>, places: &mut Vec<u16>, from: usize, to: usize)

@@ -1,6 +1,6 @@
 // What a clause says beside its name.
 ghost use Rattle.std.specs.Prelude.{◌≡◌};
-ghost use Rattle.solid_model.specs.Tables.{row_reads};
+ghost use Rattle.solid_model.specs.Tables.{no_row, row_reads};
 
 use fixed_ops::{Fx, Op, arity};
 
@@ -15,6 +15,18 @@ pub(crate) struct Row {
 }
 
 impl Row {
+    // The row of a number that is new.
+    pub(crate) fn empty() -> Row
+        ensures { result ≡ no_row }
+    {
+        Row {
+            op: Op::X,
+            a: 0,
+            b: 0,
+            value: Fx::from_raw(0),
+        }
+    }
+
     // Whether a number is an operand. The numbers are asked first: they tell most rows apart.
     #[inline]
     pub(crate) fn reads(&self, number: u16) -> bool

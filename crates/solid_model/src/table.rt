@@ -1,5 +1,5 @@
 // A list of clauses in which a name is found at once, and whose clauses move without their operands.
-ghost use Rattle.std.specs.Prelude.{◌≡◌, ◌≢◌, ℕ, ◌<◌, ◌≤◌, [], ◌∷◌, ◌++◌, length, map, set, slice_get, slice_index_or, if◌then◌else◌, true, Some, None, IfErr, IfNone, IfSome, OnErr, OnOk};
+ghost use Rattle.std.specs.Prelude.{◌≡◌, ◌≢◌, ℕ, ◌<◌, ◌≤◌, [], ◌∷◌, ◌++◌, length, map, set, slice_get, slice_index_or, if◌then◌else◌, true, false, is_some, Some, None, IfErr, IfOk, IfSome, OnErr, OnOk};
 ghost use Rattle.std.specs.List.{insert, position, remove};
 ghost use Rattle.std.specs.Option.{unwrap_or};
 ghost use Rattle.solid_model.specs.Adding.{added, clause_after, operand};
@@ -10,15 +10,16 @@ ghost use Rattle.solid_model.specs.Pushing.{push_fault};
 ghost use Rattle.solid_model.specs.Refusals.{RefusesAs, WantsMemoryFor};
 ghost use Rattle.solid_model.specs.Seen.{clause_seen};
 ghost use Rattle.solid_model.specs.Surgery.{down, formed, moved, put_in, reads, reads_before, taken_out, up};
-ghost use Rattle.solid_model.specs.Tables.{AreUnread, HasOperandsBefore, IsNumbered, IsReader};
+ghost use Rattle.solid_model.specs.Tables.{clauses_in, label_of, standing_place, HasName, HasOperandsBefore, IsNumbered};
 
-use crate::numbers::move_number;
+use crate::numbers::{grow, move_number};
 use crate::row::Row;
+use crate::users::{first_reader, keep_user, kept_user};
 use crate::uses::{count_operands, uncount_operands};
 use crate::{Clause, ClauseRef, EditFault, Form, Name, PushFault};
 use fixed_ops::arity;
 use indexmap::IndexSet;
-use std::alloc::Global;
+use std::alloc::{AllocError, Global};
 use std::marker::Model;
 
 // The most clauses that a table holds.
@@ -26,7 +27,8 @@ const MOST: usize = 65_535;
 
 // At most 65,535 clauses. Each has a number, by which its operands are told, and which it keeps
 // while it stands: a name and a row are found by it. The numbers stand in the order of the clauses,
-// and behind them those of clauses that were taken out, which the next clauses get.
+// and behind them those of clauses that were taken out, which the next clauses get. For each number
+// there is the count of its uses, and, once it was looked for, the place of its first user.
 #[derive(Debug, Drop)]
 pub(crate) struct Table {
     alloc: Global,
@@ -35,29 +37,36 @@ pub(crate) struct Table {
     places: Vec<u16>,
     rows: Vec<Row>,
     uses: Vec<u32>,
+    users: Vec<u16>,
     names: IndexSet<Vec<u8>>,
 }
 
 impl Model for Table {
-    ghost use Rattle.std.specs.Prelude.{List};
-    ghost use Rattle.solid_model.specs.declared.clause.Clause.{Clause};
+    ghost use Rattle.solid_model.specs.Tables.{IsKept, Kept};
 
-    ghost Value = { List Clause };
+    ghost Value = { Kept };
 
-    ghost use Rattle.solid_model.specs.Tables.{clauses_of, IsCountedTable};
+    ghost view = { λ t. record {
+      order = record { numbers = t.numbers.items; places = t.places.items };
+      count = t.count;
+      rows = t.rows.items;
+      names = t.names.keys;
+    } };
 
-    ghost view = { λ t. clauses_of
-        (record { numbers = t.numbers.items; places = t.places.items }) t.count t.rows.items t.names.keys };
-
-    ghost invariant = { λ t. IsCountedTable
-        (record { numbers = t.numbers.items; places = t.places.items }) t.count t.rows.items
-        t.names.keys t.uses.items };
+    ghost invariant = { λ t. IsKept
+        (record {
+          order = record { numbers = t.numbers.items; places = t.places.items };
+          count = t.count;
+          rows = t.rows.items;
+          names = t.names.keys;
+        })
+        t.uses.items t.users.items };
 }
 
 impl Table {
     // No clauses.
     pub(crate) fn new(alloc: Global) -> Table
-        ensures { result ≡ [] }
+        ensures { clauses_in result ≡ [] }
     {
         Table {
             alloc,
@@ -66,6 +75,7 @@ impl Table {
             places: Vec::new(alloc),
             rows: Vec::new(alloc),
             uses: Vec::new(alloc),
+            users: Vec::new(alloc),
             names: IndexSet::new(alloc),
         }
     }
@@ -79,8 +89,8 @@ impl Table {
     // How many clauses there are.
     #[inline]
     pub(crate) fn len(&self) -> usize
-        ensures len { result ≡ length self.now }
-        ensures few { length self.now ≤ 65535 }
+        ensures len { result ≡ length (clauses_in self.now) }
+        ensures few { length (clauses_in self.now) ≤ 65535 }
     {
         self.count
     }
@@ -88,8 +98,8 @@ impl Table {
     // The clause at a place.
     #[inline]
     pub(crate) fn clause(&self, at: usize) -> ClauseRef<'_>
-        requires { at < length self.now }
-        ensures { slice_get self.now at ≡ Some (clause_seen result) }
+        requires { at < length (clauses_in self.now) }
+        ensures { slice_get (clauses_in self.now) at ≡ Some (clause_seen result) }
     {
         let number = self.numbers[at] as usize;
         let row = self.rows[number];
@@ -107,8 +117,8 @@ impl Table {
     // too; these stand behind the others.
     #[inline]
     pub(crate) fn position(&self, name: &[u8]) -> Option<u32>
-        ensures place { result ≡ place_of self.now name.now }
-        ensures within { IfSome result (λ at. at < length self.now) }
+        ensures place { result ≡ place_of (clauses_in self.now) name.now }
+        ensures within { IfSome result (λ at. at < length (clauses_in self.now)) }
     {
         let number = self.names.get_index_of(name)?;
         let place = self.places[number] as usize;
@@ -121,11 +131,11 @@ impl Table {
 
     // Adds a clause of this name and form as the last one.
     pub(crate) fn add(&mut self, name: Name, form: Form) -> Result<(), EditFault>
-        requires in_order { AreInOrder self.old }
-        ensures ok { OnOk result (added self.old name form ≡ Ok self.new) }
-        ensures fault { RefusesAs (added self.old name form) EditFault.NoMemory result }
-        ensures no_memory { WantsMemoryFor (added self.old name form) EditFault.NoMemory result }
-        ensures err { OnErr result (self.new ≡ self.old) }
+        requires in_order { AreInOrder (clauses_in self.old) }
+        ensures ok { OnOk result (added (clauses_in self.old) name form ≡ Ok (clauses_in self.new)) }
+        ensures fault { RefusesAs (added (clauses_in self.old) name form) EditFault.NoMemory result }
+        ensures no_memory { WantsMemoryFor (added (clauses_in self.old) name form) EditFault.NoMemory result }
+        ensures err { OnErr result (clauses_in self.new ≡ clauses_in self.old) }
         ensures name { IsName name }
         ensures form { IsForm form }
     {
@@ -136,10 +146,10 @@ impl Table {
 
     // Gives the clause of this name another form.
     pub(crate) fn set(&mut self, name: Name, form: Form) -> Result<(), EditFault>
-        ensures ok { OnOk result (formed self.old name form ≡ Ok self.new) }
-        ensures fault { IfErr result (λ fault. formed self.old name form ≡ Err fault) }
+        ensures ok { OnOk result (formed (clauses_in self.old) name form ≡ Ok (clauses_in self.new)) }
+        ensures fault { IfErr result (λ fault. formed (clauses_in self.old) name form ≡ Err fault) }
         ensures memory { IfErr result (λ fault. fault ≢ EditFault.NoMemory) }
-        ensures err { OnErr result (self.new ≡ self.old) }
+        ensures err { OnErr result (clauses_in self.new ≡ clauses_in self.old) }
         ensures name { IsName name }
         ensures form { IsForm form }
     {
@@ -154,12 +164,12 @@ impl Table {
 
     // Puts a clause of this name and form directly before that of another name.
     pub(crate) fn put(&mut self, next: Name, name: Name, form: Form) -> Result<(), EditFault>
-        requires in_order { AreInOrder self.old }
-        ensures ok { OnOk result (put_in self.old next name form ≡ Ok self.new) }
-        ensures fault { RefusesAs (put_in self.old next name form) EditFault.NoMemory result }
-        ensures no_memory { WantsMemoryFor (put_in self.old next name form) EditFault.NoMemory
+        requires in_order { AreInOrder (clauses_in self.old) }
+        ensures ok { OnOk result (put_in (clauses_in self.old) next name form ≡ Ok (clauses_in self.new)) }
+        ensures fault { RefusesAs (put_in (clauses_in self.old) next name form) EditFault.NoMemory result }
+        ensures no_memory { WantsMemoryFor (put_in (clauses_in self.old) next name form) EditFault.NoMemory
             result }
-        ensures err { OnErr result (self.new ≡ self.old) }
+        ensures err { OnErr result (clauses_in self.new ≡ clauses_in self.old) }
         ensures name { IsName name }
         ensures form { IsForm form }
     {
@@ -182,11 +192,11 @@ impl Table {
 
     // Takes out the clause of this name.
     pub(crate) fn cut(&mut self, name: Name) -> Result<(), EditFault>
-        requires in_order { AreInOrder self.old }
-        ensures ok { OnOk result (taken_out self.old name ≡ Ok self.new) }
-        ensures fault { IfErr result (λ fault. taken_out self.old name ≡ Err fault) }
+        requires in_order { AreInOrder (clauses_in self.old) }
+        ensures ok { OnOk result (taken_out (clauses_in self.old) name ≡ Ok (clauses_in self.new)) }
+        ensures fault { IfErr result (λ fault. taken_out (clauses_in self.old) name ≡ Err fault) }
         ensures memory { IfErr result (λ fault. fault ≢ EditFault.NoMemory) }
-        ensures err { OnErr result (self.new ≡ self.old) }
+        ensures err { OnErr result (clauses_in self.new ≡ clauses_in self.old) }
     {
         let at = self.position(name.bytes()).ok_or(EditFault::UnknownName)?;
         if let Some(user) = self.first_user(at) {
@@ -201,7 +211,7 @@ impl Table {
 
     // The clause of this name and form, whose operands stand in the table, if they all do.
     fn clause_after(&self, name: Name, form: Form) -> Option<Clause>
-        ensures clause { result ≡ clause_after self.now name form }
+        ensures clause { result ≡ clause_after (clauses_in self.now) name form }
         ensures name { IsName name }
         ensures form { IsForm form }
     {
@@ -220,7 +230,7 @@ impl Table {
 
     // The place of the k-th operand, or 0 where there is none.
     fn operand(&self, args: &[Name], k: usize) -> Option<u32>
-        ensures { result ≡ operand self.now args.now k }
+        ensures { result ≡ operand (clauses_in self.now) args.now k }
     {
         match args.get(k) {
             Some(name) => self.position(name.bytes()),
@@ -230,22 +240,22 @@ impl Table {
 
     // Puts a clause last.
     pub(crate) fn push(&mut self, clause: Clause) -> Result<(), PushFault>
-        requires in_order { AreInOrder self.old }
-        requires operands { HasOperandsBefore (length self.old) clause }
-        ensures free { OnOk result (push_fault self.old clause.name ≡ None) }
-        ensures ok { OnOk result (self.new ≡ self.old ++ clause ∷ []) }
+        requires in_order { AreInOrder (clauses_in self.old) }
+        requires operands { HasOperandsBefore (length (clauses_in self.old)) clause }
+        ensures free { OnOk result (push_fault (clauses_in self.old) clause.name ≡ None) }
+        ensures ok { OnOk result (clauses_in self.new ≡ (clauses_in self.old) ++ clause ∷ []) }
         ensures fault { IfErr result (λ fault. fault ≢ PushFault.NoMemory
-            → push_fault self.old clause.name ≡ Some fault) }
+            → push_fault (clauses_in self.old) clause.name ≡ Some fault) }
         ensures no_memory { IfErr result (λ fault. fault ≡ PushFault.NoMemory
-            → push_fault self.old clause.name ≡ None) }
-        ensures err { OnErr result (self.new ≡ self.old) }
+            → push_fault (clauses_in self.old) clause.name ≡ None) }
+        ensures err { OnErr result (clauses_in self.new ≡ clauses_in self.old) }
     {
         self.insert(self.count, clause)
     }
 
     // Why a clause of this name does not go last: its fault, or else that memory was refused.
     pub(crate) fn refusal(&self, name: &[u8]) -> PushFault
-        ensures { result ≡ unwrap_or (push_fault self.now name.now) PushFault.NoMemory }
+        ensures { result ≡ unwrap_or (push_fault (clauses_in self.now) name.now) PushFault.NoMemory }
     {
         if self.position(name).is_some() {
             PushFault::DoubleName
@@ -256,112 +266,153 @@ impl Table {
         }
     }
 
-    // Puts a clause in at a place. A new name is hashed once: the set says whether it was there.
-    // Where memory is refused, the name is looked up after all, since a fault of the clause goes
-    // first. All room is made before the name is noted, so no step after that can fail.
+    // Puts a clause in at a place. Its name is hashed once. Where memory is refused, the name is
+    // looked up after all, since a fault of the clause goes first.
     fn insert(&mut self, at: usize, clause: Clause) -> Result<(), PushFault>
-        requires in_order { AreInOrder self.old }
-        requires within { at ≤ length self.old }
+        requires in_order { AreInOrder (clauses_in self.old) }
+        requires within { at ≤ length (clauses_in self.old) }
         requires operands { HasOperandsBefore at clause }
-        ensures free { OnOk result (push_fault self.old clause.name ≡ None) }
-        ensures ok { OnOk result (self.new ≡ insert (map (moved (up at)) self.old) at clause) }
+        ensures free { OnOk result (push_fault (clauses_in self.old) clause.name ≡ None) }
+        ensures ok { OnOk result (clauses_in self.new
+            ≡ insert (map (moved (up at)) (clauses_in self.old)) at clause) }
         ensures fault { IfErr result (λ fault. fault ≢ PushFault.NoMemory
-            → push_fault self.old clause.name ≡ Some fault) }
+            → push_fault (clauses_in self.old) clause.name ≡ Some fault) }
         ensures no_memory { IfErr result (λ fault. fault ≡ PushFault.NoMemory
-            → push_fault self.old clause.name ≡ None) }
-        ensures err { OnErr result (self.new ≡ self.old) }
+            → push_fault (clauses_in self.old) clause.name ≡ None) }
+        ensures err { OnErr result (clauses_in self.new ≡ clauses_in self.old) }
     {
         let name = clause.name.bytes();
         if self.count >= MOST {
             return Err(self.refusal(name));
         }
-        let Ok(key) = Vec::from_slice(self.alloc, name) else {
+        let Ok(number) = self.number_for(name) else {
             return Err(self.refusal(name));
         };
-        if self.numbers.reserve(1).is_err()
-            || self.places.reserve(1).is_err()
-            || self.rows.reserve(1).is_err()
-            || self.uses.reserve(1).is_err()
-        {
-            return Err(self.refusal(name));
+        if self.stands(number) {
+            return Err(PushFault::DoubleName);
         }
-        let row = numbered(&self.numbers, &clause);
-        match self.names.insert_full(key) {
-            Err(_) => Err(PushFault::NoMemory),
-            Ok((number, false)) => {
-                let from = self.places[number] as usize;
-                if from < self.count {
-                    return Err(PushFault::DoubleName);
-                }
-                count_operands(&mut self.uses, &row);
-                self.rows[number] = row;
-                move_number(&mut self.numbers, &mut self.places, from, at);
-                self.count += 1;
-                Ok(())
-            }
-            Ok((_, true)) if self.count < self.numbers.len() => {
-                let number = self.numbers[self.count] as usize;
-                self.names.swap_remove_index(number);
-                count_operands(&mut self.uses, &row);
-                self.rows[number] = row;
-                move_number(&mut self.numbers, &mut self.places, self.count, at);
-                self.count += 1;
-                Ok(())
-            }
-            Ok((last, true)) => {
-                self.numbers.push(last as u16).unwrap();
-                self.places.push(last as u16).unwrap();
-                self.uses.push(0).unwrap();
-                count_operands(&mut self.uses, &row);
-                self.rows.push(row).unwrap();
-                move_number(&mut self.numbers, &mut self.places, last, at);
-                self.count += 1;
-                Ok(())
+        self.stand(number, at, &clause);
+        Ok(())
+    }
+
+    // The number of a name: its own, where the set knows it, and else that of a clause that was
+    // taken out, or a new one. The clauses stay as they are.
+    fn number_for(&mut self, name: &[u8]) -> Result<usize, AllocError>
+        requires room { self.old.count < 65535 }
+        ensures named { IfOk result (λ number. HasName self.new.names name.now number) }
+        ensures clauses { clauses_in self.new ≡ clauses_in self.old }
+        ensures count { self.new.count ≡ self.old.count }
+    {
+        let key = Vec::from_slice(self.alloc, name)?;
+        let Ok((last, is_new)) = self.names.insert_full(key) else {
+            return Err(AllocError);
+        };
+        if !is_new {
+            return Ok(last);
+        }
+        if self.count < self.numbers.len() {
+            let number = self.numbers[self.count] as usize;
+            self.names.swap_remove_index(number);
+            return Ok(number);
+        }
+        match grow(
+            &mut self.numbers,
+            &mut self.places,
+            &mut self.rows,
+            &mut self.uses,
+        ) {
+            Ok(()) => Ok(last),
+            Err(fault) => {
+                self.names.swap_remove_index(last);
+                Err(fault)
             }
         }
     }
 
+    // Whether the clause of a number stands.
+    #[inline]
+    fn stands(&self, number: usize) -> bool
+        requires known { number < length self.now.names }
+        ensures stands { result
+            ≡ is_some (place_of (clauses_in self.now) (label_of self.now.names number)) }
+        ensures behind { result ≡ false
+            → self.now.count ≤ standing_place self.now.order number }
+    {
+        (self.places[number] as usize) < self.count
+    }
+
+    // Puts the clause of a number that does not stand in at a place.
+    fn stand(&mut self, number: usize, at: usize, clause: &Clause)
+        requires in_order { AreInOrder (clauses_in self.old) }
+        requires within { at ≤ length (clauses_in self.old) }
+        requires operands { HasOperandsBefore at clause.now }
+        requires named { HasName self.old.names clause.now.name number }
+        requires behind { self.old.count ≤ standing_place self.old.order number }
+        requires room { self.old.count < 65535 }
+        ensures { clauses_in self.new
+            ≡ insert (map (moved (up at)) (clauses_in self.old)) at clause.now }
+    {
+        let row = numbered(&self.numbers, clause);
+        count_operands(&mut self.uses, &row);
+        self.rows[number] = row;
+        let from = self.places[number] as usize;
+        move_number(&mut self.numbers, &mut self.places, from, at);
+        self.count += 1;
+        self.users.clear();
+    }
+
     // Gives the clause at a place, whose name stays, another form.
     fn write(&mut self, at: usize, clause: &Clause)
-        requires named { place_of self.old clause.now.name ≡ Some at }
+        requires named { place_of (clauses_in self.old) clause.now.name ≡ Some at }
         requires operands { HasOperandsBefore at clause.now }
-        ensures { self.new ≡ set self.old at clause.now }
+        ensures { clauses_in self.new ≡ set (clauses_in self.old) at clause.now }
     {
         let number = self.numbers[at] as usize;
         let row = numbered(&self.numbers, clause);
         uncount_operands(&mut self.uses, &self.rows[number]);
         count_operands(&mut self.uses, &row);
         self.rows[number] = row;
+        self.users.clear();
     }
 
-    // The place of the first clause that has the clause at a place as an operand. Where none has it,
-    // that is known at once; else only a later one can have it.
-    fn first_user(&self, at: u32) -> Option<usize>
-        requires in_order { AreInOrder self.now }
-        requires there { at < length self.now }
-        ensures place { result ≡ position (reads at) self.now }
-        ensures within { IfSome result (λ user. user < length self.now) }
-        ensures few { length self.now ≤ 65535 }
+    // The place of the first clause that has the clause at a place as an operand; the clauses stay.
+    // Where none has it, that is known at once, and else only a later one can have it. A place that
+    // was found is kept until the clauses change, so that of the calls in between only the first for
+    // a clause takes more than constant time.
+    fn first_user(&mut self, at: u32) -> Option<usize>
+        requires in_order { AreInOrder (clauses_in self.old) }
+        requires there { at < length (clauses_in self.old) }
+        ensures place { result ≡ position (reads at) (clauses_in self.old) }
+        ensures within { IfSome result (λ user. user < length (clauses_in self.old)) }
+        ensures few { length (clauses_in self.old) ≤ 65535 }
+        ensures clauses { clauses_in self.new ≡ clauses_in self.old }
     {
         let number = self.numbers[at as usize];
         if self.uses[number as usize] == 0 {
             return None;
         }
-        first_reader(
+        let known = kept_user(&self.users, number) as usize;
+        if known > 0 {
+            return Some(known);
+        }
+        let user = first_reader(
             &self.numbers,
             &self.rows,
             number,
             at as usize + 1,
             self.count,
-        )
+        )?;
+        keep_user(&mut self.users, number, user as u16);
+        Some(user)
     }
 
     // Takes out the clause at a place, which is no operand. Its number goes behind the others.
     fn remove(&mut self, at: u32)
-        requires in_order { AreInOrder self.old }
-        requires there { at < length self.old }
-        requires unread { position (reads at) self.old ≡ None }
-        ensures { self.new ≡ remove (map (moved (down at)) self.old) at }
+        requires in_order { AreInOrder (clauses_in self.old) }
+        requires there { at < length (clauses_in self.old) }
+        requires unread { position (reads at) (clauses_in self.old) ≡ None }
+        ensures { clauses_in self.new
+            ≡ remove (map (moved (down at)) (clauses_in self.old)) at }
     {
         let number = self.numbers[at as usize] as usize;
         uncount_operands(&mut self.uses, &self.rows[number]);
@@ -372,6 +423,7 @@ impl Table {
             self.count - 1,
         );
         self.count -= 1;
+        self.users.clear();
     }
 }
 
@@ -408,29 +460,4 @@ fn numbered(numbers: &Vec<u16>, clause: &Clause) -> Row
         },
         value: clause.value,
     }
-}
-
-// The place of the first of the numbers from a place up to another whose row has a number as an
-// operand.
-fn first_reader(
-    numbers: &Vec<u16>,
-    rows: &Vec<Row>,
-    number: u16,
-    first: usize,
-    end: usize,
-) -> Option<usize>
-    requires end { end ≤ length numbers.now.items }
-    requires rows { (place user : ℕ) → slice_get numbers.now.items place ≡ Some user
-        → user < length rows.now.items }
-    ensures none { IfNone result (AreUnread numbers.now.items rows.now.items number first end) }
-    ensures some { IfSome result (λ place. IsReader numbers.now.items rows.now.items number place
-        × (first ≤ place) × (place < end)
-        × AreUnread numbers.now.items rows.now.items number first place) }
-{
-    for place in first..end {
-        if rows[numbers[place] as usize].reads(number) {
-            return Some(place);
-        }
-    }
-    None
 }

@@ -220,6 +220,21 @@ fn edits_move_the_operands(rt: HostRuntime) -> Result<(), Fail> {
 }
 
 #[test]
+fn the_first_user_is_that_of_the_clauses_now(rt: HostRuntime) -> Result<(), Fail> {
+    let alloc = rt.alloc();
+    let mut model = disc(alloc)?;
+    let name = |bytes: &[u8]| Name::new(alloc, bytes);
+    let in_use = |user: u32| Err(EditFault::InUse(user));
+    assert_eq!(rt; model.apply(Edit::Cut(name(b"a")?)), in_use(2));
+    assert_eq!(rt; model.apply(Edit::Cut(name(b"a")?)), in_use(2));
+    model.apply(Edit::Put(name(b"b")?, name(b"g")?, pair(alloc, Op::Min, b"a", b"a")?))?;
+    assert_eq!(rt; model.apply(Edit::Cut(name(b"a")?)), in_use(1));
+    model.apply(Edit::Cut(name(b"g")?))?;
+    assert_eq!(rt; model.apply(Edit::Cut(name(b"a")?)), in_use(2));
+    Ok(())
+}
+
+#[test]
 fn finds_names_of_each_length(rt: HostRuntime) -> Result<(), Fail> {
     let alloc = rt.alloc();
     let mut model = disc(alloc)?;

@@ -5,20 +5,21 @@ use Rattle.solid_model.specs.Adding.{added}
 use Rattle.solid_model.proofs.ModelLemmas.{AreClauses-nil, IsModel-added, no_argument}
 use Rattle.solid_model.proofs.NamedLemmas.{edited-added}
 use Rattle.solid_model.proofs.model.Model.first.Goals as goal
+use Rattle.solid_model.specs.Tables.{clauses_in}
 
 pub invariant_of-result : goal.invariant_of-result
 invariant_of-result c =
-    let made : added [] c.args.name c.args.form ≡ Ok c.add.new.self = grind (arith, common_steps) in
+    let made : added [] c.args.name c.args.form ≡ Ok (clauses_in c.add.new.self) = grind (arith, common_steps) in
     IsModel-added [] c.args.name c.args.form _ AreClauses-nil c.add.ensures.name c.add.ensures.form made
 
 pub returns-in-Ok-clause-ok : goal.returns-in-Ok-clause-ok
 returns-in-Ok-clause-ok c =
-    let made : added [] c.args.name c.args.form ≡ Ok c.add.new.self = grind (arith, common_steps) in
+    let made : added [] c.args.name c.args.form ≡ Ok (clauses_in c.add.new.self) = grind (arith, common_steps) in
     edited-added [] c.args.name c.args.form AreClauses-nil c.add.ensures.form ∙ made
 
 pub returns-in-Ok-clause-no_argument : goal.returns-in-Ok-clause-no_argument
 returns-in-Ok-clause-no_argument c =
-    let made : added [] c.args.name c.args.form ≡ Ok c.add.new.self = grind (arith, common_steps) in
+    let made : added [] c.args.name c.args.form ≡ Ok (clauses_in c.add.new.self) = grind (arith, common_steps) in
     no_argument c.args.name c.args.form _ made
 
 pub returns-in-Err-clause-fault : goal.returns-in-Err-clause-fault

@@ -2,17 +2,18 @@
 use Rattle.solid_model.proofs.SurgeryLemmas.{edited-formed}
 use Rattle.solid_model.proofs.SurgeryModels.{models-formed, stays}
 use Rattle.solid_model.proofs.model.Model.set.Goals as goal
+use Rattle.solid_model.specs.Tables.{clauses_in}
 
 pub invariant_of-self : goal.invariant_of-self
 invariant_of-self c =
-    stays c.self.inside.table _ _ _
-    (models-formed c.self.inside.table c.args.name c.args.form _ c.self.invariant.clauses_are c.set.ensures.name c.set.ensures.form)
+    stays (clauses_in c.self.inside.table) _ _ _
+    (models-formed (clauses_in c.self.inside.table) c.args.name c.args.form _ c.self.invariant.clauses_are c.set.ensures.name c.set.ensures.form)
     c.self.invariant c.set.ensures.ok c.set.ensures.err
 
 pub returns-clause-ok : goal.returns-clause-ok
 returns-clause-ok c =
-    rw (← c.self.view_is, edited-formed c.self.inside.table c.args.name c.args.form c.self.invariant.clauses_are c.set.ensures.form) c.set.ensures.ok
+    rw (← c.self.view_is, edited-formed (clauses_in c.self.inside.table) c.args.name c.args.form c.self.invariant.clauses_are c.set.ensures.form) c.set.ensures.ok
 
 pub returns-clause-fault : goal.returns-clause-fault
 returns-clause-fault c =
-    rw (← c.self.view_is, edited-formed c.self.inside.table c.args.name c.args.form c.self.invariant.clauses_are c.set.ensures.form) c.set.ensures.fault
+    rw (← c.self.view_is, edited-formed (clauses_in c.self.inside.table) c.args.name c.args.form c.self.invariant.clauses_are c.set.ensures.form) c.set.ensures.fault

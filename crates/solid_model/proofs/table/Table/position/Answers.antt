@@ -4,8 +4,8 @@ use Rattle.std.specs.List.{position}
 use Rattle.std.specs.Str.{bytes_eq}
 use Rattle.std.proofs.lemmas.Grind.{common_steps}
 use Rattle.solid_model.specs.Tables.{Standing}
-use Rattle.solid_model.proofs.TableLemmas.{lookup-behind, lookup-nowhere, lookup-there}
 use Rattle.solid_model.proofs.table.Table.position.Goals as goal
+use Rattle.solid_model.proofs.Lookups.{lookup-behind, lookup-nowhere, lookup-there}
 
 pub returns-in_err-number-clause-place : goal.returns-in_err-number-clause-place
 returns-in_err-number-clause-place c =

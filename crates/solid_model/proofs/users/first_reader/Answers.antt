@@ -1,8 +1,8 @@
 -- No row before the place that is looked at has the number.
 use Rattle.std.proofs.Common.{◌≡◌, ◌∙◌, true, false, sym, arith}
 use Rattle.solid_model.specs.Tables.{row_reads}
-use Rattle.solid_model.proofs.TableLemmas.{read-is, unread-more}
-use Rattle.solid_model.proofs.table.first_reader.Goals as goal
+use Rattle.solid_model.proofs.users.first_reader.Goals as goal
+use Rattle.solid_model.proofs.Readers.{unread-more, read-is}
 
 pub loop-place-init : goal.loop-place-init
 loop-place-init c = record { unread = λ place user later before e. absurd (omega (arith, later, before)) }

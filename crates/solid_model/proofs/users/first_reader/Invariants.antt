@@ -1,5 +1,5 @@
 use Rattle.solid_model.specs.Tables.{AreUnread}
-use Rattle.solid_model.proofs.table.first_reader.Given as goal
+use Rattle.solid_model.proofs.users.first_reader.Given as goal
 
 abbrev pub invariant-loop-place : goal.invariant-loop-place
 invariant-loop-place l = record {
