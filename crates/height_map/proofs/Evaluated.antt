@@ -1,6 +1,6 @@
 -- The evaluations of a map are exactly those of the samples that do not lie behind a top.
 use Rattle.std.proofs.Common.{◌≡◌, ℕ, zero, suc, ◌+◌, ◌*◌, ◌<◌, Bool, true, false, cond, List, ◌∷◌, length, get_or, replicate, drop, refl, sym, ap, subst, ◌∙◌, arith}
-use Rattle.std.specs.Prelude.{Some, None, nat_le, ◌==◌, ◌&&◌}
+use Rattle.std.specs.Prelude.{Option, Some, None, nat_le, ◌==◌, ◌&&◌}
 use Rattle.std.proofs.lemmas.Bool.{ne_eqb}
 use Rattle.std.proofs.lemmas.List.{drop_all, drop_more}
 use Rattle.std.proofs.lemmas.List.Sums.{sum_by-cons}
@@ -17,11 +17,13 @@ use Rattle.view_settings.specs.Boxes.{Indices, IsBox, halves_of}
 use Rattle.view_settings.specs.Spans.{root_of}
 use Rattle.view_settings.specs.Window.{Window}
 use Rattle.view_settings.specs.declared.lattice.Lattice.TheVariants.{Height}
+use Rattle.box_chains.specs.Outcomes.{outcome_by, outcome_of}
+use Rattle.height_map.specs.Opened.{outcome_points, sampling}
 use Rattle.height_map.specs.Bound.{CountsPoints, halves_points, height_points, is_near, layered, open_points, points_where, whole}
 use Rattle.height_map.specs.Columns.{Changes, IsAmong, covers, is_open, leaf_cost}
 use Rattle.height_map.specs.Tops.{top_among, top_of}
 use Rattle.height_map.proofs.ChangeLaws.{covers-place, place-within}
-use Rattle.height_map.proofs.Drawn.{drawn_to, half-open, handed-top}
+use Rattle.height_map.proofs.Drawn.{handed-top}
 use Rattle.height_map.proofs.Leaves.{sum-nothing}
 use Rattle.height_map.proofs.WorkLaws.{decided-split, points-end, points-open}
 
@@ -74,35 +76,16 @@ pub points-covered : (view : Window) (list : List Step) (b : Indices) (w : ℕ) 
 points-covered view list b w tops counts width among covered =
     points-none counts _ (points-closed (is_open view list b tops) (layered view) (visit b list) (covered-closed view list b w tops width among covered))
 
--- and so does a decided one
-pub points-decided : (test : Sample → Bool) (d : Descent) (v : Visit) (inside : Bool) (before after : Counts) → IsBox v.box → decision d v ≡ Some inside → CountsHulls (length v.list) before after
-    → CountsPoints (points_where test d v) before after
-points-decided test d v inside before after is e h = points-are before after 0 (points_where test d v) (sym none) (points-hulls before after (length v.list) h)
-  where
-    free : end_cost d v ≡ 0
-    free = rw e refl
-
-    either : (t : Bool) → cond {A = ℕ} t 0 0 ≡ 0
-    either true = refl
-    either false = refl
-
-    none : points_where test d v ≡ 0
-    none = points-end test d v is (decided-split d v inside e)
-        ∙ sum-nothing v.box (λ s. cond (test s) (end_cost d v) 0) (λ s lies. ap (λ n. cond (test s) n 0) free ∙ either (test s))
-
 -- the same samples are open by the list that is handed on
 pub handed-open : (laws : Lawful) (view : Window) (list live : List Step) (b : Indices) (tops : List ℕ) → IsVisit (layered view) (visit b list) → live ≡ handed_on (layered view) (visit b list)
     → (s : Sample) → LiesIn b s → is_open view live b tops s ≡ is_open view list b tops s
 handed-open laws view list live b tops is same s lies =
     ap (λ n. get_or tops (s.j * view.w + s.i) 0 == 0 && nat_le n (s.k + 1)) (ap (λ l. top_among view l b.z0 b.z1 s.i s.j) same ∙ handed-top laws view b list s.i s.j is lies.x lies.y)
 
--- an undecided box takes the evaluations of what it hands on
-pub points-undecided : (laws : Lawful) (view : Window) (list live : List Step) (b : Indices) (tops : List ℕ) (before mid after : Counts) → IsVisit (layered view) (visit b list)
-    → decision (layered view) (visit b list) ≡ None → live ≡ handed_on (layered view) (visit b list) → CountsHulls (length list) before mid
-    → CountsPoints (open_points (is_open view live b tops) (layered view) b live) mid after
-    → CountsPoints (points_where (is_open view list b tops) (layered view) (visit b list)) before after
-points-undecided laws view list live b tops before mid after is e same h below =
-    points-then before mid after 0 (open_points (is_open view live b tops) d b live) (points_where (is_open view list b tops) d v) all (points-hulls before mid (length list) h) below
+-- a box takes the evaluations of its outcome
+pub points-outcome : (laws : Lawful) (view : Window) (list : List Step) (b : Indices) (tops : List ℕ) → IsVisit (layered view) (visit b list)
+    → points_where (is_open view list b tops) (layered view) (visit b list) ≡ outcome_points view tops b (outcome_of (sampling view) list b)
+points-outcome laws view list b tops is = by (decision d v) refl
   where
     d : Descent
     d = layered view
@@ -110,11 +93,27 @@ points-undecided laws view list live b tops before mid after is e same h below =
     v : Visit
     v = visit b list
 
-    opened : points_where (is_open view live b tops) d v ≡ points_where (is_open view list b tops) d v
-    opened = points-same (is_open view live b tops) (is_open view list b tops) d v (handed-open laws view list live b tops is same)
+    test : Sample → Bool
+    test = is_open view list b tops
 
-    all : 0 + open_points (is_open view live b tops) d b live ≡ points_where (is_open view list b tops) d v
-    all = omega (arith, points-open (is_open view live b tops) d v (omega arith) is.box laws.halves e, ap (open_points (is_open view live b tops) d b) same, opened)
+    either : (t : Bool) → cond {A = ℕ} t 0 0 ≡ 0
+    either true = refl
+    either false = refl
+
+    free : (inside : Bool) → decision d v ≡ Some inside → end_cost d v ≡ 0
+    free inside e = rw e refl
+
+    none : (inside : Bool) → decision d v ≡ Some inside → points_where test d v ≡ 0
+    none inside e =
+        points-end test d v is.box (decided-split d v inside e)
+        ∙ sum-nothing b (λ s. cond (test s) (end_cost d v) 0) (λ s lies. ap (λ n. cond (test s) n 0) (free inside e) ∙ either (test s))
+
+    by : (t : Option Bool) → decision d v ≡ t → points_where test d v ≡ outcome_points view tops b (outcome_by t (handed_on d v))
+    by (Some true) e = none true e
+    by (Some false) e = none false e
+    by None e =
+        sym (points-same (is_open view (handed_on d v) b tops) test d v (handed-open laws view list (handed_on d v) b tops is refl))
+        ∙ points-open (is_open view (handed_on d v) b tops) d v (omega arith) is.box laws.halves e
 
 pub points-leaf : (view : Window) (list : List Step) (b : Indices) (tops : List ℕ) (before after : Counts) → is_long 8 b ≡ false
     → RisesBy before after (points_of (sum_in b (leaf_cost view list b tops)))
@@ -125,54 +124,6 @@ pub points-halves : (view : Window) (list : List Step) (b : Indices) (tops : Lis
     → CountsPoints (halves_points (is_open view list b tops) (layered view) list (halves_of 8 b)) before after
     → CountsPoints (open_points (is_open view list b tops) (layered view) b list) before after
 points-halves view list b tops before after long h = rw long h
-
--- before any half is drawn
-pub halves-none : (view : Window) (list : List Step) (b : Indices) (n : ℕ) (tops : List ℕ) (counts : Counts) → n ≡ length (halves_of 8 b)
-    → CountsPoints (halves_points (is_open view list b tops) (layered view) list (drop n (halves_of 8 b))) counts counts
-halves-none view list b n tops counts all =
-    points-none counts _ (ap (halves_points (is_open view list b tops) (layered view) list) (drop_all n (halves_of 8 b) (omega (arith, all))))
-
--- and once one more is
-half-points : (view : Window) (list : List Step) (b half : Indices) (i : ℕ) (old mid : List ℕ) (start between end : Counts) → IsBox b → IsAmong view.w (length old) b
-    → i < length (halves_of 8 b) → half ≡ get_or (halves_of 8 b) i half
-    → Changes (covers view.w b) (drawn_to view list b (drop (suc i) (halves_of 8 b))) old mid
-    → CountsPoints (halves_points (is_open view list b old) (layered view) list (drop (suc i) (halves_of 8 b))) start between
-    → CountsPoints (points_where (is_open view list half mid) (layered view) (visit half list)) between end
-    → CountsPoints (halves_points (is_open view list b old) (layered view) list (drop i (halves_of 8 b))) start end
-half-points view list b half i old mid start between end is among within read changed first second =
-    points-then start between end (halves_points (is_open view list b old) d list rest) (points_where (is_open view list half mid) d v)
-    (halves_points (is_open view list b old) d list (drop i (halves_of 8 b)))
-    (omega (arith, ap (halves_points (is_open view list b old) d list) more, sum_by-cons (λ h. points_where (is_open view list b old) d (visit h list)) half rest, equal))
-    first second
-  where
-    d : Descent
-    d = layered view
-
-    v : Visit
-    v = visit half list
-
-    rest : List Indices
-    rest = drop (suc i) (halves_of 8 b)
-
-    next : i + 1 ≡ suc i
-    next = omega arith
-
-    more : drop i (halves_of 8 b) ≡ half ∷ rest
-    more = drop_more (halves_of 8 b) i half within ∙ ap (λ h. h ∷ drop (i + 1) (halves_of 8 b)) (sym read) ∙ ap (λ n. half ∷ drop n (halves_of 8 b)) next
-
-    equal : points_where (is_open view list half mid) d v ≡ points_where (is_open view list b old) d v
-    equal = points-same (is_open view list half mid) (is_open view list b old) d v (half-open view list b half i old mid is among within read changed)
-
--- the same, where so many halves are left, by a desk that has the view
-pub next-points : (view other : Window) (list : List Step) (b half : Indices) (n i : ℕ) (old mid : List ℕ) (start between end : Counts) → other ≡ view → n ≡ suc i → IsBox b → IsAmong view.w (length old) b
-    → i < length (halves_of 8 b) → half ≡ get_or (halves_of 8 b) i half → Changes (covers view.w b) (drawn_to view list b (drop n (halves_of 8 b))) old mid
-    → CountsPoints (halves_points (is_open view list b old) (layered view) list (drop n (halves_of 8 b))) start between
-    → CountsPoints (points_where (is_open other list half mid) (layered other) (visit half list)) between end
-    → CountsPoints (halves_points (is_open view list b old) (layered view) list (drop i (halves_of 8 b))) start end
-next-points view other list b half n i old mid start between end same left is among within read changed first second =
-    half-points view list b half i old mid start between end is among within read (subst (λ m. Changes (covers view.w b) (drawn_to view list b (drop m (halves_of 8 b))) old mid) left changed)
-    (subst (λ m. CountsPoints (halves_points (is_open view list b old) (layered view) list (drop m (halves_of 8 b))) start between) left first)
-    (subst (λ v. CountsPoints (points_where (is_open v list half mid) (layered v) (visit half list)) between end) same second)
 
 no_tops : (n p : ℕ) → get_or (replicate n zero) p zero ≡ zero
 no_tops zero p = refl

@@ -1,3 +1,4 @@
+pub mod Beside
 pub mod Bounds
 pub mod ChangeLaws
 pub mod Drawn
@@ -6,7 +7,8 @@ mod Examples
 pub mod Layers
 pub mod Leaves
 pub mod Maps
-pub mod Stacks
+pub mod Opens
+pub mod Steps
 pub mod TopLaws
 pub mod Traced
 pub mod WorkLaws

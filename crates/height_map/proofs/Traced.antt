@@ -1,6 +1,6 @@
 -- The steps that are traced for a map are exactly those of the boxes that have a sample that does not lie behind a top.
 use Rattle.std.proofs.Common.{◌≡◌, ℕ, zero, suc, ◌+◌, ◌-◌, ◌*◌, ◌/◌, ◌%◌, ◌<◌, ◌≤◌, Bool, true, false, cond, List, [], ◌∷◌, length, get_or, replicate, drop, refl, sym, ap, subst, ◌∙◌, mul-zero, zero-add, arith}
-use Rattle.std.specs.Prelude.{Some, None, nat_le, nat_lt, ◌==◌, ◌&&◌}
+use Rattle.std.specs.Prelude.{Option, Some, None, nat_le, nat_lt, ◌==◌, ◌&&◌}
 use Rattle.std.specs.List.{Contains, sum_by}
 use Rattle.std.proofs.lemmas.Bool.{and_from, eq-eqb, le-leb, lt-ltb}
 use Rattle.std.proofs.lemmas.List.{drop_all, drop_more}
@@ -22,11 +22,12 @@ use Rattle.view_settings.specs.Laws.{HalvesPart}
 use Rattle.view_settings.specs.Spans.{root_of}
 use Rattle.view_settings.specs.Window.{Window}
 use Rattle.view_settings.specs.declared.lattice.Lattice.TheVariants.{Height}
+use Rattle.box_chains.specs.Outcomes.{outcome_by, outcome_of}
+use Rattle.height_map.specs.Opened.{outcome_traced, sampling}
 use Rattle.height_map.specs.Bound.{CountsSpans, halves_traced, has_some, is_near, layered, lengths_where, near_spans, open_traced, spans_where, whole}
 use Rattle.height_map.specs.Columns.{Changes, HasOpen, IsAmong, covers, is_open}
 use Rattle.height_map.specs.Tops.{inside, top_among}
 use Rattle.height_map.proofs.ChangeLaws.{IsCell, cell-of}
-use Rattle.height_map.proofs.Drawn.{drawn_to, half-open, half-part}
 use Rattle.height_map.proofs.Evaluated.{covered-closed, handed-open, map-open}
 use Rattle.height_map.proofs.Leaves.{along-one, sum-nothing}
 use Rattle.height_map.proofs.TopLaws.{best-le}
@@ -87,7 +88,7 @@ traced-open test d v some is law e = by (is_long d.leaf v.box) refl
 
 -- ---- which samples pass
 
-some-same : (test other : Sample → Bool) (b : Indices) → ((s : Sample) → LiesIn b s → test s ≡ other s) → has_some test b ≡ has_some other b
+pub some-same : (test other : Sample → Bool) (b : Indices) → ((s : Sample) → LiesIn b s → test s ≡ other s) → has_some test b ≡ has_some other b
 some-same test other b same =
     ap (nat_lt 0) (sum_in-same b (λ s. cond (test s) 1 0) (λ s. cond (other s) 1 0) (λ s lies. ap (λ t. cond {A = ℕ} t 1 0) (same s lies)))
 
@@ -114,12 +115,12 @@ traced-same_within (suc n) test other d v some is law few same =
         (halves_of d.leaf v.box) (halves-are_parts d.leaf v.box some is)) in
         omega (arith, traced-split test d v some is law e, traced-split other d v some is law e, own, halves)
 
-traced-same : (test other : Sample → Bool) (d : Descent) (v : Visit) → 0 < d.leaf → IsBox v.box → HalvesPart
+pub traced-same : (test other : Sample → Bool) (d : Descent) (v : Visit) → 0 < d.leaf → IsBox v.box → HalvesPart
     → ((s : Sample) → LiesIn v.box s → test s ≡ other s) → spans_where test d v ≡ spans_where other d v
 traced-same test other d v some is law same = traced-same_within (sides v.box) test other d v some is law (omega arith) same
 
 -- where none passes
-traced-closed : (test : Sample → Bool) (d : Descent) (v : Visit) → 0 < d.leaf → IsBox v.box → HalvesPart
+pub traced-closed : (test : Sample → Bool) (d : Descent) (v : Visit) → 0 < d.leaf → IsBox v.box → HalvesPart
     → ((s : Sample) → LiesIn v.box s → test s ≡ false) → spans_where test d v ≡ 0
 unfolding spans_where
 traced-closed test d v some is law none =
@@ -188,15 +189,15 @@ spans-none : (counts : Counts) (n : ℕ) → n ≡ 0 → CountsSpans n counts co
 spans-none counts n none = sym (ap (risen counts.spans) none ∙ risen-zero counts.spans)
 
 -- the same number of them
-spans-are : (before after : Counts) (m n : ℕ) → m ≡ n → CountsSpans m before after → CountsSpans n before after
+pub spans-are : (before after : Counts) (m n : ℕ) → m ≡ n → CountsSpans m before after → CountsSpans n before after
 spans-are before after m n same h = h ∙ ap (risen before.spans) same
 
 -- hulls after others
-spans-then : (before mid after : Counts) (m n k : ℕ) → m + n ≡ k → CountsSpans m before mid → CountsSpans n mid after → CountsSpans k before after
+pub spans-then : (before mid after : Counts) (m n k : ℕ) → m + n ≡ k → CountsSpans m before mid → CountsSpans n mid after → CountsSpans k before after
 spans-then before mid after m n k same first second =
     second ∙ ap (λ p. risen p n) first ∙ risen-risen before.spans m n ∙ ap (risen before.spans) same
 
-spans-hulls : (before after : Counts) (n : ℕ) → CountsHulls n before after → CountsSpans n before after
+pub spans-hulls : (before after : Counts) (n : ℕ) → CountsHulls n before after → CountsSpans n before after
 spans-hulls before after n h = ap (λ (c : Counts). c.spans) h.rises
 
 -- a box whose columns all have tops takes none
@@ -206,20 +207,10 @@ pub traced-covered : (view : Window) (list : List Step) (b : Indices) (w : ℕ) 
 traced-covered view list b w tops counts width among is law covered =
     spans-none counts _ (traced-closed (is_open view list b tops) (layered view) (visit b list) (omega arith) is law (covered-closed view list b w tops width among covered))
 
--- a decided box takes its own trace
-pub traced-decided : (test : Sample → Bool) (d : Descent) (v : Visit) (told : Bool) (before after : Counts) → IsBox v.box → decision d v ≡ Some told → has_some test v.box ≡ true
-    → CountsHulls (length v.list) before after → CountsSpans (spans_where test d v) before after
-traced-decided test d v told before after is e passes h =
-    spans-are before after (length v.list) (spans_where test d v)
-    (sym (traced-end test d v is (decided-split d v told e) ∙ ap (λ t. cond {A = ℕ} t (length v.list) 0) passes)) (spans-hulls before after (length v.list) h)
-
--- and an undecided one that of what it hands on too
-pub traced-undecided : (laws : Lawful) (view : Window) (list live : List Step) (b : Indices) (tops : List ℕ) (before mid after : Counts) → IsVisit (layered view) (visit b list)
-    → decision (layered view) (visit b list) ≡ None → live ≡ handed_on (layered view) (visit b list) → has_some (is_open view list b tops) b ≡ true → CountsHulls (length list) before mid
-    → CountsSpans (open_traced (is_open view live b tops) (layered view) b live) mid after
-    → CountsSpans (spans_where (is_open view list b tops) (layered view) (visit b list)) before after
-traced-undecided laws view list live b tops before mid after is e same passes h below =
-    spans-then before mid after (length list) (open_traced (is_open view live b tops) d b live) (spans_where (is_open view list b tops) d v) all (spans-hulls before mid (length list) h) below
+-- another one takes its own trace, and those below it
+pub traced-outcome : (laws : Lawful) (view : Window) (list : List Step) (b : Indices) (tops : List ℕ) → IsVisit (layered view) (visit b list) → has_some (is_open view list b tops) b ≡ true
+    → spans_where (is_open view list b tops) (layered view) (visit b list) ≡ length list + outcome_traced view tops b (outcome_of (sampling view) list b)
+traced-outcome laws view list b tops is some = by (decision d v) refl
   where
     d : Descent
     d = layered view
@@ -227,20 +218,27 @@ traced-undecided laws view list live b tops before mid after is e same passes h 
     v : Visit
     v = visit b list
 
-    opened : (s : Sample) → LiesIn b s → is_open view live b tops s ≡ is_open view list b tops s
-    opened = handed-open laws view list live b tops is same
+    test : Sample → Bool
+    test = is_open view list b tops
 
-    own : cond {A = ℕ} (has_some (is_open view live b tops) b) (length list) 0 ≡ length list
-    own = ap (λ t. cond {A = ℕ} t (length list) 0) (some-same (is_open view live b tops) (is_open view list b tops) b opened ∙ passes)
+    live : List Step
+    live = handed_on d v
 
-    all : length list + open_traced (is_open view live b tops) d b live ≡ spans_where (is_open view list b tops) d v
-    all =
+    opened : (s : Sample) → LiesIn b s → is_open view live b tops s ≡ test s
+    opened = handed-open laws view list live b tops is refl
+
+    own : (passes : Sample → Bool) → has_some passes b ≡ true → cond {A = ℕ} (has_some passes b) (length list) 0 ≡ length list
+    own passes e = ap (λ t. cond {A = ℕ} t (length list) 0) e
+
+    by : (t : Option Bool) → decision d v ≡ t → spans_where test d v ≡ length list + outcome_traced view tops b (outcome_by t live)
+    by (Some true) e = omega (arith, traced-end test d v is.box (decided-split d v true e), own test some)
+    by (Some false) e = omega (arith, traced-end test d v is.box (decided-split d v false e), own test some)
+    by None e =
         omega (
           arith,
           traced-open (is_open view live b tops) d v (omega arith) is.box laws.halves e,
-          ap (open_traced (is_open view live b tops) d b) same,
-          traced-same (is_open view live b tops) (is_open view list b tops) d v (omega arith) is.box laws.halves opened,
-          own,
+          traced-same (is_open view live b tops) test d v (omega arith) is.box laws.halves opened,
+          own (is_open view live b tops) (some-same (is_open view live b tops) test b opened ∙ some),
         )
 
 -- a leaf is evaluated without a hull
@@ -252,47 +250,6 @@ pub traced-halves : (view : Window) (list : List Step) (b : Indices) (tops : Lis
     → CountsSpans (halves_traced (is_open view list b tops) (layered view) list (halves_of 8 b)) before after
     → CountsSpans (open_traced (is_open view list b tops) (layered view) b list) before after
 traced-halves view list b tops before after long h = rw long h
-
--- before any half is drawn
-pub traced-none : (view : Window) (list : List Step) (b : Indices) (n : ℕ) (tops : List ℕ) (counts : Counts) → n ≡ length (halves_of 8 b)
-    → CountsSpans (halves_traced (is_open view list b tops) (layered view) list (drop n (halves_of 8 b))) counts counts
-traced-none view list b n tops counts all =
-    spans-none counts _ (ap (halves_traced (is_open view list b tops) (layered view) list) (drop_all n (halves_of 8 b) (omega (arith, all))))
-
--- and once one more is, by a desk that has the view
-pub next-traced : (view other : Window) (list : List Step) (b half : Indices) (n i : ℕ) (old mid : List ℕ) (start between end : Counts) → other ≡ view → n ≡ suc i → IsBox b → IsAmong view.w (length old) b
-    → HalvesPart → i < length (halves_of 8 b) → half ≡ get_or (halves_of 8 b) i half → Changes (covers view.w b) (drawn_to view list b (drop n (halves_of 8 b))) old mid
-    → CountsSpans (halves_traced (is_open view list b old) (layered view) list (drop n (halves_of 8 b))) start between
-    → CountsSpans (spans_where (is_open other list half mid) (layered other) (visit half list)) between end
-    → CountsSpans (halves_traced (is_open view list b old) (layered view) list (drop i (halves_of 8 b))) start end
-next-traced view other list b half n i old mid start between end same left is among law within read changed first second =
-    spans-then start between end (halves_traced open' d list rest) (spans_where (is_open view list half mid) d v) (halves_traced open' d list (drop i (halves_of 8 b)))
-    (omega (arith, ap (halves_traced open' d list) more, sum_by-cons (λ h. spans_where open' d (visit h list)) half rest, equal))
-    (subst (λ m. CountsSpans (halves_traced open' d list (drop m (halves_of 8 b))) start between) left first)
-    (subst (λ v. CountsSpans (spans_where (is_open v list half mid) (layered v) (visit half list)) between end) same second)
-  where
-    d : Descent
-    d = layered view
-
-    v : Visit
-    v = visit half list
-
-    open' : Sample → Bool
-    open' = is_open view list b old
-
-    rest : List Indices
-    rest = drop (suc i) (halves_of 8 b)
-
-    next : i + 1 ≡ suc i
-    next = omega arith
-
-    more : drop i (halves_of 8 b) ≡ half ∷ rest
-    more = drop_more (halves_of 8 b) i half within ∙ ap (λ h. h ∷ drop (i + 1) (halves_of 8 b)) (sym read) ∙ ap (λ n. half ∷ drop n (halves_of 8 b)) next
-
-    equal : spans_where (is_open view list half mid) d v ≡ spans_where open' d v
-    equal =
-        traced-same (is_open view list half mid) open' d v (omega arith) (part-is_box 8 b half (half-part b half i is within read)) law
-        (half-open view list b half i old mid is among within read (subst (λ m. Changes (covers view.w b) (drawn_to view list b (drop m (halves_of 8 b))) old mid) left changed))
 
 -- the box of all samples, over no tops
 pub map-traced : (view : Window) (list : List Step) (b : Indices) (n : ℕ) (tops : List ℕ) (before after : Counts) → b ≡ root_of view Height → IsBox (root_of view Height) → HalvesPart → tops ≡ replicate n 0

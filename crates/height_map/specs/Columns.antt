@@ -1,5 +1,6 @@
 -- Tops that change column by column.
 use Rattle.std.specs.Prelude.{◌≡◌, ℕ, ◌+◌, ◌*◌, ◌/◌, ◌%◌, ◌<◌, ◌≤◌, ◌==◌, nat_le, nat_lt, Bool, true, ◌&&◌, List, length, get_or, if◌then◌else◌}
+use Rattle.std.specs.List.{list_any, range_with_len}
 use Rattle.box_chains.specs.Placing.{Sampling}
 use Rattle.box_chains.specs.Sums.{Sample}
 use Rattle.live_clauses.specs.declared.step.Step.{Step}
@@ -26,6 +27,11 @@ pub record HasOpen (w : ℕ) (b : Indices) (tops : List ℕ) : Type 0 where
   pub within : place < length tops
   pub covered : covers w b place ≡ true
   pub none : get_or tops place 0 ≡ 0
+
+-- whether some column of a box has no top
+abbrev pub has_open : ℕ → List ℕ → Indices → Bool
+has_open w tops b =
+    list_any (λ p. covers w b p && get_or tops p 0 == 0) (range_with_len 0 (length tops))
 
 -- the numbers at some places become what they are to be, by place and number, and the others stay
 pub record Changes (covers : ℕ → Bool) (becomes : ℕ → ℕ → ℕ) (before after : List ℕ) : Type 0 where

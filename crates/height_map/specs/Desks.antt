@@ -1,9 +1,14 @@
 -- What drawing a box needs, and what it leaves.
 use Rattle.std.specs.Prelude.{◌≡◌, ℕ, ◌*◌, ◌≤◌, List, length}
 use Rattle.box_chains.specs.ValueLaws.{IsVisit}
+use Rattle.box_chains.specs.declared.outcome.Outcome.{Outcome}
+use Rattle.box_chains.specs.declared.outcome.Outcome.TheVariants.{Open}
+use Rattle.live_clauses.specs.Live.{IsWhole}
+use Rattle.live_clauses.specs.Steps.{IsTape}
 use Rattle.live_clauses.specs.declared.step.Step.{Step}
-use Rattle.view_settings.specs.Boxes.{Indices}
-use Rattle.view_settings.specs.Window.{Window}
+use Rattle.view_settings.specs.Boxes.{Indices, IsBox}
+use Rattle.view_settings.specs.Spans.{IsInRoot}
+use Rattle.view_settings.specs.Window.{Window, IsWindow}
 use Rattle.view_settings.specs.declared.lattice.Lattice.TheVariants.{Height}
 use Rattle.box_chains.specs.Chains.{visit}
 use Rattle.height_map.specs.Bound.{layered}
@@ -17,6 +22,27 @@ pub record MayDraw (desk : Desk) (b : Indices) (list : List Step) (len : ℕ) : 
   pub tops : len ≡ desk.places.view.h * desk.places.view.w
   pub room : length list ≤ length desk.room
   pub values : length list ≤ length desk.values.items
+
+-- the box is one of the height map's, whose tops there are
+pub record IsPlaced (desk : Desk) (len : ℕ) (b : Indices) : Type 0 where
+  pub lattice : desk.places.lattice ≡ Height
+  pub window : IsWindow desk.places.view
+  pub box : IsBox b
+  pub within : IsInRoot desk.places.view Height b
+  pub width : desk.w ≡ desk.places.view.w
+  pub tops : len ≡ desk.places.view.h * desk.places.view.w
+
+-- the list can be evaluated, each of its steps is needed, and there is room for it
+pub record HasRoom (desk : Desk) (list : List Step) : Type 0 where
+  pub tape : IsTape list
+  pub whole : IsWhole list
+  pub room : length list ≤ length desk.room
+  pub values : length list ≤ length desk.values.items
+
+-- such a box, and what it hands on, if it is open, is such a list
+pub record MayOpen (desk : Desk) (b : Indices) (outcome : Outcome) (len : ℕ) : Type 0 where
+  pub placed : IsPlaced desk len b
+  pub room : (list : List Step) → outcome ≡ Open list → HasRoom desk list
 
 -- the places stay, and so does the room
 pub record KeepsDesk (before after : Desk) : Type 0 where

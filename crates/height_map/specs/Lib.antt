@@ -1,7 +1,9 @@
+pub mod Beside
 pub mod Bound
 pub mod Columns
 pub mod Desks
 pub mod Laws
 pub mod Layers
+pub mod Opened
 pub mod TopMaps
 pub mod Tops

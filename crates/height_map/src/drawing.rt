@@ -1,18 +1,23 @@
 // Boxes that are drawn.
-ghost use Rattle.std.specs.Prelude.{◌≡◌, length, OnOk, IsTrue};
+ghost use Rattle.std.specs.Prelude.{◌≡◌, ◌≤◌, true, length, OnOk, IsTrue};
+ghost use Rattle.std.specs.List.{All};
 ghost use Rattle.box_chains.specs.Chains.{is_long as is_long_for};
 ghost use Rattle.box_chains.specs.Counts.{spans_in};
 ghost use Rattle.view_settings.specs.Boxes.{halves_of};
+ghost use Rattle.live_clauses.specs.Live.{IsWhole};
 ghost use Rattle.box_chains.specs.Chains.{visit};
 ghost use Rattle.box_chains.specs.Tallied.{CountsAtMost};
+ghost use Rattle.height_map.specs.Beside.{LieBeside, beside_points, beside_top, beside_traced};
 ghost use Rattle.height_map.specs.Bound.{CountsPoints, CountsSpans, halves_points, halves_spans, halves_traced, layered, open_points, open_spans, open_traced, points_where, spans_where};
-ghost use Rattle.height_map.specs.Columns.{Changes, covers, is_open, leaf_top};
-ghost use Rattle.height_map.specs.Desks.{KeepsDesk, MayDraw};
+ghost use Rattle.height_map.specs.Columns.{Changes, covers, has_open, is_open, leaf_top};
+ghost use Rattle.height_map.specs.Desks.{HasRoom, IsPlaced, KeepsDesk, MayDraw, MayOpen};
+ghost use Rattle.height_map.specs.Opened.{outcome_points, outcome_spans, outcome_top, outcome_traced};
 
 use crate::columns::{is_covered, lift};
 use crate::desk::Desk;
+use crate::halves::{farther_count, open_among};
 use crate::leaf::draw_leaf;
-use box_chains::{is_long, layers_hold};
+use box_chains::{Outcome, is_long, layers_hold};
 use fixed_ops::Tally;
 use live_clauses::Tape;
 use std::alloc::{AllocError, Global};
@@ -23,7 +28,6 @@ pub const LEAF: u32 = 8;
 
 /// Draws a box, which receives a list: gives each of its columns that has no top the one that the
 /// samples of the box give it.
-#[cycle(drawing)]
 pub fn draw_box(
     alloc: Global,
     desk: &mut Desk,
@@ -53,16 +57,42 @@ pub fn draw_box(
     if is_covered(desk.w, b, tops) {
         return Ok(());
     }
-    match desk.room.look(received, desk.places.region(b), tally) {
-        Some(true) => {
+    let outcome = desk
+        .room
+        .trace_box(alloc, received, &desk.places, b, tally)?;
+    draw_outcome(alloc, desk, b, &outcome, tops, tally)
+}
+
+// Draws a box that was traced.
+#[cycle(drawing)]
+fn draw_outcome(
+    alloc: Global,
+    desk: &mut Desk,
+    b: IndexBox,
+    outcome: &Outcome,
+    tops: &mut [u16],
+    tally: &mut Tally,
+) -> Result<(), AllocError>
+    requires { MayOpen desk.old b outcome.now (length tops.old) }
+    ensures tops { OnOk result (Changes (covers desk.old.w b)
+        (outcome_top desk.old.places.view b outcome.now) tops.old tops.new) }
+    ensures at_most { CountsAtMost (outcome_points desk.old.places.view tops.old b outcome.now)
+        (outcome_spans desk.old.places.view b outcome.now) tally.old tally.new }
+    ensures points { OnOk result
+        (CountsPoints (outcome_points desk.old.places.view tops.old b outcome.now)
+        tally.old tally.new) }
+    ensures hulls { OnOk result
+        (CountsSpans (outcome_traced desk.old.places.view tops.old b outcome.now)
+        tally.old tally.new) }
+    ensures kept { KeepsDesk desk.old desk.new }
+{
+    match outcome {
+        Outcome::Inside => {
             lift(desk.w, b, tops);
             Ok(())
         }
-        Some(false) => Ok(()),
-        None => {
-            let live = desk.room.hand_on(alloc, received)?;
-            draw_undecided(alloc, desk, b, &live, tops, tally)
-        }
+        Outcome::Outside => Ok(()),
+        Outcome::Open(live) => draw_undecided(alloc, desk, b, live, tops, tally),
     }
 }
 
@@ -76,7 +106,8 @@ fn draw_undecided(
     tops: &mut [u16],
     tally: &mut Tally,
 ) -> Result<(), AllocError>
-    requires { MayDraw desk.old b live.now (length tops.old) }
+    requires may { MayDraw desk.old b live.now (length tops.old) }
+    requires whole { IsWhole live.now }
     ensures tops { OnOk result (Changes (covers desk.old.w b)
         (leaf_top desk.old.places.view live.now b) tops.old tops.new) }
     ensures at_most { CountsAtMost
@@ -112,6 +143,7 @@ fn draw_halves(
     tally: &mut Tally,
 ) -> Result<(), AllocError>
     requires may { MayDraw desk.old b live.now (length tops.old) }
+    requires whole { IsWhole live.now }
     requires long { IsTrue (is_long_for 8 b) }
     ensures tops { OnOk result (Changes (covers desk.old.w b)
         (leaf_top desk.old.places.view live.now b) tops.old tops.new) }
@@ -131,8 +163,82 @@ fn draw_halves(
 {
     layers_hold();
     let halves = split(b, LEAF);
-    for n in (0..halves.len()).rev() {
-        draw_box(alloc, desk, halves[n], live, tops, tally)?;
+    let halves = halves.as_slice();
+    let far = farther_count(b, halves);
+    draw_beside(alloc, desk, &halves[far..], live, tops, tally)?;
+    draw_beside(alloc, desk, &halves[..far], live, tops, tally)
+}
+
+// Draws boxes that lie beside each other: those that have a column with no top are traced together.
+// As drawing one gives no column of another a top, each is traced that would be if they were drawn
+// one by one.
+#[cycle(drawing)]
+fn draw_beside(
+    alloc: Global,
+    desk: &mut Desk,
+    boxes: &[IndexBox],
+    live: &Tape,
+    tops: &mut [u16],
+    tally: &mut Tally,
+) -> Result<(), AllocError>
+    requires placed { All (IsPlaced desk.old (length tops.old)) boxes.now }
+    requires room { HasRoom desk.old live.now }
+    requires few { length boxes.now ≤ 8 }
+    requires beside { LieBeside desk.old.places.view.w boxes.now }
+    ensures tops { OnOk result (Changes (λ p. true)
+        (beside_top desk.old.places.view live.now boxes.now) tops.old tops.new) }
+    ensures at_most { CountsAtMost
+        (beside_points desk.old.places.view live.now tops.old boxes.now)
+        (halves_spans (layered desk.old.places.view) live.now boxes.now) tally.old tally.new }
+    ensures points { OnOk result
+        (CountsPoints (beside_points desk.old.places.view live.now tops.old boxes.now)
+        tally.old tally.new) }
+    ensures hulls { OnOk result
+        (CountsSpans (beside_traced desk.old.places.view live.now tops.old boxes.now)
+        tally.old tally.new) }
+    ensures kept { KeepsDesk desk.old desk.new }
+{
+    layers_hold();
+    let open = open_among(desk.w, boxes, tops);
+    draw_open(alloc, desk, open.as_slice(), live, tops, tally)
+}
+
+// Draws boxes that lie beside each other, each of which has a column with no top: all of them are
+// traced, and then drawn one by one.
+#[cycle(drawing)]
+fn draw_open(
+    alloc: Global,
+    desk: &mut Desk,
+    boxes: &[IndexBox],
+    live: &Tape,
+    tops: &mut [u16],
+    tally: &mut Tally,
+) -> Result<(), AllocError>
+    requires placed { All (IsPlaced desk.old (length tops.old)) boxes.now }
+    requires room { HasRoom desk.old live.now }
+    requires few { length boxes.now ≤ 8 }
+    requires beside { LieBeside desk.old.places.view.w boxes.now }
+    requires some { All (λ b. IsTrue (has_open desk.old.w tops.old b)) boxes.now }
+    ensures tops { OnOk result (Changes (λ p. true)
+        (beside_top desk.old.places.view live.now boxes.now) tops.old tops.new) }
+    ensures at_most { CountsAtMost
+        (beside_points desk.old.places.view live.now tops.old boxes.now)
+        (halves_spans (layered desk.old.places.view) live.now boxes.now) tally.old tally.new }
+    ensures points { OnOk result
+        (CountsPoints (beside_points desk.old.places.view live.now tops.old boxes.now)
+        tally.old tally.new) }
+    ensures hulls { OnOk result
+        (CountsSpans (beside_traced desk.old.places.view live.now tops.old boxes.now)
+        tally.old tally.new) }
+    ensures kept { KeepsDesk desk.old desk.new }
+{
+    layers_hold();
+    let outcomes = desk
+        .room
+        .trace_boxes(alloc, live, &desk.places, boxes, tally)?;
+    let outcomes = outcomes.as_slice();
+    for n in (0..boxes.len()).rev() {
+        draw_outcome(alloc, desk, boxes[n], &outcomes[n], tops, tally)?;
     }
     Ok(())
 }

@@ -6,6 +6,7 @@ mod column;
 mod columns;
 mod desk;
 mod drawing;
+mod halves;
 mod laws;
 mod layer;
 mod leaf;

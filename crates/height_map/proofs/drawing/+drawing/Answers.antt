@@ -1,200 +1,27 @@
-use Rattle.std.proofs.Common.{◌≡◌, ◌-◌, ◌*◌, ◌<◌, ℕ, suc, ap, arith, drop, get_or, length, refl, subst, sym, ◌∙◌}
-use Rattle.std.specs.Prelude.{Some}
-use Rattle.box_chains.specs.HalfLaws.{part-is_shorter}
-use Rattle.box_chains.specs.ValueLaws.{IsVisit}
-use Rattle.live_clauses.specs.Choices.{AreChoices}
-use Rattle.view_settings.specs.Boxes.{halves_of}
-use Rattle.box_chains.specs.Chains.{visit}
-use Rattle.height_map.specs.Bound.{layered}
-use Rattle.height_map.specs.Columns.{Changes, covers, is_open, leaf_top}
+use Rattle.std.proofs.Common.{◌≡◌, ◌+◌, ◌-◌, ◌*◌, ◌<◌, ◌≤◌, ap, arith, drop, length, refl, subst, suc, sym, take, true, ◌∙◌}
+use Rattle.std.specs.List.{All}
+use Rattle.std.proofs.lemmas.List.{length-drop, length-map, length-take-le}
+use Rattle.std.proofs.lemmas.List.Elements.{All-filter, All-get_or, All-weaker, filter_passes}
+use Rattle.box_chains.specs.Outcomes.{HandsOn, outcomes_of}
+use Rattle.box_chains.specs.Tallied.{CountsAtMost}
 use Rattle.box_chains.specs.TallyLaws.{most-none}
-use Rattle.height_map.proofs.Drawn.{all-drawn, columns-there, decided-counted, drawn_to, half-part, half-visit, halves-bounded, handed, inside-drawn, leaf-counted, looked, next-counted, next-drawn, none-drawn, on_ok-then, outside-drawn, trace-counted, undecided-counted, undecided-drawn}
-use Rattle.height_map.specs.Bound.{CountsPoints, CountsSpans, halves_points, halves_traced}
-use Rattle.height_map.proofs.Evaluated.{halves-none, next-points, points-covered, points-decided, points-halves, points-leaf, points-undecided}
-use Rattle.height_map.proofs.Traced.{next-traced, open-some, traced-covered, traced-decided, traced-halves, traced-leaf, traced-none, traced-undecided}
+use Rattle.view_settings.specs.Boxes.{IsBox, halves_of}
+use Rattle.height_map.specs.Beside.{LieBeside, beside_points, beside_top, beside_traced, farther, nearer}
+use Rattle.height_map.specs.Bound.{CountsPoints, CountsSpans, halves_spans, layered}
+use Rattle.height_map.specs.Columns.{Changes, IsAmong, covers, has_open, leaf_top}
+use Rattle.height_map.specs.Desks.{IsPlaced}
+use Rattle.height_map.specs.Opened.{outcome_points, outcome_spans, outcome_top, outcome_traced}
+use Rattle.height_map.proofs.Beside.{farther-beside, nearer-beside}
+use Rattle.height_map.proofs.Drawn.{columns-there, farther-parts, halves-drawn, kept-then, leaf-counted, nearer-drawn, nearer-parts, on_ok-then, placed-may, room-kept}
+use Rattle.height_map.proofs.Evaluated.{points-are, points-halves, points-leaf}
+use Rattle.height_map.proofs.Opens.{few-kept, kept-beside}
+use Rattle.height_map.proofs.Steps.{IsOver, begun-bounded, begun-points, begun-top, begun-traced, group-placed, group-shorter, groups-are, groups-bounded, groups-points, groups-traced, kept-bounded, kept-drawn, kept-points, kept-traced, longest, longest-at, longest-kept, may-open, nearer-bounded, next-bounded, next-of, next-points, next-top, next-traced, placed-over, rest-bounded, rest-is, told-some, traces-bounded}
+use Rattle.height_map.proofs.Traced.{spans-are, traced-halves, traced-leaf}
 use Rattle.height_map.proofs.drawing.+drawing.Goals as goal
-
-pub draw_box-returns-then-is_covered-clause-at_most : goal.draw_box-returns-then-is_covered-clause-at_most
-draw_box-returns-then-is_covered-clause-at_most t c = most-none c.args.tally.now _ _
-
-pub draw_box-hand_on-requires-clause-choices : goal.draw_box-hand_on-requires-clause-choices
-draw_box-hand_on-requires-clause-choices t c =
-    subst (λ choices. AreChoices c.args.received.now choices) (sym c.look.ensures.choices) (c.layers_hold.ensures.choices c.region.result c.args.received.now)
-
-pub draw_box-returns-in_err-live-in-None-clause-at_most : goal.draw_box-returns-in_err-live-in-None-clause-at_most
-draw_box-returns-in_err-live-in-None-clause-at_most t c =
-    let view = c.args.desk.now.places.view in
-    let v = visit c.args.b c.args.received.now in
-    let told = looked view c.args.desk.now.places.lattice c.args.b c.args.received.now c.region.result c.look.result c.requires.lattice c.region.ensures c.look.ensures.decision in
-    trace-counted (is_open view c.args.received.now c.args.b c.args.tops.now) (layered view) v c.args.tally.now c.look.new.tally (omega arith) c.requires.visit_is.box c.layers_hold.ensures.halves (told ∙ c.in-None.is) c.look.ensures.counted
-
-pub draw_box-returns-in-Some-true-clause-tops : goal.draw_box-returns-in-Some-true-clause-tops
-draw_box-returns-in-Some-true-clause-tops t c =
-    let view = c.args.desk.now.places.view in
-    let told = looked view c.args.desk.now.places.lattice c.args.b c.args.received.now c.region.result c.look.result c.requires.lattice c.region.ensures c.look.ensures.decision in
-    inside-drawn c.layers_hold.ensures view c.args.received.now c.args.b c.args.desk.now.w c.args.tops.now c.lift.new.tops c.requires.width c.requires.visit_is
-    (told ∙ c.in-Some-true.is ∙ ap Some c.in-Some-true.field-0-test) c.lift.ensures
-
-pub draw_box-returns-in-Some-true-clause-at_most : goal.draw_box-returns-in-Some-true-clause-at_most
-draw_box-returns-in-Some-true-clause-at_most t c =
-    let view = c.args.desk.now.places.view in
-    let v = visit c.args.b c.args.received.now in
-    let told = looked view c.args.desk.now.places.lattice c.args.b c.args.received.now c.region.result c.look.result c.requires.lattice c.region.ensures c.look.ensures.decision in
-    decided-counted (is_open view c.args.received.now c.args.b c.args.tops.now) (layered view) v c.in-Some-true.field-0 c.args.tally.now c.look.new.tally c.requires.visit_is.box (told ∙ c.in-Some-true.is) c.look.ensures.counted
-
-pub draw_box-returns-in-Some-false-clause-tops : goal.draw_box-returns-in-Some-false-clause-tops
-draw_box-returns-in-Some-false-clause-tops t c =
-    let view = c.args.desk.now.places.view in
-    let told = looked view c.args.desk.now.places.lattice c.args.b c.args.received.now c.region.result c.look.result c.requires.lattice c.region.ensures c.look.ensures.decision in
-    outside-drawn c.layers_hold.ensures view c.args.received.now c.args.b c.args.desk.now.w c.args.tops.now c.requires.width c.requires.visit_is
-    (told ∙ c.in-Some-false.is ∙ ap Some c.in-Some-false.field-0-test)
-
-pub draw_box-returns-in-Some-false-clause-at_most : goal.draw_box-returns-in-Some-false-clause-at_most
-draw_box-returns-in-Some-false-clause-at_most t c =
-    let view = c.args.desk.now.places.view in
-    let v = visit c.args.b c.args.received.now in
-    let told = looked view c.args.desk.now.places.lattice c.args.b c.args.received.now c.region.result c.look.result c.requires.lattice c.region.ensures c.look.ensures.decision in
-    decided-counted (is_open view c.args.received.now c.args.b c.args.tops.now) (layered view) v c.in-Some-false.field-0 c.args.tally.now c.look.new.tally c.requires.visit_is.box (told ∙ c.in-Some-false.is) c.look.ensures.counted
-
-pub draw_box-returns-in_ok-live-in-None-clause-tops : goal.draw_box-returns-in_ok-live-in-None-clause-tops
-draw_box-returns-in_ok-live-in-None-clause-tops t c =
-    let view = c.args.desk.now.places.view in
-    let same = handed view c.args.desk.now.places.lattice c.args.b c.args.received.now c.in_ok-live-in-None.live c.region.result c.look.new.self c.requires.lattice c.region.ensures c.look.ensures.choices c.in_ok-live-in-None.ensures.list in
-    on_ok-then c.draw_undecided.result _ _
-    (λ changed. undecided-drawn c.layers_hold.ensures view c.args.received.now c.in_ok-live-in-None.live c.args.b c.args.desk.now.w c.args.tops.now c.draw_undecided.new.tops c.requires.width c.requires.visit_is same changed)
-    c.draw_undecided.ensures.tops
-
-pub draw_box-returns-in_ok-live-in-None-clause-at_most : goal.draw_box-returns-in_ok-live-in-None-clause-at_most
-draw_box-returns-in_ok-live-in-None-clause-at_most t c =
-    let view = c.args.desk.now.places.view in
-    let told = looked view c.args.desk.now.places.lattice c.args.b c.args.received.now c.region.result c.look.result c.requires.lattice c.region.ensures c.look.ensures.decision in
-    let same = handed view c.args.desk.now.places.lattice c.args.b c.args.received.now c.in_ok-live-in-None.live c.region.result c.look.new.self c.requires.lattice c.region.ensures c.look.ensures.choices c.in_ok-live-in-None.ensures.list in
-    undecided-counted c.layers_hold.ensures view c.args.received.now c.in_ok-live-in-None.live c.args.b c.args.tops.now c.args.tally.now c.look.new.tally c.draw_undecided.new.tally c.requires.visit_is
-    (told ∙ c.in-None.is) same c.look.ensures.counted c.draw_undecided.ensures.at_most
-
-pub draw_halves-loop-n-init : goal.draw_halves-loop-n-init
-draw_halves-loop-n-init t c =
-    let all = c.split-halves.ensures in
-    record {
-      kept = record { width = refl; places = refl; room = refl; values = refl };
-      all = all;
-      tops = none-drawn c.args.desk.now.places.view c.args.live.now c.args.b c.len-n.result c.args.tops.now (c.len-n.ensures.value ∙ ap length all);
-      counted = most-none c.args.tally.now _ _;
-      points = halves-none c.args.desk.now.places.view c.args.live.now c.args.b c.len-n.result c.args.tops.now c.args.tally.now (c.len-n.ensures.value ∙ ap length all);
-      hulls = traced-none c.args.desk.now.places.view c.args.live.now c.args.b c.len-n.result c.args.tops.now c.args.tally.now (c.len-n.ensures.value ∙ ap length all);
-    }
-
-pub draw_halves-draw_box-requires : goal.draw_halves-draw_box-requires
-draw_halves-draw_box-requires t c =
-    let b = c.args.b in
-    let half = c.index-deref-n.result in
-    let i : ℕ = c.loop-n.n - 1 in
-    let some : 0 < c.loop-n.n = omega (arith, c.loop-n-test.true) in
-    let all = c.split-halves.ensures in
-    let within : i < length (halves_of 8 b) = omega (arith, some, c.loop-n.auto.n, c.len-n.ensures.value, ap length all) in
-    let read : half ≡ get_or (halves_of 8 b) i half = c.index-deref-n.is ∙ ap (λ l. get_or l i half) (c.deref.ensures.0 ∙ all) in
-    let part = half-part b half i c.requires.may.visit_is.box within read in
-    let less = part-is_shorter 8 b half c.requires.long part in
-    let kept = c.loop-n.invariant.kept in (
-      omega (arith, less, c.decreases),
-      record {
-        lattice = ap (λ p. p.lattice) kept.places ∙ c.requires.may.lattice;
-        visit_is = subst (λ p. IsVisit (layered p.view) (visit half c.args.live.now)) (sym kept.places) (half-visit c.args.desk.now.places.view c.args.live.now b half part c.requires.may.visit_is);
-        width = kept.width ∙ c.requires.may.width ∙ ap (λ p. p.view.w) (sym kept.places);
-        tops = c.loop-n.auto.tops ∙ c.requires.may.tops ∙ ap (λ p. p.view.h * p.view.w) (sym kept.places);
-        room = omega (arith, kept.room, c.requires.may.room);
-        values = omega (arith, kept.values, c.requires.may.values);
-      },
-    )
-
-pub draw_halves-loop-n-preserved : goal.draw_halves-loop-n-preserved
-draw_halves-loop-n-preserved t c =
-    let view = c.args.desk.now.places.view in
-    let live = c.args.live.now in
-    let b = c.args.b in
-    let half = c.index-deref-n.result in
-    let i : ℕ = c.loop-n.n - 1 in
-    let some : 0 < c.loop-n.n = omega (arith, c.loop-n-test.true) in
-    let next : c.loop-n.n ≡ suc (c.loop-n.n - 1) = omega (arith, some) in
-    let all = c.split-halves.ensures in
-    let within : i < length (halves_of 8 b) = omega (arith, some, c.loop-n.auto.n, c.len-n.ensures.value, ap length all) in
-    let read : half ≡ get_or (halves_of 8 b) i half = c.index-deref-n.is ∙ ap (λ l. get_or l i half) (c.deref.ensures.0 ∙ all) in
-    let before = c.loop-n.invariant.kept in
-    let after = c.in_ok-draw_box.ensures.kept in
-    let same = ap (λ p. p.view) before.places in
-    record {
-      kept = record { width = after.width ∙ before.width; places = after.places ∙ before.places; room = after.room ∙ before.room; values = after.values ∙ before.values };
-      all = all;
-      tops = next-drawn view c.loop-n.desk.places.view live b half c.loop-n.n i c.loop-n.desk.w c.args.tops.now c.loop-n.tops c.draw_box.new.tops same (before.width ∙ c.requires.may.width) next
-          c.requires.may.visit_is.box within read c.loop-n.invariant.tops c.in_ok-draw_box.ensures.tops;
-      counted = next-counted view c.loop-n.desk.places.view live b half c.loop-n.n i c.args.tops.now c.loop-n.tops c.args.tally.now c.loop-n.tally c.draw_box.new.tally same next c.requires.may.visit_is.box
-          (columns-there view live b view.w (length c.args.tops.now) c.requires.may.visit_is refl c.requires.may.tops) within read c.loop-n.invariant.tops c.loop-n.invariant.counted c.in_ok-draw_box.ensures.at_most;
-      points = next-points view c.loop-n.desk.places.view live b half c.loop-n.n i c.args.tops.now c.loop-n.tops c.args.tally.now c.loop-n.tally c.draw_box.new.tally same next c.requires.may.visit_is.box
-          (columns-there view live b view.w (length c.args.tops.now) c.requires.may.visit_is refl c.requires.may.tops) within read c.loop-n.invariant.tops c.loop-n.invariant.points c.in_ok-draw_box.ensures.points;
-      hulls = next-traced view c.loop-n.desk.places.view live b half c.loop-n.n i c.args.tops.now c.loop-n.tops c.args.tally.now c.loop-n.tally c.draw_box.new.tally same next c.requires.may.visit_is.box
-          (columns-there view live b view.w (length c.args.tops.now) c.requires.may.visit_is refl c.requires.may.tops) c.layers_hold.ensures.halves within read c.loop-n.invariant.tops c.loop-n.invariant.hulls c.in_ok-draw_box.ensures.hulls;
-    }
-
-pub draw_halves-returns-in_err-draw_box-clause-at_most : goal.draw_halves-returns-in_err-draw_box-clause-at_most
-draw_halves-returns-in_err-draw_box-clause-at_most t c =
-    let view = c.args.desk.now.places.view in
-    let live = c.args.live.now in
-    let b = c.args.b in
-    let half = c.index-deref-n.result in
-    let i : ℕ = c.loop-n.n - 1 in
-    let some : 0 < c.loop-n.n = omega (arith, c.loop-n-test.true) in
-    let next : c.loop-n.n ≡ suc (c.loop-n.n - 1) = omega (arith, some) in
-    let all = c.split-halves.ensures in
-    let within : i < length (halves_of 8 b) = omega (arith, some, c.loop-n.auto.n, c.len-n.ensures.value, ap length all) in
-    let read : half ≡ get_or (halves_of 8 b) i half = c.index-deref-n.is ∙ ap (λ l. get_or l i half) (c.deref.ensures.0 ∙ all) in
-    let same = ap (λ p. p.view) c.loop-n.invariant.kept.places in
-    halves-bounded view live b c.args.tops.now i c.args.tally.now c.draw_box.new.tally
-    (next-counted view c.loop-n.desk.places.view live b half c.loop-n.n i c.args.tops.now c.loop-n.tops c.args.tally.now c.loop-n.tally c.draw_box.new.tally same next c.requires.may.visit_is.box
-    (columns-there view live b view.w (length c.args.tops.now) c.requires.may.visit_is refl c.requires.may.tops) within read c.loop-n.invariant.tops c.loop-n.invariant.counted c.in_err-draw_box.ensures.at_most)
-
-pub draw_halves-returns-clause-tops : goal.draw_halves-returns-clause-tops
-draw_halves-returns-clause-tops t c =
-    let view = c.args.desk.now.places.view in
-    let live = c.args.live.now in
-    let b = c.args.b in
-    let none : c.loop-n.n ≡ 0 = omega (arith, c.loop-n-test.false) in
-    subst (λ w. Changes (covers w b) (leaf_top view live b) c.args.tops.now c.loop-n.tops) (sym c.requires.may.width)
-    (all-drawn view live b c.args.tops.now c.loop-n.tops (subst (λ n. Changes (covers view.w b) (drawn_to view live b (drop n (halves_of 8 b))) c.args.tops.now c.loop-n.tops) none c.loop-n.invariant.tops))
 
 pub draw_undecided-returns-else-is_long-clause-at_most : goal.draw_undecided-returns-else-is_long-clause-at_most
 draw_undecided-returns-else-is_long-clause-at_most t c =
     leaf-counted c.args.desk.now.places.view c.args.live.now c.args.b c.args.tops.now c.args.tally.now c.draw_leaf.new.tally (sym c.is_long.ensures ∙ c.if-is_long.false) c.draw_leaf.ensures.counted
-
-pub draw_box-returns-then-is_covered-clause-points : goal.draw_box-returns-then-is_covered-clause-points
-draw_box-returns-then-is_covered-clause-points t c =
-    let view = c.args.desk.now.places.view in
-    points-covered view c.args.received.now c.args.b c.args.desk.now.w c.args.tops.now c.args.tally.now c.requires.width
-    (columns-there view c.args.received.now c.args.b view.w (length c.args.tops.now) c.requires.visit_is refl c.requires.tops)
-    (λ p h e. c.is_covered.ensures.covered p c.if-is_covered.true h e)
-
-pub draw_box-returns-in-Some-true-clause-points : goal.draw_box-returns-in-Some-true-clause-points
-draw_box-returns-in-Some-true-clause-points t c =
-    let view = c.args.desk.now.places.view in
-    let v = visit c.args.b c.args.received.now in
-    let told = looked view c.args.desk.now.places.lattice c.args.b c.args.received.now c.region.result c.look.result c.requires.lattice c.region.ensures c.look.ensures.decision in
-    points-decided (is_open view c.args.received.now c.args.b c.args.tops.now) (layered view) v c.in-Some-true.field-0 c.args.tally.now c.look.new.tally c.requires.visit_is.box (told ∙ c.in-Some-true.is) c.look.ensures.counted
-
-pub draw_box-returns-in-Some-false-clause-points : goal.draw_box-returns-in-Some-false-clause-points
-draw_box-returns-in-Some-false-clause-points t c =
-    let view = c.args.desk.now.places.view in
-    let v = visit c.args.b c.args.received.now in
-    let told = looked view c.args.desk.now.places.lattice c.args.b c.args.received.now c.region.result c.look.result c.requires.lattice c.region.ensures c.look.ensures.decision in
-    points-decided (is_open view c.args.received.now c.args.b c.args.tops.now) (layered view) v c.in-Some-false.field-0 c.args.tally.now c.look.new.tally c.requires.visit_is.box (told ∙ c.in-Some-false.is) c.look.ensures.counted
-
-pub draw_box-returns-in_ok-live-in-None-clause-points : goal.draw_box-returns-in_ok-live-in-None-clause-points
-draw_box-returns-in_ok-live-in-None-clause-points t c =
-    let view = c.args.desk.now.places.view in
-    let told = looked view c.args.desk.now.places.lattice c.args.b c.args.received.now c.region.result c.look.result c.requires.lattice c.region.ensures c.look.ensures.decision in
-    let same = handed view c.args.desk.now.places.lattice c.args.b c.args.received.now c.in_ok-live-in-None.live c.region.result c.look.new.self c.requires.lattice c.region.ensures c.look.ensures.choices c.in_ok-live-in-None.ensures.list in
-    on_ok-then c.draw_undecided.result _ _
-    (λ below. points-undecided c.layers_hold.ensures view c.args.received.now c.in_ok-live-in-None.live c.args.b c.args.tops.now c.args.tally.now c.look.new.tally c.draw_undecided.new.tally c.requires.visit_is
-    (told ∙ c.in-None.is) same c.look.ensures.counted below)
-    c.draw_undecided.ensures.points
 
 pub draw_undecided-returns-then-is_long-clause-points : goal.draw_undecided-returns-then-is_long-clause-points
 draw_undecided-returns-then-is_long-clause-points t c =
@@ -206,48 +33,6 @@ pub draw_undecided-returns-else-is_long-clause-points : goal.draw_undecided-retu
 draw_undecided-returns-else-is_long-clause-points t c =
     points-leaf c.args.desk.now.places.view c.args.live.now c.args.b c.args.tops.now c.args.tally.now c.draw_leaf.new.tally (sym c.is_long.ensures ∙ c.if-is_long.false) c.draw_leaf.ensures.counted
 
-pub draw_halves-returns-clause-points : goal.draw_halves-returns-clause-points
-draw_halves-returns-clause-points t c =
-    let none : c.loop-n.n ≡ 0 = omega (arith, c.loop-n-test.false) in
-    subst (λ n. CountsPoints (halves_points (is_open c.args.desk.now.places.view c.args.live.now c.args.b c.args.tops.now) (layered c.args.desk.now.places.view) c.args.live.now (drop n (halves_of 8 c.args.b))) c.args.tally.now c.loop-n.tally)
-    none c.loop-n.invariant.points
-
--- ---- what is traced
-
-pub draw_box-returns-then-is_covered-clause-hulls : goal.draw_box-returns-then-is_covered-clause-hulls
-draw_box-returns-then-is_covered-clause-hulls t c =
-    let view = c.args.desk.now.places.view in
-    traced-covered view c.args.received.now c.args.b c.args.desk.now.w c.args.tops.now c.args.tally.now c.requires.width
-    (columns-there view c.args.received.now c.args.b view.w (length c.args.tops.now) c.requires.visit_is refl c.requires.tops) c.requires.visit_is.box c.layers_hold.ensures.halves
-    (λ p h e. c.is_covered.ensures.covered p c.if-is_covered.true h e)
-
-pub draw_box-returns-in-Some-true-clause-hulls : goal.draw_box-returns-in-Some-true-clause-hulls
-draw_box-returns-in-Some-true-clause-hulls t c =
-    let view = c.args.desk.now.places.view in
-    let list = c.args.received.now in
-    let told = looked view c.args.desk.now.places.lattice c.args.b list c.region.result c.look.result c.requires.lattice c.region.ensures c.look.ensures.decision in
-    traced-decided (is_open view list c.args.b c.args.tops.now) (layered view) (visit c.args.b list) c.in-Some-true.field-0 c.args.tally.now c.look.new.tally c.requires.visit_is.box (told ∙ c.in-Some-true.is)
-    (open-some view list c.args.b c.args.desk.now.w c.args.tops.now c.requires.width c.requires.visit_is.box (c.is_covered.ensures.open c.if-is_covered.false)) c.look.ensures.counted
-
-pub draw_box-returns-in-Some-false-clause-hulls : goal.draw_box-returns-in-Some-false-clause-hulls
-draw_box-returns-in-Some-false-clause-hulls t c =
-    let view = c.args.desk.now.places.view in
-    let list = c.args.received.now in
-    let told = looked view c.args.desk.now.places.lattice c.args.b list c.region.result c.look.result c.requires.lattice c.region.ensures c.look.ensures.decision in
-    traced-decided (is_open view list c.args.b c.args.tops.now) (layered view) (visit c.args.b list) c.in-Some-false.field-0 c.args.tally.now c.look.new.tally c.requires.visit_is.box (told ∙ c.in-Some-false.is)
-    (open-some view list c.args.b c.args.desk.now.w c.args.tops.now c.requires.width c.requires.visit_is.box (c.is_covered.ensures.open c.if-is_covered.false)) c.look.ensures.counted
-
-pub draw_box-returns-in_ok-live-in-None-clause-hulls : goal.draw_box-returns-in_ok-live-in-None-clause-hulls
-draw_box-returns-in_ok-live-in-None-clause-hulls t c =
-    let view = c.args.desk.now.places.view in
-    let list = c.args.received.now in
-    let told = looked view c.args.desk.now.places.lattice c.args.b list c.region.result c.look.result c.requires.lattice c.region.ensures c.look.ensures.decision in
-    let same = handed view c.args.desk.now.places.lattice c.args.b list c.in_ok-live-in-None.live c.region.result c.look.new.self c.requires.lattice c.region.ensures c.look.ensures.choices c.in_ok-live-in-None.ensures.list in
-    on_ok-then c.draw_undecided.result _ _
-    (λ below. traced-undecided c.layers_hold.ensures view list c.in_ok-live-in-None.live c.args.b c.args.tops.now c.args.tally.now c.look.new.tally c.draw_undecided.new.tally c.requires.visit_is
-    (told ∙ c.in-None.is) same (open-some view list c.args.b c.args.desk.now.w c.args.tops.now c.requires.width c.requires.visit_is.box (c.is_covered.ensures.open c.if-is_covered.false)) c.look.ensures.counted below)
-    c.draw_undecided.ensures.hulls
-
 pub draw_undecided-returns-then-is_long-clause-hulls : goal.draw_undecided-returns-then-is_long-clause-hulls
 draw_undecided-returns-then-is_long-clause-hulls t c =
     on_ok-then c.draw_halves.result _ _
@@ -258,8 +43,348 @@ pub draw_undecided-returns-else-is_long-clause-hulls : goal.draw_undecided-retur
 draw_undecided-returns-else-is_long-clause-hulls t c =
     traced-leaf c.args.desk.now.places.view c.args.live.now c.args.b c.args.tops.now _ c.args.tally.now c.draw_leaf.new.tally (sym c.is_long.ensures ∙ c.if-is_long.false) c.draw_leaf.ensures.counted
 
+-- ---- a box that was traced
+
+pub draw_outcome-draw_undecided-requires : goal.draw_outcome-draw_undecided-requires
+draw_outcome-draw_undecided-requires t c =
+    let room = c.requires.room c.in-Open.live c.in-Open.is in
+    (omega (arith, c.decreases), (placed-may c.args.desk.now c.args.b c.in-Open.live (length c.args.tops.now) c.requires.placed room, room.whole))
+
+pub draw_outcome-returns-in-Inside-clause-at_most : goal.draw_outcome-returns-in-Inside-clause-at_most
+draw_outcome-returns-in-Inside-clause-at_most t c = most-none c.args.tally.now _ _
+
+pub draw_outcome-returns-in-Outside-clause-at_most : goal.draw_outcome-returns-in-Outside-clause-at_most
+draw_outcome-returns-in-Outside-clause-at_most t c = most-none c.args.tally.now _ _
+
+-- ---- the nearer halves, and then the farther ones
+
+pub draw_halves-draw_beside-requires : goal.draw_halves-draw_beside-requires
+draw_halves-draw_beside-requires t c =
+    let desk = c.args.desk.now in
+    let b = c.args.b in
+    let halves = c.as_slice-halves.result.now in
+    let far = c.farther_count-far.result in
+    let len = length c.args.tops.now in
+    let may = c.requires.may in
+    let near = rest-is halves far ∙ c.farther_count-far.ensures.nearer in
+    let parts = nearer-parts b may.visit_is.box in
+    let shorter = group-shorter b (nearer 8 b) may.visit_is.box c.requires.long parts in (
+      omega (arith, shorter, ap longest near, c.decreases),
+      (
+        subst (All (IsPlaced desk len)) (sym near) (group-placed desk desk b (nearer 8 b) c.args.live.now len len (record { width = refl; places = refl; room = refl; values = refl }) refl may parts),
+        (
+          record { tape = may.visit_is.tape; whole = c.requires.whole; room = may.room; values = may.values },
+          (
+            omega (arith, ap length (rest-is halves far), length-drop far halves, c.as_slice-halves.ensures.fits),
+            subst (LieBeside desk.places.view.w) (sym near) (nearer-beside desk.places.view.w 8 b),
+          ),
+        ),
+      ),
+    )
+
+pub draw_halves-returns-in_err-draw_beside-clause-at_most : goal.draw_halves-returns-in_err-draw_beside-clause-at_most
+draw_halves-returns-in_err-draw_beside-clause-at_most t c =
+    let view = c.args.desk.now.places.view in
+    let live = c.args.live.now in
+    let b = c.args.b in
+    let old = c.args.tops.now in
+    let may = c.requires.may in
+    let near = rest-is c.as_slice-halves.result.now c.farther_count-far.result ∙ c.farther_count-far.ensures.nearer in
+    nearer-bounded view live b old c.args.tally.now c.draw_beside.new.tally
+    (columns-there view b view.w (length old) may.visit_is.window may.visit_is.within refl may.tops) (nearer-drawn view live b old may.visit_is.box)
+    (subst (λ hs. CountsAtMost (beside_points view live old hs) (halves_spans (layered view) live hs) c.args.tally.now c.draw_beside.new.tally) near c.in_err-draw_beside.ensures.at_most)
+
+pub draw_halves-draw_beside-requires-2 : goal.draw_halves-draw_beside-requires-2
+draw_halves-draw_beside-requires-2 t c =
+    let desk = c.args.desk.now in
+    let b = c.args.b in
+    let halves = c.as_slice-halves.result.now in
+    let far = c.farther_count-far.result in
+    let len = length c.args.tops.now in
+    let may = c.requires.may in
+    let kept = c.in_ok-draw_beside.ensures.kept in
+    let behind = c.farther_count-far.ensures.farther in
+    let parts = farther-parts b may.visit_is.box in
+    let shorter = group-shorter b (farther 8 b) may.visit_is.box c.requires.long parts in
+    let next = c.draw_beside.new.desk in (
+      omega (arith, shorter, ap longest behind, c.decreases),
+      (
+        subst (All (IsPlaced next (length c.draw_beside.new.tops))) (sym behind)
+            (group-placed desk next b (farther 8 b) c.args.live.now len (length c.draw_beside.new.tops) kept c.in_ok-draw_beside.ensures.tops.same may parts),
+        (
+          room-kept desk next c.args.live.now kept (record { tape = may.visit_is.tape; whole = c.requires.whole; room = may.room; values = may.values }),
+          (
+            omega (arith, length-take-le far halves c.farther_count-far.ensures.few, c.farther_count-far.ensures.few, c.as_slice-halves.ensures.fits),
+            subst (LieBeside next.places.view.w) (sym behind) (farther-beside next.places.view.w 8 b),
+          ),
+        ),
+      ),
+    )
+
+pub draw_halves-returns-clause-tops : goal.draw_halves-returns-clause-tops
+draw_halves-returns-clause-tops t c =
+    let desk = c.args.desk.now in
+    let view = desk.places.view in
+    let live = c.args.live.now in
+    let b = c.args.b in
+    let old = c.args.tops.now in
+    let mid = c.draw_beside.new.tops in
+    let new = c.draw_beside-2.new.tops in
+    let near = rest-is c.as_slice-halves.result.now c.farther_count-far.result ∙ c.farther_count-far.ensures.nearer in
+    let same = ap (λ p. p.view) c.in_ok-draw_beside.ensures.kept.places in
+    on_ok-then c.draw_beside-2.result _ _
+    (λ second.
+    subst (λ w. Changes (covers w b) (leaf_top view live b) old new) (sym c.requires.may.width)
+    (halves-drawn view live b old mid new c.requires.may.visit_is.box
+    (subst (λ hs. Changes (λ p. true) (beside_top view live hs) old mid) near c.in_ok-draw_beside.ensures.tops)
+    (subst (λ v. Changes (λ p. true) (beside_top v live (farther 8 b)) mid new) same
+    (subst (λ hs. Changes (λ p. true) (beside_top c.draw_beside.new.desk.places.view live hs) mid new) c.farther_count-far.ensures.farther second))))
+    c.draw_beside-2.ensures.tops
+
+pub draw_halves-returns-clause-at_most : goal.draw_halves-returns-clause-at_most
+draw_halves-returns-clause-at_most t c =
+    let desk = c.args.desk.now in
+    let view = desk.places.view in
+    let live = c.args.live.now in
+    let b = c.args.b in
+    let old = c.args.tops.now in
+    let mid = c.draw_beside.new.tops in
+    let near = rest-is c.as_slice-halves.result.now c.farther_count-far.result ∙ c.farther_count-far.ensures.nearer in
+    let same = ap (λ p. p.view) c.in_ok-draw_beside.ensures.kept.places in
+    let start = c.args.tally.now in
+    let between = c.draw_beside.new.tally in
+    let end = c.draw_beside-2.new.tally in
+    groups-bounded view live b old mid start between end
+    (groups-are desk live b old mid c.requires.may (subst (λ hs. Changes (λ p. true) (beside_top view live hs) old mid) near c.in_ok-draw_beside.ensures.tops))
+    (subst (λ hs. CountsAtMost (beside_points view live old hs) (halves_spans (layered view) live hs) start between) near c.in_ok-draw_beside.ensures.at_most)
+    (subst (λ v. CountsAtMost (beside_points v live mid (farther 8 b)) (halves_spans (layered v) live (farther 8 b)) between end) same
+    (subst (λ hs. CountsAtMost (beside_points c.draw_beside.new.desk.places.view live mid hs) (halves_spans (layered c.draw_beside.new.desk.places.view) live hs) between end)
+    c.farther_count-far.ensures.farther c.draw_beside-2.ensures.at_most))
+
+pub draw_halves-returns-clause-points : goal.draw_halves-returns-clause-points
+draw_halves-returns-clause-points t c =
+    let desk = c.args.desk.now in
+    let view = desk.places.view in
+    let live = c.args.live.now in
+    let b = c.args.b in
+    let old = c.args.tops.now in
+    let mid = c.draw_beside.new.tops in
+    let near = rest-is c.as_slice-halves.result.now c.farther_count-far.result ∙ c.farther_count-far.ensures.nearer in
+    let same = ap (λ p. p.view) c.in_ok-draw_beside.ensures.kept.places in
+    let start = c.args.tally.now in
+    let between = c.draw_beside.new.tally in
+    let end = c.draw_beside-2.new.tally in
+    on_ok-then c.draw_beside-2.result _ _
+    (λ second.
+    groups-points view live b old mid start between end
+    (groups-are desk live b old mid c.requires.may (subst (λ hs. Changes (λ p. true) (beside_top view live hs) old mid) near c.in_ok-draw_beside.ensures.tops))
+    (subst (λ hs. CountsPoints (beside_points view live old hs) start between) near c.in_ok-draw_beside.ensures.points)
+    (subst (λ v. CountsPoints (beside_points v live mid (farther 8 b)) between end) same
+    (subst (λ hs. CountsPoints (beside_points c.draw_beside.new.desk.places.view live mid hs) between end) c.farther_count-far.ensures.farther second)))
+    c.draw_beside-2.ensures.points
+
 pub draw_halves-returns-clause-hulls : goal.draw_halves-returns-clause-hulls
 draw_halves-returns-clause-hulls t c =
-    let none : c.loop-n.n ≡ 0 = omega (arith, c.loop-n-test.false) in
-    subst (λ n. CountsSpans (halves_traced (is_open c.args.desk.now.places.view c.args.live.now c.args.b c.args.tops.now) (layered c.args.desk.now.places.view) c.args.live.now (drop n (halves_of 8 c.args.b))) c.args.tally.now c.loop-n.tally)
-    none c.loop-n.invariant.hulls
+    let desk = c.args.desk.now in
+    let view = desk.places.view in
+    let live = c.args.live.now in
+    let b = c.args.b in
+    let old = c.args.tops.now in
+    let mid = c.draw_beside.new.tops in
+    let near = rest-is c.as_slice-halves.result.now c.farther_count-far.result ∙ c.farther_count-far.ensures.nearer in
+    let same = ap (λ p. p.view) c.in_ok-draw_beside.ensures.kept.places in
+    let start = c.args.tally.now in
+    let between = c.draw_beside.new.tally in
+    let end = c.draw_beside-2.new.tally in
+    on_ok-then c.draw_beside-2.result _ _
+    (λ second.
+    groups-traced view live b old mid start between end c.layers_hold.ensures.halves
+    (groups-are desk live b old mid c.requires.may (subst (λ hs. Changes (λ p. true) (beside_top view live hs) old mid) near c.in_ok-draw_beside.ensures.tops))
+    (subst (λ hs. CountsSpans (beside_traced view live old hs) start between) near c.in_ok-draw_beside.ensures.hulls)
+    (subst (λ v. CountsSpans (beside_traced v live mid (farther 8 b)) between end) same
+    (subst (λ hs. CountsSpans (beside_traced c.draw_beside.new.desk.places.view live mid hs) between end) c.farther_count-far.ensures.farther second)))
+    c.draw_beside-2.ensures.hulls
+
+-- ---- those of some boxes that have a column with no top
+
+pub draw_beside-open_among-open-requires-clause-among : goal.draw_beside-open_among-open-requires-clause-among
+draw_beside-open_among-open-requires-clause-among t c =
+    let desk = c.args.desk.now in
+    let len = length c.args.tops.now in
+    All-weaker (IsPlaced desk len) (IsAmong desk.w len) (λ b is. columns-there desk.places.view b desk.w len is.window is.within is.width is.tops) c.args.boxes.now c.requires.placed
+
+pub draw_beside-draw_open-requires : goal.draw_beside-draw_open-requires
+draw_beside-draw_open-requires t c =
+    let desk = c.args.desk.now in
+    let len = length c.args.tops.now in
+    let boxes = c.args.boxes.now in
+    let test = has_open desk.w c.args.tops.now in
+    let kept = c.as_slice.ensures.value ∙ c.open_among-open.ensures in (
+      omega (arith, longest-kept test boxes, ap longest kept, c.decreases),
+      (
+        subst (All (IsPlaced desk len)) (sym kept) (All-filter test (IsPlaced desk len) boxes c.requires.placed),
+        (
+          c.requires.room,
+          (
+            omega (arith, few-kept test boxes, ap length kept, c.requires.few),
+            (
+              subst (LieBeside desk.places.view.w) (sym kept) (kept-beside desk.places.view.w test boxes c.requires.beside),
+              subst (All (λ b. test b ≡ true)) (sym kept) (filter_passes test boxes),
+            ),
+          ),
+        ),
+      ),
+    )
+
+pub draw_beside-returns-clause-tops : goal.draw_beside-returns-clause-tops
+draw_beside-returns-clause-tops t c =
+    let desk = c.args.desk.now in
+    let tops = c.args.tops.now in
+    let boxes = c.args.boxes.now in
+    on_ok-then c.draw_open.result _ _
+    (kept-drawn desk.places.view c.args.live.now desk.w tops c.draw_open.new.tops boxes c.as_slice.result.now
+    (All-weaker (IsPlaced desk (length tops)) (IsOver desk.places.view desk.w tops) (placed-over desk tops) boxes c.requires.placed) c.requires.beside
+    (c.as_slice.ensures.value ∙ c.open_among-open.ensures))
+    c.draw_open.ensures.tops
+
+pub draw_beside-returns-clause-at_most : goal.draw_beside-returns-clause-at_most
+draw_beside-returns-clause-at_most t c =
+    let desk = c.args.desk.now in
+    let tops = c.args.tops.now in
+    let boxes = c.args.boxes.now in
+    kept-bounded desk.places.view c.args.live.now desk.w tops boxes c.as_slice.result.now c.args.tally.now c.draw_open.new.tally
+    (All-weaker (IsPlaced desk (length tops)) (IsOver desk.places.view desk.w tops) (placed-over desk tops) boxes c.requires.placed)
+    (c.as_slice.ensures.value ∙ c.open_among-open.ensures) c.draw_open.ensures.at_most
+
+pub draw_beside-returns-clause-points : goal.draw_beside-returns-clause-points
+draw_beside-returns-clause-points t c =
+    let desk = c.args.desk.now in
+    let tops = c.args.tops.now in
+    let boxes = c.args.boxes.now in
+    on_ok-then c.draw_open.result _ _
+    (points-are c.args.tally.now c.draw_open.new.tally _ _
+    (kept-points desk.places.view c.args.live.now desk.w tops boxes c.as_slice.result.now
+    (All-weaker (IsPlaced desk (length tops)) (IsOver desk.places.view desk.w tops) (placed-over desk tops) boxes c.requires.placed)
+    (c.as_slice.ensures.value ∙ c.open_among-open.ensures)))
+    c.draw_open.ensures.points
+
+pub draw_beside-returns-clause-hulls : goal.draw_beside-returns-clause-hulls
+draw_beside-returns-clause-hulls t c =
+    let desk = c.args.desk.now in
+    let tops = c.args.tops.now in
+    let boxes = c.args.boxes.now in
+    on_ok-then c.draw_open.result _ _
+    (spans-are c.args.tally.now c.draw_open.new.tally _ _
+    (kept-traced desk.places.view c.args.live.now desk.w tops boxes c.as_slice.result.now c.layers_hold.ensures.halves
+    (All-weaker (IsPlaced desk (length tops)) (IsOver desk.places.view desk.w tops) (placed-over desk tops) boxes c.requires.placed)
+    (c.as_slice.ensures.value ∙ c.open_among-open.ensures)))
+    c.draw_open.ensures.hulls
+
+-- ---- boxes that are traced together
+
+pub draw_open-returns-in_err-outcomes-clause-at_most : goal.draw_open-returns-in_err-outcomes-clause-at_most
+draw_open-returns-in_err-outcomes-clause-at_most t c =
+    let desk = c.args.desk.now in
+    let boxes = c.args.boxes.now in
+    traces-bounded c.layers_hold.ensures desk.places.view c.args.live.now boxes c.args.tops.now c.args.tally.now c.trace_boxes.new.tally
+    (All-weaker (IsPlaced desk (length c.args.tops.now)) IsBox (λ b is. is.box) boxes c.requires.placed) c.in_err-outcomes.ensures.at_most
+
+pub draw_open-loop-n-init : goal.draw_open-loop-n-init
+draw_open-loop-n-init t c =
+    let view = c.args.desk.now.places.view in
+    let live = c.args.live.now in
+    let boxes = c.args.boxes.now in
+    let old = c.args.tops.now in
+    let n = length boxes in
+    record {
+      kept = record { width = refl; places = refl; room = c.in_ok-outcomes.ensures.room; values = refl };
+      tops = begun-top view live boxes old n refl;
+      counted = begun-bounded view live boxes old n c.args.tally.now c.trace_boxes.new.tally refl c.in_ok-outcomes.ensures.counted;
+      points = begun-points view live boxes old n (length boxes * length live) c.args.tally.now c.trace_boxes.new.tally refl c.in_ok-outcomes.ensures.counted;
+      hulls = begun-traced view live boxes old n c.args.tally.now c.trace_boxes.new.tally refl c.in_ok-outcomes.ensures.counted;
+    }
+
+pub draw_open-draw_outcome-requires : goal.draw_open-draw_outcome-requires
+draw_open-draw_outcome-requires t c =
+    let desk = c.args.desk.now in
+    let live = c.args.live.now in
+    let boxes = c.args.boxes.now in
+    let old = c.args.tops.now in
+    let outcomes = c.as_slice-outcomes.result.now in
+    let b = c.index-boxes-n.result in
+    let o = c.index-outcomes-n.result in
+    let n = c.loop-n.n in
+    let some : 0 < n = omega (arith, c.loop-n-test.true) in
+    let few : n ≤ length boxes = omega (arith, c.loop-n.auto.n) in
+    let within : n - 1 < length boxes = omega (arith, some, few) in
+    let told = c.as_slice-outcomes.ensures.value ∙ c.in_ok-outcomes.ensures.outcomes in
+    let placed : IsPlaced desk (length old) b = subst (IsPlaced desk (length old)) (sym c.index-boxes-n.is) (All-get_or (IsPlaced desk (length old)) boxes (n - 1) b within c.requires.placed) in
+    let next = next-of desk live boxes outcomes old c.loop-n.tops n b o some few c.index-boxes-n.is c.index-outcomes-n.is told c.requires.beside c.requires.placed c.requires.room.tape c.loop-n.invariant.tops in
+    let many : length outcomes ≡ length boxes = ap length told ∙ length-map boxes _ in
+    let hands : HandsOn (length live) o =
+    subst (HandsOn (length live)) (sym c.index-outcomes-n.is)
+    (All-get_or (HandsOn (length live)) outcomes (n - 1) o (omega (arith, many, within)) (subst (All (HandsOn (length live))) (sym c.as_slice-outcomes.ensures.value) c.in_ok-outcomes.ensures.shorter)) in (
+      omega (arith, longest-at boxes (n - 1) b within c.index-boxes-n.is, c.decreases),
+      may-open c.layers_hold.ensures desk c.loop-n.desk live b o (length old) (length c.loop-n.tops) c.loop-n.invariant.kept c.loop-n.invariant.tops.same placed c.requires.room.tape c.requires.room.room
+          c.requires.room.values next.told hands,
+    )
+
+pub draw_open-loop-n-preserved : goal.draw_open-loop-n-preserved
+draw_open-loop-n-preserved t c =
+    let desk = c.args.desk.now in
+    let view = desk.places.view in
+    let laws = c.layers_hold.ensures in
+    let live = c.args.live.now in
+    let boxes = c.args.boxes.now in
+    let old = c.args.tops.now in
+    let mid = c.loop-n.tops in
+    let b = c.index-boxes-n.result in
+    let o = c.index-outcomes-n.result in
+    let n = c.loop-n.n in
+    let i = n - 1 in
+    let was = c.loop-n.invariant in
+    let some : 0 < n = omega (arith, c.loop-n-test.true) in
+    let few : n ≤ length boxes = omega (arith, c.loop-n.auto.n) in
+    let left : n ≡ suc (n - 1) = omega (arith, some) in
+    let within : n - 1 < length boxes = omega (arith, some, few) in
+    let told = c.as_slice-outcomes.ensures.value ∙ c.in_ok-outcomes.ensures.outcomes in
+    let placed : IsPlaced desk (length old) b = subst (IsPlaced desk (length old)) (sym c.index-boxes-n.is) (All-get_or (IsPlaced desk (length old)) boxes (n - 1) b within c.requires.placed) in
+    let next = next-of desk live boxes c.as_slice-outcomes.result.now old mid n b o some few c.index-boxes-n.is c.index-outcomes-n.is told c.requires.beside c.requires.placed c.requires.room.tape was.tops in
+    let open' : has_open desk.w old b ≡ true = subst (λ h. has_open desk.w old h ≡ true) (sym c.index-boxes-n.is) (All-get_or (λ h. has_open desk.w old h ≡ true) boxes (n - 1) b within c.requires.some) in
+    let same = ap (λ p. p.view) was.kept.places in
+    let after = c.in_ok-draw_outcome.ensures in
+    record {
+      kept = kept-then desk c.loop-n.desk c.draw_outcome.new.desk was.kept after.kept;
+      tops = next-top laws view live boxes old mid c.draw_outcome.new.tops n i c.loop-n.desk.w b o left (was.kept.width ∙ placed.width) next was.tops
+          (subst (λ v. Changes (covers c.loop-n.desk.w b) (outcome_top v b o) mid c.draw_outcome.new.tops) same after.tops);
+      counted = next-bounded laws view live boxes old mid n i b o c.args.tally.now c.loop-n.tally c.draw_outcome.new.tally left next was.counted
+          (subst (λ v. CountsAtMost (outcome_points v mid b o) (outcome_spans v b o) c.loop-n.tally c.draw_outcome.new.tally) same after.at_most);
+      points = next-points laws view live boxes old mid n i b o c.args.tally.now c.loop-n.tally c.draw_outcome.new.tally left next was.points
+          (subst (λ v. CountsPoints (outcome_points v mid b o) c.loop-n.tally c.draw_outcome.new.tally) same after.points);
+      hulls = next-traced laws view live boxes old mid n i b o c.args.tally.now c.loop-n.tally c.draw_outcome.new.tally left next (told-some view live b desk.w old placed.width placed.box open') was.hulls
+          (subst (λ v. CountsSpans (outcome_traced v mid b o) c.loop-n.tally c.draw_outcome.new.tally) same after.hulls);
+    }
+
+pub draw_open-returns-in_err-draw_outcome-clause-at_most : goal.draw_open-returns-in_err-draw_outcome-clause-at_most
+draw_open-returns-in_err-draw_outcome-clause-at_most t c =
+    let desk = c.args.desk.now in
+    let view = desk.places.view in
+    let laws = c.layers_hold.ensures in
+    let live = c.args.live.now in
+    let boxes = c.args.boxes.now in
+    let old = c.args.tops.now in
+    let mid = c.loop-n.tops in
+    let b = c.index-boxes-n.result in
+    let o = c.index-outcomes-n.result in
+    let n = c.loop-n.n in
+    let i = n - 1 in
+    let was = c.loop-n.invariant in
+    let some : 0 < n = omega (arith, c.loop-n-test.true) in
+    let few : n ≤ length boxes = omega (arith, c.loop-n.auto.n) in
+    let left : n ≡ suc (n - 1) = omega (arith, some) in
+    let told = c.as_slice-outcomes.ensures.value ∙ c.in_ok-outcomes.ensures.outcomes in
+    let next = next-of desk live boxes c.as_slice-outcomes.result.now old mid n b o some few c.index-boxes-n.is c.index-outcomes-n.is told c.requires.beside c.requires.placed c.requires.room.tape was.tops in
+    rest-bounded laws view live boxes old i c.args.tally.now c.draw_outcome.new.tally
+    (All-weaker (IsPlaced desk (length old)) IsBox (λ h is. is.box) boxes c.requires.placed) (omega (arith, some, few))
+    (next-bounded laws view live boxes old mid n i b o c.args.tally.now c.loop-n.tally c.draw_outcome.new.tally left next was.counted
+    (subst (λ v. CountsAtMost (outcome_points v mid b o) (outcome_spans v b o) c.loop-n.tally c.draw_outcome.new.tally) (ap (λ p. p.view) was.kept.places) c.in_err-draw_outcome.ensures.at_most))

@@ -1,30 +1,35 @@
-use Rattle.std.proofs.Common.{◌≡◌, ◌+◌, ◌*◌, drop}
+use Rattle.std.proofs.Common.{◌≡◌, ◌+◌, ◌*◌, drop, length, true}
 use Rattle.box_chains.specs.Chains.{sides}
-use Rattle.view_settings.specs.Boxes.{halves_of}
 use Rattle.box_chains.specs.Tallied.{CountsAtMost}
-use Rattle.height_map.specs.Bound.{CountsPoints, CountsSpans, halves_points, halves_spans, halves_traced, layered}
-use Rattle.height_map.specs.Columns.{Changes, covers, is_open}
+use Rattle.height_map.specs.Beside.{beside_points, beside_top, beside_traced}
+use Rattle.height_map.specs.Bound.{CountsPoints, CountsSpans, halves_spans, layered}
+use Rattle.height_map.specs.Columns.{Changes}
 use Rattle.height_map.specs.Desks.{KeepsDesk}
-use Rattle.height_map.proofs.Drawn.{drawn_to}
+use Rattle.height_map.proofs.Steps.{longest}
 use Rattle.height_map.proofs.drawing.+drawing.Given as goal
 
--- a box has three turns before its halves have theirs
-abbrev pub decreases-draw_box : goal.decreases-draw_box
-decreases-draw_box l = 3 * sides l.b + 2
+-- a box has five turns before its halves have theirs
+abbrev pub decreases-draw_beside : goal.decreases-draw_beside
+decreases-draw_beside l = 5 * longest l.boxes.now + 4
+
+abbrev pub decreases-draw_open : goal.decreases-draw_open
+decreases-draw_open l = 5 * longest l.boxes.now + 3
+
+abbrev pub decreases-draw_outcome : goal.decreases-draw_outcome
+decreases-draw_outcome l = 5 * sides l.b + 2
 
 abbrev pub decreases-draw_undecided : goal.decreases-draw_undecided
-decreases-draw_undecided l = 3 * sides l.b + 1
+decreases-draw_undecided l = 5 * sides l.b + 1
 
 abbrev pub decreases-draw_halves : goal.decreases-draw_halves
-decreases-draw_halves l = 3 * sides l.b
+decreases-draw_halves l = 5 * sides l.b
 
-abbrev pub invariant-draw_halves-loop-n : goal.invariant-draw_halves-loop-n
-invariant-draw_halves-loop-n l = record {
+abbrev pub invariant-draw_open-loop-n : goal.invariant-draw_open-loop-n
+invariant-draw_open-loop-n l = record {
   kept : KeepsDesk l.fn.desk l.desk;
-  all : l.halves.items ≡ halves_of 8 l.fn.b;
-  tops : Changes (covers l.fn.desk.places.view.w l.fn.b) (drawn_to l.fn.desk.places.view l.fn.live l.fn.b (drop l.n (halves_of 8 l.fn.b))) l.fn.tops l.tops;
-  counted : CountsAtMost (halves_points (is_open l.fn.desk.places.view l.fn.live l.fn.b l.fn.tops) (layered l.fn.desk.places.view) l.fn.live (drop l.n (halves_of 8 l.fn.b)))
-      (halves_spans (layered l.fn.desk.places.view) l.fn.live (drop l.n (halves_of 8 l.fn.b))) l.fn.tally l.tally;
-  points : CountsPoints (halves_points (is_open l.fn.desk.places.view l.fn.live l.fn.b l.fn.tops) (layered l.fn.desk.places.view) l.fn.live (drop l.n (halves_of 8 l.fn.b))) l.fn.tally l.tally;
-  hulls : CountsSpans (halves_traced (is_open l.fn.desk.places.view l.fn.live l.fn.b l.fn.tops) (layered l.fn.desk.places.view) l.fn.live (drop l.n (halves_of 8 l.fn.b))) l.fn.tally l.tally;
+  tops : Changes (λ p. true) (beside_top l.fn.desk.places.view l.fn.live (drop l.n l.fn.boxes)) l.fn.tops l.tops;
+  counted : CountsAtMost (beside_points l.fn.desk.places.view l.fn.live l.fn.tops (drop l.n l.fn.boxes))
+      (l.n * length l.fn.live + halves_spans (layered l.fn.desk.places.view) l.fn.live (drop l.n l.fn.boxes)) l.fn.tally l.tally;
+  points : CountsPoints (beside_points l.fn.desk.places.view l.fn.live l.fn.tops (drop l.n l.fn.boxes)) l.fn.tally l.tally;
+  hulls : CountsSpans (l.n * length l.fn.live + beside_traced l.fn.desk.places.view l.fn.live l.fn.tops (drop l.n l.fn.boxes)) l.fn.tally l.tally;
 }

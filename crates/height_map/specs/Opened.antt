@@ -1,0 +1,39 @@
+-- What is drawn of a box whose outcome is known, and the work that it takes, but for its own trace.
+use Rattle.std.specs.Prelude.{ℕ, List}
+use Rattle.box_chains.specs.Placing.{Sampling}
+use Rattle.box_chains.specs.declared.outcome.Outcome.{Outcome}
+use Rattle.box_chains.specs.declared.outcome.Outcome.TheVariants.{Inside as AllInside, Outside as AllOutside, Open}
+use Rattle.view_settings.specs.Boxes.{Indices}
+use Rattle.view_settings.specs.Window.{Window}
+use Rattle.view_settings.specs.declared.lattice.Lattice.TheVariants.{Height}
+use Rattle.height_map.specs.Bound.{layered, open_points, open_spans, open_traced}
+use Rattle.height_map.specs.Columns.{is_open, leaf_top, lifted}
+
+-- the samples of a height map
+abbrev pub sampling : Window → Sampling
+sampling view = record { view = view; lattice = Height }
+
+-- the top of a column, once the samples of the box are looked at
+abbrev pub outcome_top : Window → Indices → Outcome → ℕ → ℕ → ℕ
+outcome_top view b AllInside p old = lifted b.z1 old
+outcome_top view b AllOutside p old = old
+outcome_top view b (Open list) p old = leaf_top view list b p old
+
+-- the evaluations that the box takes over some tops
+abbrev pub outcome_points : Window → List ℕ → Indices → Outcome → ℕ
+outcome_points view tops b AllInside = 0
+outcome_points view tops b AllOutside = 0
+outcome_points view tops b (Open list) =
+    open_points (is_open view list b tops) (layered view) b list
+
+-- the steps that are traced below it, and those that are at most
+abbrev pub outcome_traced : Window → List ℕ → Indices → Outcome → ℕ
+outcome_traced view tops b AllInside = 0
+outcome_traced view tops b AllOutside = 0
+outcome_traced view tops b (Open list) =
+    open_traced (is_open view list b tops) (layered view) b list
+
+abbrev pub outcome_spans : Window → Indices → Outcome → ℕ
+outcome_spans view b AllInside = 0
+outcome_spans view b AllOutside = 0
+outcome_spans view b (Open list) = open_spans (layered view) b list
