@@ -8,4 +8,5 @@ pub mod Listed
 pub mod Looks
 pub mod TableLaws
 pub mod WayLaws
+pub mod Together
 pub mod Whole

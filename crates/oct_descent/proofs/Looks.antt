@@ -1,11 +1,14 @@
 -- What looking into a box leaves.
-use Rattle.std.proofs.Common.{◌≡◌, ℕ, ◌+◌, ◌<◌, ◌≤◌, ℤ, Bool, true, false, cond, List, [], ◌∷◌, ◌++◌, length, get_or, take, refl, sym, ap, subst, ◌∙◌, Result, Ok, Err, inl, inr, arith}
+use Rattle.std.proofs.Common.{◌≡◌, ℕ, ◌+◌, ◌*◌, ◌<◌, ◌≤◌, ℤ, Bool, true, false, cond, List, [], ◌∷◌, ◌++◌, length, get_or, sum_by, take, refl, sym, ap, subst, ◌∙◌, Result, Ok, Err, inl, inr, arith}
 use Rattle.std.specs.Prelude.{Option, Some, None, ◌&&◌, not, unwrap_or, OnOk}
 use Rattle.std.specs.List.{All, Contains}
 use Rattle.std.proofs.lemmas.Bool.{false≢true}
-use Rattle.std.proofs.lemmas.List.{take_more}
-use Rattle.std.proofs.lemmas.List.Elements.{All-append, All-cons, All-contains, All-contains_itself, All-get_or, All-nil, All-weaker}
-use Rattle.std.proofs.lemmas.List.Sums.{sum_by-append, sum_by-cons, sum_by-take-le}
+use Rattle.std.proofs.Math.Nat.{add-mul}
+use Rattle.box_chains.specs.declared.asked_box.AskedBox.{AskedBox}
+use Rattle.std.proofs.lemmas.List.{take_all, take_more}
+use Rattle.std.proofs.lemmas.List.Concat.{flat_map-cons}
+use Rattle.std.proofs.lemmas.List.Elements.{All-append, All-cons, All-head, All-tail, All-contains, All-contains_itself, All-get_or, All-nil, All-weaker}
+use Rattle.std.proofs.lemmas.List.Sums.{sum_by-cons, sum_by-take-le, sum_by_more}
 use Rattle.box_chains.specs.Chains.{Descent, Visit, decision, half_with, handed_on, is_long, sides, visit}
 use Rattle.box_chains.specs.HalfLaws.{IsPart, half_with-among, halves-are_parts, part-is_box, part-is_shorter, part-lies}
 use Rattle.box_chains.specs.Sums.{LiesIn, Sample}
@@ -22,16 +25,19 @@ use Rattle.interval_ops.specs.declared.region.Region.{Region}
 use Rattle.fixed_ops.specs.Raw.{is_inside}
 use Rattle.kuhn_cells.specs.Triangles.{GridPoint, further, point}
 use Rattle.live_clauses.specs.Live.{live_of}
+use Rattle.live_clauses.specs.Steps.{IsTape}
 use Rattle.live_clauses.specs.declared.step.Step.{Step}
 use Rattle.view_settings.specs.Boxes.{Indices, IsBox, halves_of}
 use Rattle.view_settings.specs.Laws.{HalvesPart}
-use Rattle.view_settings.specs.Spans.{region_of}
+use Rattle.view_settings.specs.Spans.{IsInRoot, region_of}
+use Rattle.box_chains.specs.Outcomes.{AreInRoot}
+use Rattle.box_chains.specs.Placing.{Sampling}
 use Rattle.view_settings.specs.Window.{Window}
 use Rattle.view_settings.specs.declared.lattice.Lattice.{Lattice}
 use Rattle.view_settings.specs.declared.lattice.Lattice.TheVariants as lattices
 use Rattle.oct_descent.specs.Bound.{CountsHullsAtLeast, CountsNoHull, long_spans_in, spans_in}
 use Rattle.oct_descent.specs.Corners.{AllShow, IsSeen, IsShown, ShowsCorner}
-use Rattle.oct_descent.specs.Desks.{ChargesHalves, KeepsDesk, MayLook, PaysHalves, halves_long_spans, halves_spans}
+use Rattle.oct_descent.specs.Desks.{ChargesBelow, ChargesHalves, KeepsDesk, MayLook, PaysHalves, asked_of, halves_long_spans, halves_spans, long_spans_below, longer, own_spans, spans_below}
 use Rattle.oct_descent.specs.Fills.{ChargesCorners, PaysCorners}
 use Rattle.oct_descent.specs.GridValues.{grid_value}
 use Rattle.oct_descent.specs.Tables.{AllKnown, AreRight, AreSettled, AreWorked, Charges, ChargesBox, Grows, IsDue, IsEnough, IsUniform, PaysBox, PointValues, is_known}
@@ -219,6 +225,12 @@ cell-paid view v before after told since now is open' short hulls corners f due 
 pub known-settled : (g : GridPoint → ℤ) (b : Indices) (t : PointValues) → AllKnown t b → AreSettled g b t
 known-settled g b t known s lies = inl (λ p covers. known p (corner-covered b s p lies covers))
 
+-- the list that a box hands on can be evaluated
+pub handed-tape : (laws : Lawful) (view : Window) (v : Visit) (live : List Step) → IsVisit (gridded view) v → live ≡ handed_on (gridded view) v → IsTape live
+handed-tape laws view v live is same =
+    let region = region_of view lattices.Grid v.box in
+    subst IsTape (sym same) (laws.tapes v.list (choices_over region v.list) is.tape (laws.choices region v.list)).0
+
 -- what the halves of a box change by the list that it hands on, it changes by the one that it receives
 pub handed-grows : (laws : Lawful) (view : Window) (v : Visit) (live : List Step) (before after : PointValues) → IsVisit (gridded view) v → live ≡ handed_on (gridded view) v
     → Grows (grid_value view live) v.box before after → Grows (grid_value view v.list) v.box before after
@@ -236,6 +248,37 @@ pub handed-settled : (laws : Lawful) (view : Window) (v : Visit) (live : List St
 handed-settled laws view v live t is same settled =
     settled-same (grid_value view live) (grid_value view v.list) v.box t
     (λ s p lies covers. ap (λ l. grid_value view l p) same ∙ handed-grid_value laws view v p is (corner-covered v.box s p lies covers)) settled
+
+-- a cell has no trace of its own, and a longer box one
+pub own-short : (v : Visit) → is_long 1 v.box ≡ false → own_spans v ≡ 0
+own-short v short = ap (λ t. cond {A = ℕ} t (length v.list) 0) short
+
+pub own-long : (v : Visit) → is_long 1 v.box ≡ true → own_spans v ≡ length v.list
+own-long v long = ap (λ t. cond {A = ℕ} t (length v.list) 0) long
+
+-- that trace is among those of the box
+pub own-among : (laws : Lawful) (d : Descent) (v : Visit) → 0 < d.leaf → IsBox v.box → own_spans v ≤ spans_in d v
+own-among laws d v some is = by (is_long 1 v.box)
+  where
+    by : (long : Bool) → cond {A = ℕ} long (length v.list) 0 ≤ spans_in d v
+    by true = spans-some d v some is laws.halves
+    by false = omega arith
+
+-- what a box takes once it is traced, behind its trace
+pub below-charged : (laws : Lawful) (view : Window) (v : Visit) (before after : PointValues) (told since now : Counts) → IsBox v.box → is_long 1 v.box ≡ true
+    → CountsHulls (length v.list) told since → ChargesBelow (gridded view) v before after since now → ChargesBox (gridded view) v before after told now
+below-charged laws view v before after told since now is long hulls below f enough =
+    charges-then f (length v.list) (spans_below (gridded view) v) (spans_in (gridded view) v) before before after told since now
+    (omega (arith, own-among laws (gridded view) v (omega arith) is, own-long v long)) (charges-hulls f (length v.list) before told since hulls) (below f enough)
+
+pub below-paid : (d : Descent) (v : Visit) (before after : PointValues) (told since now : Counts) → CountsHulls (length v.list) told since → PaysBox d v before after since now → PaysBox d v before after told now
+below-paid d v before after told since now hulls paid f due =
+    pays-then f before before after told since now (pays-most f 0 (length v.list) before told since (most-hulls told since (length v.list) hulls)) (paid f due)
+
+-- a cell takes as much
+pub cell-below : (d : Descent) (v : Visit) (before after : PointValues) (told now : Counts) → is_long 1 v.box ≡ false → ChargesBox d v before after told now → ChargesBelow d v before after told now
+cell-below d v before after told now short charged f enough =
+    charges-more f (spans_in d v) (spans_below d v) before after told now (omega (arith, own-short v short)) (charged f enough)
 
 -- the way to a cell of a half of a box that is split ends as that from the half on
 half-works : (laws : Lawful) (view : Window) (v : Visit) (live : List Step) (half : Indices) (s : Sample) → IsVisit (gridded view) v → is_cut (gridded view) v ≡ true → live ≡ handed_on (gridded view) v
@@ -273,14 +316,14 @@ halves-enough laws view v live f is cut same enough =
     d : Descent
     d = gridded view
 
--- a box that is split takes its own trace and what its halves take
-pub halves-charged : (laws : Lawful) (view : Window) (v : Visit) (live : List Step) (before after : PointValues) (told since now : Counts) → IsVisit (gridded view) v → is_open (gridded view) v ≡ true
-    → is_long 1 v.box ≡ true → live ≡ handed_on (gridded view) v → CountsHulls (length v.list) told since → ChargesHalves (gridded view) live (halves_of 1 v.box) before after since now
-    → ChargesBox (gridded view) v before after told now
-halves-charged laws view v live before after told since now is open' long same hulls halves f enough =
-    charges-then f (length v.list) (halves_spans d live (halves_of 1 v.box)) (spans_in d v) before before after told since now
-    (omega (arith, spans-split d v (omega arith) is.box laws.halves cut, ap (λ l. halves_spans d l (halves_of 1 v.box)) same))
-    (charges-hulls f (length v.list) before told since hulls) (halves f (halves-enough laws view v live f is cut same enough))
+-- a box that is split takes what its halves take, beside its own trace
+pub halves-charged : (laws : Lawful) (view : Window) (v : Visit) (live : List Step) (before after : PointValues) (told now : Counts) → IsVisit (gridded view) v → is_open (gridded view) v ≡ true
+    → is_long 1 v.box ≡ true → live ≡ handed_on (gridded view) v → ChargesHalves (gridded view) live (halves_of 1 v.box) before after told now
+    → ChargesBelow (gridded view) v before after told now
+halves-charged laws view v live before after told now is open' long same halves f enough =
+    charges-more f (halves_spans d live (halves_of 1 v.box)) (spans_below d v) before after told now
+    (omega (arith, spans-split d v (omega arith) is.box laws.halves cut, ap (λ l. halves_spans d l (halves_of 1 v.box)) same, own-long v long))
+    (halves f (halves-enough laws view v live f is cut same enough))
   where
     d : Descent
     d = gridded view
@@ -289,12 +332,10 @@ halves-charged laws view v live before after told since now is open' long same h
     cut = rw (open', long) refl
 
 -- and pays what its halves pay
-pub halves-paid : (laws : Lawful) (view : Window) (v : Visit) (live : List Step) (before after : PointValues) (told since now : Counts) → IsVisit (gridded view) v → is_open (gridded view) v ≡ true
-    → is_long 1 v.box ≡ true → live ≡ handed_on (gridded view) v → CountsHulls (length v.list) told since → PaysHalves (gridded view) live (halves_of 1 v.box) before after since now
+pub halves-paid : (laws : Lawful) (view : Window) (v : Visit) (live : List Step) (before after : PointValues) (told now : Counts) → IsVisit (gridded view) v → is_open (gridded view) v ≡ true
+    → is_long 1 v.box ≡ true → live ≡ handed_on (gridded view) v → PaysHalves (gridded view) live (halves_of 1 v.box) before after told now
     → PaysBox (gridded view) v before after told now
-halves-paid laws view v live before after told since now is open' long same hulls halves f due =
-    pays-then f before before after told since now (pays-most f 0 (length v.list) before told since (most-hulls told since (length v.list) hulls))
-    (halves f (halves-due laws view v live f is cut same due))
+halves-paid laws view v live before after told now is open' long same halves f due = halves f (halves-due laws view v live f is cut same due)
   where
     cut : is_cut (gridded view) v ≡ true
     cut = rw (open', long) refl
@@ -331,6 +372,92 @@ half-visit view list b half part is = record {
 
 pub half-shorter : (b half : Indices) → is_long 1 b ≡ true → IsPart 1 b half → sides half < sides b
 half-shorter b half long part = part-is_shorter 1 b half long part
+
+-- what is traced of halves before they are looked into, and while they are
+abbrev pub owned : List Step → List Indices → ℕ
+owned list halves = sum_by (λ h. own_spans (visit h list)) halves
+
+abbrev pub halves_below : Descent → List Step → List Indices → ℕ
+halves_below d list halves = sum_by (λ h. spans_below d (visit h list)) halves
+
+abbrev pub halves_long_below : Descent → List Step → List Indices → ℕ
+halves_long_below d list halves = sum_by (λ h. long_spans_below d (visit h list)) halves
+
+-- all that is among what the halves take
+pub owned-below : (laws : Lawful) (view : Window) (list : List Step) (halves : List Indices) → All IsBox halves
+    → owned list halves + halves_below (gridded view) list halves ≤ halves_spans (gridded view) list halves
+owned-below laws view list [] each = omega arith
+owned-below laws view list (h ∷ hs) each = omega (
+  arith,
+  sum_by-cons (λ b. own_spans (visit b list)) h hs,
+  sum_by-cons (λ b. spans_below (gridded view) (visit b list)) h hs,
+  sum_by-cons (λ b. spans_in (gridded view) (visit b list)) h hs,
+  own-among laws (gridded view) (visit h list) (omega arith) (All-head IsBox h hs each),
+  owned-below laws view list hs (All-tail IsBox h hs each),
+)
+
+pub owned-long_below : (d : Descent) (list : List Step) (halves : List Indices) → halves_long_spans d list halves ≤ owned list halves + halves_long_below d list halves
+owned-long_below d list [] = omega arith
+owned-long_below d list (h ∷ hs) = omega (
+  arith,
+  sum_by-cons (λ b. own_spans (visit b list)) h hs,
+  sum_by-cons (λ b. long_spans_below d (visit b list)) h hs,
+  sum_by-cons (λ b. long_spans_in d (visit b list)) h hs,
+  owned-long_below d list hs,
+)
+
+-- it is as many traces as there are longer halves
+pub longer-owned : (n : ℕ) (list : List Step) (halves : List Indices) → length (longer n halves) * length list ≡ owned list halves
+longer-owned n list [] = omega arith
+longer-owned n list (h ∷ hs) =
+    ap (λ l. length l * length list) (flat_map-cons piece h hs) ∙ by (is_long 1 h) refl (longer-owned n list hs) ∙ sym (sum_by-cons (λ b. own_spans (visit b list)) h hs)
+  where
+    piece : Indices → List AskedBox
+    piece b = cond (is_long 1 b) (asked_of n b ∷ []) []
+
+    by : (long : Bool) → is_long 1 h ≡ long → length (longer n hs) * length list ≡ owned list hs → length (cond {A = List AskedBox} (is_long 1 h) (asked_of n h ∷ []) [] ++ longer n hs) * length list ≡ own_spans (visit h list) + owned list hs
+    by true e others = ap (λ t. length (cond {A = List AskedBox} t (asked_of n h ∷ []) [] ++ longer n hs) * length list) e ∙ omega (arith, own-long (visit h list) e, add-mul 1 (length (longer n hs)) (length list), others)
+    by false e others = ap (λ t. length (cond {A = List AskedBox} t (asked_of n h ∷ []) [] ++ longer n hs) * length list) e ∙ omega (arith, own-short (visit h list) e, others)
+
+-- they are boxes of the grid
+pub longer-in_root : (places : Sampling) (n : ℕ) (halves : List Indices) → All (IsInRoot places.view places.lattice) halves → AreInRoot places (longer n halves)
+longer-in_root places n [] each = All-nil (λ (a : AskedBox). IsInRoot places.view places.lattice a.range)
+longer-in_root places n (h ∷ hs) each =
+    subst (AreInRoot places) (sym (flat_map-cons piece h hs))
+    (All-append P (piece h) (longer n hs) (by (is_long 1 h)) (longer-in_root places n hs (All-tail (IsInRoot places.view places.lattice) h hs each)))
+  where
+    P : AskedBox → Type 0
+    P a = IsInRoot places.view places.lattice a.range
+
+    piece : Indices → List AskedBox
+    piece b = cond (is_long 1 b) (asked_of n b ∷ []) []
+
+    by : (long : Bool) → All P (cond {A = List AskedBox} long (asked_of n h ∷ []) [])
+    by true = All-cons P (asked_of n h) [] (All-head (IsInRoot places.view places.lattice) h hs each) (All-nil P)
+    by false = All-nil P
+
+-- the halves of a box are boxes
+pub halves-boxes : (b : Indices) (halves : List Indices) → IsBox b → halves ≡ halves_of 1 b → All IsBox halves
+halves-boxes b halves is all =
+    subst (λ hs. All IsBox hs) (sym all) (All-weaker (IsPart 1 b) IsBox (λ h part. part-is_box 1 b h part) (halves_of 1 b) (halves-are_parts 1 b (omega arith) is))
+
+-- the traces of halves, whole or begun, are among what the halves take
+pub begun-charged : (laws : Lawful) (view : Window) (list : List Step) (b : Indices) (halves : List Indices) (n : ℕ) (t : PointValues) (told now : Counts) → IsBox b → halves ≡ halves_of 1 b
+    → CountsAtMost 0 (length (longer n halves) * length list) told now → ChargesHalves (gridded view) list (halves_of 1 b) t t told now
+begun-charged laws view list b halves n t told now is all begun f enough =
+    charges-more f (length (longer n halves) * length list) (halves_spans (gridded view) list (halves_of 1 b)) t t told now
+    (omega (arith, longer-owned n list halves, owned-below laws view list halves (halves-boxes b halves is all), ap (halves_spans (gridded view) list) all))
+    (charges-most f (length (longer n halves) * length list) t told now begun)
+
+pub begun-paid : (d : Descent) (list : List Step) (halves : List Indices) (n : ℕ) (t : PointValues) (told now : Counts) → CountsAtMost 0 n told now → PaysHalves d list halves t t told now
+begun-paid d list halves n t told now begun f due = pays-most f 0 n t told now begun
+
+-- what holds once halves are traced, and before any is looked into
+pub first-charged : (d : Descent) (list : List Step) (halves : List Indices) (n : ℕ) (t : PointValues) (told now : Counts) → CountsHulls (length (longer n halves) * length list) told now
+    → (f : GridPoint → ℕ) → All (λ h. IsEnough f d (visit h list)) halves → Charges f (owned list halves + halves_below d list (take 0 halves)) t t told now
+first-charged d list halves n t told now hulls f enough =
+    charges-more f (length (longer n halves) * length list) (owned list halves + halves_below d list (take 0 halves)) t t told now (omega (arith, longer-owned n list halves))
+    (charges-hulls f (length (longer n halves) * length list) t told now hulls)
 
 -- what a half covers the box covers
 pub part-covers : (b half : Indices) (p : GridPoint) → IsPart 1 b half → Covers half p → Covers b p
@@ -382,35 +509,29 @@ next-paid view other list half halves i before mid after told since now same wit
     (subst (λ v. PaysBox (gridded v) (visit half list) mid after since now) same here f
     (subst (λ h. IsDue f (gridded view) (visit h list)) (sym read) (All-get_or (λ h. IsDue f (gridded view) (visit h list)) halves i half within due)))
 
--- and charged
-pub next-charged : (view other : Window) (list : List Step) (half : Indices) (halves : List Indices) (i : ℕ) (before mid after : PointValues) (told since now : Counts) → other ≡ view → i < length halves → half ≡ get_or halves i half
-    → ((f : GridPoint → ℕ) → All (λ h. IsEnough f (gridded view) (visit h list)) halves → Charges f (halves_spans (gridded view) list (take i halves)) before mid told since)
-    → ChargesBox (gridded other) (visit half list) mid after since now
-    → (f : GridPoint → ℕ) → All (λ h. IsEnough f (gridded view) (visit h list)) halves → Charges f (halves_spans (gridded view) list (take (i + 1) halves)) before after told now
-next-charged view other list half halves i before mid after told since now same within read earlier here f enough =
-    charges-then f (halves_spans d list (take i halves)) (spans_in d (visit half list)) (halves_spans d list (take (i + 1) halves)) before mid after told since now
-    (omega (
-      arith,
-      ap (halves_spans d list) (take_more halves i half within ∙ ap (λ h. take i halves ++ h ∷ []) (sym read)),
-      sum_by-append (λ h. spans_in d (visit h list)) (take i halves) (half ∷ []),
-      sum_by-cons (λ h. spans_in d (visit h list)) half [],
-    ))
+-- and charged, behind what was traced of all halves before
+pub next-charged : (view other : Window) (list : List Step) (half : Indices) (halves : List Indices) (i own : ℕ) (before mid after : PointValues) (told since now : Counts) → other ≡ view → i < length halves → half ≡ get_or halves i half
+    → ((f : GridPoint → ℕ) → All (λ h. IsEnough f (gridded view) (visit h list)) halves → Charges f (own + halves_below (gridded view) list (take i halves)) before mid told since)
+    → ChargesBelow (gridded other) (visit half list) mid after since now
+    → (f : GridPoint → ℕ) → All (λ h. IsEnough f (gridded view) (visit h list)) halves → Charges f (own + halves_below (gridded view) list (take (i + 1) halves)) before after told now
+next-charged view other list half halves i own before mid after told since now same within read earlier here f enough =
+    charges-then f (own + halves_below d list (take i halves)) (spans_below d (visit half list)) (own + halves_below d list (take (i + 1) halves)) before mid after told since now
+    (omega (arith, sum_by_more (λ h. spans_below d (visit h list)) halves i half within, ap (λ h. spans_below d (visit h list)) read))
     (earlier f enough)
-    (subst (λ v. ChargesBox (gridded v) (visit half list) mid after since now) same here f
+    (subst (λ v. ChargesBelow (gridded v) (visit half list) mid after since now) same here f
     (subst (λ h. IsEnough f d (visit h list)) (sym read) (All-get_or (λ h. IsEnough f d (visit h list)) halves i half within enough)))
   where
     d : Descent
     d = gridded view
 
--- the work of some of the halves is among that of all
-some-spans : (d : Descent) (list : List Step) (halves : List Indices) (i : ℕ) → halves_spans d list (take i halves) ≤ halves_spans d list halves
-some-spans d list halves i = sum_by-take-le (λ h. spans_in d (visit h list)) halves i
-
-pub some-charged : (d : Descent) (list : List Step) (halves : List Indices) (i : ℕ) (before after : PointValues) (told now : Counts)
-    → ((f : GridPoint → ℕ) → All (λ h. IsEnough f d (visit h list)) halves → Charges f (halves_spans d list (take i halves)) before after told now)
-    → ChargesHalves d list halves before after told now
-some-charged d list halves i before after told now h f enough =
-    charges-more f (halves_spans d list (take i halves)) (halves_spans d list halves) before after told now (some-spans d list halves i) (h f enough)
+-- the work of some of the halves, behind what was traced of all, is among that of all
+pub some-charged : (laws : Lawful) (view : Window) (list : List Step) (halves : List Indices) (i : ℕ) (before after : PointValues) (told now : Counts)
+    → All IsBox halves
+    → ((f : GridPoint → ℕ) → All (λ h. IsEnough f (gridded view) (visit h list)) halves → Charges f (owned list halves + halves_below (gridded view) list (take i halves)) before after told now)
+    → ChargesHalves (gridded view) list halves before after told now
+some-charged laws view list halves i before after told now each h f enough =
+    charges-more f (owned list halves + halves_below (gridded view) list (take i halves)) (halves_spans (gridded view) list halves) before after told now
+    (omega (arith, sum_by-take-le (λ h. spans_below (gridded view) (visit h list)) halves i, owned-below laws view list halves each)) (h f enough)
 
 -- once all halves are settled, the box is
 pub all-settled : (laws : Lawful) (g : GridPoint → ℤ) (b : Indices) (t : PointValues) → All (λ h. AreSettled g h t) (halves_of 1 b) → AreSettled g b t
@@ -433,6 +554,12 @@ hulls-then told since now m n k enough first second = record {
 -- before any half is looked into
 pub traced-none : (counts : Counts) → CountsHullsAtLeast 0 counts counts
 traced-none counts = record { by = no_counts; many = omega arith; rises = RisesBy-none counts }
+
+pub first-traced : (d : Descent) (list : List Step) (halves : List Indices) (n : ℕ) (told now : Counts) → CountsHulls (length (longer n halves) * length list) told now
+    → CountsHullsAtLeast (owned list halves + halves_long_below d list (take 0 halves)) told now
+first-traced d list halves n told now hulls =
+    let least = hulls-least told now (length (longer n halves) * length list) hulls in
+    record { by = least.by; many = omega (arith, least.many, longer-owned n list halves); rises = least.rises }
 
 -- evaluating at the corners of a cell traces nothing
 pub corners-untraced : (b : Indices) (len : ℕ) (before after : PointValues) (told since now : Counts) → since ≡ told → ChargesCorners b len before after since now → CountsNoHull told now
@@ -459,22 +586,32 @@ cell-traced d v before after told now is short pays =
     uncut : is_cut d v ≡ false
     uncut = ap (λ l. is_open d v && l) short ∙ closed (is_open d v)
 
--- a box of more cells that does not stay open is
-pub closed-traced : (view : Window) (v : Visit) (told now : Counts) → IsBox v.box → is_open (gridded view) v ≡ false → is_long 1 v.box ≡ true → CountsHulls (length v.list) told now
-    → CountsHullsAtLeast (long_spans_in (gridded view) v) told now
-closed-traced view v told now is closed long hulls =
-    let uncut : is_cut (gridded view) v ≡ false = rw closed refl in
-    let own = long-end (gridded view) v is uncut ∙ ap (λ t. cond {A = ℕ} t (length v.list) 0) long in
-    let least = hulls-least told now (length v.list) hulls in
-    record { by = least.by; many = omega (arith, own, least.many); rises = least.rises }
+-- what is traced over a box before it is looked into and while it is
+pub below-traced : (view : Window) (v : Visit) (told since now : Counts) → is_long 1 v.box ≡ true → CountsHulls (length v.list) told since
+    → CountsHullsAtLeast (long_spans_below (gridded view) v) since now → CountsHullsAtLeast (long_spans_in (gridded view) v) told now
+below-traced view v told since now long hulls below =
+    hulls-then told since now (length v.list) (long_spans_below (gridded view) v) (long_spans_in (gridded view) v) (omega (arith, own-long v long)) (hulls-least told since (length v.list) hulls) below
 
--- and one that is split is, and so are its halves
-pub halves-traced : (laws : Lawful) (view : Window) (v : Visit) (live : List Step) (told since now : Counts) → IsVisit (gridded view) v → is_open (gridded view) v ≡ true → is_long 1 v.box ≡ true
-    → live ≡ handed_on (gridded view) v → CountsHulls (length v.list) told since → CountsHullsAtLeast (halves_long_spans (gridded view) live (halves_of 1 v.box)) since now
-    → CountsHullsAtLeast (long_spans_in (gridded view) v) told now
-halves-traced laws view v live told since now is open' long same hulls halves =
-    hulls-then told since now (length v.list) (halves_long_spans d live (halves_of 1 v.box)) (long_spans_in d v)
-    (omega (arith, long-split d v (omega arith) is.box laws.halves cut, ap (λ l. halves_long_spans d l (halves_of 1 v.box)) same)) (hulls-least told since (length v.list) hulls) halves
+-- a cell is traced no more
+pub cell-traced_below : (d : Descent) (v : Visit) (told now : Counts) → CountsHullsAtLeast (long_spans_in d v) told now → CountsHullsAtLeast (long_spans_below d v) told now
+cell-traced_below d v told now least = record { by = least.by; many = omega (arith, least.many); rises = least.rises }
+
+-- nor a box of more cells that does not stay open
+pub closed-traced : (view : Window) (v : Visit) (told : Counts) → IsBox v.box → is_open (gridded view) v ≡ false → CountsHullsAtLeast (long_spans_below (gridded view) v) told told
+closed-traced view v told is closed =
+    let uncut : is_cut (gridded view) v ≡ false = rw closed refl in
+    let none = traced-none told in
+    record { by = none.by; many = omega (arith, long-end (gridded view) v is uncut); rises = none.rises }
+
+-- but the halves of one that is split are
+pub halves-traced : (laws : Lawful) (view : Window) (v : Visit) (live : List Step) (told now : Counts) → IsVisit (gridded view) v → is_open (gridded view) v ≡ true → is_long 1 v.box ≡ true
+    → live ≡ handed_on (gridded view) v → CountsHullsAtLeast (halves_long_spans (gridded view) live (halves_of 1 v.box)) told now
+    → CountsHullsAtLeast (long_spans_below (gridded view) v) told now
+halves-traced laws view v live told now is open' long same halves = record {
+  by = halves.by;
+  many = omega (arith, halves.many, own-long v long, long-split d v (omega arith) is.box laws.halves cut, ap (λ l. halves_long_spans d l (halves_of 1 v.box)) same);
+  rises = halves.rises;
+}
   where
     d : Descent
     d = gridded view
@@ -483,18 +620,22 @@ halves-traced laws view v live told since now is open' long same hulls halves =
     cut = rw (open', long) refl
 
 -- one more half is traced
-pub next-traced : (view other : Window) (list : List Step) (half : Indices) (halves : List Indices) (i : ℕ) (told since now : Counts) → other ≡ view → i < length halves → half ≡ get_or halves i half
-    → CountsHullsAtLeast (halves_long_spans (gridded view) list (take i halves)) told since → CountsHullsAtLeast (long_spans_in (gridded other) (visit half list)) since now
-    → CountsHullsAtLeast (halves_long_spans (gridded view) list (take (i + 1) halves)) told now
-next-traced view other list half halves i told since now same within read earlier here =
-    hulls-then told since now (halves_long_spans d list (take i halves)) (long_spans_in d (visit half list)) (halves_long_spans d list (take (i + 1) halves))
-    (omega (
-      arith,
-      ap (halves_long_spans d list) (take_more halves i half within ∙ ap (λ h. take i halves ++ h ∷ []) (sym read)),
-      sum_by-append (λ h. long_spans_in d (visit h list)) (take i halves) (half ∷ []),
-      sum_by-cons (λ h. long_spans_in d (visit h list)) half [],
-    ))
-    earlier (subst (λ v. CountsHullsAtLeast (long_spans_in (gridded v) (visit half list)) since now) same here)
+pub next-traced : (view other : Window) (list : List Step) (half : Indices) (halves : List Indices) (i own : ℕ) (told since now : Counts) → other ≡ view → i < length halves → half ≡ get_or halves i half
+    → CountsHullsAtLeast (own + halves_long_below (gridded view) list (take i halves)) told since → CountsHullsAtLeast (long_spans_below (gridded other) (visit half list)) since now
+    → CountsHullsAtLeast (own + halves_long_below (gridded view) list (take (i + 1) halves)) told now
+next-traced view other list half halves i own told since now same within read earlier here =
+    hulls-then told since now (own + halves_long_below d list (take i halves)) (long_spans_below d (visit half list)) (own + halves_long_below d list (take (i + 1) halves))
+    (omega (arith, sum_by_more (λ h. long_spans_below d (visit h list)) halves i half within, ap (λ h. long_spans_below d (visit h list)) read))
+    earlier (subst (λ v. CountsHullsAtLeast (long_spans_below (gridded v) (visit half list)) since now) same here)
   where
     d : Descent
     d = gridded view
+
+-- once all are
+pub all-traced : (d : Descent) (list : List Step) (halves : List Indices) (i : ℕ) (told now : Counts) → length halves ≤ i
+    → CountsHullsAtLeast (owned list halves + halves_long_below d list (take i halves)) told now → CountsHullsAtLeast (halves_long_spans d list halves) told now
+all-traced d list halves i told now all least = record {
+  by = least.by;
+  many = omega (arith, least.many, ap (halves_long_below d list) (take_all i halves all), owned-long_below d list halves);
+  rises = least.rises;
+}

@@ -1,7 +1,12 @@
 -- What looking into a box needs, and what it leaves.
-use Rattle.std.specs.Prelude.{◌≡◌, ℕ, ◌≤◌, List, length}
-use Rattle.std.specs.List.{All, sum_by}
-use Rattle.box_chains.specs.Chains.{Descent, visit}
+use Rattle.std.specs.Prelude.{◌≡◌, ℕ, ◌-◌, ◌<◌, ◌≤◌, true, List, [], ◌∷◌, length, get_or, if◌then◌else◌}
+use Rattle.std.specs.List.{All, flat_map, sum_by}
+use Rattle.box_chains.specs.Chains.{Descent, Visit, is_long, visit}
+use Rattle.box_chains.specs.Outcomes.{HandsOn, asked_outcome}
+use Rattle.box_chains.specs.Placing.{Sampling}
+use Rattle.box_chains.specs.declared.asked_box.AskedBox.{AskedBox}
+use Rattle.box_chains.specs.declared.outcome.Outcome.{Outcome}
+use Rattle.box_chains.specs.declared.outcome.Outcome.TheVariants.{Outside}
 use Rattle.box_chains.specs.ValueLaws.{IsVisit}
 use Rattle.fixed_ops.specs.Counts.{Counts}
 use Rattle.kuhn_cells.specs.Triangles.{GridPoint}
@@ -12,7 +17,7 @@ use Rattle.view_settings.specs.declared.lattice.Lattice.TheVariants as lattices
 use Rattle.oct_descent.specs.Bound.{long_spans_in, spans_in}
 use Rattle.oct_descent.specs.GridValues.{grid_value}
 use Rattle.oct_descent.specs.Tables.{AreRight, Charges, IsDue, IsEnough, Pays, PointValues}
-use Rattle.oct_descent.specs.Ways.{gridded}
+use Rattle.oct_descent.specs.Ways.{gridded, meets_border}
 use Rattle.oct_descent.specs.declared.desk.Desk.{Desk}
 
 -- The box is one of the grid's, whose points these are, and there is room for the list. What is
@@ -57,3 +62,41 @@ abbrev pub PaysHalves : Descent → List Step → List Indices → PointValues �
     → Counts → Type 0
 PaysHalves d list halves before after told now = (f : GridPoint → ℕ)
     → All (λ half. IsDue f d (visit half list)) halves → Pays f before after told now
+
+-- the steps that are traced over a box before it is looked into: those of its own trace, which a
+-- cell does not have
+abbrev pub own_spans : Visit → ℕ
+own_spans v = if is_long 1 v.box then length v.list else 0
+
+-- the steps that are traced over a box while it is looked into
+abbrev pub spans_below : Descent → Visit → ℕ
+spans_below d v = spans_in d v - own_spans v
+
+-- and of these, those that are traced over boxes of more than one cell
+abbrev pub long_spans_below : Descent → Visit → ℕ
+long_spans_below d v = long_spans_in d v - own_spans v
+
+-- whatever points take, if it is enough for a box that is traced already, no more is counted
+abbrev pub ChargesBelow : Descent → Visit → PointValues → PointValues → Counts → Counts → Type 0
+ChargesBelow d v before after told now =
+    (f : GridPoint → ℕ) → IsEnough f d v → Charges f (spans_below d v) before after told now
+
+-- a box as it is traced: held open where it covers a point of the outermost layer
+abbrev pub asked_of : ℕ → Indices → AskedBox
+asked_of n b = record { range = b; held = meets_border n b }
+
+-- those of some boxes that are longer than a cell
+abbrev pub longer : ℕ → List Indices → List AskedBox
+longer n boxes = flat_map (λ b. if is_long 1 b then asked_of n b ∷ [] else []) boxes
+
+-- what tracing a list over a box told stands at a place
+pub record IsAt (places : Sampling) (list : List Step) (b : Indices) (outcomes : List Outcome)
+    (at : ℕ) : Type 0 where
+  pub within : at < length outcomes
+  pub is : get_or outcomes at Outside ≡ asked_outcome places list (asked_of places.view.n b)
+  pub hands : HandsOn (length list) (get_or outcomes at Outside)
+
+-- it does where the box is longer than a cell
+abbrev pub IsToldAt : Sampling → List Step → Indices → List Outcome → ℕ → Type 0
+IsToldAt places list b outcomes at =
+    is_long 1 b ≡ true → IsAt places list b outcomes at

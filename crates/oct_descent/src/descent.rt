@@ -1,13 +1,17 @@
 // Boxes of cells that are looked into.
-ghost use Rattle.std.specs.Prelude.{◌≡◌, ◌*◌, ◌+◌, ℕ, OnOk, IsTrue, false, length, true};
+ghost use Rattle.std.specs.Prelude.{◌≡◌, ◌*◌, ◌+◌, ◌≤◌, ℕ, IfOk, OnErr, OnOk, IsTrue, false, length, true};
 ghost use Rattle.std.specs.List.{All};
 ghost use Rattle.box_chains.specs.Chains.{is_long as is_long_for, visit};
+ghost use Rattle.box_chains.specs.Outcomes.{HandsOn, asked_outcomes};
 ghost use Rattle.box_chains.specs.Tallied.{CountsAtMost};
+ghost use Rattle.interval_ops.specs.HullCounts.{CountsHulls};
 ghost use Rattle.kuhn_cells.specs.Triangles.{GridPoint, point};
+ghost use Rattle.live_clauses.specs.Live.{IsWhole};
 ghost use Rattle.view_settings.specs.Boxes.{halves_of};
+ghost use Rattle.view_settings.specs.Spans.{IsInRoot};
 ghost use Rattle.oct_descent.specs.Bound.{CountsHullsAtLeast, CountsNoHull, long_spans_in};
 ghost use Rattle.oct_descent.specs.Corners.{IsSeen, IsShown};
-ghost use Rattle.oct_descent.specs.Desks.{ChargesHalves, KeepsDesk, MayLook, PaysHalves, halves_long_spans};
+ghost use Rattle.oct_descent.specs.Desks.{ChargesBelow, ChargesHalves, IsToldAt, KeepsDesk, MayLook, PaysHalves, asked_of, halves_long_spans, long_spans_below, longer};
 ghost use Rattle.oct_descent.specs.GridValues.{grid_value};
 ghost use Rattle.oct_descent.specs.Tables.{AreSettled, AreWorked, ChargesBox, Grows, PaysBox, PointValues};
 ghost use Rattle.oct_descent.specs.Ways.{gridded, is_open as is_open_for, is_open_by, meets_border as meets_border_of};
@@ -17,7 +21,8 @@ use crate::desk::Desk;
 use crate::filling::fill_cell;
 use crate::grid_values::GridValues;
 use crate::seen::Seen;
-use box_chains::{is_long, layers_hold};
+use arrayvec::ArrayVec;
+use box_chains::{AskedBox, Outcome, is_long, layers_hold};
 use fixed_ops::Tally;
 use live_clauses::Tape;
 use std::alloc::{AllocError, Global};
@@ -28,7 +33,6 @@ const LEAF: u32 = 1;
 
 /// Looks into a box, which receives a list: evaluates the corners of its working cells that are not
 /// known.
-#[cycle(looking)]
 pub fn look_into(
     alloc: Global,
     desk: &mut Desk,
@@ -56,15 +60,54 @@ pub fn look_into(
     if !is_long(b, LEAF) {
         return look_into_cell(desk, b, received, values, tally);
     }
-    let told = desk.room.look_apart(received, desk.places.region(b), tally);
-    if !is_open(told, values.n(), b) {
-        return Ok(());
-    }
-    let live = desk.room.hand_on(alloc, received)?;
-    look_into_halves(alloc, desk, b, &live, values, tally)
+    let asked = asked_box(values.n(), b);
+    let told = desk
+        .room
+        .trace_asked_box(alloc, received, &desk.places, asked, tally)?;
+    look_into_told(alloc, desk, b, received, &[told], 0, values, tally)
 }
 
-// Looks into the halves of a box that is split.
+// Looks into a box. What tracing the list over it told, where it is longer than a cell, stands at a
+// place among some outcomes.
+#[cycle(looking)]
+fn look_into_told(
+    alloc: Global,
+    desk: &mut Desk,
+    b: IndexBox,
+    received: &Tape,
+    outcomes: &[Outcome],
+    at: usize,
+    values: &mut GridValues,
+    tally: &mut Tally,
+) -> Result<(), AllocError>
+    requires may { MayLook desk.old b received.now values.old }
+    requires told { IsToldAt desk.old.places received.now b outcomes.now at }
+    ensures settled { OnOk result
+        (AreSettled (grid_value desk.old.places.view received.now) b values.new) }
+    ensures worked { OnOk result
+        (AreWorked (gridded desk.old.places.view) (visit b received.now) values.new) }
+    ensures grows { Grows (grid_value desk.old.places.view received.now) b values.old values.new }
+    ensures counted { ChargesBelow (gridded desk.old.places.view) (visit b received.now) values.old
+        values.new tally.old tally.new }
+    ensures paid { PaysBox (gridded desk.old.places.view) (visit b received.now) values.old
+        values.new tally.old tally.new }
+    ensures traced { OnOk result
+        (CountsHullsAtLeast (long_spans_below (gridded desk.old.places.view)
+        (visit b received.now)) tally.old tally.new) }
+    ensures kept { KeepsDesk desk.old desk.new }
+{
+    layers_hold();
+    if !is_long(b, LEAF) {
+        return look_into_cell(desk, b, received, values, tally);
+    }
+    match &outcomes[at] {
+        Outcome::Open(live) => look_into_halves(alloc, desk, b, live, values, tally),
+        Outcome::Inside | Outcome::Outside => Ok(()),
+    }
+}
+
+// Looks into the halves of a box that is split: those longer than a cell are traced together, and
+// then all are looked into one by one.
 #[cycle(looking)]
 fn look_into_halves(
     alloc: Global,
@@ -75,6 +118,7 @@ fn look_into_halves(
     tally: &mut Tally,
 ) -> Result<(), AllocError>
     requires may { MayLook desk.old b live.now values.old }
+    requires whole { IsWhole live.now }
     requires long { IsTrue (is_long_for 1 b) }
     ensures settled { OnOk result
         (AreSettled (grid_value desk.old.places.view live.now) b values.new) }
@@ -93,10 +137,70 @@ fn look_into_halves(
 {
     layers_hold();
     let halves = split(b, LEAF);
+    let outcomes = trace_longer(alloc, desk, halves.as_slice(), live, values.n(), tally)?;
+    let outcomes = outcomes.as_slice();
+    let mut at = 0;
     for half in halves.as_slice() {
-        look_into(alloc, desk, *half, live, values, tally)?;
+        look_into_told(alloc, desk, *half, live, outcomes, at, values, tally)?;
+        at += usize::from(is_long(*half, LEAF));
     }
     Ok(())
+}
+
+// What tracing a list tells over those of some boxes that are longer than a cell. AllocError: there
+// is no memory for a shorter list, and no more was traced than that.
+#[inline]
+fn trace_longer(
+    alloc: Global,
+    desk: &mut Desk,
+    boxes: &[IndexBox],
+    received: &Tape,
+    n: u32,
+    tally: &mut Tally,
+) -> Result<ArrayVec<Outcome, 8>, AllocError>
+    requires whole { IsWhole received.now }
+    requires room { length received.now ≤ length desk.old.room }
+    requires few { length boxes.now ≤ 8 }
+    requires within { All (IsInRoot desk.old.places.view desk.old.places.lattice) boxes.now }
+    ensures outcomes { IfOk result (λ outcomes. outcomes.items
+        ≡ asked_outcomes desk.old.places received.now (longer n boxes.now)) }
+    ensures hand { IfOk result
+        (λ outcomes. All (HandsOn (length received.now)) outcomes.items) }
+    ensures counted { OnOk result
+        (CountsHulls (length (longer n boxes.now) * length received.now) tally.old tally.new) }
+    ensures at_most { OnErr result
+        (CountsAtMost 0 (length (longer n boxes.now) * length received.now) tally.old tally.new) }
+    ensures kept { KeepsDesk desk.old desk.new }
+{
+    let asked = longer_boxes(n, boxes);
+    desk.room
+        .trace_asked_boxes(alloc, received, &desk.places, asked.as_slice(), tally)
+}
+
+// Those of some boxes that are longer than a cell.
+#[inline]
+fn longer_boxes(n: u32, boxes: &[IndexBox]) -> ArrayVec<AskedBox, 8>
+    requires { length boxes.now ≤ 8 }
+    ensures items { result.items ≡ longer n boxes.now }
+{
+    let mut asked = ArrayVec::new();
+    for b in boxes {
+        if is_long(*b, LEAF) {
+            asked.push(asked_box(n, *b));
+        }
+    }
+    asked
+}
+
+// A box that is held open where it covers a point of the outermost layer.
+#[inline]
+fn asked_box(n: u32, b: IndexBox) -> AskedBox
+    ensures { result ≡ asked_of n b }
+{
+    AskedBox {
+        range: b,
+        held: meets_border(n, b),
+    }
 }
 
 // Looks into a cell. Nothing is traced where its known corners show how it lies.

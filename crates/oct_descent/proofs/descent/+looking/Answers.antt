@@ -1,166 +1,305 @@
-use Rattle.std.proofs.Common.{◌+◌, ℕ, ap, arith, length, refl, subst, sym, ◌∙◌}
+use Rattle.std.proofs.Common.{◌+◌, ◌*◌, ℕ, Bool, cond, ap, arith, length, refl, subst, sym, ◌∙◌}
 use Rattle.std.specs.List.{All}
 use Rattle.std.proofs.lemmas.List.{take_all}
 use Rattle.std.proofs.lemmas.List.Elements.{All-nil}
 use Rattle.box_chains.specs.Chains.{visit}
-use Rattle.live_clauses.specs.Choices.{AreChoices}
+use Rattle.box_chains.specs.Outcomes.{HandsOn, asked_outcomes}
 use Rattle.live_clauses.specs.Steps.{IsTape}
 use Rattle.box_chains.specs.TallyLaws.{most-hulls}
 use Rattle.box_chains.specs.ValueLaws.{IsVisit}
+use Rattle.interval_ops.specs.HullCounts.{CountsHulls}
 use Rattle.oct_descent.specs.Bound.{CountsHullsAtLeast}
+use Rattle.oct_descent.specs.Desks.{ChargesHalves, IsToldAt, PaysHalves, halves_long_spans, longer}
 use Rattle.oct_descent.specs.GridValues.{grid_value}
-use Rattle.oct_descent.specs.Desks.{PaysHalves, halves_long_spans, halves_spans}
 use Rattle.kuhn_cells.specs.Triangles.{GridPoint}
 use Rattle.oct_descent.specs.Tables.{AreRight, AreSettled, AreWorked, Charges, IsEnough}
 use Rattle.oct_descent.specs.Ways.{gridded}
-use Rattle.oct_descent.proofs.Looks.{handed-right, all-settled, cell-traced, closed-settled, closed-traced, closed-worked, half-grows, half-part, half-shorter, half-visit, halves-charged, halves-paid, halves-traced, halves-worked, handed, handed-grows, handed-settled, look-paid, looked, next-charged, next-paid, next-settled, next-traced, next-worked, on_ok, on_ok-then, opened, part-covers, some-charged, trace-charged, traced-none}
+use Rattle.oct_descent.proofs.Looks.{all-settled, all-traced, begun-charged, begun-paid, cell-below, cell-traced, cell-traced_below, closed-settled, closed-traced, closed-worked, first-charged, first-traced, half-grows, half-part, half-shorter, half-visit, halves-boxes, halves-charged, halves-paid, halves-traced, halves-worked, handed-grows, handed-right, handed-settled, handed-tape, next-charged, next-paid, next-settled, next-traced, next-worked, on_ok, on_ok-then, part-covers, some-charged}
 use Rattle.oct_descent.proofs.TableLaws.{charges-none, grows-none, grows-then, pays-none, right-grows}
+use Rattle.oct_descent.proofs.Together.{at-told, byte-is, byte-most, closed-told, opened-told, step-told}
 use Rattle.oct_descent.proofs.descent.+looking.Goals as goal
 
-pub look_into-returns-then-not-is_open-clause-settled : goal.look_into-returns-then-not-is_open-clause-settled
-look_into-returns-then-not-is_open-clause-settled t c =
-    let view = c.args.desk.now.places.view in
-    let b = c.args.b in
-    let list = c.args.received.now in
-    let told = looked view c.args.desk.now.places.lattice b list c.region.result c.look_apart-told.result c.requires.lattice c.region.ensures c.look_apart-told.ensures.decision in
-    let open' = opened view b list c.n.result c.look_apart-told.result c.is_open.result (c.n.ensures ∙ c.requires.n) told c.is_open.ensures in
-    closed-settled c.layers_hold.ensures view (visit b list) c.args.values.now c.requires.visit_is (open' ∙ c.if-not-is_open.true)
+pub look_into_told-returns-then-not-is_long-clause-counted : goal.look_into_told-returns-then-not-is_long-clause-counted
+look_into_told-returns-then-not-is_long-clause-counted t c =
+    cell-below (gridded c.args.desk.now.places.view) (visit c.args.b c.args.received.now) c.args.values.now c.look_into_cell.new.values c.args.tally.now c.look_into_cell.new.tally (sym c.is_long.ensures ∙ c.if-not-is_long.true) c.look_into_cell.ensures.counted
 
-pub look_into-returns-then-not-is_open-clause-counted : goal.look_into-returns-then-not-is_open-clause-counted
-look_into-returns-then-not-is_open-clause-counted t c =
-    trace-charged (gridded c.args.desk.now.places.view) (visit c.args.b c.args.received.now) c.args.values.now c.args.tally.now c.look_apart-told.new.tally (omega arith) c.requires.visit_is.box c.layers_hold.ensures.halves
-    c.look_apart-told.ensures.counted
+pub look_into_told-returns-then-not-is_long-clause-traced : goal.look_into_told-returns-then-not-is_long-clause-traced
+look_into_told-returns-then-not-is_long-clause-traced t c =
+    let d = gridded c.args.desk.now.places.view in
+    let v = visit c.args.b c.args.received.now in
+    on_ok c.look_into_cell.result _
+    (cell-traced_below d v c.args.tally.now c.look_into_cell.new.tally
+    (cell-traced d v c.args.values.now c.look_into_cell.new.values c.args.tally.now c.look_into_cell.new.tally c.requires.may.visit_is.box (sym c.is_long.ensures ∙ c.if-not-is_long.true) c.look_into_cell.ensures.paid))
 
-pub look_into-hand_on-requires-clause-choices : goal.look_into-hand_on-requires-clause-choices
-look_into-hand_on-requires-clause-choices t c =
-    subst (λ choices. AreChoices c.args.received.now choices) (sym c.look_apart-told.ensures.choices) (c.layers_hold.ensures.choices c.region.result c.args.received.now)
-
-pub look_into-look_into_halves-requires : goal.look_into-look_into_halves-requires
-look_into-look_into_halves-requires t c =
+pub look_into_told-look_into_halves-requires : goal.look_into_told-look_into_halves-requires
+look_into_told-look_into_halves-requires t c =
     let view = c.args.desk.now.places.view in
     let v = visit c.args.b c.args.received.now in
-    let live = c.in_ok-live.live in
-    let same = handed view c.args.desk.now.places.lattice c.args.b c.args.received.now live c.region.result c.look_apart-told.new.self c.requires.lattice c.region.ensures c.look_apart-told.ensures.choices c.in_ok-live.ensures.list in (
+    let live = c.in-Open.live in
+    let long = sym c.is_long.ensures ∙ c.if-not-is_long.false in
+    let looked = at-told c.args.desk.now.places c.args.received.now c.args.b c.args.outcomes.now c.args.at c.index-outcomes-at.result c.requires.may.lattice (c.requires.told long) c.index-outcomes-at.is in
+    let opened = opened-told view c.args.b c.args.received.now live c.index-outcomes-at.result looked c.in-Open.is in
+    (
       omega (arith, c.decreases),
       (
         record {
-          lattice = c.requires.lattice;
-          visit_is = record { window = c.requires.visit_is.window; box = c.requires.visit_is.box; within = c.requires.visit_is.within; tape = subst IsTape c.live.view_is c.live.invariant };
-          n = c.requires.n;
-          room = omega (arith, c.in_ok-live.ensures.shorter, c.requires.room, c.look_apart-told.ensures.room, ap length c.in_ok-live.ensures.same);
-          values = omega (arith, c.in_ok-live.ensures.shorter, c.requires.values);
-          right = handed-right c.layers_hold.ensures view v live c.args.values.now c.requires.visit_is same c.requires.right;
+          lattice = c.requires.may.lattice;
+          visit_is = record { window = c.requires.may.visit_is.window; box = c.requires.may.visit_is.box; within = c.requires.may.visit_is.within; tape = handed-tape c.layers_hold.ensures view v live c.requires.may.visit_is opened.same };
+          n = c.requires.may.n;
+          room = omega (arith, opened.hands.few, c.requires.may.room);
+          values = omega (arith, opened.hands.few, c.requires.may.values);
+          right = handed-right c.layers_hold.ensures view v live c.args.values.now c.requires.may.visit_is opened.same c.requires.may.right;
         },
-        sym c.is_long.ensures ∙ c.if-not-is_long.false,
+        (opened.hands.whole, long),
       ),
     )
 
-pub look_into-returns-in_err-live-clause-counted : goal.look_into-returns-in_err-live-clause-counted
-look_into-returns-in_err-live-clause-counted t c =
-    trace-charged (gridded c.args.desk.now.places.view) (visit c.args.b c.args.received.now) c.args.values.now c.args.tally.now c.look_apart-told.new.tally (omega arith) c.requires.visit_is.box c.layers_hold.ensures.halves
-    c.look_apart-told.ensures.counted
-
-pub look_into-returns-clause-settled : goal.look_into-returns-clause-settled
-look_into-returns-clause-settled t c =
+pub look_into_told-returns-in-Open-clause-settled : goal.look_into_told-returns-in-Open-clause-settled
+look_into_told-returns-in-Open-clause-settled t c =
     let view = c.args.desk.now.places.view in
     let v = visit c.args.b c.args.received.now in
-    let same = handed view c.args.desk.now.places.lattice c.args.b c.args.received.now c.in_ok-live.live c.region.result c.look_apart-told.new.self c.requires.lattice c.region.ensures c.look_apart-told.ensures.choices c.in_ok-live.ensures.list in
-    on_ok-then c.look_into_halves.result _ _ (handed-settled c.layers_hold.ensures view v c.in_ok-live.live c.look_into_halves.new.values c.requires.visit_is same) c.look_into_halves.ensures.settled
+    let live = c.in-Open.live in
+    let long = sym c.is_long.ensures ∙ c.if-not-is_long.false in
+    let looked = at-told c.args.desk.now.places c.args.received.now c.args.b c.args.outcomes.now c.args.at c.index-outcomes-at.result c.requires.may.lattice (c.requires.told long) c.index-outcomes-at.is in
+    let opened = opened-told view c.args.b c.args.received.now live c.index-outcomes-at.result looked c.in-Open.is in
+    on_ok-then c.look_into_halves.result _ _ (handed-settled c.layers_hold.ensures view v live c.look_into_halves.new.values c.requires.may.visit_is opened.same) c.look_into_halves.ensures.settled
 
-pub look_into-returns-clause-grows : goal.look_into-returns-clause-grows
-look_into-returns-clause-grows t c =
+pub look_into_told-returns-in-Open-clause-worked : goal.look_into_told-returns-in-Open-clause-worked
+look_into_told-returns-in-Open-clause-worked t c =
     let view = c.args.desk.now.places.view in
     let v = visit c.args.b c.args.received.now in
-    let same = handed view c.args.desk.now.places.lattice c.args.b c.args.received.now c.in_ok-live.live c.region.result c.look_apart-told.new.self c.requires.lattice c.region.ensures c.look_apart-told.ensures.choices c.in_ok-live.ensures.list in
-    handed-grows c.layers_hold.ensures view v c.in_ok-live.live c.args.values.now c.look_into_halves.new.values c.requires.visit_is same c.look_into_halves.ensures.grows
+    let live = c.in-Open.live in
+    let long = sym c.is_long.ensures ∙ c.if-not-is_long.false in
+    let looked = at-told c.args.desk.now.places c.args.received.now c.args.b c.args.outcomes.now c.args.at c.index-outcomes-at.result c.requires.may.lattice (c.requires.told long) c.index-outcomes-at.is in
+    let opened = opened-told view c.args.b c.args.received.now live c.index-outcomes-at.result looked c.in-Open.is in
+    on_ok-then c.look_into_halves.result _ _ (halves-worked c.layers_hold.ensures view v live c.look_into_halves.new.values c.requires.may.visit_is opened.open' long opened.same) c.look_into_halves.ensures.worked
 
-pub look_into-returns-clause-counted : goal.look_into-returns-clause-counted
-look_into-returns-clause-counted t c =
+pub look_into_told-returns-in-Open-clause-grows : goal.look_into_told-returns-in-Open-clause-grows
+look_into_told-returns-in-Open-clause-grows t c =
     let view = c.args.desk.now.places.view in
-    let b = c.args.b in
-    let list = c.args.received.now in
-    let told = looked view c.args.desk.now.places.lattice b list c.region.result c.look_apart-told.result c.requires.lattice c.region.ensures c.look_apart-told.ensures.decision in
-    let open' = opened view b list c.n.result c.look_apart-told.result c.is_open.result (c.n.ensures ∙ c.requires.n) told c.is_open.ensures in
-    let same = handed view c.args.desk.now.places.lattice b list c.in_ok-live.live c.region.result c.look_apart-told.new.self c.requires.lattice c.region.ensures c.look_apart-told.ensures.choices c.in_ok-live.ensures.list in
-    halves-charged c.layers_hold.ensures view (visit b list) c.in_ok-live.live c.args.values.now c.look_into_halves.new.values c.args.tally.now c.look_apart-told.new.tally c.look_into_halves.new.tally c.requires.visit_is
-    (open' ∙ c.if-not-is_open.false) (sym c.is_long.ensures ∙ c.if-not-is_long.false) same c.look_apart-told.ensures.counted c.look_into_halves.ensures.counted
+    let v = visit c.args.b c.args.received.now in
+    let live = c.in-Open.live in
+    let long = sym c.is_long.ensures ∙ c.if-not-is_long.false in
+    let looked = at-told c.args.desk.now.places c.args.received.now c.args.b c.args.outcomes.now c.args.at c.index-outcomes-at.result c.requires.may.lattice (c.requires.told long) c.index-outcomes-at.is in
+    let opened = opened-told view c.args.b c.args.received.now live c.index-outcomes-at.result looked c.in-Open.is in
+    handed-grows c.layers_hold.ensures view v live c.args.values.now c.look_into_halves.new.values c.requires.may.visit_is opened.same c.look_into_halves.ensures.grows
+
+pub look_into_told-returns-in-Open-clause-counted : goal.look_into_told-returns-in-Open-clause-counted
+look_into_told-returns-in-Open-clause-counted t c =
+    let view = c.args.desk.now.places.view in
+    let v = visit c.args.b c.args.received.now in
+    let live = c.in-Open.live in
+    let long = sym c.is_long.ensures ∙ c.if-not-is_long.false in
+    let looked = at-told c.args.desk.now.places c.args.received.now c.args.b c.args.outcomes.now c.args.at c.index-outcomes-at.result c.requires.may.lattice (c.requires.told long) c.index-outcomes-at.is in
+    let opened = opened-told view c.args.b c.args.received.now live c.index-outcomes-at.result looked c.in-Open.is in
+    halves-charged c.layers_hold.ensures view v live c.args.values.now c.look_into_halves.new.values c.args.tally.now c.look_into_halves.new.tally c.requires.may.visit_is opened.open' long opened.same c.look_into_halves.ensures.counted
+
+pub look_into_told-returns-in-Open-clause-paid : goal.look_into_told-returns-in-Open-clause-paid
+look_into_told-returns-in-Open-clause-paid t c =
+    let view = c.args.desk.now.places.view in
+    let v = visit c.args.b c.args.received.now in
+    let live = c.in-Open.live in
+    let long = sym c.is_long.ensures ∙ c.if-not-is_long.false in
+    let looked = at-told c.args.desk.now.places c.args.received.now c.args.b c.args.outcomes.now c.args.at c.index-outcomes-at.result c.requires.may.lattice (c.requires.told long) c.index-outcomes-at.is in
+    let opened = opened-told view c.args.b c.args.received.now live c.index-outcomes-at.result looked c.in-Open.is in
+    halves-paid c.layers_hold.ensures view v live c.args.values.now c.look_into_halves.new.values c.args.tally.now c.look_into_halves.new.tally c.requires.may.visit_is opened.open' long opened.same c.look_into_halves.ensures.paid
+
+pub look_into_told-returns-in-Open-clause-traced : goal.look_into_told-returns-in-Open-clause-traced
+look_into_told-returns-in-Open-clause-traced t c =
+    let view = c.args.desk.now.places.view in
+    let v = visit c.args.b c.args.received.now in
+    let live = c.in-Open.live in
+    let long = sym c.is_long.ensures ∙ c.if-not-is_long.false in
+    let looked = at-told c.args.desk.now.places c.args.received.now c.args.b c.args.outcomes.now c.args.at c.index-outcomes-at.result c.requires.may.lattice (c.requires.told long) c.index-outcomes-at.is in
+    let opened = opened-told view c.args.b c.args.received.now live c.index-outcomes-at.result looked c.in-Open.is in
+    on_ok-then c.look_into_halves.result _ _ (halves-traced c.layers_hold.ensures view v live c.args.tally.now c.look_into_halves.new.tally c.requires.may.visit_is opened.open' long opened.same) c.look_into_halves.ensures.traced
+
+pub look_into_told-returns-in-Inside-clause-settled : goal.look_into_told-returns-in-Inside-clause-settled
+look_into_told-returns-in-Inside-clause-settled t c =
+    let view = c.args.desk.now.places.view in
+    let v = visit c.args.b c.args.received.now in
+    let looked = at-told c.args.desk.now.places c.args.received.now c.args.b c.args.outcomes.now c.args.at c.index-outcomes-at.result c.requires.may.lattice (c.requires.told (sym c.is_long.ensures ∙ c.if-not-is_long.false)) c.index-outcomes-at.is in
+    let closed = closed-told view c.args.b c.args.received.now c.index-outcomes-at.result looked c.in-Inside.is in
+    closed-settled c.layers_hold.ensures view v c.args.values.now c.requires.may.visit_is closed
+
+pub look_into_told-returns-in-Inside-clause-worked : goal.look_into_told-returns-in-Inside-clause-worked
+look_into_told-returns-in-Inside-clause-worked t c =
+    let view = c.args.desk.now.places.view in
+    let v = visit c.args.b c.args.received.now in
+    let looked = at-told c.args.desk.now.places c.args.received.now c.args.b c.args.outcomes.now c.args.at c.index-outcomes-at.result c.requires.may.lattice (c.requires.told (sym c.is_long.ensures ∙ c.if-not-is_long.false)) c.index-outcomes-at.is in
+    let closed = closed-told view c.args.b c.args.received.now c.index-outcomes-at.result looked c.in-Inside.is in
+    closed-worked view v c.args.values.now c.requires.may.visit_is closed
+
+pub look_into_told-returns-in-Inside-clause-counted : goal.look_into_told-returns-in-Inside-clause-counted
+look_into_told-returns-in-Inside-clause-counted t c =
+    λ f enough. charges-none f _ c.args.values.now c.args.tally.now
+
+pub look_into_told-returns-in-Inside-clause-paid : goal.look_into_told-returns-in-Inside-clause-paid
+look_into_told-returns-in-Inside-clause-paid t c =
+    λ f due. pays-none f c.args.values.now c.args.tally.now
+
+pub look_into_told-returns-in-Inside-clause-traced : goal.look_into_told-returns-in-Inside-clause-traced
+look_into_told-returns-in-Inside-clause-traced t c =
+    let view = c.args.desk.now.places.view in
+    let v = visit c.args.b c.args.received.now in
+    let looked = at-told c.args.desk.now.places c.args.received.now c.args.b c.args.outcomes.now c.args.at c.index-outcomes-at.result c.requires.may.lattice (c.requires.told (sym c.is_long.ensures ∙ c.if-not-is_long.false)) c.index-outcomes-at.is in
+    let closed = closed-told view c.args.b c.args.received.now c.index-outcomes-at.result looked c.in-Inside.is in
+    closed-traced view v c.args.tally.now c.requires.may.visit_is.box closed
+
+pub look_into_told-returns-in-Inside-2-clause-settled : goal.look_into_told-returns-in-Inside-2-clause-settled
+look_into_told-returns-in-Inside-2-clause-settled t c =
+    let view = c.args.desk.now.places.view in
+    let v = visit c.args.b c.args.received.now in
+    let looked = at-told c.args.desk.now.places c.args.received.now c.args.b c.args.outcomes.now c.args.at c.index-outcomes-at.result c.requires.may.lattice (c.requires.told (sym c.is_long.ensures ∙ c.if-not-is_long.false)) c.index-outcomes-at.is in
+    let closed = closed-told view c.args.b c.args.received.now c.index-outcomes-at.result looked c.in-Inside.is in
+    closed-settled c.layers_hold.ensures view v c.args.values.now c.requires.may.visit_is closed
+
+pub look_into_told-returns-in-Inside-2-clause-worked : goal.look_into_told-returns-in-Inside-2-clause-worked
+look_into_told-returns-in-Inside-2-clause-worked t c =
+    let view = c.args.desk.now.places.view in
+    let v = visit c.args.b c.args.received.now in
+    let looked = at-told c.args.desk.now.places c.args.received.now c.args.b c.args.outcomes.now c.args.at c.index-outcomes-at.result c.requires.may.lattice (c.requires.told (sym c.is_long.ensures ∙ c.if-not-is_long.false)) c.index-outcomes-at.is in
+    let closed = closed-told view c.args.b c.args.received.now c.index-outcomes-at.result looked c.in-Inside.is in
+    closed-worked view v c.args.values.now c.requires.may.visit_is closed
+
+pub look_into_told-returns-in-Inside-2-clause-counted : goal.look_into_told-returns-in-Inside-2-clause-counted
+look_into_told-returns-in-Inside-2-clause-counted t c =
+    λ f enough. charges-none f _ c.args.values.now c.args.tally.now
+
+pub look_into_told-returns-in-Inside-2-clause-paid : goal.look_into_told-returns-in-Inside-2-clause-paid
+look_into_told-returns-in-Inside-2-clause-paid t c =
+    λ f due. pays-none f c.args.values.now c.args.tally.now
+
+pub look_into_told-returns-in-Inside-2-clause-traced : goal.look_into_told-returns-in-Inside-2-clause-traced
+look_into_told-returns-in-Inside-2-clause-traced t c =
+    let view = c.args.desk.now.places.view in
+    let v = visit c.args.b c.args.received.now in
+    let looked = at-told c.args.desk.now.places c.args.received.now c.args.b c.args.outcomes.now c.args.at c.index-outcomes-at.result c.requires.may.lattice (c.requires.told (sym c.is_long.ensures ∙ c.if-not-is_long.false)) c.index-outcomes-at.is in
+    let closed = closed-told view c.args.b c.args.received.now c.index-outcomes-at.result looked c.in-Inside.is in
+    closed-traced view v c.args.tally.now c.requires.may.visit_is.box closed
+
+pub look_into_halves-returns-in_err-outcomes-clause-counted : goal.look_into_halves-returns-in_err-outcomes-clause-counted
+look_into_halves-returns-in_err-outcomes-clause-counted t c =
+    begun-charged c.layers_hold.ensures c.args.desk.now.places.view c.args.live.now c.args.b c.as_slice.result.now c.n.result c.args.values.now c.args.tally.now c.trace_longer.new.tally c.requires.may.visit_is.box
+    (c.as_slice.ensures.value ∙ c.split-halves.ensures) c.in_err-outcomes.ensures.at_most
+
+pub look_into_halves-returns-in_err-outcomes-clause-paid : goal.look_into_halves-returns-in_err-outcomes-clause-paid
+look_into_halves-returns-in_err-outcomes-clause-paid t c =
+    begun-paid (gridded c.args.desk.now.places.view) c.args.live.now _ _ c.args.values.now c.args.tally.now c.trace_longer.new.tally c.in_err-outcomes.ensures.at_most
 
 pub look_into_halves-loop-half-init : goal.look_into_halves-loop-half-init
 look_into_halves-loop-half-init t c =
-    let g = grid_value c.args.desk.now.places.view c.args.live.now in
+    let view = c.args.desk.now.places.view in
+    let live = c.args.live.now in
+    let halves = c.as_slice-half-items.result.now in
+    let same = c.as_slice.ensures.value ∙ sym c.as_slice-half-items.ensures.value in
+    let hulls = subst (λ hs. CountsHulls (length (longer c.n.result hs) * length live) c.args.tally.now c.trace_longer.new.tally) same c.in_ok-outcomes.ensures.counted in
     record {
-      kept = record { places = refl; room = refl; values = refl };
-      settled = All-nil (λ h. AreSettled g h c.args.values.now);
-      grows = grows-none g c.args.b c.args.values.now;
-      counted = λ f enough. charges-none f 0 c.args.values.now c.args.tally.now;
-      worked = All-nil (λ h. AreWorked (gridded c.args.desk.now.places.view) (visit h c.args.live.now) c.args.values.now);
-      paid = λ f due. pays-none f c.args.values.now c.args.tally.now;
-      traced = traced-none c.args.tally.now;
+      kept = c.in_ok-outcomes.ensures.kept;
+      few = omega arith;
+      told = c.as_slice-outcomes.ensures.value ∙ c.in_ok-outcomes.ensures.outcomes ∙ ap (λ hs. asked_outcomes c.args.desk.now.places live (longer c.n.result hs)) same
+          ∙ ap (λ n. asked_outcomes c.args.desk.now.places live (longer n halves)) (c.n.ensures ∙ c.requires.may.n);
+      settled = All-nil (λ h. AreSettled (grid_value view live) h c.args.values.now);
+      grows = grows-none (grid_value view live) c.args.b c.args.values.now;
+      counted = first-charged (gridded view) live halves c.n.result c.args.values.now c.args.tally.now c.trace_longer.new.tally hulls;
+      worked = All-nil (λ h. AreWorked (gridded view) (visit h live) c.args.values.now);
+      paid = begun-paid (gridded view) live halves _ c.args.values.now c.args.tally.now c.trace_longer.new.tally (most-hulls c.args.tally.now c.trace_longer.new.tally _ hulls);
+      traced = first-traced (gridded view) live halves c.n.result c.args.tally.now c.trace_longer.new.tally hulls;
     }
 
-pub look_into_halves-look_into-requires : goal.look_into_halves-look_into-requires
-look_into_halves-look_into-requires t c =
+pub look_into_halves-look_into_told-requires : goal.look_into_halves-look_into_told-requires
+look_into_halves-look_into_told-requires t c =
     let all = c.as_slice-half-items.ensures.value ∙ c.split-halves.ensures in
-    let part = half-part c.args.b c.half-item.result c.as_slice-half-items.result.now c.loop-half.half-index c.requires.may.visit_is.box all c.loop-half-test.true c.half-item.is in
-    let less = half-shorter c.args.b c.half-item.result c.requires.long part in
+    let halves = c.as_slice-half-items.result.now in
+    let half = c.half-item.result in
+    let part = half-part c.args.b half halves c.loop-half.half-index c.requires.may.visit_is.box all c.loop-half-test.true c.half-item.is in
+    let places = c.args.desk.now.places in
+    let live = c.args.live.now in
+    let hands = subst (All (HandsOn (length live))) (sym c.as_slice-outcomes.ensures.value) c.in_ok-outcomes.ensures.hand in
+    let step = step-told places live halves half c.loop-half.half-index c.as_slice-outcomes.result.now c.loop-half.at _ c.loop-half-test.true c.half-item.is hands c.loop-half.invariant.told refl in
+    let less = half-shorter c.args.b half c.requires.long part in
     let kept = c.loop-half.invariant.kept in (
       omega (arith, less, c.decreases),
-      record {
-        lattice = ap (λ p. p.lattice) kept.places ∙ c.requires.may.lattice;
-        visit_is = subst (λ p. IsVisit (gridded p.view) (visit c.half-item.result c.args.live.now)) (sym kept.places) (half-visit c.args.desk.now.places.view c.args.live.now c.args.b c.half-item.result part c.requires.may.visit_is);
-        n = c.loop-half.invariant.grows.n ∙ c.requires.may.n ∙ ap (λ p. p.view.n) (sym kept.places);
-        room = omega (arith, kept.room, c.requires.may.room);
-        values = omega (arith, kept.values, c.requires.may.values);
-        right = subst (λ p. AreRight (grid_value p.view c.args.live.now) c.half-item.result c.loop-half.values) (sym kept.places)
-            (right-grows (grid_value c.args.desk.now.places.view c.args.live.now) c.half-item.result c.args.b c.args.values.now c.loop-half.values (λ p covers. part-covers c.args.b c.half-item.result p part covers) c.loop-half.invariant.grows c.requires.may.right);
-      },
+      (
+        record {
+          lattice = ap (λ p. p.lattice) kept.places ∙ c.requires.may.lattice;
+          visit_is = subst (λ p. IsVisit (gridded p.view) (visit half live)) (sym kept.places) (half-visit places.view live c.args.b half part c.requires.may.visit_is);
+          n = c.loop-half.invariant.grows.n ∙ c.requires.may.n ∙ ap (λ p. p.view.n) (sym kept.places);
+          room = omega (arith, kept.room, c.requires.may.room);
+          values = omega (arith, kept.values, c.requires.may.values);
+          right = subst (λ p. AreRight (grid_value p.view live) half c.loop-half.values) (sym kept.places)
+              (right-grows (grid_value places.view live) half c.args.b c.args.values.now c.loop-half.values (λ p covers. part-covers c.args.b half p part covers) c.loop-half.invariant.grows c.requires.may.right);
+        },
+        subst (λ p. IsToldAt p live half c.as_slice-outcomes.result.now c.loop-half.at) (sym kept.places) step.told,
+      ),
     )
 
-pub look_into_halves-returns-in_err-look_into-clause-grows : goal.look_into_halves-returns-in_err-look_into-clause-grows
-look_into_halves-returns-in_err-look_into-clause-grows t c =
+pub look_into_halves-overflow_add-at : goal.look_into_halves-overflow_add-at
+look_into_halves-overflow_add-at t c =
+    omega (arith, c.loop-half.invariant.few, c.loop-half-test.true, c.from-at.ensures, byte-most c.is_long.result, c.as_slice-half-items.ensures.fits)
+
+pub look_into_halves-returns-in_err-look_into_told-clause-grows : goal.look_into_halves-returns-in_err-look_into_told-clause-grows
+look_into_halves-returns-in_err-look_into_told-clause-grows t c =
     let view = c.args.desk.now.places.view in
     let all = c.as_slice-half-items.ensures.value ∙ c.split-halves.ensures in
     let half = c.half-item.result in
     let part = half-part c.args.b half c.as_slice-half-items.result.now c.loop-half.half-index c.requires.may.visit_is.box all c.loop-half-test.true c.half-item.is in
     let same = ap (λ p. p.view) c.loop-half.invariant.kept.places in
-    grows-then (grid_value view c.args.live.now) c.args.b c.args.values.now c.loop-half.values c.look_into.new.values c.loop-half.invariant.grows
-    (half-grows view c.loop-half.desk.places.view c.args.live.now c.args.b half c.loop-half.values c.look_into.new.values same part c.in_err-look_into.ensures.grows)
+    grows-then (grid_value view c.args.live.now) c.args.b c.args.values.now c.loop-half.values c.look_into_told.new.values c.loop-half.invariant.grows
+    (half-grows view c.loop-half.desk.places.view c.args.live.now c.args.b half c.loop-half.values c.look_into_told.new.values same part c.in_err-look_into_told.ensures.grows)
 
-pub look_into_halves-returns-in_err-look_into-clause-counted : goal.look_into_halves-returns-in_err-look_into-clause-counted
-look_into_halves-returns-in_err-look_into-clause-counted t c =
+
+pub look_into_halves-returns-in_err-look_into_told-clause-counted : goal.look_into_halves-returns-in_err-look_into_told-clause-counted
+look_into_halves-returns-in_err-look_into_told-clause-counted t c =
     let view = c.args.desk.now.places.view in
     let all = c.as_slice-half-items.ensures.value ∙ c.split-halves.ensures in
     let halves = c.as_slice-half-items.result.now in
     let half = c.half-item.result in
     let same = ap (λ p. p.view) c.loop-half.invariant.kept.places in
-    subst (λ hs. (f : GridPoint → ℕ) → All (λ h. IsEnough f (gridded view) (visit h c.args.live.now)) hs → Charges f (halves_spans (gridded view) c.args.live.now hs) c.args.values.now c.look_into.new.values c.args.tally.now c.look_into.new.tally) all
-    (some-charged (gridded view) c.args.live.now halves (c.loop-half.half-index + 1) c.args.values.now c.look_into.new.values c.args.tally.now c.look_into.new.tally
-    (next-charged view c.loop-half.desk.places.view c.args.live.now half halves c.loop-half.half-index c.args.values.now c.loop-half.values c.look_into.new.values c.args.tally.now c.loop-half.tally c.look_into.new.tally
-    same c.loop-half-test.true c.half-item.is c.loop-half.invariant.counted c.in_err-look_into.ensures.counted))
+    subst (λ hs. ChargesHalves (gridded view) c.args.live.now hs c.args.values.now c.look_into_told.new.values c.args.tally.now c.look_into_told.new.tally) all
+    (some-charged c.layers_hold.ensures view c.args.live.now halves (c.loop-half.half-index + 1) c.args.values.now c.look_into_told.new.values c.args.tally.now c.look_into_told.new.tally (halves-boxes c.args.b halves c.requires.may.visit_is.box all)
+    (next-charged view c.loop-half.desk.places.view c.args.live.now half halves c.loop-half.half-index _ c.args.values.now c.loop-half.values c.look_into_told.new.values c.args.tally.now c.loop-half.tally c.look_into_told.new.tally
+    same c.loop-half-test.true c.half-item.is c.loop-half.invariant.counted c.in_err-look_into_told.ensures.counted))
+
+pub look_into_halves-returns-in_err-look_into_told-clause-paid : goal.look_into_halves-returns-in_err-look_into_told-clause-paid
+look_into_halves-returns-in_err-look_into_told-clause-paid t c =
+    let view = c.args.desk.now.places.view in
+    let all = c.as_slice-half-items.ensures.value ∙ c.split-halves.ensures in
+    let halves = c.as_slice-half-items.result.now in
+    let half = c.half-item.result in
+    let same = ap (λ p. p.view) c.loop-half.invariant.kept.places in
+    subst (λ hs. PaysHalves (gridded view) c.args.live.now hs c.args.values.now c.look_into_told.new.values c.args.tally.now c.look_into_told.new.tally) all
+    (next-paid view c.loop-half.desk.places.view c.args.live.now half halves c.loop-half.half-index c.args.values.now c.loop-half.values c.look_into_told.new.values c.args.tally.now c.loop-half.tally c.look_into_told.new.tally
+    same c.loop-half-test.true c.half-item.is c.loop-half.invariant.paid c.in_err-look_into_told.ensures.paid)
 
 pub look_into_halves-loop-half-preserved : goal.look_into_halves-loop-half-preserved
 look_into_halves-loop-half-preserved t c =
-    let view = c.args.desk.now.places.view in
-    let live = c.args.live.now in
-    let g = grid_value view live in
     let all = c.as_slice-half-items.ensures.value ∙ c.split-halves.ensures in
     let halves = c.as_slice-half-items.result.now in
     let half = c.half-item.result in
     let part = half-part c.args.b half halves c.loop-half.half-index c.requires.may.visit_is.box all c.loop-half-test.true c.half-item.is in
+    let view = c.args.desk.now.places.view in
+    let places = c.args.desk.now.places in
+    let live = c.args.live.now in
+    let hands = subst (All (HandsOn (length live))) (sym c.as_slice-outcomes.ensures.value) c.in_ok-outcomes.ensures.hand in
+    let step = step-told places live halves half c.loop-half.half-index c.as_slice-outcomes.result.now c.loop-half.at _ c.loop-half-test.true c.half-item.is hands c.loop-half.invariant.told (ap (λ k. c.loop-half.at + k) (c.from-at.ensures ∙ byte-is c.is_long.result ∙ ap (λ (t : Bool). cond {A = ℕ} t 1 0) c.is_long.ensures)) in
+    let g = grid_value view live in
     let before = c.loop-half.invariant in
-    let after = c.in_ok-look_into.ensures in
+    let after = c.in_ok-look_into_told.ensures in
     let same = ap (λ p. p.view) before.kept.places in
-    let grown = half-grows view c.loop-half.desk.places.view live c.args.b half c.loop-half.values c.look_into.new.values same part after.grows in
+    let grown = half-grows view c.loop-half.desk.places.view live c.args.b half c.loop-half.values c.look_into_told.new.values same part after.grows in
     record {
       kept = record { places = after.kept.places ∙ before.kept.places; room = after.kept.room ∙ before.kept.room; values = after.kept.values ∙ before.kept.values };
-      settled = next-settled view c.loop-half.desk.places.view live c.args.b half halves c.loop-half.half-index c.loop-half.values c.look_into.new.values same c.loop-half-test.true c.half-item.is grown after.settled before.settled;
-      grows = grows-then g c.args.b c.args.values.now c.loop-half.values c.look_into.new.values before.grows grown;
-      counted = next-charged view c.loop-half.desk.places.view live half halves c.loop-half.half-index c.args.values.now c.loop-half.values c.look_into.new.values c.args.tally.now c.loop-half.tally c.look_into.new.tally
+      few = omega (arith, c.loop-half.invariant.few, c.from-at.ensures, byte-most c.is_long.result);
+      told = step.rest;
+      settled = next-settled view c.loop-half.desk.places.view live c.args.b half halves c.loop-half.half-index c.loop-half.values c.look_into_told.new.values same c.loop-half-test.true c.half-item.is grown after.settled before.settled;
+      grows = grows-then g c.args.b c.args.values.now c.loop-half.values c.look_into_told.new.values before.grows grown;
+      counted = next-charged view c.loop-half.desk.places.view live half halves c.loop-half.half-index _ c.args.values.now c.loop-half.values c.look_into_told.new.values c.args.tally.now c.loop-half.tally c.look_into_told.new.tally
           same c.loop-half-test.true c.half-item.is before.counted after.counted;
-      worked = next-worked view c.loop-half.desk.places.view live c.args.b half halves c.loop-half.half-index c.loop-half.values c.look_into.new.values same c.loop-half-test.true c.half-item.is grown after.worked before.worked;
-      paid = next-paid view c.loop-half.desk.places.view live half halves c.loop-half.half-index c.args.values.now c.loop-half.values c.look_into.new.values c.args.tally.now c.loop-half.tally c.look_into.new.tally
+      worked = next-worked view c.loop-half.desk.places.view live c.args.b half halves c.loop-half.half-index c.loop-half.values c.look_into_told.new.values same c.loop-half-test.true c.half-item.is grown after.worked before.worked;
+      paid = next-paid view c.loop-half.desk.places.view live half halves c.loop-half.half-index c.args.values.now c.loop-half.values c.look_into_told.new.values c.args.tally.now c.loop-half.tally c.look_into_told.new.tally
           same c.loop-half-test.true c.half-item.is before.paid after.paid;
-      traced = next-traced view c.loop-half.desk.places.view live half halves c.loop-half.half-index c.args.tally.now c.loop-half.tally c.look_into.new.tally same c.loop-half-test.true c.half-item.is
+      traced = next-traced view c.loop-half.desk.places.view live half halves c.loop-half.half-index _ c.args.tally.now c.loop-half.tally c.look_into_told.new.tally same c.loop-half-test.true c.half-item.is
           before.traced after.traced;
     }
 
@@ -172,68 +311,6 @@ look_into_halves-returns-clause-settled t c =
     all-settled c.layers_hold.ensures g c.args.b c.loop-half.values
     (subst (λ hs. All (λ h. AreSettled g h c.loop-half.values) hs) (take_all c.loop-half.half-index halves (omega (arith, c.loop-half-test.false)) ∙ all) c.loop-half.invariant.settled)
 
-pub look_into_halves-returns-clause-counted : goal.look_into_halves-returns-clause-counted
-look_into_halves-returns-clause-counted t c =
-    let view = c.args.desk.now.places.view in
-    let all = c.as_slice-half-items.ensures.value ∙ c.split-halves.ensures in
-    let halves = c.as_slice-half-items.result.now in
-    subst (λ hs. (f : GridPoint → ℕ) → All (λ h. IsEnough f (gridded view) (visit h c.args.live.now)) hs → Charges f (halves_spans (gridded view) c.args.live.now hs) c.args.values.now c.loop-half.values c.args.tally.now c.loop-half.tally) all
-    (some-charged (gridded view) c.args.live.now halves c.loop-half.half-index c.args.values.now c.loop-half.values c.args.tally.now c.loop-half.tally c.loop-half.invariant.counted)
-
--- ---- what is worked and paid
-
-pub look_into-returns-then-not-is_open-clause-worked : goal.look_into-returns-then-not-is_open-clause-worked
-look_into-returns-then-not-is_open-clause-worked t c =
-    let view = c.args.desk.now.places.view in
-    let b = c.args.b in
-    let list = c.args.received.now in
-    let told = looked view c.args.desk.now.places.lattice b list c.region.result c.look_apart-told.result c.requires.lattice c.region.ensures c.look_apart-told.ensures.decision in
-    let open' = opened view b list c.n.result c.look_apart-told.result c.is_open.result (c.n.ensures ∙ c.requires.n) told c.is_open.ensures in
-    closed-worked view (visit b list) c.args.values.now c.requires.visit_is (open' ∙ c.if-not-is_open.true)
-
-pub look_into-returns-then-not-is_open-clause-paid : goal.look_into-returns-then-not-is_open-clause-paid
-look_into-returns-then-not-is_open-clause-paid t c =
-    look-paid (gridded c.args.desk.now.places.view) (visit c.args.b c.args.received.now) c.args.values.now c.args.tally.now c.look_apart-told.new.tally
-    (most-hulls c.args.tally.now c.look_apart-told.new.tally _ c.look_apart-told.ensures.counted)
-
-pub look_into-returns-in_err-live-clause-paid : goal.look_into-returns-in_err-live-clause-paid
-look_into-returns-in_err-live-clause-paid t c =
-    look-paid (gridded c.args.desk.now.places.view) (visit c.args.b c.args.received.now) c.args.values.now c.args.tally.now c.look_apart-told.new.tally
-    (most-hulls c.args.tally.now c.look_apart-told.new.tally _ c.look_apart-told.ensures.counted)
-
-pub look_into-returns-clause-worked : goal.look_into-returns-clause-worked
-look_into-returns-clause-worked t c =
-    let view = c.args.desk.now.places.view in
-    let b = c.args.b in
-    let list = c.args.received.now in
-    let told = looked view c.args.desk.now.places.lattice b list c.region.result c.look_apart-told.result c.requires.lattice c.region.ensures c.look_apart-told.ensures.decision in
-    let open' = opened view b list c.n.result c.look_apart-told.result c.is_open.result (c.n.ensures ∙ c.requires.n) told c.is_open.ensures in
-    let same = handed view c.args.desk.now.places.lattice b list c.in_ok-live.live c.region.result c.look_apart-told.new.self c.requires.lattice c.region.ensures c.look_apart-told.ensures.choices c.in_ok-live.ensures.list in
-    on_ok-then c.look_into_halves.result _ _
-    (halves-worked c.layers_hold.ensures view (visit b list) c.in_ok-live.live c.look_into_halves.new.values c.requires.visit_is (open' ∙ c.if-not-is_open.false) (sym c.is_long.ensures ∙ c.if-not-is_long.false) same)
-    c.look_into_halves.ensures.worked
-
-pub look_into-returns-clause-paid : goal.look_into-returns-clause-paid
-look_into-returns-clause-paid t c =
-    let view = c.args.desk.now.places.view in
-    let b = c.args.b in
-    let list = c.args.received.now in
-    let told = looked view c.args.desk.now.places.lattice b list c.region.result c.look_apart-told.result c.requires.lattice c.region.ensures c.look_apart-told.ensures.decision in
-    let open' = opened view b list c.n.result c.look_apart-told.result c.is_open.result (c.n.ensures ∙ c.requires.n) told c.is_open.ensures in
-    let same = handed view c.args.desk.now.places.lattice b list c.in_ok-live.live c.region.result c.look_apart-told.new.self c.requires.lattice c.region.ensures c.look_apart-told.ensures.choices c.in_ok-live.ensures.list in
-    halves-paid c.layers_hold.ensures view (visit b list) c.in_ok-live.live c.args.values.now c.look_into_halves.new.values c.args.tally.now c.look_apart-told.new.tally c.look_into_halves.new.tally c.requires.visit_is
-    (open' ∙ c.if-not-is_open.false) (sym c.is_long.ensures ∙ c.if-not-is_long.false) same c.look_apart-told.ensures.counted c.look_into_halves.ensures.paid
-
-pub look_into_halves-returns-in_err-look_into-clause-paid : goal.look_into_halves-returns-in_err-look_into-clause-paid
-look_into_halves-returns-in_err-look_into-clause-paid t c =
-    let view = c.args.desk.now.places.view in
-    let live = c.args.live.now in
-    let all = c.as_slice-half-items.ensures.value ∙ c.split-halves.ensures in
-    let halves = c.as_slice-half-items.result.now in
-    let same = ap (λ p. p.view) c.loop-half.invariant.kept.places in
-    subst (λ hs. PaysHalves (gridded view) live hs c.args.values.now c.look_into.new.values c.args.tally.now c.look_into.new.tally) all
-    (next-paid view c.loop-half.desk.places.view live c.half-item.result halves c.loop-half.half-index c.args.values.now c.loop-half.values c.look_into.new.values c.args.tally.now c.loop-half.tally c.look_into.new.tally
-    same c.loop-half-test.true c.half-item.is c.loop-half.invariant.paid c.in_err-look_into.ensures.paid)
 
 pub look_into_halves-returns-clause-worked : goal.look_into_halves-returns-clause-worked
 look_into_halves-returns-clause-worked t c =
@@ -241,45 +318,18 @@ look_into_halves-returns-clause-worked t c =
     let halves = c.as_slice-half-items.result.now in
     subst (λ hs. All (λ h. AreWorked (gridded c.args.desk.now.places.view) (visit h c.args.live.now) c.loop-half.values) hs) (take_all c.loop-half.half-index halves (omega (arith, c.loop-half-test.false)) ∙ all) c.loop-half.invariant.worked
 
-pub look_into_halves-returns-clause-paid : goal.look_into_halves-returns-clause-paid
-look_into_halves-returns-clause-paid t c =
+pub look_into_halves-returns-clause-counted : goal.look_into_halves-returns-clause-counted
+look_into_halves-returns-clause-counted t c =
+    let view = c.args.desk.now.places.view in
     let all = c.as_slice-half-items.ensures.value ∙ c.split-halves.ensures in
-    subst (λ hs. PaysHalves (gridded c.args.desk.now.places.view) c.args.live.now hs c.args.values.now c.loop-half.values c.args.tally.now c.loop-half.tally) all c.loop-half.invariant.paid
-
--- ---- what is traced
-
-pub look_into-returns-then-not-is_long-clause-traced : goal.look_into-returns-then-not-is_long-clause-traced
-look_into-returns-then-not-is_long-clause-traced t c =
-    on_ok c.look_into_cell.result _
-    (cell-traced (gridded c.args.desk.now.places.view) (visit c.args.b c.args.received.now) c.args.values.now c.look_into_cell.new.values c.args.tally.now c.look_into_cell.new.tally c.requires.visit_is.box
-    (sym c.is_long.ensures ∙ c.if-not-is_long.true) c.look_into_cell.ensures.paid)
-
-pub look_into-returns-then-not-is_open-clause-traced : goal.look_into-returns-then-not-is_open-clause-traced
-look_into-returns-then-not-is_open-clause-traced t c =
-    let view = c.args.desk.now.places.view in
-    let b = c.args.b in
-    let list = c.args.received.now in
-    let told = looked view c.args.desk.now.places.lattice b list c.region.result c.look_apart-told.result c.requires.lattice c.region.ensures c.look_apart-told.ensures.decision in
-    let open' = opened view b list c.n.result c.look_apart-told.result c.is_open.result (c.n.ensures ∙ c.requires.n) told c.is_open.ensures in
-    closed-traced view (visit b list) c.args.tally.now c.look_apart-told.new.tally c.requires.visit_is.box (open' ∙ c.if-not-is_open.true) (sym c.is_long.ensures ∙ c.if-not-is_long.false)
-    c.look_apart-told.ensures.counted
-
-pub look_into-returns-clause-traced : goal.look_into-returns-clause-traced
-look_into-returns-clause-traced t c =
-    let view = c.args.desk.now.places.view in
-    let b = c.args.b in
-    let list = c.args.received.now in
-    let told = looked view c.args.desk.now.places.lattice b list c.region.result c.look_apart-told.result c.requires.lattice c.region.ensures c.look_apart-told.ensures.decision in
-    let open' = opened view b list c.n.result c.look_apart-told.result c.is_open.result (c.n.ensures ∙ c.requires.n) told c.is_open.ensures in
-    let same = handed view c.args.desk.now.places.lattice b list c.in_ok-live.live c.region.result c.look_apart-told.new.self c.requires.lattice c.region.ensures c.look_apart-told.ensures.choices c.in_ok-live.ensures.list in
-    on_ok-then c.look_into_halves.result _ _
-    (halves-traced c.layers_hold.ensures view (visit b list) c.in_ok-live.live c.args.tally.now c.look_apart-told.new.tally c.look_into_halves.new.tally c.requires.visit_is
-    (open' ∙ c.if-not-is_open.false) (sym c.is_long.ensures ∙ c.if-not-is_long.false) same c.look_apart-told.ensures.counted)
-    c.look_into_halves.ensures.traced
+    let halves = c.as_slice-half-items.result.now in
+    subst (λ hs. ChargesHalves (gridded view) c.args.live.now hs c.args.values.now c.loop-half.values c.args.tally.now c.loop-half.tally) all
+    (some-charged c.layers_hold.ensures view c.args.live.now halves c.loop-half.half-index c.args.values.now c.loop-half.values c.args.tally.now c.loop-half.tally (halves-boxes c.args.b halves c.requires.may.visit_is.box all) c.loop-half.invariant.counted)
 
 pub look_into_halves-returns-clause-traced : goal.look_into_halves-returns-clause-traced
 look_into_halves-returns-clause-traced t c =
+    let d = gridded c.args.desk.now.places.view in
     let all = c.as_slice-half-items.ensures.value ∙ c.split-halves.ensures in
     let halves = c.as_slice-half-items.result.now in
-    subst (λ hs. CountsHullsAtLeast (halves_long_spans (gridded c.args.desk.now.places.view) c.args.live.now hs) c.args.tally.now c.loop-half.tally)
-    (take_all c.loop-half.half-index halves (omega (arith, c.loop-half-test.false)) ∙ all) c.loop-half.invariant.traced
+    subst (λ hs. CountsHullsAtLeast (halves_long_spans d c.args.live.now hs) c.args.tally.now c.loop-half.tally) all
+    (all-traced d c.args.live.now halves c.loop-half.half-index c.args.tally.now c.loop-half.tally (omega (arith, c.loop-half-test.false)) c.loop-half.invariant.traced)

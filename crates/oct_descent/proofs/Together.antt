@@ -1,0 +1,163 @@
+-- What tracing together told of the halves of a box.
+use Rattle.std.proofs.Common.{◌≡◌, ℕ, ◌+◌, ◌-◌, ◌<◌, ◌≤◌, Bool, true, false, cond, List, [], ◌∷◌, ◌++◌, length, get_or, drop, map, refl, sym, ap, subst, ◌∙◌, ◌⊎◌, inl, inr, arith}
+use mir.Val.{bool_byte}
+use Rattle.std.specs.Prelude.{Option, Some, None}
+use Rattle.std.specs.List.{All}
+use Rattle.std.proofs.lemmas.Bool.{false≢true}
+use Rattle.std.proofs.lemmas.List.{drop_more, get_or_read, length-drop}
+use Rattle.std.proofs.lemmas.List.Concat.{flat_map-cons}
+use Rattle.std.proofs.lemmas.List.Elements.{All-get_or}
+use Rattle.box_chains.specs.Chains.{decision, handed_on, is_long, visit}
+use Rattle.box_chains.specs.Outcomes.{HandsOn, IsHandedOn, asked_outcome, asked_outcomes, held_decision, outcome_by}
+use Rattle.box_chains.specs.Placing.{Sampling}
+use Rattle.box_chains.specs.declared.asked_box.AskedBox.{AskedBox}
+use Rattle.box_chains.specs.declared.outcome.Outcome.{Outcome}
+use Rattle.box_chains.specs.declared.outcome.Outcome.TheVariants.{Inside, Outside, Open}
+use Rattle.live_clauses.specs.declared.step.Step.{Step}
+use Rattle.view_settings.specs.Boxes.{Indices}
+use Rattle.view_settings.specs.Window.{Window}
+use Rattle.view_settings.specs.declared.lattice.Lattice.TheVariants as lattices
+use Rattle.oct_descent.specs.Desks.{IsAt, IsToldAt, asked_of, longer}
+use Rattle.oct_descent.specs.Ways.{gridded, is_open, is_open_by, meets_border}
+
+-- whether an outcome hands on a list, and which
+unfoldable pub opens : Outcome → Bool
+opens Inside = false
+opens Outside = false
+opens (Open list) = true
+
+unfoldable pub list_in : Outcome → List Step
+list_in Inside = []
+list_in Outside = []
+list_in (Open list) = list
+
+opens-by : (n : ℕ) (b : Indices) (told : Option Bool) (held : Bool) (live : List Step) → meets_border n b ≡ held → opens (outcome_by (held_decision held told) live) ≡ is_open_by n b told
+unfolding opens
+opens-by n b None false live e = refl
+opens-by n b None true live e = refl
+opens-by n b (Some true) false live e = sym e
+opens-by n b (Some true) true live e = sym e
+opens-by n b (Some false) false live e = refl
+opens-by n b (Some false) true live e = refl
+
+list-by : (told : Option Bool) (held : Bool) (live : List Step) → opens (outcome_by (held_decision held told) live) ≡ true → list_in (outcome_by (held_decision held told) live) ≡ live
+unfolding list_in opens
+list-by None false live e = refl
+list-by None true live e = refl
+list-by (Some true) false live e = absurd (false≢true e)
+list-by (Some true) true live e = refl
+list-by (Some false) false live e = absurd (false≢true e)
+list-by (Some false) true live e = absurd (false≢true e)
+
+-- a box stays open where its outcome hands on a list, and that is the box's
+pub told-opens : (view : Window) (b : Indices) (list : List Step) (o : Outcome) → o ≡ asked_outcome (record { view = view; lattice = lattices.Grid }) list (asked_of view.n b) → is_open (gridded view) (visit b list) ≡ opens o
+told-opens view b list o is =
+    sym (ap opens is ∙ opens-by view.n b (decision (gridded view) (visit b list)) (meets_border view.n b) (handed_on (gridded view) (visit b list)) refl)
+
+pub told-hands : (view : Window) (b : Indices) (list : List Step) (o : Outcome) → o ≡ asked_outcome (record { view = view; lattice = lattices.Grid }) list (asked_of view.n b) → opens o ≡ true
+    → list_in o ≡ handed_on (gridded view) (visit b list)
+told-hands view b list o is open' =
+    ap list_in is ∙ list-by (decision (gridded view) (visit b list)) (meets_border view.n b) (handed_on (gridded view) (visit b list)) (sym (ap opens is) ∙ open')
+
+-- what stands at a place stands first behind it
+head_or : {A : Type 0} → A → List A → A
+head_or d [] = d
+head_or d (x ∷ xs) = x
+
+rest_of : {A : Type 0} → List A → List A
+rest_of [] = []
+rest_of (x ∷ xs) = xs
+
+record IsNext {A : Type 0} (xs : List A) (at : ℕ) (d y : A) (ys : List A) : Type 0 where
+  within : at < length xs
+  is : get_or xs at d ≡ y
+  rest : drop (at + 1) xs ≡ ys
+
+next-is : {A : Type 0} (xs : List A) (at : ℕ) (d y : A) (ys : List A) → drop at xs ≡ y ∷ ys → IsNext xs at d y ys
+unfolding head_or rest_of
+next-is xs at d y ys e =
+    let within : at < length xs = omega (arith, length-drop at xs, ap length e) in
+    let both = sym (drop_more xs at d within) ∙ e in
+    record { within = within; is = ap (head_or d) both; rest = ap rest_of both }
+
+-- The outcomes from a place on are those of the longer halves from another on: so what is told of the
+-- first of these stands at that place, where it is longer than a cell, and the others behind it.
+pub record IsStep (places : Sampling) (list : List Step) (halves : List Indices) (half : Indices) (i : ℕ) (outcomes : List Outcome) (at next : ℕ) : Type 0 where
+  pub told : IsToldAt places list half outcomes at
+  pub rest : drop next outcomes ≡ asked_outcomes places list (longer places.view.n (drop (i + 1) halves))
+
+pub step-told : (places : Sampling) (list : List Step) (halves : List Indices) (half : Indices) (i : ℕ) (outcomes : List Outcome) (at next : ℕ) → i < length halves → half ≡ get_or halves i half
+    → All (HandsOn (length list)) outcomes → drop at outcomes ≡ asked_outcomes places list (longer places.view.n (drop i halves))
+    → next ≡ at + cond (is_long 1 half) 1 0 → IsStep places list halves half i outcomes at next
+step-told places list halves half i outcomes at next within read hands are step = by (is_long 1 half) refl
+  where
+    n : ℕ
+    n = places.view.n
+
+    piece : Indices → List AskedBox
+    piece b = cond (is_long 1 b) (asked_of n b ∷ []) []
+
+    after : List Indices
+    after = drop (i + 1) halves
+
+    split : drop at outcomes ≡ asked_outcomes places list (piece half ++ longer n after)
+    split = are ∙ ap (λ hs. asked_outcomes places list (longer n hs)) (drop_more halves i half within ∙ ap (λ h. h ∷ after) (sym read))
+        ∙ ap (asked_outcomes places list) (flat_map-cons piece half after)
+
+    by : (long : Bool) → is_long 1 half ≡ long → IsStep places list halves half i outcomes at next
+    by true e =
+        let next' = next-is outcomes at Outside (asked_outcome places list (asked_of n half)) (asked_outcomes places list (longer n after))
+        (split ∙ ap (λ (t : Bool). asked_outcomes places list (cond t (asked_of n half ∷ []) [] ++ longer n after)) e) in
+        record {
+          told = λ long. record { within = next'.within; is = next'.is; hands = All-get_or (HandsOn (length list)) outcomes at Outside next'.within hands };
+          rest = ap (λ k. drop k outcomes) (step ∙ ap (λ (t : Bool). at + cond {A = ℕ} t 1 0) e) ∙ next'.rest;
+        }
+    by false e = record {
+      told = λ long. absurd (false≢true (sym e ∙ long));
+      rest = ap (λ k. drop k outcomes) (step ∙ ap (λ (t : Bool). at + cond {A = ℕ} t 1 0) e ∙ omega arith) ∙ split ∙ ap (λ (t : Bool). asked_outcomes places list (cond t (asked_of n half ∷ []) [] ++ longer n after)) e;
+    }
+
+-- what is told of a box of a grid
+pub record IsLooked (view : Window) (b : Indices) (list : List Step) (o : Outcome) : Type 0 where
+  pub told : o ≡ asked_outcome (record { view = view; lattice = lattices.Grid }) list (asked_of view.n b)
+  pub hands : HandsOn (length list) o
+
+pub at-told : (places : Sampling) (list : List Step) (b : Indices) (outcomes : List Outcome) (at : ℕ) (o : Outcome) → places.lattice ≡ lattices.Grid → IsAt places list b outcomes at → o ≡ get_or outcomes at o
+    → IsLooked places.view b list o
+at-told places list b outcomes at o placed told read =
+    let same = get_or_read outcomes at o told.within read Outside in
+    record {
+      told = same ∙ told.is ∙ ap (λ l. asked_outcome (record { view = places.view; lattice = l }) list (asked_of places.view.n b)) placed;
+      hands = subst (HandsOn (length list)) (sym same) told.hands;
+    }
+
+-- a box that hands on a list stays open, and it is that box's list
+pub record IsOpened (view : Window) (b : Indices) (list live : List Step) : Type 0 where
+  pub open' : is_open (gridded view) (visit b list) ≡ true
+  pub same : live ≡ handed_on (gridded view) (visit b list)
+  pub hands : IsHandedOn (length list) live
+
+pub opened-told : (view : Window) (b : Indices) (list live : List Step) (o : Outcome) → IsLooked view b list o → o ≡ Open live → IsOpened view b list live
+unfolding opens list_in
+opened-told view b list live o looked is =
+    let open' = ap opens is in
+    record {
+      open' = told-opens view b list o looked.told ∙ open';
+      same = sym (ap list_in is) ∙ told-hands view b list o looked.told open';
+      hands = subst (HandsOn (length list)) is looked.hands;
+    }
+
+-- any other does not
+pub closed-told : (view : Window) (b : Indices) (list : List Step) (o : Outcome) → IsLooked view b list o → (o ≡ Inside) ⊎ (o ≡ Outside) → is_open (gridded view) (visit b list) ≡ false
+unfolding opens
+closed-told view b list o looked (inl is) = told-opens view b list o looked.told ∙ ap opens is
+closed-told view b list o looked (inr is) = told-opens view b list o looked.told ∙ ap opens is
+
+-- a flag as a number
+pub byte-is : (b : Bool) → bool_byte b ≡ cond b 1 0
+byte-is true = refl
+byte-is false = refl
+
+pub byte-most : (b : Bool) → bool_byte b ≤ 1
+byte-most true = omega arith
+byte-most false = omega arith
