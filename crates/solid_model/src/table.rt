@@ -1,4 +1,5 @@
-// A list of clauses in which a name is found at once, and whose clauses move without their operands.
+// A list of clauses in which a name is found at once, and whose clauses move without their
+// operands.
 ghost use Rattle.std.specs.Prelude.{◌≡◌, ◌≢◌, ℕ, ◌<◌, ◌≤◌, [], ◌∷◌, ◌++◌, length, map, set, slice_get, slice_index_or, if◌then◌else◌, true, false, is_some, Some, None, IfErr, IfOk, IfSome, OnErr, OnOk};
 ghost use Rattle.std.specs.List.{insert, position, remove};
 ghost use Rattle.std.specs.Option.{unwrap_or};
@@ -132,9 +133,12 @@ impl Table {
     // Adds a clause of this name and form as the last one.
     pub(crate) fn add(&mut self, name: Name, form: Form) -> Result<(), EditFault>
         requires in_order { AreInOrder (clauses_in self.old) }
-        ensures ok { OnOk result (added (clauses_in self.old) name form ≡ Ok (clauses_in self.new)) }
-        ensures fault { RefusesAs (added (clauses_in self.old) name form) EditFault.NoMemory result }
-        ensures no_memory { WantsMemoryFor (added (clauses_in self.old) name form) EditFault.NoMemory result }
+        ensures ok { OnOk result (added (clauses_in self.old) name form
+            ≡ Ok (clauses_in self.new)) }
+        ensures fault { RefusesAs (added (clauses_in self.old) name form) EditFault.NoMemory
+            result }
+        ensures no_memory { WantsMemoryFor (added (clauses_in self.old) name form)
+            EditFault.NoMemory result }
         ensures err { OnErr result (clauses_in self.new ≡ clauses_in self.old) }
         ensures name { IsName name }
         ensures form { IsForm form }
@@ -146,7 +150,8 @@ impl Table {
 
     // Gives the clause of this name another form.
     pub(crate) fn set(&mut self, name: Name, form: Form) -> Result<(), EditFault>
-        ensures ok { OnOk result (formed (clauses_in self.old) name form ≡ Ok (clauses_in self.new)) }
+        ensures ok { OnOk result (formed (clauses_in self.old) name form
+            ≡ Ok (clauses_in self.new)) }
         ensures fault { IfErr result (λ fault. formed (clauses_in self.old) name form ≡ Err fault) }
         ensures memory { IfErr result (λ fault. fault ≢ EditFault.NoMemory) }
         ensures err { OnErr result (clauses_in self.new ≡ clauses_in self.old) }
@@ -165,10 +170,12 @@ impl Table {
     // Puts a clause of this name and form directly before that of another name.
     pub(crate) fn put(&mut self, next: Name, name: Name, form: Form) -> Result<(), EditFault>
         requires in_order { AreInOrder (clauses_in self.old) }
-        ensures ok { OnOk result (put_in (clauses_in self.old) next name form ≡ Ok (clauses_in self.new)) }
-        ensures fault { RefusesAs (put_in (clauses_in self.old) next name form) EditFault.NoMemory result }
-        ensures no_memory { WantsMemoryFor (put_in (clauses_in self.old) next name form) EditFault.NoMemory
+        ensures ok { OnOk result (put_in (clauses_in self.old) next name form
+            ≡ Ok (clauses_in self.new)) }
+        ensures fault { RefusesAs (put_in (clauses_in self.old) next name form) EditFault.NoMemory
             result }
+        ensures no_memory { WantsMemoryFor (put_in (clauses_in self.old) next name form)
+            EditFault.NoMemory result }
         ensures err { OnErr result (clauses_in self.new ≡ clauses_in self.old) }
         ensures name { IsName name }
         ensures form { IsForm form }
@@ -255,7 +262,8 @@ impl Table {
 
     // Why a clause of this name does not go last: its fault, or else that memory was refused.
     pub(crate) fn refusal(&self, name: &[u8]) -> PushFault
-        ensures { result ≡ unwrap_or (push_fault (clauses_in self.now) name.now) PushFault.NoMemory }
+        ensures { result
+            ≡ unwrap_or (push_fault (clauses_in self.now) name.now) PushFault.NoMemory }
     {
         if self.position(name).is_some() {
             PushFault::DoubleName
@@ -375,10 +383,10 @@ impl Table {
         self.users.clear();
     }
 
-    // The place of the first clause that has the clause at a place as an operand; the clauses stay.
-    // Where none has it, that is known at once, and else only a later one can have it. A place that
-    // was found is kept until the clauses change, so that of the calls in between only the first for
-    // a clause takes more than constant time.
+    // The place of the first clause that has the clause at a place as an operand. The clauses stay
+    // as they are. Where none has it, that is known at once, and else only a later one can have it.
+    // A place that was found is kept until the clauses change. So between two changes one clause is
+    // looked for at most once, past at most 65,535 rows, and a further call takes constant time.
     fn first_user(&mut self, at: u32) -> Option<usize>
         requires in_order { AreInOrder (clauses_in self.old) }
         requires there { at < length (clauses_in self.old) }

@@ -4,7 +4,8 @@ ghost use Rattle.solid_model.specs.Tables.{AreUnread, IsReader};
 
 use crate::row::Row;
 
-// The first user of a number that is kept, or 0 where none is: the clause at place 0 has no operand.
+// The first user of a number that is kept, or 0 where none is: the clause at place 0 has no
+// operand.
 #[inline]
 pub(crate) fn kept_user(users: &Vec<u16>, number: u16) -> u16
     ensures { result ≡ slice_index_or users.now.items number 0 }
@@ -15,7 +16,8 @@ pub(crate) fn kept_user(users: &Vec<u16>, number: u16) -> u16
     }
 }
 
-// Keeps the first user of a number, unless memory is refused. The list is as long as it has to be.
+// Keeps the first user of a number, unless memory is refused. The list reaches as far as the
+// numbers with a user that is kept.
 pub(crate) fn keep_user(users: &mut Vec<u16>, number: u16, user: u16)
     ensures { (n : ℕ) → (slice_index_or users.new.items n 0 ≡ slice_index_or users.old.items n 0)
         ⊎ ((n ≡ number) × (slice_index_or users.new.items n 0 ≡ user)) }
