@@ -93,9 +93,7 @@ impl Rows {
         let regions = regions_of::<L>(places, asked);
         let rows = self.choices.as_mut_slice();
         let halves = trace_halves(tape, &regions, &mut self.hulls, rows, tally);
-        push_outcomes(
-            alloc, tape, asked, &halves, rows, choices, marks, outcomes,
-        )
+        push_outcomes(alloc, tape, asked, &halves, rows, choices, marks, outcomes)
     }
 }
 

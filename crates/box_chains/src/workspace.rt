@@ -274,7 +274,8 @@ impl Workspace {
         ensures counted { CountsHulls (length tape.now) tally.old tally.new }
     {
         traces_are_right();
-        match held_open(self.look(tape, places.region(asked.range), tally), asked.held) {
+        let told = self.look(tape, places.region(asked.range), tally);
+        match held_open(told, asked.held) {
             Some(true) => Ok(Outcome::Inside),
             Some(false) => Ok(Outcome::Outside),
             None => Ok(Outcome::Open(self.hand_on(alloc, tape)?)),

@@ -204,6 +204,7 @@ fn asked_box(n: u32, b: IndexBox) -> AskedBox
 }
 
 // Looks into a cell. Nothing is traced where its known corners show how it lies.
+#[inline(always)]
 fn look_into_cell(
     desk: &mut Desk,
     b: IndexBox,

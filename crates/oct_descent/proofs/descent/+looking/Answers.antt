@@ -38,8 +38,7 @@ look_into_told-look_into_halves-requires t c =
     let live = c.in-Open.live in
     let long = sym c.is_long.ensures ∙ c.if-not-is_long.false in
     let looked = at-told c.args.desk.now.places c.args.received.now c.args.b c.args.outcomes.now c.args.at c.index-outcomes-at.result c.requires.may.lattice (c.requires.told long) c.index-outcomes-at.is in
-    let opened = opened-told view c.args.b c.args.received.now live c.index-outcomes-at.result looked c.in-Open.is in
-    (
+    let opened = opened-told view c.args.b c.args.received.now live c.index-outcomes-at.result looked c.in-Open.is in (
       omega (arith, c.decreases),
       (
         record {
@@ -248,7 +247,6 @@ look_into_halves-returns-in_err-look_into_told-clause-grows t c =
     grows-then (grid_value view c.args.live.now) c.args.b c.args.values.now c.loop-half.values c.look_into_told.new.values c.loop-half.invariant.grows
     (half-grows view c.loop-half.desk.places.view c.args.live.now c.args.b half c.loop-half.values c.look_into_told.new.values same part c.in_err-look_into_told.ensures.grows)
 
-
 pub look_into_halves-returns-in_err-look_into_told-clause-counted : goal.look_into_halves-returns-in_err-look_into_told-clause-counted
 look_into_halves-returns-in_err-look_into_told-clause-counted t c =
     let view = c.args.desk.now.places.view in
@@ -310,7 +308,6 @@ look_into_halves-returns-clause-settled t c =
     let halves = c.as_slice-half-items.result.now in
     all-settled c.layers_hold.ensures g c.args.b c.loop-half.values
     (subst (λ hs. All (λ h. AreSettled g h c.loop-half.values) hs) (take_all c.loop-half.half-index halves (omega (arith, c.loop-half-test.false)) ∙ all) c.loop-half.invariant.settled)
-
 
 pub look_into_halves-returns-clause-worked : goal.look_into_halves-returns-clause-worked
 look_into_halves-returns-clause-worked t c =
