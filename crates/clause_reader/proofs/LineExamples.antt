@@ -6,7 +6,9 @@ use Rattle.std.proofs.lemmas.Bool.{eqb-false, not-true}
 use Rattle.std.proofs.lemmas.List.Elements.{All-head, All-weaker}
 use Rattle.std.proofs.lemmas.List.Sums.{AllPass-from_list_all}
 use Rattle.solid_model.specs.Names.{is_blank}
+use Rattle.clause_reader.specs.declared.comments.Comments.TheVariants.{Skipped, Kept}
 use Rattle.clause_reader.specs.LineLaws.{HasNoFeed, AreLines, AreBlanks, HasNoBlank, EndsToken, Spaced}
+use Rattle.clause_reader.specs.NumberedLines.{given_lines}
 
 abbrev is_no_feed : ℕ → Bool
 is_no_feed byte = not (eqb byte 10)
@@ -104,3 +106,14 @@ run_is_not_cut (rest, first, later) = by first.gap first.parts first.blanks
         let same : byte ≡ 97 = cc in
         let blank : is_blank 97 ≡ true = subst (λ b. is_blank b ≡ true) same (All-head (λ b. is_blank b ≡ true) byte gap all) in
         (cc)
+
+-- lines that are given keep their numbers, without comments or with them
+abbrev commented : List ℕ
+commented = codes "# a\n\nb c\n #d\ne"
+
+without_comments : given_lines Skipped commented ≡ (3, codes "b" ∷ codes "c" ∷ []) ∷ (5, codes "e" ∷ []) ∷ []
+without_comments = refl
+
+with_comments : given_lines Kept commented
+    ≡ (1, codes "#" ∷ codes "a" ∷ []) ∷ (3, codes "b" ∷ codes "c" ∷ []) ∷ (4, codes "#d" ∷ []) ∷ (5, codes "e" ∷ []) ∷ []
+with_comments = refl

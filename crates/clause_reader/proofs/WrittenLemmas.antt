@@ -1,5 +1,5 @@
 -- What a line says is what its operation and arguments say, before and after names are looked up.
-use Rattle.std.proofs.Common.{◌≡◌, ◌≢◌, if◌then◌else◌, IfOk, IfErr, IsOk, ap, sym, subst, ◌∙◌, ℕ, Bool, true, false, not, eqb, List, [], ◌∷◌, length, Option, Some, None, Result, Ok, Err, refl}
+use Rattle.std.proofs.Common.{◌≡◌, ◌≢◌, if◌then◌else◌, IfOk, ap, sym, subst, ◌∙◌, ℕ, Bool, true, false, not, eqb, List, [], ◌∷◌, length, Option, Some, None, Result, Ok, Err, refl}
 use Rattle.std.specs.List.{list_any}
 use Rattle.fixed_ops.specs.declared.operation.Op.{Op}
 use Rattle.solid_model.specs.declared.clause.Clause.{Clause}
@@ -7,6 +7,7 @@ use Rattle.solid_model.specs.Parts.{Parts}
 use Rattle.clause_reader.specs.declared.form_fault.FormFault.{FormFault}
 use Rattle.clause_reader.specs.declared.form_fault.FormFault.TheVariants.{BadName, NoMemory}
 use Rattle.clause_reader.specs.Forms.{operation_of, takes, numerals, is_no_numeral, form_read, GivesForm}
+use Rattle.clause_reader.specs.Gives.{Gives}
 use Rattle.clause_reader.specs.Lines.{begins_comment}
 use Rattle.clause_reader.specs.Reading.{clauses_with}
 use Rattle.clause_reader.specs.Written.{written, checked, extended}
@@ -43,12 +44,9 @@ clauses_with-written clauses name (word ∷ args) = by (operation_of word) refl
 
 -- what making a form gives is what reading it gives
 pub gives-form : (tokens : List (List ℕ)) (parts : Parts) (r : Result Parts FormFault) → written tokens ≡ Ok parts
-    → IfOk r (λ made. checked (Ok parts) ≡ Ok made) → IfErr r (λ fault. fault ≢ NoMemory → checked (Ok parts) ≡ Err fault)
-    → IfErr r (λ fault. fault ≡ NoMemory → IsOk (checked (Ok parts))) → GivesForm tokens r
-gives-form tokens parts (Ok made) e ok fault no_memory = form_read-written tokens ∙ ap checked e ∙ ok
-gives-form tokens parts (Err f) e ok fault no_memory =
-    let meaning = form_read-written tokens ∙ ap checked e in
-    (λ h. meaning ∙ fault h, λ h. subst IsOk (sym meaning) (no_memory h))
+    → Gives NoMemory (checked (Ok parts)) r → GivesForm tokens r
+gives-form tokens parts r e gives =
+    subst (λ (meaning : Result Parts FormFault). Gives NoMemory meaning r) (sym (form_read-written tokens ∙ ap checked e)) gives
 
 -- and where operands are written, the form that is read has some
 pub names-read : (tokens : List (List ℕ)) (parts : Parts) → written tokens ≡ Ok parts → parts.args ≢ [] → IfOk (form_read tokens) (λ form. form.args ≢ [])

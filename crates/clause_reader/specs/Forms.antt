@@ -1,5 +1,5 @@
 -- What an operation and its arguments say, as tokens.
-use Rattle.std.specs.Prelude.{ℕ, ◌==◌, ℤ, pos, Bool, not, List, [], ◌∷◌, length, Option, Some, None, is_none, Result, Ok, Err, if◌then◌else◌, ◌≡◌, ◌≢◌, IsOk}
+use Rattle.std.specs.Prelude.{ℕ, ◌==◌, ℤ, pos, Bool, not, List, [], ◌∷◌, length, Option, Some, None, is_none, Result, Ok, Err, if◌then◌else◌}
 use Rattle.std.specs.List.{find, list_any}
 use Rattle.std.specs.Option.{unwrap_or}
 use Rattle.std.specs.Str.{bytes_eq}
@@ -11,6 +11,7 @@ use Rattle.fixed_ops.specs.OpNames.{name_of}
 use Rattle.solid_model.specs.Parts.{Parts}
 use Rattle.clause_reader.specs.declared.form_fault.FormFault.{FormFault}
 use Rattle.clause_reader.specs.declared.form_fault.FormFault.TheVariants.{NoOperation, UnknownOperation, WrongArity, BadNumeral, BadName, NoMemory}
+use Rattle.clause_reader.specs.Gives.{Gives}
 use Rattle.clause_reader.specs.Lines.{begins_comment}
 
 -- all operations
@@ -67,6 +68,4 @@ form_read (word ∷ args) = on_operation (operation_of word)
 -- what reading a form gives: the form that its tokens say, or the very fault that they have, or
 -- want of memory for the form that they say
 abbrev pub GivesForm : List (List ℕ) → Result Parts FormFault → Type 0
-GivesForm tokens (Ok form) = form_read tokens ≡ Ok form
-GivesForm tokens (Err fault) =
-    (fault ≢ NoMemory → form_read tokens ≡ Err fault) × (fault ≡ NoMemory → IsOk (form_read tokens))
+GivesForm tokens result = Gives NoMemory (form_read tokens) result

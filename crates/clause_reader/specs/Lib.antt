@@ -1,5 +1,6 @@
 pub mod Forms
 pub mod GivenLines
+pub mod Gives
 pub mod LineLaws
 pub mod LineSplits
 pub mod Lines

@@ -2,11 +2,11 @@
 ghost use Rattle.std.specs.Prelude.{◌≡◌, ◌≢◌, [], Ok, Err, IfOk, IsOk};
 ghost use Rattle.std.specs.List.{list_any};
 ghost use Rattle.clause_reader.specs.Forms.{form_read, GivesForm};
+ghost use Rattle.clause_reader.specs.Gives.{Gives};
 ghost use Rattle.clause_reader.specs.Lines.{begins_comment};
 ghost use Rattle.clause_reader.specs.Scan.{line_tokens};
 ghost use Rattle.clause_reader.specs.Written.{checked, names_in, parts_in};
 ghost use Rattle.solid_model.specs.Parts.{IsForm};
-ghost use Rattle.solid_model.specs.Refusals.{RefusesAs, WantsMemoryFor};
 
 use crate::operands::Operands;
 use crate::token::begins_comment;
@@ -35,10 +35,7 @@ pub fn read_form(alloc: Global, rest: &[u8]) -> Result<Form, FormFault>
 // The form of an operation with its operands, none of which begins a comment.
 fn make_form(alloc: Global, form: WrittenForm<'_>) -> Result<Form, FormFault>
     requires { IsForm (parts_in form) }
-    ensures ok { IfOk result (λ made. checked (Ok (parts_in form.entry)) ≡ Ok made) }
-    ensures fault { RefusesAs (checked (Ok (parts_in form.entry))) FormFault.NoMemory result }
-    ensures no_memory { WantsMemoryFor (checked (Ok (parts_in form.entry))) FormFault.NoMemory
-        result }
+    ensures gives { Gives FormFault.NoMemory (checked (Ok (parts_in form.entry))) result }
     ensures names { result ≡ Err FormFault.NoMemory → names_in form.entry.operands ≢ [] }
 {
     if has_comment(form.operands) {

@@ -1,11 +1,11 @@
 // A model from a text.
 ghost use Rattle.std.specs.Prelude.{◌≡◌, ◌^◌, ◌<◌, ◌∷◌, Ok, true, is_none, length, IfErr, IfOk, IfSome, OnOk};
 ghost use Rattle.solid_model.specs.Names.{IsName};
+ghost use Rattle.clause_reader.specs.Gives.{made, Gives};
 ghost use Rattle.clause_reader.specs.Reading.{clauses_with, has_unknown, place_or_zero, GivesModel};
 ghost use Rattle.clause_reader.specs.Scan.{line_tokens};
 ghost use Rattle.clause_reader.specs.Written.{extended, names_in, parts_in};
 ghost use Rattle.solid_model.specs.Parts.{IsForm};
-ghost use Rattle.solid_model.specs.Refusals.{RefusesAs, WantsMemoryFor};
 
 use crate::operands::Operands;
 use crate::written_form::{WrittenForm, form_of};
@@ -45,11 +45,8 @@ fn read_clause(
     tokens: Tokens<'_>,
 ) -> Result<(), TextReason>
     requires { IsName name.now }
-    ensures ok { OnOk result (clauses_with builder.old (name.now ∷ tokens.entry) ≡ Ok builder.new) }
-    ensures refused { RefusesAs (clauses_with builder.old (name.now ∷ tokens.entry))
-        TextReason.NoMemory result }
-    ensures no_memory { WantsMemoryFor (clauses_with builder.old (name.now ∷ tokens.entry))
-        TextReason.NoMemory result }
+    ensures { Gives TextReason.NoMemory (clauses_with builder.old (name.now ∷ tokens.entry))
+        (made builder.new result) }
 {
     match form_of(tokens) {
         Ok(form) => push_form(builder, name, form),
@@ -65,12 +62,8 @@ fn push_form(
 ) -> Result<(), TextReason>
     requires name { IsName name.now }
     requires form { IsForm (parts_in form) }
-    ensures ok { OnOk result (extended builder.old name.now (Ok (parts_in form.entry)) ≡ Ok
-        builder.new) }
-    ensures refused { RefusesAs (extended builder.old name.now (Ok (parts_in form.entry)))
-        TextReason.NoMemory result }
-    ensures no_memory { WantsMemoryFor (extended builder.old name.now (Ok (parts_in form.entry)))
-        TextReason.NoMemory result }
+    ensures { Gives TextReason.NoMemory
+        (extended builder.old name.now (Ok (parts_in form.entry))) (made builder.new result) }
 {
     let Some((a, b)) = places(builder, form.operands) else {
         return Err(TextReason::UnknownName);

@@ -1,4 +1,7 @@
-use crate::{FormFault, TextFault, TextReason, next_token, read_form, read_model, write_model};
+use crate::{
+    Comments, FormFault, Lines, TextFault, TextReason, next_token, read_form, read_model,
+    write_model,
+};
 use fixed_ops::{Fx, Op};
 use std::test::Fail;
 
@@ -51,6 +54,34 @@ fn refuses_the_first_bad_line(rt: HostRuntime) {
             Err(fault) => assert_eq!(rt; fault, TextFault { line, reason }),
         }
     }
+}
+
+#[test]
+fn walks_lines_and_their_tokens(rt: HostRuntime) {
+    let text = b"# a\n\nb  c\td\r\n #e f\n \t\ng";
+    let kept: [(u32, &[u8], &[u8]); 4] = [
+        (1, b"#", b"a"),
+        (3, b"b", b"c"),
+        (4, b"#e", b"f"),
+        (6, b"g", b""),
+    ];
+    let mut lines = Lines::new(text, Comments::Kept);
+    for (number, first, second) in kept {
+        match lines.next() {
+            None => assert!(rt; false, "line {number} is not given"),
+            Some(mut line) => {
+                assert_eq!(rt; line.number, number);
+                assert_eq!(rt; line.first, first);
+                assert_eq!(rt; line.others.next().unwrap_or(b""), second);
+            }
+        }
+    }
+    assert!(rt; lines.next().is_none());
+    let mut lines = Lines::after(6, text, Comments::Skipped);
+    for number in [9u32, 12] {
+        assert_eq!(rt; lines.next().map_or(0, |line| line.number), number);
+    }
+    assert!(rt; lines.next().is_none());
 }
 
 #[test]

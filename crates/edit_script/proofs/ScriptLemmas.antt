@@ -1,7 +1,8 @@
 -- How the lines after the mark are read one after the other.
-use Rattle.std.proofs.Common.{All, ◌≡◌, ◌≢◌, ℕ, zero, suc, ◌+◌, ◌-◌, ◌<◌, ◌≤◌, Bool, true, false, cond, List, [], ◌∷◌, ◌++◌, map, drop, slice_index_or, Some, None, Result, Ok, Err, IsOk, IfErr, refl, ap, sym, subst, ◌∙◌, arith, append_assoc, append-nil}
+use Rattle.std.proofs.Common.{All, ◌≡◌, ℕ, zero, suc, ◌+◌, ◌-◌, ◌<◌, ◌≤◌, Bool, true, false, cond, List, [], ◌∷◌, ◌++◌, map, drop, slice_index_or, Some, None, Result, Ok, Err, IsOk, IfErr, refl, ap, sym, subst, ◌∙◌, arith, append_assoc, append-nil}
 use Rattle.std.specs.List.{filter}
 use Rattle.clause_reader.specs.declared.comments.Comments.TheVariants.{Skipped}
+use Rattle.clause_reader.specs.Gives.{Gives}
 use Rattle.clause_reader.specs.GivenLines.{IsGiven, GivenLinesStand}
 use Rattle.clause_reader.specs.Lines.{lines_of, tokens_of, is_clause}
 use Rattle.clause_reader.specs.NumberedLines.{numbered_from, numbered_lines, given_from}
@@ -117,14 +118,21 @@ line-refused input commands number tokens left stand reads =
       says = rw (place, ← index-drop (reads.mark + 1) at.place (lines_of input)) (ap is_clause at.line ∙ at.given);
     }
 
+pushed-refused : (commands : List Command) (r : Result Command ScriptReason) (reason : ScriptReason) → pushed commands r ≡ Err reason → r ≡ Err reason
+pushed-refused commands (Ok command) reason e = (cc)
+pushed-refused commands (Err other) reason e = let same : other ≡ reason = cc in ap Err same
+
+pushed-said : (commands : List Command) (r : Result Command ScriptReason) → IsOk (pushed commands r) → IsOk r
+pushed-said commands (Ok command) ok = refl
+pushed-said commands (Err reason) ok = (cc)
+
 pub reads-refused : (input : List ℕ) (commands : List Command) (number : ℕ) (tokens : List (List ℕ)) (left : List (ℕ × List (List ℕ))) (reason : ScriptReason)
     → GivenLinesStand → Reads input commands ((number, tokens) ∷ left)
-    → (reason ≢ NoMemory → command_read number tokens ≡ Err reason) → (reason ≡ NoMemory → IsOk (command_read number tokens))
-    → RefusesScript input (record { line = number; reason = reason })
-reads-refused input commands number tokens left reason stand reads refused no_memory = record {
-  refused = λ h. reads.so_far ∙ rw (refused h) refl;
+    → Gives NoMemory (pushed commands (command_read number tokens)) (Err reason) → RefusesScript input (record { line = number; reason = reason })
+reads-refused input commands number tokens left reason stand reads gives = record {
+  refused = λ h. reads.so_far ∙ rw (pushed-refused commands (command_read number tokens) reason (gives.0 h)) refl;
   no_memory = λ h. subst (λ (r : Result (List Command) ScriptFault). IfErr r (λ first. number < first.line)) (sym reads.so_far)
-      (by (command_read number tokens) (said left) refl refl (no_memory h)
+      (by (command_read number tokens) (said left) refl refl (pushed-said commands (command_read number tokens) (gives.1 h))
       (subst (λ (lines : List (ℕ × List (List ℕ))). IfErr (said lines) (λ fault. number + 1 ≤ fault.line)) at.later
       (late (drop (at.place + 1) (drop (reads.mark + 1) (lines_of input))) (number + 1))));
 }

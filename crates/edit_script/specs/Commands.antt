@@ -1,5 +1,5 @@
 -- What the tokens of a line say as a command, or the first reason to refuse the line.
-use Rattle.std.specs.Prelude.{◌≡◌, ◌≢◌, ℕ, List, [], ◌∷◌, Option, Some, None, Result, Ok, Err, IsOk, if◌then◌else◌, ⊤}
+use Rattle.std.specs.Prelude.{ℕ, List, [], ◌∷◌, Option, Some, None, Result, Ok, Err, if◌then◌else◌, ⊤}
 use Rattle.solid_model.specs.Edits.{IsEdit}
 use Rattle.solid_model.specs.Parts.{Parts}
 use Rattle.solid_model.specs.declared.edit.Edit.{Edit}
@@ -149,9 +149,3 @@ IsCommand (commands.Render view) = IsWindow view
 IsCommand (commands.Height view) = IsWindow view × FitsHeight view
 IsCommand (commands.Mesh view) = IsWindow view × FitsMesh view
 IsCommand commands.Text = ⊤
-
--- what a reader gives where this is meant: that, or want of memory where nothing is refused
-abbrev pub Gives : {A : Type 0} → Result A ScriptReason → Result A ScriptReason → Type 0
-Gives meaning (Ok value) = meaning ≡ Ok value
-Gives meaning (Err reason) =
-    (reason ≢ NoMemory → meaning ≡ Err reason) × (reason ≡ NoMemory → IsOk meaning)

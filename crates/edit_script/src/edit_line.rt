@@ -3,7 +3,8 @@ ghost use Rattle.std.specs.Prelude.{◌≡◌, ◌<◌, Ok, length, IfOk, IfSome
 ghost use Rattle.clause_reader.specs.Forms.{form_read};
 ghost use Rattle.clause_reader.specs.Scan.{line_tokens};
 ghost use Rattle.clause_reader.specs.Tokens.{AreTokenBytes};
-ghost use Rattle.edit_script.specs.Commands.{add_read, cut_read, form_found, name_checked, name_found, put_read, set_read, Gives, IsCommand};
+ghost use Rattle.clause_reader.specs.Gives.{Gives};
+ghost use Rattle.edit_script.specs.Commands.{add_read, cut_read, form_found, name_checked, name_found, put_read, set_read, IsCommand};
 ghost use Rattle.solid_model.specs.Names.{IsName};
 ghost use Rattle.solid_model.specs.Parts.{IsForm};
 
@@ -18,7 +19,7 @@ pub(crate) fn read_set(
     line: u32,
     mut tokens: Tokens<'_>,
 ) -> Result<Command, ScriptReason>
-    ensures gives { Gives (set_read line tokens.entry) result }
+    ensures gives { Gives ScriptReason.NoMemory (set_read line tokens.entry) result }
     ensures keeps { IfOk result IsCommand }
 {
     let Some(name) = tokens.next() else {
@@ -37,7 +38,7 @@ pub(crate) fn read_add(
     line: u32,
     mut tokens: Tokens<'_>,
 ) -> Result<Command, ScriptReason>
-    ensures gives { Gives (add_read line tokens.entry) result }
+    ensures gives { Gives ScriptReason.NoMemory (add_read line tokens.entry) result }
     ensures keeps { IfOk result IsCommand }
 {
     let Some(name) = tokens.next() else {
@@ -57,7 +58,7 @@ pub(crate) fn read_put(
     line: u32,
     mut tokens: Tokens<'_>,
 ) -> Result<Command, ScriptReason>
-    ensures gives { Gives (put_read line tokens.entry) result }
+    ensures gives { Gives ScriptReason.NoMemory (put_read line tokens.entry) result }
     ensures keeps { IfOk result IsCommand }
 {
     let Some(next) = tokens.next() else {
@@ -83,7 +84,7 @@ pub(crate) fn read_cut(
     line: u32,
     mut tokens: Tokens<'_>,
 ) -> Result<Command, ScriptReason>
-    ensures gives { Gives (cut_read line tokens.entry) result }
+    ensures gives { Gives ScriptReason.NoMemory (cut_read line tokens.entry) result }
     ensures keeps { IfOk result IsCommand }
 {
     let Some(name) = tokens.next() else {
@@ -113,7 +114,8 @@ fn check_name(name: &[u8], form: &Tokens<'_>) -> Result<(), ScriptReason>
 
 // The form that the line with which a text begins says. `None`: an argument begins with `#`.
 fn find_form(alloc: Global, text: &[u8]) -> Result<Option<Form>, ScriptReason>
-    ensures gives { Gives (form_found (form_read (line_tokens text.now))) result }
+    ensures gives { Gives ScriptReason.NoMemory (form_found (form_read (line_tokens text.now)))
+        result }
     ensures keeps { IfOk result (λ found. IfSome found IsForm) }
 {
     match read_form(alloc, text) {
@@ -131,7 +133,7 @@ fn find_form(alloc: Global, text: &[u8]) -> Result<Option<Form>, ScriptReason>
 fn find_name(alloc: Global, token: &[u8]) -> Result<Option<Name>, ScriptReason>
     requires bytes { AreTokenBytes token.now }
     requires some { 0 < length token.now }
-    ensures gives { Gives (Ok (name_found token.now)) result }
+    ensures gives { Gives ScriptReason.NoMemory (Ok (name_found token.now)) result }
     ensures keeps { IfOk result (λ found. IfSome found IsName) }
 {
     if begins_comment(token) {

@@ -1,6 +1,7 @@
 // The command of a line.
 ghost use Rattle.std.specs.Prelude.{◌∷◌, IfOk};
-ghost use Rattle.edit_script.specs.Commands.{after_keyword, command_read, Gives, IsCommand};
+ghost use Rattle.clause_reader.specs.Gives.{Gives};
+ghost use Rattle.edit_script.specs.Commands.{after_keyword, command_read, IsCommand};
 
 use crate::draw::{read_draw, read_text};
 use crate::edit_line::{read_add, read_cut, read_put, read_set};
@@ -12,8 +13,8 @@ use view_settings::Verb;
 
 /// The command that a line says, which is no comment.
 pub(crate) fn read_line(alloc: Global, line: Line<'_>) -> Result<Command, ScriptReason>
-    ensures gives { Gives (command_read line.entry.number
-        (line.entry.first.now ∷ line.entry.others)) result }
+    ensures gives { Gives ScriptReason.NoMemory
+        (command_read line.entry.number (line.entry.first.now ∷ line.entry.others)) result }
     ensures keeps { IfOk result IsCommand }
 {
     match read_keyword(line.first) {
@@ -29,7 +30,7 @@ fn read_after(
     keyword: Keyword,
     tokens: Tokens<'_>,
 ) -> Result<Command, ScriptReason>
-    ensures gives { Gives (after_keyword line keyword tokens.entry) result }
+    ensures gives { Gives ScriptReason.NoMemory (after_keyword line keyword tokens.entry) result }
     ensures keeps { IfOk result IsCommand }
 {
     match keyword {

@@ -1,8 +1,8 @@
 // A script from an input.
 ghost use Rattle.std.specs.Prelude.{◌≡◌, ◌≢◌, ◌^◌, ◌<◌, ◌∷◌, Ok, length, All, IfErr, IfOk, MatchResult, OnOk};
+ghost use Rattle.clause_reader.specs.Gives.{made, Gives};
 ghost use Rattle.edit_script.specs.Commands.{command_read, IsCommand};
 ghost use Rattle.edit_script.specs.Scripts.{pushed, script_read, IsCommandLine, RefusesScript};
-ghost use Rattle.solid_model.specs.Refusals.{RefusesAs, WantsMemoryFor};
 
 use crate::line::read_line;
 use crate::mark::find_mark;
@@ -45,17 +45,11 @@ fn push_command(
     commands: &mut Vec<Command>,
     line: Line<'_>,
 ) -> Result<(), ScriptReason>
-    ensures ok { OnOk result (pushed commands.old.items
-        (command_read line.entry.number (line.entry.first.now ∷ line.entry.others))
-        ≡ Ok commands.new.items) }
+    ensures gives { Gives ScriptReason.NoMemory (pushed commands.old.items
+        (command_read line.entry.number (line.entry.first.now ∷ line.entry.others)))
+        (made commands.new.items result) }
     ensures keeps { All IsCommand commands.old.items
         → OnOk result (All IsCommand commands.new.items) }
-    ensures refused { RefusesAs
-        (command_read line.entry.number (line.entry.first.now ∷ line.entry.others))
-        ScriptReason.NoMemory result }
-    ensures no_memory { WantsMemoryFor
-        (command_read line.entry.number (line.entry.first.now ∷ line.entry.others))
-        ScriptReason.NoMemory result }
 {
     match read_line(alloc, line) {
         Ok(command) => commands.push(command).map_err(|_| ScriptReason::NoMemory),

@@ -6,8 +6,7 @@ use Rattle.clause_reader.proofs.form.read_form.Goals as goal
 
 pub returns-in-Ok-clause-form : goal.returns-in-Ok-clause-form
 returns-in-Ok-clause-form c =
-    gives-form (line_tokens c.args.rest.now) (parts_in c.in-Ok.form) c.make_form.result (rw c.new.ensures at c.in-Ok.ensures.form)
-    c.make_form.ensures.ok c.make_form.ensures.fault c.make_form.ensures.no_memory
+    gives-form (line_tokens c.args.rest.now) (parts_in c.in-Ok.form) c.make_form.result (rw c.new.ensures at c.in-Ok.ensures.form) c.make_form.ensures.gives
 
 pub returns-in-Ok-clause-names : goal.returns-in-Ok-clause-names
 returns-in-Ok-clause-names c = λ memory.

@@ -15,14 +15,14 @@ returns-in-Err c =
     let line = c.in-Some.line in
     let reads = subst (λ (left : List (ℕ × List (List ℕ))). Reads c.args.text.now c.loop-line.builder left) c.in-Some.ensures.next c.loop-line.invariant in
     stop c.args.text.now c.loop-line.builder line.number (line.first.now ∷ line.others) c.next.new.self c.in-Err.reason reads
-    c.in-Err.ensures.refused c.in-Err.ensures.no_memory
+    c.in-Err.ensures.0 c.in-Err.ensures.1
 
 pub loop-line-preserved : goal.loop-line-preserved
 loop-line-preserved c =
     let line = c.in-Some.line in
     let reads = subst (λ (left : List (ℕ × List (List ℕ))). Reads c.args.text.now c.loop-line.builder left) c.in-Some.ensures.next c.loop-line.invariant in
     reads-more c.args.text.now c.loop-line.builder c.read_clause.new.builder line.number (line.first.now ∷ line.others) c.next.new.self reads
-    c.in_default-read_clause.ensures.ok
+    c.in_default-read_clause.ensures
 
 pub returns : goal.returns
 returns c =

@@ -18,7 +18,7 @@ returns-in-Err-clause-script c =
     let reads = subst (λ (left : List (ℕ × List (List ℕ))). Reads c.args.input.now c.loop-line.commands.items left) c.in-Some-next.ensures.next c.loop-line.invariant.reads in
     rw c.fault-in-Err.ensures
     (reads-refused c.args.input.now c.loop-line.commands.items line.number (line.first.now ∷ line.others) c.next.new.self c.in-Err.reason c.given_lines_stand.ensures reads
-    c.in-Err.ensures.refused c.in-Err.ensures.no_memory)
+    c.in-Err.ensures.gives)
 
 pub returns-in-Err-clause-line : goal.returns-in-Err-clause-line
 returns-in-Err-clause-line c =
@@ -33,6 +33,6 @@ loop-line-preserved c =
     let reads = subst (λ (left : List (ℕ × List (List ℕ))). Reads c.args.input.now c.loop-line.commands.items left) c.in-Some-next.ensures.next c.loop-line.invariant.reads in
     record {
       reads = reads-more c.args.input.now c.loop-line.commands.items c.push_command.new.commands.items line.number (line.first.now ∷ line.others) c.next.new.self reads
-          c.in_default-push_command.ensures.ok;
+          c.in_default-push_command.ensures.gives;
       keeps = c.in_default-push_command.ensures.keeps c.loop-line.invariant.keeps;
     }
