@@ -1,17 +1,16 @@
 -- How the nearer and the farther halves of a box lie, and what they give a column.
-use Rattle.std.proofs.Common.{◌≡◌, ℕ, ◌+◌, ◌-◌, ◌*◌, ◌%◌, ◌/◌, ◌<◌, ◌≤◌, Bool, true, false, cond, List, [], ◌∷◌, ◌++◌, length, take, drop, append-nil, refl, sym, ap, subst, ◌∙◌, arith}
+use Rattle.std.proofs.Common.{◌≡◌, ℕ, ◌+◌, ◌-◌, ◌%◌, ◌/◌, ◌<◌, ◌≤◌, Bool, true, false, cond, List, [], ◌∷◌, ◌++◌, length, take, drop, append-nil, refl, sym, ap, ◌∙◌, arith}
 use Rattle.std.specs.Prelude.{nat_le, nat_lt, ◌&&◌, ◌||◌}
 use Rattle.std.specs.List.{All, count_by, flat_map}
 use Rattle.std.proofs.Math.Seq.{drop-append_seam, take-append_seam}
 use Rattle.std.proofs.lemmas.Bool.Decides.{nat_tests}
 use Rattle.std.proofs.lemmas.Grind.{flat_map-append}
-use Rattle.std.proofs.lemmas.List.{length-append}
 use Rattle.std.proofs.lemmas.List.Concat.{flat_map-cons}
 use Rattle.std.proofs.lemmas.List.Elements.{All-cons, All-nil, All-weaker}
 use Rattle.std.proofs.lemmas.List.Sums.{sum_by-append, sum_by-cons}
 use Rattle.box_chains.specs.HalfLaws.{All-flat_map}
 use Rattle.live_clauses.specs.declared.step.Step.{Step}
-use Rattle.view_settings.specs.Boxes.{Indices, IsBox, halves_of, halves_x, halves_y, halves_z, middle}
+use Rattle.view_settings.specs.Boxes.{Indices, IsBox, halves_of, halves_x, halves_y, middle}
 use Rattle.view_settings.specs.Window.{Window}
 use Rattle.height_map.specs.Beside.{LieBeside, beside_top, farther, level_halves, nearer}
 use Rattle.height_map.specs.Columns.{covers, leaf_top, lifted}

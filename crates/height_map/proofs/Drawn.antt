@@ -1,39 +1,29 @@
 -- What drawing a box leaves.
-use Rattle.std.proofs.Common.{◌≡◌, ℕ, suc, ◌+◌, ◌*◌, ◌/◌, ◌%◌, ◌<◌, ◌≤◌, Bool, true, false, cond, List, ◌∷◌, length, get_or, take, drop, refl, sym, ap, subst, ◌∙◌, Result, Ok, Err, arith}
-use Rattle.std.specs.Prelude.{Option, Some, None, nat_le, ◌==◌, ◌&&◌, OnErr, OnOk}
+use Rattle.std.proofs.Common.{◌≡◌, ℕ, ◌+◌, ◌*◌, ◌/◌, ◌%◌, ◌<◌, ◌≤◌, Bool, true, false, List, length, get_or, refl, sym, ap, subst, ◌∙◌, Result, Ok, Err, arith}
+use Rattle.std.specs.Prelude.{Option, Some, None, nat_le, OnErr, OnOk}
 use Rattle.std.proofs.Math.Nat.{mul-le-mul_right}
 use Rattle.std.proofs.lemmas.Bool.{le-leb, lt-ltb}
 use Rattle.std.proofs.lemmas.Nat.{div-mul-add, mod-mul-add}
-use Rattle.std.proofs.lemmas.List.Sums.{sum_by-cons}
 use Rattle.std.specs.List.{All}
 use Rattle.std.proofs.lemmas.List.Elements.{All-drop, All-take, All-weaker}
-use Rattle.box_chains.specs.Chains.{Descent, Visit, decision, handed_on, is_long}
-use Rattle.box_chains.specs.Counts.{spans_in}
+use Rattle.box_chains.specs.Chains.{Visit, decision, handed_on, is_long}
 use Rattle.box_chains.specs.HalfLaws.{IsPart, halves-are_parts, part-is_box}
 use Rattle.box_chains.specs.Sums.{LiesIn, Sample, sum_in}
 use Rattle.box_chains.specs.ValueLaws.{IsVisit, Lawful, decision-right, handed-value}
-use Rattle.choice_trace.specs.Hulls.{choices_over, tape_hull}
 use Rattle.fixed_ops.specs.Counts.{Counts, RisesBy, points_of}
 use Rattle.fixed_ops.specs.Raw.{is_inside}
-use Rattle.interval_ops.specs.Decided.{decided_of}
-use Rattle.interval_ops.specs.HullCounts.{CountsHulls}
-use Rattle.interval_ops.specs.declared.choice.Choice.{Choice}
-use Rattle.interval_ops.specs.declared.region.Region.{Region}
-use Rattle.live_clauses.specs.Live.{live_of}
 use Rattle.live_clauses.specs.declared.step.Step.{Step}
 use Rattle.view_settings.specs.Boxes.{Indices, IsBox, halves_of}
-use Rattle.view_settings.specs.Laws.{HalvesPart}
 use Rattle.view_settings.specs.Spans.{IsInRoot}
 use Rattle.view_settings.specs.Window.{IsWindow, Window}
-use Rattle.view_settings.specs.declared.lattice.Lattice.{Lattice}
 use Rattle.view_settings.specs.declared.lattice.Lattice.TheVariants.{Height}
 use Rattle.box_chains.specs.Chains.{visit}
 use Rattle.box_chains.specs.Tallied.{CountsAtMost}
-use Rattle.height_map.specs.Bound.{halves_points, halves_spans, layered, open_points, open_spans, points_where}
+use Rattle.height_map.specs.Bound.{layered, open_points, open_spans}
 use Rattle.height_map.specs.Columns.{Changes, IsAmong, covers, is_open, leaf_cost, leaf_top, lifted}
-use Rattle.box_chains.specs.TallyLaws.{most-hulls, most-more, most-points, most-then}
+use Rattle.box_chains.specs.TallyLaws.{most-points}
 use Rattle.height_map.specs.Tops.{inside, top_among}
-use Rattle.height_map.proofs.ChangeLaws.{Changes-none, Changes-numbers, cell-of, covers-place, lifted-some, place-within}
+use Rattle.height_map.proofs.ChangeLaws.{Changes-numbers, cell-of, covers-place, place-within}
 use Rattle.height_map.proofs.Beside.{far-dropped, far-taken, farther-below, halves-top, nearer-ends}
 use Rattle.height_map.specs.Beside.{beside_top, farther, nearer}
 use Rattle.height_map.specs.Opened.{outcome_top, sampling}
@@ -43,8 +33,7 @@ use Rattle.box_chains.specs.Outcomes.{outcome_by, outcome_of}
 use Rattle.box_chains.specs.declared.outcome.Outcome.{Outcome}
 use Rattle.box_chains.specs.declared.outcome.Outcome.TheVariants.{Outside as AllOutside}
 use Rattle.live_clauses.specs.Steps.{IsTape}
-use Rattle.height_map.proofs.TopLaws.{best, best-all, best-empty, best-none, best-same, lifted-nothing, lifted-twice, open-same}
-use Rattle.height_map.proofs.WorkLaws.{points-below, points-open, spans-decided, spans-open, sum-drop_below}
+use Rattle.height_map.proofs.TopLaws.{best, best-all, best-empty, best-none, best-same, lifted-nothing, open-same}
 
 -- an error says what holds anyway
 pub on_err : {T E : Type 0} (r : Result T E) (P : Type 0) → P → OnErr r P
@@ -79,13 +68,6 @@ pub outside-top : (laws : Lawful) (view : Window) (b : Indices) (list : List Ste
 outside-top laws view b list i j is e x y =
     best-none (inside view list i j) b.z0 b.z1
     (λ k l h. decision-right laws (layered view) (visit b list) (record { i = i; j = j; k = k }) false is (sample-lies b i j k x y l h) e)
-
--- what a box changes whose columns all have tops
-pub covered-drawn : (view : Window) (list : List Step) (b : Indices) (w : ℕ) (tops : List ℕ) → ((p : ℕ) → p < length tops → covers w b p ≡ true → 0 < get_or tops p 0)
-    → Changes (covers w b) (leaf_top view list b) tops tops
-covered-drawn view list b w tops covered =
-    Changes-none (covers w b) (leaf_top view list b) tops
-    (λ p h e. let some = covered p h e in lifted-some (top_among view list b.z0 b.z1 (p % view.w) (p / view.w)) (get_or tops p 0) (λ none. omega (arith, some, none)))
 
 -- what a box that is inside changes
 pub inside-drawn : (laws : Lawful) (view : Window) (list : List Step) (b : Indices) (w : ℕ) (before after : List ℕ) → w ≡ view.w → IsVisit (layered view) (visit b list)
@@ -133,11 +115,6 @@ pub leaf-counted : (view : Window) (list : List Step) (b : Indices) (tops : List
     → RisesBy before after (points_of (sum_in b (leaf_cost view list b tops)))
     → CountsAtMost (open_points (is_open view list b tops) (layered view) b list) (open_spans (layered view) b list) before after
 leaf-counted view list b tops before after short h = rw short (most-points before after (sum_in b (leaf_cost view list b tops)) h)
-
-pub halves-counted : (view : Window) (list : List Step) (b : Indices) (tops : List ℕ) (before after : Counts) → is_long 8 b ≡ true
-    → CountsAtMost (halves_points (is_open view list b tops) (layered view) list (halves_of 8 b)) (halves_spans (layered view) list (halves_of 8 b)) before after
-    → CountsAtMost (open_points (is_open view list b tops) (layered view) b list) (open_spans (layered view) b list) before after
-halves-counted view list b tops before after long h = rw long h
 
 -- a column of a part is one of the box
 pub part-covers : (w p : ℕ) (b part : Indices) → IsPart 8 b part → covers w part p ≡ true → covers w b p ≡ true
@@ -230,7 +207,8 @@ half-placed desk b half list len part may = record {
   tops = may.tops;
 }
 
--- and of any of the map and of a list there is room for, drawing may be called
+-- a box of the map is on the way with any list that can be evaluated, and drawing may be called of it where there is
+-- room for the list
 pub placed-visit : (desk : Desk) (b : Indices) (list : List Step) (len : ℕ) → IsPlaced desk len b → IsTape list → IsVisit (layered desk.places.view) (visit b list)
 placed-visit desk b list len placed tape = record { window = placed.window; box = placed.box; within = placed.within; tape = tape }
 

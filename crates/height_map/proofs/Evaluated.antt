@@ -1,9 +1,7 @@
 -- The evaluations of a map are exactly those of the samples that do not lie behind a top.
-use Rattle.std.proofs.Common.{◌≡◌, ℕ, zero, suc, ◌+◌, ◌*◌, ◌<◌, Bool, true, false, cond, List, ◌∷◌, length, get_or, replicate, drop, refl, sym, ap, subst, ◌∙◌, arith}
+use Rattle.std.proofs.Common.{◌≡◌, ℕ, zero, suc, ◌+◌, ◌*◌, ◌<◌, Bool, true, false, cond, List, length, get_or, replicate, refl, sym, ap, subst, ◌∙◌, arith}
 use Rattle.std.specs.Prelude.{Option, Some, None, nat_le, ◌==◌, ◌&&◌}
 use Rattle.std.proofs.lemmas.Bool.{ne_eqb}
-use Rattle.std.proofs.lemmas.List.{drop_all, drop_more}
-use Rattle.std.proofs.lemmas.List.Sums.{sum_by-cons}
 use Rattle.box_chains.specs.Chains.{Descent, Visit, decision, handed_on, is_long, visit}
 use Rattle.box_chains.specs.Counts.{cost, end_cost}
 use Rattle.box_chains.specs.SumLaws.{sum_in-same}
@@ -13,14 +11,14 @@ use Rattle.fixed_ops.specs.CountLaws.{risen-risen, risen-zero}
 use Rattle.fixed_ops.specs.Counts.{Counts, RisesBy, points_of, risen}
 use Rattle.interval_ops.specs.HullCounts.{CountsHulls}
 use Rattle.live_clauses.specs.declared.step.Step.{Step}
-use Rattle.view_settings.specs.Boxes.{Indices, IsBox, halves_of}
+use Rattle.view_settings.specs.Boxes.{Indices, halves_of}
 use Rattle.view_settings.specs.Spans.{root_of}
 use Rattle.view_settings.specs.Window.{Window}
 use Rattle.view_settings.specs.declared.lattice.Lattice.TheVariants.{Height}
 use Rattle.box_chains.specs.Outcomes.{outcome_by, outcome_of}
 use Rattle.height_map.specs.Opened.{outcome_points, sampling}
 use Rattle.height_map.specs.Bound.{CountsPoints, halves_points, height_points, is_near, layered, open_points, points_where, whole}
-use Rattle.height_map.specs.Columns.{Changes, IsAmong, covers, is_open, leaf_cost}
+use Rattle.height_map.specs.Columns.{IsAmong, covers, is_open, leaf_cost}
 use Rattle.height_map.specs.Tops.{top_among, top_of}
 use Rattle.height_map.proofs.ChangeLaws.{covers-place, place-within}
 use Rattle.height_map.proofs.Drawn.{handed-top}

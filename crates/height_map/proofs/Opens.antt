@@ -1,7 +1,7 @@
 -- Which boxes have a column with no top, and what is drawn of those alone.
-use Rattle.std.proofs.Common.{◌≡◌, ℕ, zero, suc, ◌+◌, ◌*◌, ◌<◌, ◌≤◌, Bool, true, false, cond, List, [], ◌∷◌, ◌++◌, append-nil, zero-add, length, get_or, take, refl, sym, ap, ◌∙◌, arith}
+use Rattle.std.proofs.Common.{◌≡◌, ℕ, zero, suc, ◌+◌, ◌<◌, ◌≤◌, Bool, true, false, cond, List, [], ◌∷◌, ◌++◌, append-nil, zero-add, length, get_or, take, refl, sym, ap, ◌∙◌, arith}
 use Rattle.std.specs.Prelude.{◌==◌, ◌&&◌}
-use Rattle.std.specs.List.{All, count_by, filter, list_any, range_with_len, sum_by}
+use Rattle.std.specs.List.{All, count_by, filter, range_with_len, sum_by}
 use Rattle.std.proofs.lemmas.Bool.{and_from, and_parts, eq-eqb, eqb-true, ne_eqb}
 use Rattle.std.proofs.lemmas.List.Elements.{All-from_get_or, All-head, All-tail, filter_more}
 use Rattle.std.proofs.lemmas.List.Folds.{Any-from_list_any, list_any_at, list_any_none}

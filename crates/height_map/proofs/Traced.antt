@@ -1,9 +1,8 @@
 -- The steps that are traced for a map are exactly those of the boxes that have a sample that does not lie behind a top.
-use Rattle.std.proofs.Common.{◌≡◌, ℕ, zero, suc, ◌+◌, ◌-◌, ◌*◌, ◌/◌, ◌%◌, ◌<◌, ◌≤◌, Bool, true, false, cond, List, [], ◌∷◌, length, get_or, replicate, drop, refl, sym, ap, subst, ◌∙◌, mul-zero, zero-add, arith}
+use Rattle.std.proofs.Common.{◌≡◌, ℕ, zero, suc, ◌+◌, ◌-◌, ◌*◌, ◌/◌, ◌%◌, ◌<◌, ◌≤◌, Bool, true, false, cond, List, [], ◌∷◌, length, get_or, replicate, refl, sym, ap, subst, ◌∙◌, mul-zero, zero-add, arith}
 use Rattle.std.specs.Prelude.{Option, Some, None, nat_le, nat_lt, ◌==◌, ◌&&◌}
 use Rattle.std.specs.List.{Contains, sum_by}
 use Rattle.std.proofs.lemmas.Bool.{and_from, eq-eqb, le-leb, lt-ltb}
-use Rattle.std.proofs.lemmas.List.{drop_all, drop_more}
 use Rattle.std.proofs.lemmas.List.Elements.{All-contains_itself, All-weaker}
 use Rattle.std.proofs.lemmas.List.Sums.{sum_by-cons}
 use Rattle.box_chains.specs.ChainLaws.{box-has_sides, chain-ends, chain-goes_on, half_visit, split-is_long}
@@ -25,7 +24,7 @@ use Rattle.view_settings.specs.declared.lattice.Lattice.TheVariants.{Height}
 use Rattle.box_chains.specs.Outcomes.{outcome_by, outcome_of}
 use Rattle.height_map.specs.Opened.{outcome_traced, sampling}
 use Rattle.height_map.specs.Bound.{CountsSpans, halves_traced, has_some, is_near, layered, lengths_where, near_spans, open_traced, spans_where, whole}
-use Rattle.height_map.specs.Columns.{Changes, HasOpen, IsAmong, covers, is_open}
+use Rattle.height_map.specs.Columns.{HasOpen, IsAmong, covers, is_open}
 use Rattle.height_map.specs.Tops.{inside, top_among}
 use Rattle.height_map.proofs.ChangeLaws.{IsCell, cell-of}
 use Rattle.height_map.proofs.Evaluated.{covered-closed, handed-open, map-open}

@@ -1,11 +1,11 @@
-use Rattle.std.proofs.Common.{◌≡◌, ◌+◌, ◌-◌, ◌*◌, ◌<◌, ◌≤◌, ap, arith, drop, length, refl, subst, suc, sym, take, true, ◌∙◌}
+use Rattle.std.proofs.Common.{◌≡◌, ◌-◌, ◌*◌, ◌<◌, ◌≤◌, ap, arith, length, refl, subst, suc, sym, true, ◌∙◌}
 use Rattle.std.specs.List.{All}
 use Rattle.std.proofs.lemmas.List.{length-drop, length-map, length-take-le}
 use Rattle.std.proofs.lemmas.List.Elements.{All-filter, All-get_or, All-weaker, filter_passes}
-use Rattle.box_chains.specs.Outcomes.{HandsOn, outcomes_of}
+use Rattle.box_chains.specs.Outcomes.{HandsOn}
 use Rattle.box_chains.specs.Tallied.{CountsAtMost}
 use Rattle.box_chains.specs.TallyLaws.{most-none}
-use Rattle.view_settings.specs.Boxes.{IsBox, halves_of}
+use Rattle.view_settings.specs.Boxes.{IsBox}
 use Rattle.height_map.specs.Beside.{LieBeside, beside_points, beside_top, beside_traced, farther, nearer}
 use Rattle.height_map.specs.Bound.{CountsPoints, CountsSpans, halves_spans, layered}
 use Rattle.height_map.specs.Columns.{Changes, IsAmong, covers, has_open, leaf_top}

@@ -1,4 +1,4 @@
-use Rattle.std.proofs.Common.{◌≡◌, ◌+◌, ◌*◌, drop, length, true}
+use Rattle.std.proofs.Common.{◌+◌, ◌*◌, drop, length, true}
 use Rattle.box_chains.specs.Chains.{sides}
 use Rattle.box_chains.specs.Tallied.{CountsAtMost}
 use Rattle.height_map.specs.Beside.{beside_points, beside_top, beside_traced}
