@@ -60,7 +60,14 @@ pub fn heights(
     layers_hold();
     let mut desk = Desk::new(alloc, view, list.len())?;
     let mut tops = vec![in alloc; 0u16; view.w as usize * view.h as usize]?;
-    draw_box(alloc, &mut desk, root(view, Lattice::Height), list, &mut tops, tally)?;
+    draw_box(
+        alloc,
+        &mut desk,
+        root(view, Lattice::Height),
+        list,
+        &mut tops,
+        tally,
+    )?;
     Ok(TopMap {
         w: view.w,
         h: view.h,

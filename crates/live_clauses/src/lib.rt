@@ -11,8 +11,7 @@ mod tape;
 
 pub use laws::{
     choices_keep_the_value, live_lists_are_whole, live_lists_keep_meanings,
-    live_steps_are_the_least, root_has_the_value,
-    values_are_of_operands,
+    live_steps_are_the_least, root_has_the_value, values_are_of_operands,
 };
 pub use shortening::{prune, prune_with, root_tape};
 pub use step::Step;

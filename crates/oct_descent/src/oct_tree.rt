@@ -53,7 +53,14 @@ pub fn cells(
 {
     let mut desk = Desk::new(alloc, view, list.len())?;
     let mut values = GridValues::new(alloc, view.n)?;
-    look_into(alloc, &mut desk, root(view, Lattice::Grid), list, &mut values, tally)?;
+    look_into(
+        alloc,
+        &mut desk,
+        root(view, Lattice::Grid),
+        list,
+        &mut values,
+        tally,
+    )?;
     Ok(OctTree {
         view: *view,
         list: list.share()?,

@@ -22,7 +22,12 @@ pub fn rows(tree: &QuadTree, row: u32, pixels: &mut [u8])
         (length pixels.old / tree.now.view.w) }
 {
     let rows = (pixels.len() / tree.view.w as usize) as u32;
-    tree.paint_box(0, root(&tree.view, Lattice::Raster), Band { row, rows }, pixels);
+    tree.paint_box(
+        0,
+        root(&tree.view, Lattice::Raster),
+        Band { row, rows },
+        pixels,
+    );
 }
 
 impl QuadTree {

@@ -54,7 +54,14 @@ pub fn draw(
 {
     let mut desk = Desk::new(alloc, view, list.len())?;
     let mut nodes = Vec::new(alloc);
-    draw_box(alloc, &mut desk, root(view, Lattice::Raster), list, &mut nodes, tally)?;
+    draw_box(
+        alloc,
+        &mut desk,
+        root(view, Lattice::Raster),
+        list,
+        &mut nodes,
+        tally,
+    )?;
     Ok(QuadTree {
         view: *view,
         list: list.share()?,
