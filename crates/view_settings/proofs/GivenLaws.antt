@@ -19,7 +19,7 @@ use Rattle.view_settings.specs.declared.verb.Verb.{Verb}
 use Rattle.view_settings.specs.declared.verb.Verb.TheVariants as verbs
 use Rattle.fixed_ops.specs.Raw.{IsRaw}
 use Rattle.view_settings.specs.declared.word_fault.WordReason.TheVariants.{EmptySpan}
-use Rattle.view_settings.specs.Kinds.{kind_of, sides_of, layers_of, cells_of, solids_of, greatest_of}
+use Rattle.view_settings.specs.Kinds.{kind_of, greatest_of}
 use Rattle.view_settings.specs.Names.{is_same, number_of}
 use Rattle.view_settings.specs.Setting.{IsSetting, IsValue, is_given}
 use Rattle.view_settings.specs.Settings.{Given, AreSettings, value_given, count_or, is_empty, mesh_job, settled, window_of}
@@ -105,16 +105,25 @@ settings_few given are =
     omega (arith, length-le_from_distinct_below (map (λ s. number_of s.name) given.settings) 13 are.distinct (numbers_below given.settings), length-map given.settings (λ (s : Setting). number_of s.name))
 
 -- the ranges of counts, whatever the verb
-sides_range : (verb : Verb) (n : ℕ) → IsCountOf (sides_of verb) n → IsCount 4096 n
-sides_range verbs.Render n is = record { some = is.0; few = omega (arith, is.1) }
-sides_range verbs.Height n is = record { some = is.0; few = omega (arith, is.1) }
-sides_range verbs.Mesh n is = absurd is
-sides_range verbs.Count n is = record { some = is.0; few = omega (arith, is.1) }
-sides_range verbs.Text n is = absurd is
-sides_range verbs.Replay n is = absurd is
-sides_range verbs.Forge n is = record { some = is.0; few = omega (arith, is.1) }
+columns_range : (verb : Verb) (n : ℕ) → IsCountOf (kind_of verb names.W) n → IsCount 4096 n
+columns_range verbs.Render n is = record { some = is.0; few = omega (arith, is.1) }
+columns_range verbs.Height n is = record { some = is.0; few = omega (arith, is.1) }
+columns_range verbs.Mesh n is = absurd is
+columns_range verbs.Count n is = record { some = is.0; few = omega (arith, is.1) }
+columns_range verbs.Text n is = absurd is
+columns_range verbs.Replay n is = absurd is
+columns_range verbs.Forge n is = record { some = is.0; few = omega (arith, is.1) }
 
-layers_range : (verb : Verb) (n : ℕ) → IsCountOf (layers_of verb) n → IsCount 1024 n
+rows_range : (verb : Verb) (n : ℕ) → IsCountOf (kind_of verb names.H) n → IsCount 4096 n
+rows_range verbs.Render n is = record { some = is.0; few = omega (arith, is.1) }
+rows_range verbs.Height n is = record { some = is.0; few = omega (arith, is.1) }
+rows_range verbs.Mesh n is = absurd is
+rows_range verbs.Count n is = record { some = is.0; few = omega (arith, is.1) }
+rows_range verbs.Text n is = absurd is
+rows_range verbs.Replay n is = absurd is
+rows_range verbs.Forge n is = record { some = is.0; few = omega (arith, is.1) }
+
+layers_range : (verb : Verb) (n : ℕ) → IsCountOf (kind_of verb names.D) n → IsCount 1024 n
 layers_range verbs.Render n is = absurd is
 layers_range verbs.Height n is = record { some = is.0; few = omega (arith, is.1) }
 layers_range verbs.Mesh n is = absurd is
@@ -123,7 +132,7 @@ layers_range verbs.Text n is = absurd is
 layers_range verbs.Replay n is = absurd is
 layers_range verbs.Forge n is = absurd is
 
-cells_range : (verb : Verb) (n : ℕ) → IsCountOf (cells_of verb) n → IsCount 256 n
+cells_range : (verb : Verb) (n : ℕ) → IsCountOf (kind_of verb names.N) n → IsCount 256 n
 cells_range verbs.Render n is = absurd is
 cells_range verbs.Height n is = absurd is
 cells_range verbs.Mesh n is = record { some = is.0; few = omega (arith, is.1) }
@@ -132,7 +141,7 @@ cells_range verbs.Text n is = absurd is
 cells_range verbs.Replay n is = absurd is
 cells_range verbs.Forge n is = absurd is
 
-solids_range : (verb : Verb) (n : ℕ) → IsCountOf (solids_of verb) n → IsCount 5000 n
+solids_range : (verb : Verb) (n : ℕ) → IsCountOf (kind_of verb names.Solids) n → IsCount 5000 n
 solids_range verbs.Render n is = absurd is
 solids_range verbs.Height n is = absurd is
 solids_range verbs.Mesh n is = absurd is
@@ -151,8 +160,8 @@ count_range verb names.Z0 n some is = absurd (omega (arith, some))
 count_range verb names.Z1 n some is = absurd (omega (arith, some))
 count_range verb names.Z n some is = absurd (omega (arith, some))
 count_range verb names.Seed n some is = absurd (omega (arith, some))
-count_range verb names.W n some is = sides_range verb n is
-count_range verb names.H n some is = sides_range verb n is
+count_range verb names.W n some is = columns_range verb n is
+count_range verb names.H n some is = rows_range verb n is
 count_range verb names.D n some is = layers_range verb n is
 count_range verb names.N n some is = cells_range verb n is
 count_range verb names.Solids n some is = solids_range verb n is

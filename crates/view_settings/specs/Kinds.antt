@@ -1,5 +1,5 @@
 -- Which settings a verb takes, which values they may have, and which they have where they are not given.
-use Rattle.std.specs.Prelude.{ℕ, ◌-◌, ◌^◌, Bool, true, false, Option, Some, None, if◌then◌else◌}
+use Rattle.std.specs.Prelude.{ℕ, ◌-◌, ◌^◌, Option, Some, None}
 use Rattle.view_settings.specs.declared.kind.Kind.{Kind}
 use Rattle.view_settings.specs.declared.kind.Kind.TheVariants as kinds
 use Rattle.view_settings.specs.declared.name.Name.{Name}
@@ -11,76 +11,68 @@ use Rattle.view_settings.specs.declared.verb.Verb.TheVariants.{Render, Height, M
 abbrev pub count_to : ℕ → Option Kind
 count_to greatest = Some (kinds.Count 1 greatest)
 
--- verbs that look at a window
-abbrev pub has_window : Verb → Bool
-has_window Text = false
-has_window Replay = false
-has_window verb = true
+-- the ends of a window
+abbrev pub window_kind : Name → Option Kind
+window_kind X0 = Some kinds.Numeral
+window_kind X1 = Some kinds.Numeral
+window_kind Y0 = Some kinds.Numeral
+window_kind Y1 = Some kinds.Numeral
+window_kind name = None
 
--- verbs that look at a span along z
-abbrev pub has_depth : Verb → Bool
-has_depth Height = true
-has_depth Mesh = true
-has_depth verb = false
+-- a window, a height, columns and rows
+abbrev pub image_kind : Name → Option Kind
+image_kind Z = Some kinds.Numeral
+image_kind W = count_to 4096
+image_kind H = count_to 4096
+image_kind name = window_kind name
 
--- verbs that draw an image
-abbrev pub has_image : Verb → Bool
-has_image Render = true
-has_image Count = true
-has_image Forge = true
-has_image verb = false
+-- a window and a span along z
+abbrev pub solid_kind : Name → Option Kind
+solid_kind Z0 = Some kinds.Numeral
+solid_kind Z1 = Some kinds.Numeral
+solid_kind name = window_kind name
 
--- any numeral, where the verb has it
-abbrev pub numeral_if : Bool → Option Kind
-numeral_if true = Some kinds.Numeral
-numeral_if false = None
+-- and columns, rows and layers
+abbrev pub height_kind : Name → Option Kind
+height_kind W = count_to 1024
+height_kind H = count_to 1024
+height_kind D = count_to 1024
+height_kind name = solid_kind name
 
--- the greatest count of columns and of rows
-abbrev pub sides_of : Verb → Option Kind
-sides_of Height = count_to 1024
-sides_of verb = if has_image verb then count_to 4096 else None
+-- or cells along each axis
+abbrev pub mesh_kind : Name → Option Kind
+mesh_kind N = count_to 256
+mesh_kind name = solid_kind name
 
--- the layers of a height map
-abbrev pub layers_of : Verb → Option Kind
-layers_of Height = count_to 1024
-layers_of verb = None
+-- an image, and where the generator starts and how many discs it makes
+abbrev pub forge_kind : Name → Option Kind
+forge_kind Seed = Some (kinds.Count 0 (2 ^ 64 - 1))
+forge_kind Solids = count_to 5000
+forge_kind name = image_kind name
 
--- the cells of a mesh
-abbrev pub cells_of : Verb → Option Kind
-cells_of Mesh = count_to 256
-cells_of verb = None
-
--- where the generator starts
-abbrev pub seeds_of : Verb → Option Kind
-seeds_of Forge = Some (kinds.Count 0 (2 ^ 64 - 1))
-seeds_of verb = None
-
--- the discs of a model that is made
-abbrev pub solids_of : Verb → Option Kind
-solids_of Forge = count_to 5000
-solids_of verb = None
-
--- the values that a setting may have under a verb, and None where the verb has no such setting
+-- The values that a setting may have under a verb, and None where the verb has no such setting: the
+-- table of verbs.
 abbrev pub kind_of : Verb → Name → Option Kind
-kind_of verb X0 = numeral_if (has_window verb)
-kind_of verb X1 = numeral_if (has_window verb)
-kind_of verb Y0 = numeral_if (has_window verb)
-kind_of verb Y1 = numeral_if (has_window verb)
-kind_of verb Z0 = numeral_if (has_depth verb)
-kind_of verb Z1 = numeral_if (has_depth verb)
-kind_of verb Z = numeral_if (has_image verb)
-kind_of verb W = sides_of verb
-kind_of verb H = sides_of verb
-kind_of verb D = layers_of verb
-kind_of verb N = cells_of verb
-kind_of verb Seed = seeds_of verb
-kind_of verb Solids = solids_of verb
+kind_of Render name = image_kind name
+kind_of Height name = height_kind name
+kind_of Mesh name = mesh_kind name
+kind_of Count name = image_kind name
+kind_of Text name = None
+kind_of Replay name = None
+kind_of Forge name = forge_kind name
 
 -- the greatest count of at least 1 that a setting may have, whatever the verb
 abbrev pub greatest_of : Name → ℕ
+greatest_of X0 = 0
+greatest_of X1 = 0
+greatest_of Y0 = 0
+greatest_of Y1 = 0
+greatest_of Z0 = 0
+greatest_of Z1 = 0
+greatest_of Z = 0
 greatest_of W = 4096
 greatest_of H = 4096
 greatest_of D = 1024
 greatest_of N = 256
+greatest_of Seed = 0
 greatest_of Solids = 5000
-greatest_of name = 0

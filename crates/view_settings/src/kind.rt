@@ -1,6 +1,6 @@
 // Which settings a verb takes, and which values they may have.
 ghost use Rattle.std.specs.Prelude.{◌≡◌, Some};
-ghost use Rattle.view_settings.specs.Kinds.{kind_of as kind_taken};
+ghost use Rattle.view_settings.specs.Kinds.{forge_kind as forge_taken, height_kind as height_taken, image_kind as image_taken, kind_of as kind_taken, mesh_kind as mesh_taken, solid_kind as solid_taken, window_kind as window_taken};
 
 use crate::Verb;
 use crate::name::Name;
@@ -22,24 +22,81 @@ fn count_to(greatest: u64) -> Option<Kind>
     Some(Kind::Count { least: 1, greatest })
 }
 
-// The values that a setting may have under a verb, and None where the verb has no such setting.
+// The values that a setting may have under a verb, and None where the verb has no such setting: the
+// table of verbs.
 pub(crate) fn kind_of(verb: Verb, name: Name) -> Option<Kind>
     ensures { result ≡ kind_taken verb name }
 {
-    match (name, verb) {
-        (_, Verb::Text | Verb::Replay) => None,
-        (Name::X0 | Name::X1 | Name::Y0 | Name::Y1, _) => Some(Kind::Numeral),
-        (Name::Z0 | Name::Z1, Verb::Height | Verb::Mesh) => Some(Kind::Numeral),
-        (Name::Z, Verb::Render | Verb::Count | Verb::Forge) => Some(Kind::Numeral),
-        (Name::W | Name::H, Verb::Render | Verb::Count | Verb::Forge) => count_to(4096),
-        (Name::W | Name::H, Verb::Height) => count_to(1024),
-        (Name::D, Verb::Height) => count_to(1024),
-        (Name::N, Verb::Mesh) => count_to(256),
-        (Name::Seed, Verb::Forge) => Some(Kind::Count {
+    match verb {
+        Verb::Render | Verb::Count => image_kind(name),
+        Verb::Height => height_kind(name),
+        Verb::Mesh => mesh_kind(name),
+        Verb::Text | Verb::Replay => None,
+        Verb::Forge => forge_kind(name),
+    }
+}
+
+// What an image takes: a window, a height, columns and rows.
+fn image_kind(name: Name) -> Option<Kind>
+    ensures { result ≡ image_taken name }
+{
+    match name {
+        Name::Z => Some(Kind::Numeral),
+        Name::W | Name::H => count_to(4096),
+        other => window_kind(other),
+    }
+}
+
+// What a height map takes: a window, a span along z, columns, rows and layers.
+fn height_kind(name: Name) -> Option<Kind>
+    ensures { result ≡ height_taken name }
+{
+    match name {
+        Name::W | Name::H | Name::D => count_to(1024),
+        other => solid_kind(other),
+    }
+}
+
+// What a mesh takes: a window, a span along z, and cells along each axis.
+fn mesh_kind(name: Name) -> Option<Kind>
+    ensures { result ≡ mesh_taken name }
+{
+    match name {
+        Name::N => count_to(256),
+        other => solid_kind(other),
+    }
+}
+
+// What a model that is made takes: an image, where the generator starts, and how many discs it makes.
+fn forge_kind(name: Name) -> Option<Kind>
+    ensures { result ≡ forge_taken name }
+{
+    match name {
+        Name::Seed => Some(Kind::Count {
             least: 0,
             greatest: u64::MAX,
         }),
-        (Name::Solids, Verb::Forge) => count_to(5000),
+        Name::Solids => count_to(5000),
+        other => image_kind(other),
+    }
+}
+
+// A window and a span along z.
+fn solid_kind(name: Name) -> Option<Kind>
+    ensures { result ≡ solid_taken name }
+{
+    match name {
+        Name::Z0 | Name::Z1 => Some(Kind::Numeral),
+        other => window_kind(other),
+    }
+}
+
+// The ends of a window.
+fn window_kind(name: Name) -> Option<Kind>
+    ensures { result ≡ window_taken name }
+{
+    match name {
+        Name::X0 | Name::X1 | Name::Y0 | Name::Y1 => Some(Kind::Numeral),
         _ => None,
     }
 }
