@@ -2,14 +2,13 @@
 use Rattle.std.proofs.Common.{◌≡◌, ℕ, ◌+◌, ◌<◌, ℤ, pos, ◌⊎◌, inl, inr, List, length, set, get_or, Some, slice_get, sym, subst, arith}
 use Rattle.std.proofs.lemmas.Bool.{cases_eq}
 use Rattle.std.proofs.lemmas.List.{get_or-set_same, get_or-set_other}
-use Rattle.fixed_ops.specs.Counts.{Counts, RisesBy, no_counts, plus, times}
+use Rattle.fixed_ops.specs.Counts.{Counts, RisesBy, RisesWithin, no_counts, plus, times}
 use Rattle.fixed_ops.specs.CountLaws.{IsAtMost-plus, RisesBy-apart, RisesBy-none, RisesBy-then, plus-times}
 use Rattle.fixed_ops.specs.Points.{Point}
 use Rattle.live_clauses.specs.Steps.{AreSteps, value_after, value_at, values}
 use Rattle.live_clauses.specs.Laws.{ValuesAreOfOperands}
 use Rattle.live_clauses.specs.declared.step.Step.{Step}
 use Rattle.choice_trace.specs.Meaning.{AreRead, StandForOperands, StandsForResults}
-use Rattle.choice_trace.specs.Work.{RisesWithin}
 
 -- no element is read at first
 pub none_read : {D : Type 0} (stands_for : D → ℤ → Type 0) (default : D) (elements : List D) (values : List ℤ) → AreRead stands_for default elements values 0

@@ -1,6 +1,6 @@
 -- Hulls and choices, computed over regions that were worked out by hand.
 use Rattle.std.proofs.Common.{◌≡◌, ◌∙◌, ℕ, ℤ, pos, negsuc, true, false, [], ◌∷◌, List, ap, refl, arith}
-use Rattle.fixed_ops.specs.Counts.{Counts, no_counts, risen}
+use Rattle.fixed_ops.specs.Counts.{Counts, RisesWithin, no_counts, risen}
 use Rattle.fixed_ops.specs.Operations.{op_result}
 use Rattle.fixed_ops.specs.declared.operation.Op.TheVariants.{X, Y, Z, Const, Neg, Sub, Min, Max}
 use Rattle.interval_ops.specs.Hulls.{between}
@@ -11,7 +11,6 @@ use Rattle.live_clauses.specs.declared.step.Step.{Step}
 use Rattle.choice_trace.specs.Halves.{flag_in, lane, region_in}
 use Rattle.choice_trace.specs.Hulls.{choices_over, tape_hull}
 use Rattle.choice_trace.specs.Meaning.{StandForPoint, StandsForResults}
-use Rattle.choice_trace.specs.Work.{RisesWithin}
 
 -- x from one number to another, y from 2 to 3, and z from 5 to 7
 abbrev region : ℤ → ℤ → Region

@@ -1,14 +1,7 @@
 -- What a domain counts: no less than some work for each step, and no more than other work.
 use Rattle.std.specs.Prelude.{ℕ}
-use Rattle.fixed_ops.specs.Counts.{Counts, IsAtMost, RisesBy, points_of, spans_of, times}
+use Rattle.fixed_ops.specs.Counts.{Counts, RisesBy, RisesWithin, points_of, spans_of, times}
 use Rattle.interval_ops.specs.HullCounts.{CountsHulls, hulls_of}
-
--- a tally rises by counts each of which is at least the first and at most the second of these
-pub record RisesWithin (before after least most : Counts) : Type 0 where
-  pub by : Counts
-  pub enough : IsAtMost least by
-  pub within : IsAtMost by most
-  pub rises : RisesBy before after by
 
 -- a tally that rises by at least and at most so many evaluations at points rises by exactly as many
 abbrev pub PointsAreExact : Type 0

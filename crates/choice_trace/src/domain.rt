@@ -1,8 +1,7 @@
 // What lists are evaluated over.
 ghost use Rattle.std.specs.Prelude.{◌≡◌, ℤ};
-ghost use Rattle.fixed_ops.specs.Counts.{Counts, points_of, spans_of};
+ghost use Rattle.fixed_ops.specs.Counts.{Counts, RisesWithin, points_of, spans_of};
 ghost use Rattle.choice_trace.specs.Meaning.{StandsForResults};
-ghost use Rattle.choice_trace.specs.Work.{RisesWithin};
 ghost use Rattle.interval_ops.specs.HullCounts.{hulls_of};
 ghost use Rattle.interval_ops.specs.Hulls.{IsHull, between};
 ghost use Rattle.interval_ops.specs.Spans.{Holds};

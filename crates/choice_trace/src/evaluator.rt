@@ -1,10 +1,9 @@
 // The value of a list over a domain.
 ghost use Rattle.std.specs.Prelude.{◌≤◌, ◌<◌, ◌≡◌, ℕ, ℤ, List, drop, length};
-ghost use Rattle.fixed_ops.specs.Counts.{times};
+ghost use Rattle.fixed_ops.specs.Counts.{RisesWithin, times};
 ghost use Rattle.fixed_ops.specs.Points.{Point};
 ghost use Rattle.live_clauses.specs.Steps.{IsStepAt, tape_value, value_after};
 ghost use Rattle.choice_trace.specs.Meaning.{AreRead, StandForOperands, StandForPoint};
-ghost use Rattle.choice_trace.specs.Work.{RisesWithin};
 
 use crate::{Domain, Inputs};
 use fixed_ops::{Op, Tally};

@@ -1,17 +1,19 @@
 -- Runs of digits, and the numbers that they spell.
-use Rattle.std.proofs.Common.{◌≡◌, ◌+◌, ◌-◌, ◌*◌, ◌/◌, ◌^◌, ◌<◌, ◌≤◌, ℕ, zero, suc, min, List, [], ◌∷◌, ◌++◌, length, take, drop, get_or, refl, sym, ap, ◌∙◌, arith, eqb}
-use Rattle.std.specs.Prelude.{Bool, true, false, cond, ◌&&◌, nat_lt}
-use Rattle.std.proofs.Math.Nat.{pow-le-pow_right, mul-le-mul, pow-suc}
+use Rattle.std.proofs.Common.{◌≡◌, ◌+◌, ◌-◌, ◌*◌, ◌/◌, ◌^◌, ◌<◌, ◌≤◌, ℕ, zero, suc, min, List, [], ◌∷◌, ◌++◌, length, take, drop, refl, sym, ap, ◌∙◌, arith, eqb}
+use Rattle.std.specs.Prelude.{Bool, true, false, cond, ◌&&◌, nat_lt, nat_le}
+use Rattle.std.proofs.Math.Nat.{pow-le-pow_right, mul-le-mul, mul-le-mul_left, mul-le-mul_right, pow-suc}
 use Rattle.std.specs.Char.{digit_value, is_ascii_digit}
 use Rattle.std.specs.List.{prefix_len}
 use Rattle.std.specs.Str.{all_ascii_digits}
 use Rattle.std.specs.Str.Parse.{AllDigits, digits_value, digits_value_after}
 use Rattle.std.proofs.lemmas.Bool.Decides.{nat_tests}
-use Rattle.std.proofs.lemmas.Int.Digits.{digits_value_more, digits_value-lt}
-use Rattle.std.proofs.lemmas.Str.Parse.{digit_at, tells_all_ascii_digits, numerals_by_value}
-use Rattle.std.proofs.lemmas.Nat.{div-mul-add}
+use Rattle.std.proofs.lemmas.Int.Digits.{digits_value-lt}
+use Rattle.std.proofs.lemmas.Str.Parse.{tells_all_ascii_digits, numerals_by_value}
+use Rattle.std.proofs.lemmas.Nat.{div-mul-add, pow-add}
+use Rattle.std.proofs.lemmas.List.{length-append}
+use Rattle.std.proofs.Math.Logic.{⊎_elim}
+use Rattle.std.proofs.lemmas.Bool.{cases_lt}
 use Rattle.std.proofs.Math.Numerals.{one-add}
-use Rattle.std.proofs.lemmas.Grind.{pow_more}
 use Rattle.fixed_ops.specs.Numerals.{front_digits, point_digits, starts_with_point, is_short}
 use Rattle.fixed_ops.specs.declared.digits.TheConstants.{TOO_GREAT}
 
@@ -22,12 +24,6 @@ digit_value_is c h k = grind (arith, nat_tests)
 -- a byte that passes the test of digits has a value below ten
 digit_from_test : (c : ℕ) → is_ascii_digit c ≡ true → digit_value c < 10
 digit_from_test c h = grind (arith, nat_tests)
-
--- one more digit, below a bound
-pub one_more_digit : (front i number : ℕ) (ds : List ℕ) → AllDigits 10 ds → i < length ds → number ≡ min (front * 10 ^ i + digits_value 10 (take i ds)) TOO_GREAT → min (number * 10 + (get_or ds i 0 - 48)) TOO_GREAT ≡ min (front * 10 ^ (i + 1) + digits_value 10 (take (i + 1) ds)) TOO_GREAT
-one_more_digit front i number ds h lt e =
-    let d = digit_at ds i h lt in
-    omega (arith, digits_value_more 10 ds i lt, digit_value_is (get_or ds i 0) (omega arith) (omega arith), ap (λ (x : ℕ). front * x) (pow_more 10 i))
 
 -- a power of ten that fits
 pub small_power : (k : ℕ) → k < 38 → 10 ^ k < 2 ^ 128
@@ -101,22 +97,43 @@ number_append xs ys = number_after_append 0 xs ys ∙ number_after_front (digits
 pub number_take : (xs ys : List ℕ) → AllDigits 10 ys → digits_value 10 (xs ++ ys) / 10 ^ length ys ≡ digits_value 10 xs
 number_take xs ys h = ap (λ (x : ℕ). x / 10 ^ length ys) (number_append xs ys) ∙ div-mul-add (digits_value 10 xs) (10 ^ length ys) (digits_value 10 ys) (digits_value-lt 10 ys h)
 
--- three digits spell a number below 1000
-pub short_number_below : (ds : List ℕ) → AllDigits 10 ds → length ds ≤ 3 → digits_value 10 ds < 1000
-short_number_below ds h l = omega (arith, digits_value-lt 10 ds h, pow-le-pow_right {n = 10} (omega arith) l)
-
 -- both parts of a test that holds
 pub both_true : (a b : Bool) → (a && b) ≡ true → (a ≡ true) × (b ≡ true)
 both_true true b h = (refl, h)
 both_true false b h = cc
 
--- a short run is digits, at most three
-pub short_is : (ds : List ℕ) → is_short ds ≡ true → AllDigits 10 ds × (length ds ≤ 3)
-short_is ds h =
-    let rest = both_true (nat_lt 0 (length ds)) (nat_lt (length ds) 4 && all_ascii_digits ds) h in
-    let last = both_true (nat_lt (length ds) 4) (all_ascii_digits ds) rest.1 in
+-- a short run is digits, at most so many
+pub short_is : (most : ℕ) (ds : List ℕ) → is_short most ds ≡ true → AllDigits 10 ds × (length ds ≤ most)
+short_is most ds h =
+    let rest = both_true (nat_lt 0 (length ds)) (nat_le (length ds) most && all_ascii_digits ds) h in
+    let last = both_true (nat_le (length ds) most) (all_ascii_digits ds) rest.1 in
     let few = last.0 in
     (digits_from_test ds last.1, grind (arith, nat_tests))
+
+-- what a short run spells is below that power of ten
+pub short_below : (most : ℕ) (ds : List ℕ) → is_short most ds ≡ true → digits_value 10 ds < 10 ^ most
+short_below most ds h =
+    let short = short_is most ds h in
+    omega (arith, digits_value-lt 10 ds short.0, pow-le-pow_right {n = 10} (omega arith) short.1)
+
+-- a number cut off at a bound, and further digits after it
+pub after_cut : (n p v most : ℕ) → 0 < p → min (min n most * p + v) most ≡ min (n * p + v) most
+after_cut n p v most some =
+    ⊎_elim (λ (lt : n < most). let e : min n most ≡ n = omega arith in rw e refl)
+    (λ (le : most ≤ n).
+    let e : min n most ≡ most = omega arith in
+    let first : most * 1 ≤ most * p = mul-le-mul_left most some in
+    let second : most * p ≤ n * p = mul-le-mul_right p le in
+    rw e (omega arith))
+    (cases_lt n most)
+
+-- the number of a run of digits after others, and of the digits after it
+pub run_step : (number : ℕ) (xs ys : List ℕ) (most : ℕ) → min (min (number * 10 ^ length xs + digits_value 10 xs) most * 10 ^ length ys + digits_value 10 ys) most ≡ min (number * 10 ^ length (xs ++ ys) + digits_value 10 (xs ++ ys)) most
+run_step number xs ys most =
+    let some : 10 ^ 0 ≤ 10 ^ length ys = pow-le-pow_right {n = 10} (omega arith) {i = 0} (omega arith) in
+    let cut = after_cut (number * 10 ^ length xs + digits_value 10 xs) (10 ^ length ys) (digits_value 10 ys) most (omega arith) in
+    let power : number * 10 ^ length (xs ++ ys) ≡ number * (10 ^ length xs * 10 ^ length ys) = rw (length-append xs ys, pow-add 10 (length xs) (length ys)) refl in
+    omega (arith, cut, power, number_append xs ys)
 
 -- a choice of digits or none is digits
 chosen_digits : (b : Bool) (ds : List ℕ) → AllDigits 10 ds → AllDigits 10 (cond b ds [])

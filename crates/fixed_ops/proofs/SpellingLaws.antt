@@ -38,14 +38,14 @@ mark_is_else c h =
 exponent_stops : (bs : List ℕ) → is_exponent bs ≡ true → Stops bs
 exponent_stops [] h = refl
 exponent_stops (c ∷ cs) h =
-    let mark = both_true (eqb c 101 || eqb c 69) (is_short (without_leading_sign cs)) h in
+    let mark = both_true (eqb c 101 || eqb c 69) (is_short 3 (without_leading_sign cs)) h in
     rw ((mark_is_else c mark.0).0) refl
 
 -- an exponent begins with no point
 exponent_no_point : (bs : List ℕ) → is_exponent bs ≡ true → starts_with_point bs ≡ false
 exponent_no_point [] h = refl
 exponent_no_point (c ∷ cs) h =
-    let mark = both_true (eqb c 101 || eqb c 69) (is_short (without_leading_sign cs)) h in
+    let mark = both_true (eqb c 101 || eqb c 69) (is_short 3 (without_leading_sign cs)) h in
     (mark_is_else c mark.0).1
 
 -- what follows the whole digits of a spelling

@@ -62,3 +62,10 @@ pub record RisesAtMost (before after most : Counts) : Type 0 where
   pub by : Counts
   pub within : IsAtMost by most
   pub rises : RisesBy before after by
+
+-- a tally rises by counts each of which is at least the first and at most the second of these
+pub record RisesWithin (before after least most : Counts) : Type 0 where
+  pub by : Counts
+  pub enough : IsAtMost least by
+  pub within : IsAtMost by most
+  pub rises : RisesBy before after by

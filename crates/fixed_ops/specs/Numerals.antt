@@ -1,5 +1,5 @@
 -- What a numeral is, and which raw number it means.
-use Rattle.std.specs.Prelude.{ℕ, ◌+◌, ◌-◌, ◌*◌, ◌/◌, ◌^◌, ℤ, pos, negsuc, ◌+ℤ◌, ◌-ℤ◌, Bool, true, ◌&&◌, ◌||◌, ◌==◌, nat_lt, if◌then◌else◌, min, List, [], ◌∷◌, ◌++◌, length, drop, slice_index, Option, Some, None}
+use Rattle.std.specs.Prelude.{ℕ, ◌+◌, ◌-◌, ◌*◌, ◌/◌, ◌^◌, ℤ, pos, negsuc, ◌+ℤ◌, ◌-ℤ◌, Bool, true, ◌&&◌, ◌||◌, ◌==◌, nat_lt, nat_le, if◌then◌else◌, min, List, [], ◌∷◌, ◌++◌, length, drop, slice_index, Option, Some, None}
 use Prim.Native.Nat.{suc}
 use lib.IntN.{neg_ℤ}
 use Rattle.std.specs.Char.{is_ascii_digit}
@@ -39,14 +39,18 @@ fraction_part body = point_digits (after_digits body)
 abbrev pub exponent_part : List ℕ → List ℕ
 exponent_part body = after_point_digits (after_digits body)
 
--- one to three digits
-abbrev pub is_short : List ℕ → Bool
-is_short ds = nat_lt 0 (length ds) && (nat_lt (length ds) 4 && all_ascii_digits ds)
+-- one to so many digits
+abbrev pub is_short : ℕ → List ℕ → Bool
+is_short most ds = nat_lt 0 (length ds) && (nat_le (length ds) most && all_ascii_digits ds)
+
+-- the number that one to so many digits spell, and None where a text is something else
+abbrev pub digits_read : ℕ → List ℕ → Option ℕ
+digits_read most text = if is_short most text then Some (digits_value 10 text) else None
 
 -- nothing, or an e, a sign or none, and one to three digits
 abbrev pub is_exponent : List ℕ → Bool
 is_exponent [] = true
-is_exponent (c ∷ cs) = (c == 101 || c == 69) && is_short (without_leading_sign cs)
+is_exponent (c ∷ cs) = (c == 101 || c == 69) && is_short 3 (without_leading_sign cs)
 
 -- digits with a point or none among, before or after them, at least one digit, and an exponent or none
 unfoldable pub is_unsigned_numeral : List ℕ → Bool

@@ -1,7 +1,8 @@
 // Runs of decimal digits.
-ghost use Rattle.std.specs.Prelude.{◌≡◌, ◌+◌, ◌*◌, ◌^◌, ◌≤◌, length, min};
+ghost use Rattle.std.specs.Prelude.{◌≡◌, ◌+◌, ◌*◌, ◌^◌, ◌<◌, ◌≤◌, length, min, IfSome};
 ghost use Rattle.std.specs.Char.{is_ascii_digit};
 ghost use Rattle.std.specs.List.{prefix_len};
+ghost use Rattle.fixed_ops.specs.Numerals.{digits_read, is_short};
 ghost use Rattle.std.specs.Str.Parse.{AllDigits, digits_value, starts_with_minus as minus_first, without_leading_sign};
 
 /// 2^30 in units of 10^-28. What is not less gives the greatest raw number.
@@ -40,11 +41,11 @@ pub(crate) fn digit_count(text: &[u8]) -> usize
     text.len()
 }
 
-// The number of at most 13 digits.
+// The number of at most 19 digits.
 #[inline]
 pub(crate) fn small_number(digits: &[u8]) -> u64
     requires digits { AllDigits 10 digits.now }
-    requires len { length digits.now ≤ 13 }
+    requires len { length digits.now ≤ 19 }
     ensures { result ≡ digits_value 10 digits.now }
 {
     let mut number = 0;
@@ -61,10 +62,45 @@ pub(crate) fn number_after(front: u128, digits: &[u8]) -> u128
     ensures { result ≡ min (front * 10 ^ length digits.now + digits_value 10 digits.now) TOO_GREAT }
 {
     let mut number = front;
-    for digit in digits {
-        number = (number * 10 + u128::from(*digit - b'0')).min(TOO_GREAT);
+    let mut rest = digits;
+    while rest.len() > 19 {
+        let (run, tail) = rest.split_at(19);
+        number = number_after_few(number, run);
+        rest = tail;
     }
-    number
+    number_after_few(number, rest)
+}
+
+// The same of at most 19 digits.
+#[inline]
+fn number_after_few(front: u128, digits: &[u8]) -> u128
+    requires front { front ≤ TOO_GREAT }
+    requires digits { AllDigits 10 digits.now }
+    requires len { length digits.now ≤ 19 }
+    ensures { result ≡ min (front * 10 ^ length digits.now + digits_value 10 digits.now) TOO_GREAT }
+{
+    (with_zeros(front, digits.len()) + u128::from(small_number(digits))).min(TOO_GREAT)
+}
+
+/// The number that 1 to `most` decimal digits spell, and None where the text is something else.
+pub fn read_digits(text: &[u8], most: usize) -> Option<u128>
+    requires { most ≤ 37 }
+    ensures value { result ≡ digits_read most text.now }
+    ensures below { IfSome result (λ number. number < 10 ^ most) }
+{
+    if is_short_run(text, most) {
+        Some(number_after(0, text))
+    } else {
+        None
+    }
+}
+
+// Whether the text is 1 to `most` digits.
+#[tactic(auto, using(crate::proofs::DigitLaws::all_digits_is))]
+fn is_short_run(text: &[u8], most: usize) -> bool
+    ensures { result ≡ is_short most text.now }
+{
+    !text.is_empty() && text.len() <= most && digit_count(text) == text.len()
 }
 
 // The number with zeros after its digits, or TOO_GREAT if that is less.

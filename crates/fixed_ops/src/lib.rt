@@ -18,6 +18,7 @@ mod tally;
 
 pub use arithmetic::{apply, corner};
 pub use crossing::cut;
+pub use digits::read_digits;
 pub use fixed::{Fx, border, is_inside, le, lt, raw_range};
 pub use laws::{clamps, floors, number_texts, quotients, raw_results, spelled_values};
 pub use number_text::{write_number, write_raw};

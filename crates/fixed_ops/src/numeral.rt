@@ -9,7 +9,8 @@ ghost use Rattle.fixed_ops.specs.declared.digits.TheConstants.{TOO_GREAT};
 
 use crate::Fx;
 use crate::digits::{
-    digit_count, number_after, small_number, starts_with_minus, with_zeros, without_sign,
+    digit_count, number_after, read_digits, small_number, starts_with_minus, with_zeros,
+    without_sign,
 };
 use thiserror::Error;
 
@@ -100,7 +101,7 @@ fn read_exponent(text: &[u8]) -> Option<i32>
 {
     match text {
         [] => Some(0),
-        [b'e' | b'E', signed @ ..] => match short_number(without_sign(signed)) {
+        [b'e' | b'E', signed @ ..] => match exponent_size(without_sign(signed)) {
             Some(size) => Some(if starts_with_minus(signed) {
                 -size
             } else {
@@ -113,24 +114,15 @@ fn read_exponent(text: &[u8]) -> Option<i32>
 }
 
 // The number that one to three digits spell, and None where the text is something else.
-fn short_number(text: &[u8]) -> Option<i32>
-    ensures value { result ≡ (if is_short text.now then Some (pos (digits_value 10 text.now))
+fn exponent_size(text: &[u8]) -> Option<i32>
+    ensures value { result ≡ (if is_short 3 text.now then Some (pos (digits_value 10 text.now))
         else None) }
     ensures size { IfSome result (λ n. unsigned_abs n < 1000) }
 {
-    if is_short_run(text) {
-        Some(number_after(0, text) as i32)
-    } else {
-        None
+    match read_digits(text, 3) {
+        Some(size) => Some(size as i32),
+        None => None,
     }
-}
-
-// Whether the text is one to three digits.
-#[tactic(auto, using(crate::proofs::DigitLaws::all_digits_is))]
-fn is_short_run(text: &[u8]) -> bool
-    ensures { result ≡ is_short text.now }
-{
-    !text.is_empty() && text.len() < 4 && digit_count(text) == text.len()
 }
 
 // The raw number of the digits with this exponent.

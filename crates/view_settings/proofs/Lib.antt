@@ -1,5 +1,4 @@
 pub mod BoxLaws
-pub mod CountLaws
 mod Examples
 pub mod GivenLaws
 pub mod GrammarLaws

@@ -1,10 +1,8 @@
 -- What a word sets: one setting, or the lowest reason against it.
-use Rattle.std.specs.Prelude.{◌≡◌, ℕ, ◌+◌, ◌≤◌, ◌==◌, Bool, ◌&&◌, nat_lt, nat_le, List, length, take, drop, position, Option, Some, None, Result, Ok, Err, if◌then◌else◌}
-use Rattle.std.specs.Char.{is_ascii_digit}
-use Rattle.std.specs.List.{list_all, list_any}
+use Rattle.std.specs.Prelude.{◌≡◌, ℕ, ◌+◌, ◌≤◌, ◌==◌, Bool, ◌&&◌, nat_le, List, take, drop, position, Option, Some, Result, Ok, Err, if◌then◌else◌}
+use Rattle.std.specs.List.{list_any}
 use Rattle.std.specs.Option.{option_and_then, option_map}
-use Rattle.std.specs.Str.Parse.{digits_value}
-use Rattle.fixed_ops.specs.Numerals.{numeral}
+use Rattle.fixed_ops.specs.Numerals.{digits_read, numeral}
 use Rattle.fixed_ops.specs.Raw.{IsRaw}
 use Rattle.view_settings.specs.declared.kind.Kind.{Kind}
 use Rattle.view_settings.specs.declared.kind.Kind.TheVariants as kinds
@@ -36,11 +34,6 @@ known verb text =
 abbrev pub is_given : Name → List Setting → Bool
 is_given name taken = list_any (λ setting. is_same name setting.name) taken
 
--- the number of 1 to 20 digits
-abbrev pub count_read : List ℕ → Option ℕ
-count_read text = if nat_lt 0 (length text) && (nat_le (length text) 20
-    && list_all is_ascii_digit text) then Some (digits_value 10 text) else None
-
 -- a count within these ends
 abbrev pub count_within : ℕ → ℕ → ℕ → Result Value WordReason
 count_within least greatest count =
@@ -50,7 +43,7 @@ count_within least greatest count =
 abbrev pub value_read : Kind → List ℕ → Result Value WordReason
 value_read kinds.Numeral text = or_refused (option_map Raw (numeral text)) BadValue
 value_read (kinds.Count least greatest) text =
-    or_refused (count_read text) BadValue >>= count_within least greatest
+    or_refused (digits_read 20 text) BadValue >>= count_within least greatest
 
 -- this name, where it was not taken before
 abbrev pub once : Name → List Setting → Result Name WordReason

@@ -1,16 +1,13 @@
 // One setting, read from a word.
-ghost use Rattle.std.specs.Prelude.{◌≡◌, ◌≤◌, Some, IfOk, IfSome, false, length, position};
-ghost use Rattle.std.specs.Char.{is_ascii_digit};
-ghost use Rattle.std.specs.List.{list_all};
+ghost use Rattle.std.specs.Prelude.{◌≡◌, Some, IfOk, IfSome, false, position};
 ghost use Rattle.std.specs.Option.{option_map};
-ghost use Rattle.std.specs.Str.Parse.{AllDigits, digits_value};
 ghost use Rattle.view_settings.specs.Kinds.{kind_of as kind_taken};
-ghost use Rattle.view_settings.specs.Setting.{IsSetting, IsValue, count_read, is_equals, is_given as given_in, known, parts_of, setting_of, value_read};
+ghost use Rattle.view_settings.specs.Setting.{IsSetting, IsValue, is_equals, is_given as given_in, known, parts_of, setting_of, value_read};
 
 use crate::kind::{Kind, kind_of};
 use crate::name::{Name, read_name};
 use crate::{Verb, WordReason};
-use fixed_ops::read_raw;
+use fixed_ops::{read_digits, read_raw};
 
 /// The value of a setting.
 #[derive(Clone, Copy, Debug, PartialEq, Eq)]
@@ -104,42 +101,11 @@ fn read_value(kind: Kind, text: &[u8]) -> Result<Value, WordReason>
             Err(_) => Err(WordReason::BadValue),
         },
         Kind::Count { least, greatest } => {
-            let count = read_count(text).ok_or(WordReason::BadValue)?;
+            let count = read_digits(text, 20).ok_or(WordReason::BadValue)?;
             if count < u128::from(least) || count > u128::from(greatest) {
                 return Err(WordReason::OutOfRange);
             }
             Ok(Value::Count(count as u64))
         }
     }
-}
-
-// The number of 1 to 20 digits.
-#[tactic(auto, using(crate::proofs::CountLaws::digits_from_all))]
-fn read_count(text: &[u8]) -> Option<u128>
-    ensures { result ≡ count_read text.now }
-{
-    if text.is_empty() || text.len() > 20 || !are_digits(text) {
-        return None;
-    }
-    Some(number_of(text))
-}
-
-// Whether all bytes are decimal digits.
-fn are_digits(text: &[u8]) -> bool
-    ensures { result ≡ list_all is_ascii_digit text.now }
-{
-    text.iter().all(|byte| byte.is_ascii_digit())
-}
-
-// The number of at most 20 digits.
-fn number_of(digits: &[u8]) -> u128
-    requires digits { AllDigits 10 digits.now }
-    requires few { length digits.now ≤ 20 }
-    ensures { result ≡ digits_value 10 digits.now }
-{
-    let mut number = 0;
-    for digit in digits {
-        number = number * 10 + u128::from(*digit - b'0');
-    }
-    number
 }

@@ -1,8 +1,7 @@
 use Rattle.std.proofs.Common.{◌∙◌, ap, arith, drop, length, refl, subst, sym}
 use Rattle.std.proofs.lemmas.List.{drop-set-lt}
-use Rattle.fixed_ops.specs.Counts.{no_counts, times}
+use Rattle.fixed_ops.specs.Counts.{RisesWithin, no_counts, times}
 use Rattle.live_clauses.specs.Steps.{values}
-use Rattle.choice_trace.specs.Work.{RisesWithin}
 use Rattle.choice_trace.proofs.Elements.{none_read, read_more, step_stands, within_more, within_none}
 use Rattle.choice_trace.proofs.evaluator.evaluate.Goals as goal
 

@@ -1,12 +1,16 @@
-use Rattle.std.proofs.Common.{arith, ◌∙◌}
-use Rattle.std.proofs.lemmas.Str.Parse.{digit_at}
-use Rattle.fixed_ops.proofs.DigitLaws.{one_more_digit}
+use Rattle.std.proofs.Common.{arith, take, drop, ◌∙◌}
+use Rattle.std.proofs.lemmas.List.{take-append-drop}
+use Rattle.fixed_ops.specs.declared.digits.TheConstants.{TOO_GREAT}
+use Rattle.fixed_ops.proofs.DigitLaws.{drop_digits, run_step}
 use Rattle.fixed_ops.proofs.digits.number_after.Goals as goal
 
-pub overflow_sub-digit : goal.overflow_sub-digit
-overflow_sub-digit c = omega (arith, digit_at c.args.digits.now c.loop-digit.digit-index c.requires.digits (omega arith))
-
-pub loop-digit-preserved : goal.loop-digit-preserved
-loop-digit-preserved c =
-    let step = one_more_digit c.args.front c.loop-digit.digit-index c.loop-digit.number c.args.digits.now c.requires.digits (omega arith) c.loop-digit.invariant in
-    rw c.from.ensures at c.min-number.ensures ∙ step
+pub loop-rest-preserved : goal.loop-rest-preserved
+loop-rest-preserved c =
+    let rest = c.loop-rest.rest.now in
+    let step = rw take-append-drop at (run_step c.loop-rest.number (take 19 rest) (drop 19 rest) TOO_GREAT) in
+    let run = rw c.split_at.ensures.front at c.number_after_few-number.ensures in
+    record {
+      number = omega arith;
+      digits = rw c.split_at.ensures.back (drop_digits 19 rest c.loop-rest.invariant.digits);
+      value = rw (c.split_at.ensures.back, run) (step ∙ c.loop-rest.invariant.value);
+    }

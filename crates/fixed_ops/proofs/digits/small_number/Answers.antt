@@ -8,7 +8,7 @@ use Rattle.fixed_ops.proofs.digits.small_number.Goals as goal
 
 pub overflow_mul-number : goal.overflow_mul-number
 overflow_mul-number c =
-    let few : c.loop-digit.digit-index ≤ 12 = omega arith in
+    let few : c.loop-digit.digit-index ≤ 18 = omega arith in
     omega (arith, pow-le-pow_right {n = 10} (omega arith) few)
 
 pub overflow_sub-digit : goal.overflow_sub-digit
@@ -16,7 +16,7 @@ overflow_sub-digit c = omega (arith, digit_at c.args.digits.now c.loop-digit.dig
 
 pub overflow_add-number : goal.overflow_add-number
 overflow_add-number c =
-    let few : c.loop-digit.digit-index ≤ 12 = omega arith in
+    let few : c.loop-digit.digit-index ≤ 18 = omega arith in
     omega (arith, pow-le-pow_right {n = 10} (omega arith) few, digit_at c.args.digits.now c.loop-digit.digit-index c.requires.digits (omega arith))
 
 pub loop-digit-preserved : goal.loop-digit-preserved
