@@ -1,5 +1,5 @@
 -- The text of a raw number is a numeral that means it.
-use Rattle.std.proofs.Common.{◌≡◌, ◌+◌, ◌-◌, ◌*◌, ◌/◌, ◌%◌, ◌^◌, ◌<◌, ◌≤◌, ℕ, zero, suc, List, [], ◌∷◌, ◌++◌, length, replicate, refl, sym, ap, ◌∙◌, arith, length-append, append_assoc, eqb}
+use Rattle.std.proofs.Common.{◌≡◌, ◌+◌, ◌-◌, ◌*◌, ◌/◌, ◌%◌, ◌^◌, ◌<◌, ◌≤◌, ℕ, zero, suc, List, [], ◌∷◌, ◌++◌, length, replicate, refl, sym, ap, ◌∙◌, arith, length-append, eqb}
 use Rattle.std.specs.Prelude.{ℤ, pos, negsuc, true, false, Some, nat_lt, decimal}
 use Rattle.std.specs.Char.{digit_value, is_ascii_digit}
 use Rattle.std.specs.List.{prefix_len}
@@ -134,8 +134,3 @@ number_text_tells v w h k e =
 -- the whole part has at most ten digits
 pub whole_short : (n : ℕ) → n < 2 ^ 62 → length (decimal (n / 2 ^ 32)) ≤ 10
 whole_short n h = ten_short (n / 2 ^ 32) (omega arith)
-
--- the pieces of a text of a size
-pub size_pieces : (a : List ℕ) (n : ℕ) → ((a ++ decimal (n / 2 ^ 32)) ++ 46 ∷ []) ++ zero_padded 10 (n % 2 ^ 32 * 10 ^ 10 / 2 ^ 32) ≡ a ++ size_text n
-unfolding size_text
-size_pieces a n = simp append_assoc

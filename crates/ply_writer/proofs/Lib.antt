@@ -1,5 +1,4 @@
 mod Examples
 pub mod DigitLaws
 pub mod LineLaws
-pub mod PairLaws
 pub mod PieceLaws

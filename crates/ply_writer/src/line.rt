@@ -4,7 +4,8 @@ ghost use Rattle.std.specs.List.{flat_map};
 ghost use Rattle.tetra_mesh.specs.Places.{IsPlaced};
 ghost use Rattle.ply_writer.specs.Ply.{face_line as face_line_of, vertex_line as vertex_line_of};
 
-use crate::digits::{byte_before, count_before, number_before};
+use crate::digits::count_before;
+use fixed_ops::{byte_before, number_before};
 use tetra_mesh::{Face, GridPlaces, Vertex};
 use view_settings::Axis;
 

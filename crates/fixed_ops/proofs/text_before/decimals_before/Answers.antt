@@ -1,7 +1,7 @@
 -- The point and the five pairs.
 use Rattle.std.proofs.Common.{◌%◌, ◌^◌, ◌∷◌, ℕ, List, ap, drop, arith}
-use Rattle.ply_writer.proofs.DigitLaws.{fraction_pairs}
-use Rattle.ply_writer.proofs.digits.decimals_before.Goals as goal
+use Rattle.fixed_ops.proofs.PartLaws.{fraction_pairs}
+use Rattle.fixed_ops.proofs.text_before.decimals_before.Goals as goal
 
 pub returns-clause-written : goal.returns-clause-written
 returns-clause-written c =

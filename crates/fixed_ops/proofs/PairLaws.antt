@@ -1,7 +1,7 @@
 -- The table of pairs of digits.
 use Rattle.std.proofs.Common.{◌≡◌, ℕ, zero, suc, ◌+◌, ◌-◌, ◌*◌, ◌/◌, ◌%◌, ◌<◌, Bool, true, ◌&&◌, T, eqb, get_or, inl, inr, arith, eq-zero-or-pos, eqb→eq}
 use lib.Ieee.Fits.{and_l, and_r}
-use Rattle.ply_writer.specs.declared.digits.TheConstants.{PAIRS}
+use Rattle.fixed_ops.specs.declared.text_before.TheConstants.{PAIRS}
 
 -- the first pairs of the table are right
 abbrev are_pairs : ℕ → Bool

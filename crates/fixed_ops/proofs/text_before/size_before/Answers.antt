@@ -1,5 +1,5 @@
-use Rattle.ply_writer.proofs.DigitLaws.{size_pieces}
-use Rattle.ply_writer.proofs.digits.size_before.Goals as goal
+use Rattle.fixed_ops.proofs.PartLaws.{size_pieces}
+use Rattle.fixed_ops.proofs.text_before.size_before.Goals as goal
 
 pub returns-clause-written : goal.returns-clause-written
 returns-clause-written c =

@@ -1,8 +1,8 @@
 -- The two digits that the table has.
 use Rattle.std.proofs.Common.{◌≡◌, ◌+◌, ◌-◌, ◌%◌, set, arith, length-set}
 use Rattle.std.proofs.lemmas.List.{set_comm, drop-set}
-use Rattle.ply_writer.proofs.PairLaws.{pairs_are_digits}
-use Rattle.ply_writer.proofs.digits.pair_before.Goals as goal
+use Rattle.fixed_ops.proofs.PairLaws.{pairs_are_digits}
+use Rattle.fixed_ops.proofs.text_before.pair_before.Goals as goal
 
 pub returns-clause-written : goal.returns-clause-written
 returns-clause-written c =
