@@ -1,5 +1,6 @@
 mod LineExamples
 pub mod LineLemmas
+pub mod LineSplits
 pub mod LineSteps
 pub mod LineWalk
 pub mod OpLemmas

@@ -5,15 +5,18 @@ use Rattle.std.specs.Option.{ok_or}
 use Rattle.solid_model.specs.declared.clause.Clause.{Clause}
 use Rattle.solid_model.specs.Names.{IsName}
 use Rattle.clause_reader.specs.declared.comments.Comments.TheVariants.{Skipped}
+use Rattle.clause_reader.specs.declared.read_error.ReadError.{ReadError}
+use Rattle.clause_reader.specs.declared.read_error.ReadError.TheVariants.{Memory, Defect}
 use Rattle.clause_reader.specs.declared.text_reason.TextReason.{TextReason}
 use Rattle.clause_reader.specs.declared.text_reason.TextReason.TheVariants.{Empty, NoMemory}
 use Rattle.clause_reader.specs.GivenLines.{IsGiven}
+use Rattle.clause_reader.specs.Gives.{Gives, defect_or}
 use Rattle.clause_reader.specs.Lines.{lines_of, is_clause}
 use Rattle.clause_reader.specs.Reading.{clauses_with, on_result, lines_read, text_read, unless_empty, IsGoodUpTo, GivesModel}
 use Rattle.clause_reader.specs.Says.{clause_lines}
 use Rattle.clause_reader.specs.Tokens.{AreTokenBytes}
 use Rattle.clause_reader.proofs.LineWalk.{given-lines-stand}
-use Rattle.clause_reader.proofs.Said.{said, lines_read-said, text_read-said}
+use Rattle.clause_reader.proofs.Said.{said, clauses_with-reason, lines_read-said, text_read-said}
 
 -- the clauses are what the first clause lines of the text say, and the others are left
 pub record Reads (text : List ℕ) (clauses : List Clause) (left : List (ℕ × List (List ℕ))) : Type 0 where
@@ -61,16 +64,15 @@ named [] others solid bytes some = absurd (omega arith)
 named (byte ∷ bytes) others solid all some = rw solid all
 
 -- it is refused, or memory is wanted for it
-pub stop : (text : List ℕ) (clauses : List Clause) (number : ℕ) (tokens : List (List ℕ)) (left : List (ℕ × List (List ℕ))) (reason : TextReason)
-    → Reads text clauses ((number, tokens) ∷ left)
-    → (reason ≢ NoMemory → clauses_with clauses tokens ≡ Err reason) → (reason ≡ NoMemory → IsOk (clauses_with clauses tokens))
-    → GivesModel text (Err (record { line = number; reason = reason }))
-stop text clauses number tokens left reason reads refused no_memory = (
-  λ h. says-left text clauses ((number, tokens) ∷ left) reads ∙ rw (refused h) refl,
-  λ h. record {
+pub stop : (text : List ℕ) (clauses : List Clause) (number : ℕ) (tokens : List (List ℕ)) (left : List (ℕ × List (List ℕ))) (error : ReadError TextReason)
+    → Reads text clauses ((number, tokens) ∷ left) → Gives (clauses_with clauses tokens) (Err error)
+    → GivesModel text (Err (record { line = number; reason = defect_or NoMemory error }))
+stop text clauses number tokens left Memory reads accepted = (
+  λ other. absurd (other refl),
+  λ same. record {
     numbered = omega (arith, at.numbered);
     says = let place : number - 1 ≡ at.place = omega (arith, at.numbered) in rw place (ap is_clause at.line ∙ at.given);
-    good = good (clauses_with clauses tokens) refl (no_memory h);
+    good = good (clauses_with clauses tokens) refl accepted;
   },
 )
   where
@@ -85,6 +87,10 @@ stop text clauses number tokens left reason reads refused no_memory = (
         ∙ said-append reads.before ((number, tokens) ∷ []) [] ∙ rw (reads.read, is) refl in
         subst IsOk (sym front) refl
     good (Err other) is ok = (cc)
+stop text clauses number tokens left (Defect reason) reads refused = (
+  λ other. says-left text clauses ((number, tokens) ∷ left) reads ∙ rw refused refl,
+  λ same. absurd (clauses_with-reason clauses tokens reason refused same),
+)
 
 -- the end of the text
 pub finish : (text : List ℕ) (clauses : List Clause) (r : Option (List Clause)) → Reads text clauses []

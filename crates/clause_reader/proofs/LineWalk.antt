@@ -4,7 +4,7 @@ use Rattle.clause_reader.specs.declared.comments.Comments.{Comments}
 use Rattle.clause_reader.specs.declared.comments.Comments.TheVariants.{Skipped, Kept}
 use Rattle.clause_reader.specs.GivenLines.{IsGiven, GivenLinesStand}
 use Rattle.clause_reader.specs.Lines.{lines_of, tokens_of}
-use Rattle.clause_reader.specs.LineSplits.{lines_of-some, none-left}
+use Rattle.clause_reader.proofs.LineSplits.{lines_of-some, none-left}
 use Rattle.clause_reader.specs.NumberedLines.{is_given, given_from}
 use Rattle.clause_reader.specs.Scan.{after_line, line_tokens}
 

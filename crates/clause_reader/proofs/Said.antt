@@ -285,7 +285,7 @@ one_refusal text a b refuses_a refuses_b =
     let refused_a = text_read-Refuses text a refuses_a in let refused_b = text_read-Refuses text b refuses_b in cc
 
 -- no clause line is refused for want of memory
-clauses_with-reason : (clauses : List Clause) (tokens : List (List ℕ)) (reason : TextReason) → clauses_with clauses tokens ≡ Err reason → reason ≢ NoMemory
+pub clauses_with-reason : (clauses : List Clause) (tokens : List (List ℕ)) (reason : TextReason) → clauses_with clauses tokens ≡ Err reason → reason ≢ NoMemory
 clauses_with-reason clauses [] reason e = λ h. (cc)
 clauses_with-reason clauses (name ∷ []) reason e = λ h. (cc)
 clauses_with-reason clauses (name ∷ word ∷ args) reason e = by_operation (operation_of word) refl

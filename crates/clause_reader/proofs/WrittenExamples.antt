@@ -1,26 +1,34 @@
 -- What tokens say before their names are looked up, and where a token stands, worked out by hand.
-use Rattle.std.proofs.Common.{◌≡◌, ℕ, nat_le, List, [], ◌∷◌, ◌++◌, length, None, Ok, Err, true, false, refl, arith}
+use Rattle.std.proofs.Common.{◌≡◌, ℕ, nat_le, List, [], ◌∷◌, ◌++◌, length, None, Some, Ok, Err, true, false, refl, arith}
 use Rattle.std.specs.Prelude.{codes, map, pos}
 use Rattle.std.proofs.lemmas.List.Sums.{AllPass-from_list_all}
 use Rattle.fixed_ops.specs.declared.operation.Op.TheVariants.{X, Const, Sub}
 use Rattle.fixed_ops.specs.Numerals.{is_unsigned_numeral}
 use Rattle.solid_model.specs.Clauses.{place_of}
 use Rattle.solid_model.specs.declared.clause.Clause.{Clause}
+use Rattle.solid_model.specs.declared.push_fault.PushFault.TheVariants as push
 use Rattle.solid_model.specs.Names.{is_blank}
 use Rattle.solid_model.specs.Parts.{Parts}
 use Rattle.clause_reader.specs.declared.form_defect.FormDefect.TheVariants.{NoOperation, UnknownOperation, WrongArity, BadNumeral}
 use Rattle.clause_reader.specs.declared.form_fault.FormFault.TheVariants as form
+use Rattle.clause_reader.specs.declared.read_error.ReadError.TheVariants.{Memory, Defect}
 use Rattle.clause_reader.specs.declared.text_reason.TextReason.TheVariants as text
+use Rattle.clause_reader.specs.Forms.{with_arguments, with_names}
 use Rattle.clause_reader.specs.Tokens.{IsTokenAt}
-use Rattle.clause_reader.specs.Written.{as_fault, as_reason, checked, extended, with_arguments}
+use Rattle.clause_reader.specs.Written.{as_error, as_fault, as_reason, extended, named}
 
-defects_of_forms : map as_fault (NoOperation ∷ UnknownOperation ∷ WrongArity ∷ BadNumeral ∷ [])
-    ≡ form.NoOperation ∷ form.UnknownOperation ∷ form.WrongArity ∷ form.BadNumeral ∷ []
+defects_of_forms : map as_fault
+    (Defect NoOperation ∷ Defect UnknownOperation ∷ Defect WrongArity ∷ Defect BadNumeral ∷ Memory ∷ [])
+    ≡ form.NoOperation ∷ form.UnknownOperation ∷ form.WrongArity ∷ form.BadNumeral ∷ form.NoMemory ∷ []
 defects_of_forms = refl
 
 defects_of_lines : map as_reason (NoOperation ∷ UnknownOperation ∷ WrongArity ∷ BadNumeral ∷ [])
     ≡ text.NoOperation ∷ text.UnknownOperation ∷ text.WrongArity ∷ text.BadNumeral ∷ []
 defects_of_lines = refl
+
+clauses_that_do_not_go_last : map as_error (push.DoubleName ∷ push.Full ∷ push.NoMemory ∷ [])
+    ≡ Defect text.DoubleName ∷ Defect text.TooMany ∷ Memory ∷ []
+clauses_that_do_not_go_last = refl
 
 -- an operation without a number
 abbrev said : List (List ℕ) → Parts
@@ -37,10 +45,14 @@ unfolding is_unsigned_numeral
 no_numeral = refl
 
 -- one operand that begins a comment is enough
-names_of_a_form : map (λ args. checked (Ok (said args)))
+names_of_a_form : map (λ args. with_names (Ok (said args)))
     ((codes "x" ∷ codes "#y" ∷ []) ∷ (codes "x#" ∷ codes "y" ∷ []) ∷ [])
-    ≡ Err form.BadName ∷ Ok (said (codes "x#" ∷ codes "y" ∷ [])) ∷ []
+    ≡ Ok None ∷ Ok (Some (said (codes "x#" ∷ codes "y" ∷ []))) ∷ []
 names_of_a_form = refl
+
+-- which is told as a fault
+faults_of_a_form : map named (Ok None ∷ Err WrongArity ∷ []) ≡ Err form.BadName ∷ Err form.WrongArity ∷ []
+faults_of_a_form = refl
 
 -- the column of x, under the name q
 abbrev column : Clause

@@ -1,8 +1,8 @@
+pub mod FirstLines
 pub mod Forms
 pub mod GivenLines
 pub mod Gives
 pub mod LineLaws
-pub mod LineSplits
 pub mod Lines
 pub mod ModelText
 pub mod NumberedLines

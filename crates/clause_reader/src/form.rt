@@ -1,17 +1,17 @@
 // The form that an operation and its arguments say.
-ghost use Rattle.std.specs.Prelude.{◌≡◌, ◌≢◌, [], Ok, Err, IfOk, IsOk};
+ghost use Rattle.std.specs.Prelude.{◌≡◌, ◌≢◌, [], Err, Some, IfErr, IfOk, IsOk};
 ghost use Rattle.std.specs.List.{list_any};
-ghost use Rattle.clause_reader.specs.Forms.{form_read, GivesForm};
+ghost use Rattle.clause_reader.specs.Forms.{form_read, form_said, unless_comment, GivesForm, HasOperands};
 ghost use Rattle.clause_reader.specs.Gives.{Gives};
 ghost use Rattle.clause_reader.specs.Lines.{begins_comment};
 ghost use Rattle.clause_reader.specs.Scan.{line_tokens};
-ghost use Rattle.clause_reader.specs.Written.{checked, names_in, parts_in};
+ghost use Rattle.clause_reader.specs.Written.{names_in, parts_in};
 ghost use Rattle.solid_model.specs.Parts.{IsForm};
 
 use crate::operands::Operands;
 use crate::token::begins_comment;
 use crate::written_form::{WrittenForm, form_of};
-use crate::{FormFault, Tokens};
+use crate::{FormDefect, FormFault, ReadError, Tokens};
 use solid_model::{Form, Name};
 use std::alloc::{AllocError, Global};
 
@@ -26,25 +26,37 @@ pub fn read_form(alloc: Global, rest: &[u8]) -> Result<Form, FormFault>
     ensures names { result ≡ Err FormFault.NoMemory
         → IfOk (form_read (line_tokens rest.now)) (λ form. form.args ≢ []) }
 {
-    match form_of(Tokens::new(rest)) {
-        Ok(form) => make_form(alloc, form),
-        Err(defect) => Err(FormFault::from(defect)),
+    match find_form(alloc, rest) {
+        Ok(form) => form.ok_or(FormFault::BadName),
+        Err(error) => Err(FormFault::from(error)),
     }
 }
 
-// The form of an operation with its operands, none of which begins a comment.
-fn make_form(alloc: Global, form: WrittenForm<'_>) -> Result<Form, FormFault>
+/// The form that a line says. `None`: one of its arguments begins with `#`, so that it names no
+/// clause. An `Err` tells the first defect, or want of memory for the name of an operand.
+pub fn find_form(alloc: Global, rest: &[u8]) -> Result<Option<Form>, ReadError<FormDefect>>
+    ensures form { Gives (form_said (line_tokens rest.now)) result }
+    ensures names { result ≡ Err ReadError.Memory → HasOperands (line_tokens rest.now) }
+{
+    match form_of(Tokens::new(rest)) {
+        Ok(form) => Ok(make_form(alloc, form)?),
+        Err(defect) => Err(ReadError::Defect(defect)),
+    }
+}
+
+// The form of an operation with its operands. `None`: one of them begins a comment.
+fn make_form(alloc: Global, form: WrittenForm<'_>) -> Result<Option<Form>, AllocError>
     requires { IsForm (parts_in form) }
-    ensures gives { Gives FormFault.NoMemory (checked (Ok (parts_in form.entry))) result }
-    ensures names { result ≡ Err FormFault.NoMemory → names_in form.entry.operands ≢ [] }
+    ensures form { IfOk result (λ made. made ≡ unless_comment (parts_in form.entry)) }
+    ensures named { IfErr result
+        (λ refused. unless_comment (parts_in form.entry) ≡ Some (parts_in form.entry)) }
+    ensures some { IfErr result (λ refused. names_in form.entry.operands ≢ []) }
 {
     if has_comment(form.operands) {
-        return Err(FormFault::BadName);
+        return Ok(None);
     }
-    match names(alloc, form.operands) {
-        Ok(args) => Ok(Form::new(form.op, args, form.value)),
-        Err(_) => Err(FormFault::NoMemory),
-    }
+    let args = names(alloc, form.operands)?;
+    Ok(Some(Form::new(form.op, args, form.value)))
 }
 
 // Whether an operand begins a comment.

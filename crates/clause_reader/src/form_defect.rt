@@ -2,11 +2,11 @@
 ghost use Rattle.std.specs.Prelude.{◌≡◌};
 ghost use Rattle.clause_reader.specs.Written.{as_fault, as_reason};
 
-use crate::{FormFault, TextReason};
+use crate::{FormFault, ReadError, TextReason};
 
 /// The first defect of an operation and its arguments.
 #[derive(Clone, Copy, Debug, PartialEq, Eq)]
-pub(crate) enum FormDefect {
+pub enum FormDefect {
     /// No token stands there.
     NoOperation,
     /// The first token names no operation.
@@ -17,15 +17,16 @@ pub(crate) enum FormDefect {
     BadNumeral,
 }
 
-impl From<FormDefect> for FormFault {
-    ghost from_gives = { λ defect fault. fault ≡ as_fault defect };
+impl From<ReadError<FormDefect>> for FormFault {
+    ghost from_gives = { λ error fault. fault ≡ as_fault error };
 
-    fn from(defect: FormDefect) -> FormFault {
-        match defect {
-            FormDefect::NoOperation => FormFault::NoOperation,
-            FormDefect::UnknownOperation => FormFault::UnknownOperation,
-            FormDefect::WrongArity => FormFault::WrongArity,
-            FormDefect::BadNumeral => FormFault::BadNumeral,
+    fn from(error: ReadError<FormDefect>) -> FormFault {
+        match error {
+            ReadError::Memory => FormFault::NoMemory,
+            ReadError::Defect(FormDefect::NoOperation) => FormFault::NoOperation,
+            ReadError::Defect(FormDefect::UnknownOperation) => FormFault::UnknownOperation,
+            ReadError::Defect(FormDefect::WrongArity) => FormFault::WrongArity,
+            ReadError::Defect(FormDefect::BadNumeral) => FormFault::BadNumeral,
         }
     }
 }

@@ -1,4 +1,5 @@
 // What always holds of the definitions that the contracts cite.
+ghost use Rattle.clause_reader.specs.FirstLines.{TextsBeginWithLines};
 ghost use Rattle.clause_reader.specs.GivenLines.{GivenLinesStand};
 ghost use Rattle.clause_reader.specs.LineLaws.{LinesAreExact, TokensAreExact};
 ghost use Rattle.clause_reader.specs.ReadingLaws.{ReadingIsExact, RefusingIsExact, EachTextIsAnswered, NoneIsReadAndRefused, OneReading, OneRefusal, MemoryIsNoReason, EachLineAddsOne};
@@ -27,6 +28,12 @@ pub fn reading_is_exact()
 pub fn lines_and_tokens_are_exact()
     ensures lines { LinesAreExact }
     ensures tokens { TokensAreExact }
+{}
+
+/// The lines of a text that is not empty are the line with which it begins and the lines after that,
+/// which are fewer bytes.
+pub fn texts_begin_with_lines()
+    ensures { TextsBeginWithLines }
 {}
 
 /// Each of the lines that `Lines` gives is the line of its number: those that are given before it

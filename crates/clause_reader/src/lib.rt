@@ -10,6 +10,7 @@ mod line;
 mod line_end;
 mod lines;
 mod operands;
+mod read_error;
 mod reader;
 mod text_fault;
 mod text_reason;
@@ -19,14 +20,17 @@ mod writer;
 mod written_form;
 
 pub use comments::Comments;
-pub use form::read_form;
+pub use form::{find_form, read_form};
+pub use form_defect::FormDefect;
 pub use form_fault::FormFault;
 pub use laws::{
-    given_lines_stand, lines_and_tokens_are_exact, reading_is_exact, written_models_are_read,
+    given_lines_stand, lines_and_tokens_are_exact, reading_is_exact, texts_begin_with_lines,
+    written_models_are_read,
 };
 pub use line::Line;
 pub use line_end::after_line;
 pub use lines::Lines;
+pub use read_error::ReadError;
 pub use reader::read_model;
 pub use text_fault::TextFault;
 pub use text_reason::TextReason;

@@ -9,8 +9,8 @@ ghost use Rattle.solid_model.specs.Parts.{IsForm};
 
 use crate::operands::Operands;
 use crate::written_form::{WrittenForm, form_of};
-use crate::{Comments, Lines, TextFault, TextReason, Tokens};
-use solid_model::{Model, ModelBuilder, PushFault};
+use crate::{Comments, Lines, ReadError, TextFault, TextReason, Tokens};
+use solid_model::{Model, ModelBuilder};
 use std::alloc::Global;
 
 /// The model that a text says, line by line: blank lines and comments say nothing, and each other
@@ -25,10 +25,10 @@ pub fn read_model(alloc: Global, text: &[u8]) -> Result<Model, TextFault>
     let mut builder = ModelBuilder::new(alloc);
     let mut lines = Lines::new(text, Comments::Skipped);
     while let Some(line) = lines.next() {
-        if let Err(reason) = read_clause(&mut builder, line.first, line.others) {
+        if let Err(error) = read_clause(&mut builder, line.first, line.others) {
             return Err(TextFault {
                 line: line.number,
-                reason,
+                reason: error.defect_or(TextReason::NoMemory),
             });
         }
     }
@@ -43,14 +43,14 @@ fn read_clause(
     builder: &mut ModelBuilder,
     name: &[u8],
     tokens: Tokens<'_>,
-) -> Result<(), TextReason>
+) -> Result<(), ReadError<TextReason>>
     requires { IsName name.now }
-    ensures { Gives TextReason.NoMemory (clauses_with builder.old (name.now ∷ tokens.entry))
+    ensures { Gives (clauses_with builder.old (name.now ∷ tokens.entry))
         (made builder.new result) }
 {
     match form_of(tokens) {
         Ok(form) => push_form(builder, name, form),
-        Err(defect) => Err(TextReason::from(defect)),
+        Err(defect) => Err(ReadError::Defect(TextReason::from(defect))),
     }
 }
 
@@ -59,21 +59,16 @@ fn push_form(
     builder: &mut ModelBuilder,
     name: &[u8],
     form: WrittenForm<'_>,
-) -> Result<(), TextReason>
+) -> Result<(), ReadError<TextReason>>
     requires name { IsName name.now }
     requires form { IsForm (parts_in form) }
-    ensures { Gives TextReason.NoMemory
-        (extended builder.old name.now (Ok (parts_in form.entry))) (made builder.new result) }
+    ensures { Gives (extended builder.old name.now (Ok (parts_in form.entry)))
+        (made builder.new result) }
 {
     let Some((a, b)) = places(builder, form.operands) else {
-        return Err(TextReason::UnknownName);
+        return Err(ReadError::Defect(TextReason::UnknownName));
     };
-    match builder.push(name, form.op, a, b, form.value) {
-        Ok(()) => Ok(()),
-        Err(PushFault::DoubleName) => Err(TextReason::DoubleName),
-        Err(PushFault::Full) => Err(TextReason::TooMany),
-        Err(PushFault::NoMemory) => Err(TextReason::NoMemory),
-    }
+    Ok(builder.push(name, form.op, a, b, form.value)?)
 }
 
 // The places of the clauses that operands name, 0 for an operand that is not there. `None`: one of

@@ -1,5 +1,9 @@
 // Why a line of a text is refused.
+ghost use Rattle.std.specs.Prelude.{◌≡◌};
+ghost use Rattle.clause_reader.specs.Written.{as_error};
 
+use crate::ReadError;
+use solid_model::PushFault;
 use thiserror::Error;
 
 /// Why a line of a text is refused. The first that holds in it is answered.
@@ -32,4 +36,16 @@ pub enum TextReason {
     /// Memory was refused.
     #[error("out of memory")]
     NoMemory,
+}
+
+impl From<PushFault> for ReadError<TextReason> {
+    ghost from_gives = { λ fault error. error ≡ as_error fault };
+
+    fn from(fault: PushFault) -> ReadError<TextReason> {
+        match fault {
+            PushFault::DoubleName => ReadError::Defect(TextReason::DoubleName),
+            PushFault::Full => ReadError::Defect(TextReason::TooMany),
+            PushFault::NoMemory => ReadError::Memory,
+        }
+    }
 }

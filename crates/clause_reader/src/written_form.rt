@@ -1,11 +1,11 @@
 // An operation with its arguments, as they stand in a line.
 ghost use Rattle.std.specs.Prelude.{◌≡◌, Ok, Err, MatchResult, IfOk};
 ghost use Rattle.solid_model.specs.Parts.{IsForm};
-ghost use Rattle.clause_reader.specs.Written.{names_in, parts_in, with_arguments, written};
+ghost use Rattle.clause_reader.specs.Forms.{with_arguments, written};
+ghost use Rattle.clause_reader.specs.Written.{names_in, parts_in};
 
-use crate::Tokens;
-use crate::form_defect::FormDefect;
 use crate::operands::{Operands, operands_of};
+use crate::{FormDefect, Tokens};
 use fixed_ops::{Fx, Op, arity, raw_range, read_numeral, read_op};
 
 /// An operation, the names of its operands as they stand in a line, and the number of a constant.

@@ -7,6 +7,7 @@ use Rattle.fixed_ops.specs.declared.operation.Op.TheVariants as ops
 use Rattle.solid_model.specs.declared.edit.Edit.TheVariants as edits
 use Rattle.view_settings.specs.Setting.{setting_of}
 use Rattle.view_settings.specs.Window.{Window, has_room}
+use Rattle.clause_reader.specs.declared.read_error.ReadError.TheVariants.{Memory, Defect}
 use Rattle.clause_reader.specs.Gives.{Gives}
 use Rattle.clause_reader.specs.Lines.{tokens_of}
 use Rattle.edit_script.specs.Commands.{IsCommand, command_read}
@@ -199,20 +200,20 @@ unfolding setting_of cut_magnitude is_unsigned_numeral nearest_raw unsigned_raw
 ends_exchanged = refl
 
 -- a reader gives the very value and the very reason, and wants memory for what is accepted alone
-other_value : Gives {A = ℕ} NoMemory (Ok 3) (Ok 4) → ⊥
+other_value : Gives {A = ℕ} {D = ScriptReason} (Ok 3) (Ok 4) → ⊥
 other_value gives = cc
 
-other_reason : Gives {A = ℕ} NoMemory (Err BadNumeral) (Err WrongArity) → ⊥
-other_reason gives = let same = gives.0 (λ e. cc) in (cc)
+other_reason : Gives {A = ℕ} (Err BadNumeral) (Err (Defect WrongArity)) → ⊥
+other_reason gives = cc
 
-very_reason : Gives {A = ℕ} NoMemory (Err BadNumeral) (Err BadNumeral)
-very_reason = (λ other. refl, λ memory. (cc))
+very_reason : Gives {A = ℕ} (Err BadNumeral) (Err (Defect BadNumeral))
+very_reason = refl
 
-memory_for_a_value : Gives {A = ℕ} NoMemory (Ok 3) (Err NoMemory)
-memory_for_a_value = (λ other. absurd (other refl), λ memory. refl)
+memory_for_a_value : Gives {A = ℕ} {D = ScriptReason} (Ok 3) (Err Memory)
+memory_for_a_value = refl
 
-no_memory_for_a_refusal : Gives {A = ℕ} NoMemory (Err BadNumeral) (Err NoMemory) → ⊥
-no_memory_for_a_refusal gives = let accepted : false ≡ true = gives.1 refl in (cc)
+no_memory_for_a_refusal : Gives {A = ℕ} (Err BadNumeral) (Err Memory) → ⊥
+no_memory_for_a_refusal gives = let accepted : false ≡ true = gives in (cc)
 
 -- a line that is refused adds no command
 more_commands : map (λ more. pushed (Text ∷ []) more) (Ok (Stray 5) ∷ Err BadName ∷ []) ≡ Ok (Text ∷ Stray 5 ∷ []) ∷ Err BadName ∷ []

@@ -1,12 +1,12 @@
 -- A line is refused for the lowest reason that holds in it.
-use Rattle.std.proofs.Common.{◌≡◌, ℕ, suc, ◌<◌, Bool, true, false, cond, not, eqb, nat_lt, List, [], ◌∷◌, ◌++◌, length, Option, Some, None, is_none, Result, Ok, Err, refl, ap, subst, arith}
+use Rattle.std.proofs.Common.{◌≡◌, ℕ, suc, ◌<◌, Bool, true, false, cond, not, eqb, nat_lt, List, [], ◌∷◌, ◌++◌, length, Option, Some, None, is_none, Result, Ok, Err, refl, ap, sym, subst, ◌∙◌, arith}
 use Rattle.std.specs.List.{find, list_any}
 use Rattle.std.specs.Result.{is_err}
 use Rattle.std.proofs.lemmas.Bool.Decides.{nat_tests}
 use Rattle.fixed_ops.specs.declared.operation.Op.{Op}
 use Rattle.solid_model.specs.Parts.{Parts}
 use Rattle.solid_model.specs.declared.edit.Edit.TheVariants as edits
-use Rattle.clause_reader.specs.Forms.{form_read, operation_of, takes, numerals, operands, is_no_numeral}
+use Rattle.clause_reader.specs.Forms.{form_said, operation_of, takes, numerals, is_no_numeral}
 use Rattle.clause_reader.specs.Lines.{begins_comment}
 use Rattle.clause_reader.specs.Reading.{on_result}
 use Rattle.view_settings.specs.declared.job.Job.{Job}
@@ -25,11 +25,11 @@ use Rattle.view_settings.specs.Words.{after_words, job_after, refused_at}
 use Rattle.edit_script.specs.declared.keyword.Keyword.{Keyword}
 use Rattle.edit_script.specs.declared.keyword.Keyword.TheVariants.{Set, Add, Put, Cut, Render, Height, Mesh, Text}
 use Rattle.edit_script.specs.declared.script_reason.ScriptReason.{ScriptReason}
-use Rattle.edit_script.specs.declared.script_reason.ScriptReason.TheVariants.{UnknownOperation, WrongArity, BadNumeral, BadSetting}
+use Rattle.edit_script.specs.declared.script_reason.ScriptReason.TheVariants.{UnknownCommand, TooShort, BadName, UnknownOperation, WrongArity, BadNumeral, BadSetting, NoMemory}
 use Rattle.edit_script.specs.declared.command.Command.{Command}
-use Rattle.edit_script.specs.Commands.{after_keyword, draw_of, edit_or_stray, edit_with, form_found, job_or_bad, keyword_read, name_found}
+use Rattle.edit_script.specs.Commands.{after_keyword, command_read, draw_of, edit_or_stray, edit_with, form_found, job_or_bad, keyword_read, name_found}
 use Rattle.edit_script.specs.Keywords.{keyword_named}
-use Rattle.edit_script.specs.Reasons.{holds_under, of_form, reason_in, reasons, ReasonsAreLowest}
+use Rattle.edit_script.specs.Reasons.{holds, holds_under, of_form, reason_in, reasons, ReasonsAreLowest}
 
 -- tests of how many tokens there are
 not_below : (n k : ℕ) → k < suc n → nat_lt n k ≡ false
@@ -47,21 +47,19 @@ form_fault word args =
 
 -- an edit is refused for the lowest fault of its form
 form-lowest : (next : Option Parts → Command) (word : List ℕ) (args : List (List ℕ))
-    → reason_in (on_result (form_found (form_read (word ∷ args))) (λ found. Ok (next found)) (λ reason. Err reason)) ≡ form_fault word args
+    → reason_in (on_result (form_found (form_said (word ∷ args))) (λ found. Ok (next found)) (λ reason. Err reason)) ≡ form_fault word args
 form-lowest next word args = by (operation_of word) refl
   where
     by : (o : Option Op) → operation_of word ≡ o
-        → reason_in (on_result (form_found (form_read (word ∷ args))) (λ found. Ok (next found)) (λ reason. Err reason)) ≡ form_fault word args
+        → reason_in (on_result (form_found (form_said (word ∷ args))) (λ found. Ok (next found)) (λ reason. Err reason)) ≡ form_fault word args
     by None e = rw e refl
-    by (Some op) e = at (not (eqb (length args) (takes op))) (list_any is_no_numeral (numerals op args)) (list_any begins_comment (operands op args)) refl refl refl
+    by (Some op) e = at (not (eqb (length args) (takes op))) (list_any is_no_numeral (numerals op args)) refl refl
       where
-        at : (arity number comment : Bool) → not (eqb (length args) (takes op)) ≡ arity → list_any is_no_numeral (numerals op args) ≡ number
-            → list_any begins_comment (operands op args) ≡ comment
-            → reason_in (on_result (form_found (form_read (word ∷ args))) (λ found. Ok (next found)) (λ reason. Err reason)) ≡ form_fault word args
-        at true number comment a n b = rw (e, a) refl
-        at false true comment a n b = rw (e, a, n) refl
-        at false false true a n b = rw (e, a, n, b) refl
-        at false false false a n b = rw (e, a, n, b) refl
+        at : (arity number : Bool) → not (eqb (length args) (takes op)) ≡ arity → list_any is_no_numeral (numerals op args) ≡ number
+            → reason_in (on_result (form_found (form_said (word ∷ args))) (λ found. Ok (next found)) (λ reason. Err reason)) ≡ form_fault word args
+        at true number a n = rw (e, a) refl
+        at false true a n = rw (e, a, n) refl
+        at false false a n = rw (e, a, n) refl
 
 -- words do not change their verb
 after_words-verb : (words : List (List ℕ)) (given all : Given) → after_words given words ≡ Ok all → given.verb ≡ all.verb
@@ -151,3 +149,24 @@ reasons-lowest line (word ∷ tokens) = by (keyword_named word)
     by : (k : Option Keyword) → reason_in (keyword_read line k tokens) ≡ find (λ reason. holds_under k tokens reason) reasons
     by None = refl
     by (Some keyword) = after-lowest line keyword tokens
+
+-- so none is refused for want of memory
+pub never-memory : (line : ℕ) (tokens : List (List ℕ)) → command_read line tokens ≡ Err NoMemory → ⊥
+never-memory line tokens e = by (holds tokens) (sym (ap reason_in e) ∙ reasons-lowest line tokens)
+  where
+    by : (p : ScriptReason → Bool) → Some NoMemory ≡ find (λ reason. p reason) reasons → ⊥
+    by p found =
+        first (p UnknownCommand) (p TooShort) (p BadName) (p UnknownOperation) (p WrongArity) (p BadNumeral) (p BadSetting) found
+      where
+        first : (a b c d e f g : Bool)
+            → Some NoMemory
+            ≡ cond a (Some UnknownCommand) (cond b (Some TooShort) (cond c (Some BadName) (cond d (Some UnknownOperation)
+            (cond e (Some WrongArity) (cond f (Some BadNumeral) (cond g (Some BadSetting) None)))))) → ⊥
+        first true b c d e f g h = (cc)
+        first false true c d e f g h = (cc)
+        first false false true d e f g h = (cc)
+        first false false false true e f g h = (cc)
+        first false false false false true f g h = (cc)
+        first false false false false false true g h = (cc)
+        first false false false false false false true h = (cc)
+        first false false false false false false false h = (cc)

@@ -2,7 +2,10 @@
 use Rattle.std.proofs.Common.{All, ◌≡◌, ℕ, zero, suc, ◌+◌, ◌-◌, ◌<◌, ◌≤◌, Bool, true, false, cond, List, [], ◌∷◌, ◌++◌, map, drop, slice_index_or, Some, None, Result, Ok, Err, IsOk, IfErr, refl, ap, sym, subst, ◌∙◌, arith, append_assoc, append-nil}
 use Rattle.std.specs.List.{filter}
 use Rattle.clause_reader.specs.declared.comments.Comments.TheVariants.{Skipped}
-use Rattle.clause_reader.specs.Gives.{Gives}
+use Rattle.clause_reader.specs.FirstLines.{TextsBeginWithLines}
+use Rattle.clause_reader.specs.declared.read_error.ReadError.{ReadError}
+use Rattle.clause_reader.specs.declared.read_error.ReadError.TheVariants.{Memory, Defect}
+use Rattle.clause_reader.specs.Gives.{Gives, defect_or}
 use Rattle.clause_reader.specs.GivenLines.{IsGiven, GivenLinesStand}
 use Rattle.clause_reader.specs.Lines.{lines_of, tokens_of, is_clause}
 use Rattle.clause_reader.specs.NumberedLines.{numbered_from, numbered_lines, given_from}
@@ -15,6 +18,7 @@ use Rattle.edit_script.specs.Commands.{command_read, IsCommand}
 use Rattle.edit_script.specs.Marks.{line_start, mark_place}
 use Rattle.edit_script.specs.Scripts.{all_or_first, command_at, commands_after, pushed, script_read, IsCommandLine, RefusesScript}
 use Rattle.edit_script.proofs.LineStarts.{lines_of-from_line}
+use Rattle.edit_script.proofs.ReasonLemmas.{never-memory}
 
 -- without the first of them
 numbered-drop : (k : ℕ) (number : ℕ) (lines : List (List ℕ)) → drop k (numbered_from number lines) ≡ numbered_from (number + k) (drop k lines)
@@ -59,11 +63,11 @@ pub record Reads (input : List ℕ) (commands : List Command) (left : List (ℕ 
   pub so_far : script_read input ≡ joined commands (said left)
 
 -- the lines after the mark
-pub reads-none : (input : List ℕ) (place end : ℕ) → Some place ≡ mark_place input → end ≡ line_start input (place + 1)
+pub reads-none : (input : List ℕ) (place end : ℕ) → TextsBeginWithLines → Some place ≡ mark_place input → end ≡ line_start input (place + 1)
     → Reads input [] (given_from Skipped (place + 1 + 1) (lines_of (drop end input)))
-reads-none input place end marked is =
+reads-none input place end begin marked is =
     let same : 1 + (place + 1) ≡ place + 1 + 1 = omega arith in
-    let lines : drop (place + 1) (lines_of input) ≡ lines_of (drop end input) = sym (ap (λ n. lines_of (drop n input)) is ∙ lines_of-from_line input (place + 1)) in
+    let lines : drop (place + 1) (lines_of input) ≡ lines_of (drop end input) = sym (ap (λ n. lines_of (drop n input)) is ∙ lines_of-from_line begin input (place + 1)) in
     let behind : drop (place + 1) (numbered_lines input) ≡ numbered_from (place + 1 + 1) (lines_of (drop end input)) =
     numbered-drop (place + 1) 1 (lines_of input) ∙ ap (λ n. numbered_from n (drop (place + 1) (lines_of input))) same ∙ ap (numbered_from (place + 1 + 1)) lines in
     record {
@@ -126,13 +130,13 @@ pushed-said : (commands : List Command) (r : Result Command ScriptReason) → Is
 pushed-said commands (Ok command) ok = refl
 pushed-said commands (Err reason) ok = (cc)
 
-pub reads-refused : (input : List ℕ) (commands : List Command) (number : ℕ) (tokens : List (List ℕ)) (left : List (ℕ × List (List ℕ))) (reason : ScriptReason)
+pub reads-refused : (input : List ℕ) (commands : List Command) (number : ℕ) (tokens : List (List ℕ)) (left : List (ℕ × List (List ℕ))) (error : ReadError ScriptReason)
     → GivenLinesStand → Reads input commands ((number, tokens) ∷ left)
-    → Gives NoMemory (pushed commands (command_read number tokens)) (Err reason) → RefusesScript input (record { line = number; reason = reason })
-reads-refused input commands number tokens left reason stand reads gives = record {
-  refused = λ h. reads.so_far ∙ rw (pushed-refused commands (command_read number tokens) reason (gives.0 h)) refl;
-  no_memory = λ h. subst (λ (r : Result (List Command) ScriptFault). IfErr r (λ first. number < first.line)) (sym reads.so_far)
-      (by (command_read number tokens) (said left) refl refl (pushed-said commands (command_read number tokens) (gives.1 h))
+    → Gives (pushed commands (command_read number tokens)) (Err error) → RefusesScript input (record { line = number; reason = defect_or NoMemory error })
+reads-refused input commands number tokens left Memory stand reads accepted = record {
+  refused = λ other. absurd (other refl);
+  no_memory = λ same. subst (λ (r : Result (List Command) ScriptFault). IfErr r (λ first. number < first.line)) (sym reads.so_far)
+      (by (command_read number tokens) (said left) refl refl (pushed-said commands (command_read number tokens) accepted)
       (subst (λ (lines : List (ℕ × List (List ℕ))). IfErr (said lines) (λ fault. number + 1 ≤ fault.line)) at.later
       (late (drop (at.place + 1) (drop (reads.mark + 1) (lines_of input))) (number + 1))));
 }
@@ -145,6 +149,12 @@ reads-refused input commands number tokens left reason stand reads gives = recor
     by (Ok command) (Ok more) is rest ok h = rw (is, rest) tt
     by (Ok command) (Err fault) is rest ok h = let last = rw rest at h in rw (is, rest) (omega arith)
     by (Err reason) later is rest ok h = (cc)
+reads-refused input commands number tokens left (Defect reason) stand reads refused =
+    let is = pushed-refused commands (command_read number tokens) reason refused in
+    record {
+      refused = λ other. reads.so_far ∙ rw is refl;
+      no_memory = λ same. absurd (never-memory number tokens (is ∙ ap Err same));
+    }
 
 -- the end of the input
 pub reads-all : (input : List ℕ) (commands : List Command) → Reads input commands [] → script_read input ≡ Ok commands

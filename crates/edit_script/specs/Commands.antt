@@ -4,9 +4,9 @@ use Rattle.solid_model.specs.Edits.{IsEdit}
 use Rattle.solid_model.specs.Parts.{Parts}
 use Rattle.solid_model.specs.declared.edit.Edit.{Edit}
 use Rattle.solid_model.specs.declared.edit.Edit.TheVariants as edits
-use Rattle.clause_reader.specs.declared.form_fault.FormFault.{FormFault}
-use Rattle.clause_reader.specs.declared.form_fault.FormFault.TheVariants as forms
-use Rattle.clause_reader.specs.Forms.{form_read}
+use Rattle.clause_reader.specs.declared.form_defect.FormDefect.{FormDefect}
+use Rattle.clause_reader.specs.declared.form_defect.FormDefect.TheVariants as defects
+use Rattle.clause_reader.specs.Forms.{form_said}
 use Rattle.clause_reader.specs.Lines.{begins_comment}
 use Rattle.clause_reader.specs.Reading.{on_result}
 use Rattle.view_settings.specs.declared.job.Job.{Job}
@@ -21,18 +21,20 @@ use Rattle.edit_script.specs.declared.command.Command.TheVariants as commands
 use Rattle.edit_script.specs.declared.keyword.Keyword.{Keyword}
 use Rattle.edit_script.specs.declared.keyword.Keyword.TheVariants as keywords
 use Rattle.edit_script.specs.declared.script_reason.ScriptReason.{ScriptReason}
-use Rattle.edit_script.specs.declared.script_reason.ScriptReason.TheVariants.{UnknownCommand, TooShort, BadName, UnknownOperation, WrongArity, BadNumeral, BadSetting, NoMemory}
+use Rattle.edit_script.specs.declared.script_reason.ScriptReason.TheVariants.{UnknownCommand, TooShort, BadName, UnknownOperation, WrongArity, BadNumeral, BadSetting}
 use Rattle.edit_script.specs.Keywords.{keyword_named}
 
+-- the reason to refuse an edit whose form has this defect
+abbrev pub form_reason : FormDefect → ScriptReason
+form_reason defects.NoOperation = TooShort
+form_reason defects.UnknownOperation = UnknownOperation
+form_reason defects.WrongArity = WrongArity
+form_reason defects.BadNumeral = BadNumeral
+
 -- the form of an edit, or none where an argument begins with `#`, or the reason to refuse it
-abbrev pub form_found : Result Parts FormFault → Result (Option Parts) ScriptReason
-form_found (Ok form) = Ok (Some form)
-form_found (Err forms.NoOperation) = Err TooShort
-form_found (Err forms.UnknownOperation) = Err UnknownOperation
-form_found (Err forms.WrongArity) = Err WrongArity
-form_found (Err forms.BadNumeral) = Err BadNumeral
-form_found (Err forms.BadName) = Ok None
-form_found (Err forms.NoMemory) = Err NoMemory
+abbrev pub form_found : Result (Option Parts) FormDefect → Result (Option Parts) ScriptReason
+form_found (Ok form) = Ok form
+form_found (Err defect) = Err (form_reason defect)
 
 -- a name that stands in a model, or none where the token begins with `#`
 abbrev pub name_found : List ℕ → Option (List ℕ)
@@ -53,7 +55,7 @@ edit_with edit None form = None
 abbrev pub edit_read : ℕ → (List ℕ → Parts → Edit) → List ℕ → List (List ℕ)
     → Result Command ScriptReason
 edit_read line edit name form =
-    on_result (form_found (form_read form))
+    on_result (form_found (form_said form))
     (λ found. Ok (edit_or_stray line (edit_with edit (name_found name) found))) (λ reason. Err reason)
 
 -- the first fault of the name of a new clause: no operation follows it, or it begins with `#`

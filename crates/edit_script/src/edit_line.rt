@@ -1,6 +1,6 @@
 // Edits.
-ghost use Rattle.std.specs.Prelude.{◌≡◌, ◌<◌, Ok, length, IfOk, IfSome};
-ghost use Rattle.clause_reader.specs.Forms.{form_read};
+ghost use Rattle.std.specs.Prelude.{◌≡◌, ◌<◌, length, IfOk, IfSome};
+ghost use Rattle.clause_reader.specs.Forms.{form_said};
 ghost use Rattle.clause_reader.specs.Scan.{line_tokens};
 ghost use Rattle.clause_reader.specs.Tokens.{AreTokenBytes};
 ghost use Rattle.clause_reader.specs.Gives.{Gives};
@@ -9,23 +9,23 @@ ghost use Rattle.solid_model.specs.Names.{IsName};
 ghost use Rattle.solid_model.specs.Parts.{IsForm};
 
 use crate::{Command, ScriptReason};
-use clause_reader::{FormFault, Tokens, begins_comment, read_form};
+use clause_reader::{ReadError, Tokens, begins_comment, find_form};
 use solid_model::{Edit, Form, Name};
-use std::alloc::Global;
+use std::alloc::{AllocError, Global};
 
 /// The command of `set`, of this name and form.
 pub(crate) fn read_set(
     alloc: Global,
     line: u32,
     mut tokens: Tokens<'_>,
-) -> Result<Command, ScriptReason>
-    ensures gives { Gives ScriptReason.NoMemory (set_read line tokens.entry) result }
+) -> Result<Command, ReadError<ScriptReason>>
+    ensures gives { Gives (set_read line tokens.entry) result }
     ensures keeps { IfOk result IsCommand }
 {
     let Some(name) = tokens.next() else {
-        return Err(ScriptReason::TooShort);
+        return Err(ReadError::Defect(ScriptReason::TooShort));
     };
-    let form = find_form(alloc, tokens.rest())?;
+    let form = read_operation(alloc, tokens.rest())?;
     match (find_name(alloc, name)?, form) {
         (Some(name), Some(form)) => Ok(Command::Edit(line, Edit::Set(name, form))),
         _ => Ok(Command::Stray(line)),
@@ -37,15 +37,15 @@ pub(crate) fn read_add(
     alloc: Global,
     line: u32,
     mut tokens: Tokens<'_>,
-) -> Result<Command, ScriptReason>
-    ensures gives { Gives ScriptReason.NoMemory (add_read line tokens.entry) result }
+) -> Result<Command, ReadError<ScriptReason>>
+    ensures gives { Gives (add_read line tokens.entry) result }
     ensures keeps { IfOk result IsCommand }
 {
     let Some(name) = tokens.next() else {
-        return Err(ScriptReason::TooShort);
+        return Err(ReadError::Defect(ScriptReason::TooShort));
     };
     check_name(name, &tokens)?;
-    let form = find_form(alloc, tokens.rest())?;
+    let form = read_operation(alloc, tokens.rest())?;
     match (find_name(alloc, name)?, form) {
         (Some(name), Some(form)) => Ok(Command::Edit(line, Edit::Add(name, form))),
         _ => Ok(Command::Stray(line)),
@@ -57,18 +57,18 @@ pub(crate) fn read_put(
     alloc: Global,
     line: u32,
     mut tokens: Tokens<'_>,
-) -> Result<Command, ScriptReason>
-    ensures gives { Gives ScriptReason.NoMemory (put_read line tokens.entry) result }
+) -> Result<Command, ReadError<ScriptReason>>
+    ensures gives { Gives (put_read line tokens.entry) result }
     ensures keeps { IfOk result IsCommand }
 {
     let Some(next) = tokens.next() else {
-        return Err(ScriptReason::TooShort);
+        return Err(ReadError::Defect(ScriptReason::TooShort));
     };
     let Some(name) = tokens.next() else {
-        return Err(ScriptReason::TooShort);
+        return Err(ReadError::Defect(ScriptReason::TooShort));
     };
     check_name(name, &tokens)?;
-    let form = find_form(alloc, tokens.rest())?;
+    let form = read_operation(alloc, tokens.rest())?;
     let name = find_name(alloc, name)?;
     match (find_name(alloc, next)?, name, form) {
         (Some(next), Some(name), Some(form)) => {
@@ -83,15 +83,15 @@ pub(crate) fn read_cut(
     alloc: Global,
     line: u32,
     mut tokens: Tokens<'_>,
-) -> Result<Command, ScriptReason>
-    ensures gives { Gives ScriptReason.NoMemory (cut_read line tokens.entry) result }
+) -> Result<Command, ReadError<ScriptReason>>
+    ensures gives { Gives (cut_read line tokens.entry) result }
     ensures keeps { IfOk result IsCommand }
 {
     let Some(name) = tokens.next() else {
-        return Err(ScriptReason::TooShort);
+        return Err(ReadError::Defect(ScriptReason::TooShort));
     };
     if !tokens.is_empty() {
-        return Err(ScriptReason::WrongArity);
+        return Err(ReadError::Defect(ScriptReason::WrongArity));
     }
     match find_name(alloc, name)? {
         Some(name) => Ok(Command::Edit(line, Edit::Cut(name))),
@@ -113,27 +113,22 @@ fn check_name(name: &[u8], form: &Tokens<'_>) -> Result<(), ScriptReason>
 }
 
 // The form that the line with which a text begins says. `None`: an argument begins with `#`.
-fn find_form(alloc: Global, text: &[u8]) -> Result<Option<Form>, ScriptReason>
-    ensures gives { Gives ScriptReason.NoMemory (form_found (form_read (line_tokens text.now)))
-        result }
+fn read_operation(alloc: Global, text: &[u8]) -> Result<Option<Form>, ReadError<ScriptReason>>
+    ensures gives { Gives (form_found (form_said (line_tokens text.now))) result }
     ensures keeps { IfOk result (λ found. IfSome found IsForm) }
 {
-    match read_form(alloc, text) {
-        Ok(form) => Ok(Some(form)),
-        Err(FormFault::NoOperation) => Err(ScriptReason::TooShort),
-        Err(FormFault::UnknownOperation) => Err(ScriptReason::UnknownOperation),
-        Err(FormFault::WrongArity) => Err(ScriptReason::WrongArity),
-        Err(FormFault::BadNumeral) => Err(ScriptReason::BadNumeral),
-        Err(FormFault::BadName) => Ok(None),
-        Err(FormFault::NoMemory) => Err(ScriptReason::NoMemory),
+    match find_form(alloc, text) {
+        Ok(form) => Ok(form),
+        Err(ReadError::Memory) => Err(ReadError::Memory),
+        Err(ReadError::Defect(defect)) => Err(ReadError::Defect(ScriptReason::from(defect))),
     }
 }
 
 // The name that a token is. `None`: it begins with `#`.
-fn find_name(alloc: Global, token: &[u8]) -> Result<Option<Name>, ScriptReason>
+fn find_name(alloc: Global, token: &[u8]) -> Result<Option<Name>, AllocError>
     requires bytes { AreTokenBytes token.now }
     requires some { 0 < length token.now }
-    ensures gives { Gives ScriptReason.NoMemory (Ok (name_found token.now)) result }
+    ensures name { IfOk result (λ found. found ≡ name_found token.now) }
     ensures keeps { IfOk result (λ found. IfSome found IsName) }
 {
     if begins_comment(token) {
@@ -141,6 +136,6 @@ fn find_name(alloc: Global, token: &[u8]) -> Result<Option<Name>, ScriptReason>
     }
     match Name::new(alloc, token) {
         Ok(name) => Ok(Some(name)),
-        Err(_) => Err(ScriptReason::NoMemory),
+        Err(_) => Err(AllocError),
     }
 }

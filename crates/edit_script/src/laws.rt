@@ -2,6 +2,8 @@
 ghost use Rattle.edit_script.specs.Reasons.{ReasonsAreLowest};
 ghost use Rattle.edit_script.specs.ScriptLaws.{InputsAreSplit, RefusalsAreExact, ScriptsAreExact};
 
+use clause_reader::texts_begin_with_lines;
+
 /// An input is read as the commands that its lines after the mark say, one by one, or else it is
 /// refused: on line 0 where there is no mark, and else on the first line that says no command.
 pub fn scripts_are_exact()
@@ -18,4 +20,6 @@ pub fn reasons_are_lowest()
 /// lines after it those of what stands after it.
 pub fn inputs_are_split()
     ensures { InputsAreSplit }
-{}
+{
+    texts_begin_with_lines();
+}

@@ -7,18 +7,18 @@ use crate::draw::{read_draw, read_text};
 use crate::edit_line::{read_add, read_cut, read_put, read_set};
 use crate::keyword::{Keyword, read_keyword};
 use crate::{Command, ScriptReason};
-use clause_reader::{Line, Tokens};
+use clause_reader::{Line, ReadError, Tokens};
 use std::alloc::Global;
 use view_settings::Verb;
 
 /// The command that a line says, which is no comment.
-pub(crate) fn read_line(alloc: Global, line: Line<'_>) -> Result<Command, ScriptReason>
-    ensures gives { Gives ScriptReason.NoMemory
-        (command_read line.entry.number (line.entry.first.now ∷ line.entry.others)) result }
+pub(crate) fn read_line(alloc: Global, line: Line<'_>) -> Result<Command, ReadError<ScriptReason>>
+    ensures gives { Gives (command_read line.entry.number
+        (line.entry.first.now ∷ line.entry.others)) result }
     ensures keeps { IfOk result IsCommand }
 {
     match read_keyword(line.first) {
-        None => Err(ScriptReason::UnknownCommand),
+        None => Err(ReadError::Defect(ScriptReason::UnknownCommand)),
         Some(keyword) => read_after(alloc, line.number, keyword, line.others),
     }
 }
@@ -29,8 +29,8 @@ fn read_after(
     line: u32,
     keyword: Keyword,
     tokens: Tokens<'_>,
-) -> Result<Command, ScriptReason>
-    ensures gives { Gives ScriptReason.NoMemory (after_keyword line keyword tokens.entry) result }
+) -> Result<Command, ReadError<ScriptReason>>
+    ensures gives { Gives (after_keyword line keyword tokens.entry) result }
     ensures keeps { IfOk result IsCommand }
 {
     match keyword {
@@ -38,9 +38,9 @@ fn read_after(
         Keyword::Add => read_add(alloc, line, tokens),
         Keyword::Put => read_put(alloc, line, tokens),
         Keyword::Cut => read_cut(alloc, line, tokens),
-        Keyword::Render => read_draw(Verb::Render, tokens),
-        Keyword::Height => read_draw(Verb::Height, tokens),
-        Keyword::Mesh => read_draw(Verb::Mesh, tokens),
-        Keyword::Text => read_text(tokens),
+        Keyword::Render => Ok(read_draw(Verb::Render, tokens)?),
+        Keyword::Height => Ok(read_draw(Verb::Height, tokens)?),
+        Keyword::Mesh => Ok(read_draw(Verb::Mesh, tokens)?),
+        Keyword::Text => Ok(read_text(tokens)?),
     }
 }

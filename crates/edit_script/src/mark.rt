@@ -4,7 +4,7 @@ ghost use Rattle.std.specs.Option.{option_map};
 ghost use Rattle.clause_reader.specs.Scan.{line_tokens};
 ghost use Rattle.edit_script.specs.Marks.{is_mark, is_sign, line_start, mark_ends, mark_place};
 
-use clause_reader::{Tokens, after_line};
+use clause_reader::{Tokens, after_line, texts_begin_with_lines};
 
 /// A mark line.
 #[derive(Clone, Copy, Debug)]
@@ -35,6 +35,7 @@ pub(crate) fn find_mark(input: &[u8]) -> Option<Mark>
     ensures after { IfSome result (λ mark. mark.place + 1 ≤ mark.end) }
     ensures within { IfSome result (λ mark. mark.end ≤ length input.now) }
 {
+    texts_begin_with_lines();
     let mut place = 0;
     let mut rest = input;
     while !rest.is_empty() {

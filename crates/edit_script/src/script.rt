@@ -7,7 +7,7 @@ ghost use Rattle.edit_script.specs.Scripts.{pushed, script_read, IsCommandLine, 
 use crate::line::read_line;
 use crate::mark::find_mark;
 use crate::{Command, ScriptFault, ScriptReason};
-use clause_reader::{Comments, Line, Lines, given_lines_stand};
+use clause_reader::{Comments, Line, Lines, ReadError, given_lines_stand, texts_begin_with_lines};
 use std::alloc::Global;
 
 /// The commands of an input: those of the lines after its mark, the first line whose only token is
@@ -26,14 +26,15 @@ pub fn read_script(alloc: Global, input: &[u8]) -> Result<Vec<Command>, ScriptFa
     let Some(mark) = find_mark(input) else {
         return Err(fault(0, ScriptReason::NoMark));
     };
+    texts_begin_with_lines();
     given_lines_stand();
     let mut commands = Vec::new(alloc);
     let passed = mark.place as u32 + 1;
     let mut lines = Lines::after(passed, &input[mark.end..], Comments::Skipped);
     while let Some(line) = lines.next() {
         let number = line.number;
-        if let Err(reason) = push_command(alloc, &mut commands, line) {
-            return Err(fault(number, reason));
+        if let Err(error) = push_command(alloc, &mut commands, line) {
+            return Err(fault(number, error.defect_or(ScriptReason::NoMemory)));
         }
     }
     Ok(commands)
@@ -44,17 +45,15 @@ fn push_command(
     alloc: Global,
     commands: &mut Vec<Command>,
     line: Line<'_>,
-) -> Result<(), ScriptReason>
-    ensures gives { Gives ScriptReason.NoMemory (pushed commands.old.items
+) -> Result<(), ReadError<ScriptReason>>
+    ensures gives { Gives (pushed commands.old.items
         (command_read line.entry.number (line.entry.first.now ∷ line.entry.others)))
         (made commands.new.items result) }
     ensures keeps { All IsCommand commands.old.items
         → OnOk result (All IsCommand commands.new.items) }
 {
-    match read_line(alloc, line) {
-        Ok(command) => commands.push(command).map_err(|_| ScriptReason::NoMemory),
-        Err(reason) => Err(reason),
-    }
+    let command = read_line(alloc, line)?;
+    Ok(commands.push(command)?)
 }
 
 // A refusal of the line of this number.

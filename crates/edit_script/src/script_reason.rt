@@ -1,5 +1,8 @@
 // Why a line of a script is refused.
+ghost use Rattle.std.specs.Prelude.{◌≡◌};
+ghost use Rattle.edit_script.specs.Commands.{form_reason};
 
+use clause_reader::{FormDefect, ReadError};
 use thiserror::Error;
 
 /// Why a line of a script is refused. The first that holds in it is answered.
@@ -33,4 +36,27 @@ pub enum ScriptReason {
     /// Memory was refused.
     #[error("out of memory")]
     NoMemory,
+}
+
+impl From<FormDefect> for ScriptReason {
+    ghost from_gives = { λ defect reason. reason ≡ form_reason defect };
+
+    fn from(defect: FormDefect) -> ScriptReason {
+        match defect {
+            FormDefect::NoOperation => ScriptReason::TooShort,
+            FormDefect::UnknownOperation => ScriptReason::UnknownOperation,
+            FormDefect::WrongArity => ScriptReason::WrongArity,
+            FormDefect::BadNumeral => ScriptReason::BadNumeral,
+        }
+    }
+}
+
+impl From<ScriptReason> for ReadError<ScriptReason> {
+    ghost use Rattle.clause_reader.specs.declared.read_error.ReadError.TheVariants.{Defect};
+
+    ghost from_gives = { λ reason error. error ≡ Defect reason };
+
+    fn from(reason: ScriptReason) -> ReadError<ScriptReason> {
+        ReadError::Defect(reason)
+    }
 }

@@ -1,7 +1,7 @@
 -- A line is passed, or is the first that is given.
 use Rattle.std.proofs.Common.{◌+◌, ◌<◌, not, length, ap, sym, ◌∙◌, arith}
 use Rattle.std.proofs.lemmas.Bool.{eqb-false}
-use Rattle.clause_reader.specs.LineSplits.{after_line-shorter}
+use Rattle.clause_reader.proofs.LineSplits.{after_line-shorter}
 use Rattle.clause_reader.specs.Scan.{line_tokens}
 use Rattle.clause_reader.proofs.LineWalk.{skip-blank, skip-line, give-line}
 use Rattle.clause_reader.proofs.lines.split_line.Goals as goal

@@ -14,8 +14,8 @@ pub returns-in-Err : goal.returns-in-Err
 returns-in-Err c =
     let line = c.in-Some.line in
     let reads = subst (λ (left : List (ℕ × List (List ℕ))). Reads c.args.text.now c.loop-line.builder left) c.in-Some.ensures.next c.loop-line.invariant in
-    stop c.args.text.now c.loop-line.builder line.number (line.first.now ∷ line.others) c.next.new.self c.in-Err.reason reads
-    c.in-Err.ensures.0 c.in-Err.ensures.1
+    rw c.defect_or.ensures
+    (stop c.args.text.now c.loop-line.builder line.number (line.first.now ∷ line.others) c.next.new.self c.in-Err.error reads c.in-Err.ensures)
 
 pub loop-line-preserved : goal.loop-line-preserved
 loop-line-preserved c =

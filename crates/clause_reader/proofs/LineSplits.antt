@@ -4,6 +4,7 @@ use Rattle.std.specs.List.{position_or_len}
 use Rattle.std.proofs.lemmas.Bool.{cases_lt}
 use Rattle.std.proofs.lemmas.List.{take_all, drop_all, length-drop}
 use Rattle.std.proofs.lemmas.List.Sums.{prefix_len-le-length}
+use Rattle.clause_reader.specs.FirstLines.{TextsBeginWithLines}
 use Rattle.clause_reader.specs.Lines.{is_feed, onto_first, line_of, lines_of}
 use Rattle.clause_reader.specs.Scan.{after_line}
 
@@ -74,3 +75,8 @@ none-left (byte ∷ text) none = absurd (omega arith)
 -- what stands after a line is shorter
 pub after_line-shorter : (text : List ℕ) → 0 < length text → length (after_line text) < length text
 after_line-shorter text some = omega (arith, length-drop (position_or_len is_feed text + 1) text)
+
+-- so each text begins with a line but the empty one
+pub texts-begin-with-lines : TextsBeginWithLines
+texts-begin-with-lines text some =
+    record { lines = lines_of-some text some; shorter = after_line-shorter text some }
