@@ -2,3 +2,4 @@ mod Examples
 pub mod DigitLaws
 pub mod LineLaws
 pub mod PieceLaws
+pub mod TripleLaws

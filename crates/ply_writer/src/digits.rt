@@ -19,13 +19,10 @@ pub(crate) fn bytes_before(bytes: &[u8], line: &mut [u8], end: usize) -> usize
 }
 
 /// Writes the digits of a count before `end`, and returns where they start.
-#[inline(always)]
-#[tactic(auto, using(crate::proofs::DigitLaws::count_short))]
-pub(crate) fn count_before(count: u32, line: &mut [u8], end: usize) -> usize
-    requires room { COUNT ≤ end }
+pub(crate) fn digits_before(count: u32, line: &mut [u8], end: usize) -> usize
+    requires room { length (decimal count) ≤ end }
     requires within { end ≤ length line.old }
-    ensures few { end ≤ result + COUNT }
-    ensures before { result ≤ end }
+    ensures start { result + length (decimal count) ≡ end }
     ensures written { drop result line.new ≡ decimal count ++ drop end line.old }
 {
     write_digits(u64::from(count), line, end)

@@ -7,6 +7,7 @@ mod line;
 mod pieces;
 mod ply;
 mod room;
+mod triples;
 
 pub use pieces::PlyPieces;
 pub use ply::ply_text;

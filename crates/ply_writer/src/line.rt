@@ -3,8 +3,9 @@ ghost use Rattle.std.specs.Prelude.{◌≡◌, ◌+◌, ◌≤◌, ◌++◌, All
 ghost use Rattle.std.specs.List.{flat_map};
 ghost use Rattle.tetra_mesh.specs.Places.{IsPlaced};
 ghost use Rattle.ply_writer.specs.Ply.{face_line as face_line_of, vertex_line as vertex_line_of};
+ghost use Rattle.ply_writer.specs.Triples.{AreTriples};
 
-use crate::digits::count_before;
+use crate::triples::Triples;
 use fixed_ops::{byte_before, number_before};
 use tetra_mesh::{Face, GridPlaces, Vertex};
 use view_settings::Axis;
@@ -40,7 +41,8 @@ pub(crate) fn vertex_lines(places: &GridPlaces, vertices: &[Vertex], block: &mut
 }
 
 /// Writes the lines of faces at the end of a block, and returns where they start.
-pub(crate) fn face_lines(faces: &[Face], block: &mut [u8]) -> usize
+pub(crate) fn face_lines(triples: &Triples, faces: &[Face], block: &mut [u8]) -> usize
+    requires triples { AreTriples triples.now }
     requires few { length faces.now ≤ FACES }
     requires block { length block.old ≡ BLOCK }
     ensures within { result ≤ BLOCK }
@@ -48,7 +50,7 @@ pub(crate) fn face_lines(faces: &[Face], block: &mut [u8]) -> usize
 {
     let mut start = BLOCK;
     for i in (0..faces.len()).rev() {
-        start = face_line(&faces[i], block, start);
+        start = face_line(triples, &faces[i], block, start);
     }
     start
 }
@@ -74,7 +76,8 @@ fn vertex_line(places: &GridPlaces, v: &Vertex, block: &mut [u8], end: usize) ->
 
 // Writes the line of a face before `end`, and returns where it starts.
 #[inline]
-fn face_line(face: &Face, block: &mut [u8], end: usize) -> usize
+fn face_line(triples: &Triples, face: &Face, block: &mut [u8], end: usize) -> usize
+    requires triples { AreTriples triples.now }
     requires room { FACE ≤ end }
     requires within { end ≤ length block.old }
     ensures few { end ≤ result + FACE }
@@ -82,11 +85,11 @@ fn face_line(face: &Face, block: &mut [u8], end: usize) -> usize
     ensures line { drop result block.new ≡ face_line_of face.now ++ drop end block.old }
 {
     let start = byte_before(b'\n', block, end);
-    let start = count_before(face.c, block, start);
+    let start = triples.count_before(face.c, block, start);
     let start = byte_before(b' ', block, start);
-    let start = count_before(face.b, block, start);
+    let start = triples.count_before(face.b, block, start);
     let start = byte_before(b' ', block, start);
-    let start = count_before(face.a, block, start);
+    let start = triples.count_before(face.a, block, start);
     let start = byte_before(b' ', block, start);
     byte_before(b'3', block, start)
 }

@@ -5,6 +5,7 @@ ghost use Rattle.ply_writer.specs.Ply.{ply_of};
 
 use crate::header::header_before;
 use crate::line::{BLOCK, FACES, VERTICES, face_lines, vertex_lines};
+use crate::triples::Triples;
 use std::alloc::{AllocError, Global};
 use std::marker::Model;
 use tetra_mesh::{Face, GridPlaces, Mesh, Vertex};
@@ -15,6 +16,7 @@ use view_settings::View;
 #[derive(Debug, Drop)]
 pub struct PlyPieces<'a> {
     places: GridPlaces,
+    triples: Triples,
     // Those whose lines are still to come.
     vertices: &'a [Vertex],
     faces: &'a [Face],
@@ -36,12 +38,12 @@ impl<'a> Model for PlyPieces<'a> {
       rest = flat_map (vertex_line p.places) p.vertices.now ++ flat_map face_line p.faces.now;
     } };
 
-    ghost invariant = { λ p. CanGoOn p.places p.vertices.now p.block.items p.start };
+    ghost invariant = { λ p. CanGoOn p.places p.triples p.vertices.now p.block.items p.start };
 }
 
 impl<'a> PlyPieces<'a> {
     /// The pieces of the text of a mesh over a view. The first one, the header, is made.
-    /// AllocError: there is no memory for the block.
+    /// AllocError: there is no memory for the block and for the texts of three digits.
     pub fn new(alloc: Global, mesh: &'a Mesh, view: &View) -> Result<PlyPieces<'a>, AllocError>
         requires placed { All (IsPlaced view.now) mesh.now.vertices }
         requires vertices { length mesh.now.vertices < 2 ^ 31 }
@@ -50,12 +52,14 @@ impl<'a> PlyPieces<'a> {
             ≡ ply_of view.now mesh.now.vertices mesh.now.faces) }
     {
         let places = GridPlaces::new(view);
+        let triples = Triples::new(alloc)?;
         let vertices = mesh.vertices.as_slice();
         let faces = mesh.faces.as_slice();
         let mut block = vec![in alloc; 0; BLOCK]?;
         let start = header_before(vertices.len() as u32, faces.len() as u32, &mut block, BLOCK);
         Ok(PlyPieces {
             places,
+            triples,
             vertices,
             faces,
             block,
@@ -88,7 +92,7 @@ impl<'a> PlyPieces<'a> {
         }
         if !self.faces.is_empty() {
             let (batch, after) = self.faces.split_at(self.faces.len().min(FACES));
-            self.start = face_lines(batch, &mut self.block);
+            self.start = face_lines(&self.triples, batch, &mut self.block);
             self.faces = after;
             return true;
         }

@@ -4,6 +4,7 @@ pub mod FaceLaws
 pub mod GridExamples
 pub mod GridLaws
 pub mod NumberLaws
+pub mod RankLaws
 pub mod ReachLaws
 pub mod TriangleLaws
 pub mod VertexLaws

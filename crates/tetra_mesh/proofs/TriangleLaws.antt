@@ -1,5 +1,5 @@
 -- The triangles of a cell by its signs.
-use Rattle.std.proofs.Common.{◌≡◌, ℕ, zero, suc, ◌+◌, ◌<◌, ◌≤◌, Bool, true, false, List, [], ◌∷◌, ◌++◌, refl, ap, sym, ◌∙◌, inl, inr, zero-add, arith}
+use Rattle.std.proofs.Common.{◌≡◌, ℕ, zero, suc, ◌+◌, ◌*◌, ◌<◌, ◌≤◌, Bool, true, false, List, [], ◌∷◌, ◌++◌, refl, ap, sym, ◌∙◌, inl, inr, zero-add, arith, length-append}
 use Rattle.std.specs.Prelude.{◌⊎◌, ◌==◌, nat_lt, min, map, flat_map, get_or, length, All, Vec, if◌then◌else◌}
 use Rattle.std.specs.List.{range_with_len}
 use Rattle.std.specs.declared.alloc.Global.{Global}
@@ -96,6 +96,31 @@ faces_moved f c ts is =
 pub all_moved : (P : Triple → Type 0) (c : SidedCell) (ts : List Triple) → ts ≡ shape_of c.signs → All P (sided_triangles c) → All (λ t. P (moved_triple c t)) ts
 all_moved P c ts is all =
     all_mapped P (moved_triple c) ts (All-same P (map (moved_triple c) ts) (sided_triangles c) (ap (map (moved_triple c)) is) all)
+
+-- ---- how many triangles there are
+
+-- a tetrahedron has two at most
+among_few : (edge : ℕ → ℕ → EdgeKey) (count a b c d : ℕ) → length {A = Triple} (triangles_among edge count a b c d) ≤ 2
+among_few edge count a b c d = by (count == 1) (count == 3) (count == 2)
+  where
+    by : (one three two : Bool) → length {A = Triple} (if one then record { a = edge a b; b = edge a c; c = edge a d } ∷ [] else (if three then record { a = edge a b; b = edge a d; c = edge a c } ∷ [] else (if two then record { a = edge a c; b = edge a d; c = edge b d } ∷ record { a = edge a c; b = edge b d; c = edge b c } ∷ [] else []))) ≤ 2
+    by true three two = omega arith
+    by false true two = omega arith
+    by false false true = omega arith
+    by false false false = omega arith
+
+flat_few : {A : Type 0} (f : ℕ → List A) → ((k : ℕ) → length (f k) ≤ 2) → (xs : List ℕ) → length (flat_map f xs) ≤ 2 * length xs
+flat_few f each [] = omega arith
+flat_few f each (x ∷ xs) = omega (arith, length-append (f x) (flat_map f xs), each x, flat_few f each xs)
+
+-- and a cell twelve
+pub few_triangles : (signs : ℕ) → length (shape_of signs) ≤ 12
+unfolding shape_of
+few_triangles signs =
+    flat_few (λ tetra. triangles_of 0 0 0 tetra signs) (λ tetra.
+    let pattern = pattern_of (has_sign signs) tetra in
+    let corners = arrangement tetra pattern in
+    among_few (edge_between (point 0 0 0)) (inside_count pattern) (get_or corners 0 0) (get_or corners 1 0) (get_or corners 2 0) (get_or corners 3 0)) (range_with_len 0 6)
 
 -- ---- one more tetrahedron, and one more shape
 

@@ -2,6 +2,7 @@ pub mod Cuts
 pub mod Meshes
 pub mod Numbering
 pub mod Places
+pub mod Ranks
 pub mod Shapes
 pub mod Sides
 pub mod Sound

@@ -5,6 +5,7 @@ use Rattle.std.specs.declared.alloc.Global.{Global}
 use Rattle.kuhn_cells.specs.declared.edge_key.EdgeKey.{EdgeKey}
 use Rattle.kuhn_cells.specs.declared.triple.Triple.{Triple}
 use Rattle.kuhn_cells.specs.Triangles.{triangles_of}
+use Rattle.tetra_mesh.specs.Ranks.{AreRanks}
 use Rattle.tetra_mesh.specs.declared.shapes.Shapes.{Shapes as Kept}
 use Rattle.tetra_mesh.specs.declared.sided_cell.SidedCell.{SidedCell}
 
@@ -32,3 +33,4 @@ pub record AreShapes (s : Kept) : Type 0 where
   pub room : length s.shapes.items ≡ 256
   pub each : (signs : ℕ) (d : Vec Triple Global) → signs < 256
       → (get_or s.shapes.items signs d).items ≡ shape_of signs
+  pub ranks : AreRanks s.ranks.items

@@ -9,7 +9,7 @@ ghost use Rattle.tetra_mesh.specs.Sides.{HasParts, HaveCells, OfCells, sided_of}
 ghost use Rattle.tetra_mesh.specs.Sound.{IsSound, LieApart};
 ghost use Rattle.view_settings.specs.Window.{FitsMesh};
 
-use crate::faces::{face_count, push_faces};
+use crate::faces::push_faces;
 use crate::laws::meshes_are_sound;
 use crate::numbering::Numbering;
 use crate::shapes::Shapes;
@@ -122,8 +122,8 @@ fn faces_of(alloc: Global, sided: &[SidedCell], n: u32) -> Result<Vec<Face>, All
         (λ cells. IfOk result (λ faces. faces.items ≡ all_faces cells cells)) }
 {
     let mut numbering = Numbering::new(alloc, n)?;
-    let mut faces = Vec::with_capacity(alloc, total_face_count(sided))?;
     let shapes = Shapes::new(alloc)?;
+    let mut faces = Vec::with_capacity(alloc, total_face_count(sided, &shapes))?;
     push_all_faces(sided, &shapes, &mut numbering, &mut faces)?;
     Ok(faces)
 }
@@ -162,13 +162,14 @@ fn vertex_count(cells: &[SidedCell]) -> usize
 }
 
 // How many faces cells have.
-fn total_face_count(cells: &[SidedCell]) -> usize
-    requires { length cells.now ≤ 16777216 }
+fn total_face_count(cells: &[SidedCell], shapes: &Shapes) -> usize
+    requires few { length cells.now ≤ 16777216 }
+    requires shapes { AreShapes shapes.now }
     ensures { result ≤ 12 * length cells.now }
 {
     let mut count = 0;
     for cell in cells {
-        count += face_count(cell.signs);
+        count += shapes.triangles(cell.signs).len();
     }
     count
 }

@@ -1,6 +1,7 @@
 // What is kept of a cell while its vertices may be asked for.
-ghost use Rattle.std.specs.Prelude.{◌≡◌, ◌+◌, ◌<◌, ◌≤◌, ◌^◌};
+ghost use Rattle.std.specs.Prelude.{◌≡◌, ◌+◌, ◌<◌, ◌^◌};
 ghost use Rattle.tetra_mesh.specs.Numbering.{rank_of};
+ghost use Rattle.tetra_mesh.specs.Ranks.{AreRanks};
 
 // The number of the first vertex on the edges from the lowest corner of a cell, and a bit for each
 // direction whose edge has a vertex.
@@ -13,12 +14,13 @@ pub(crate) struct Entry {
 impl Entry {
     // The number of the vertex on the edge in a direction.
     #[inline]
-    #[tactic(auto, using(crate::proofs::Bits::masked), unfolding(crate::specs::Numbering::rank_of))]
-    pub(crate) fn number(self, dir: u8) -> u32
+    #[tactic(auto, using(crate::proofs::RankLaws::rank_at))]
+    pub(crate) fn number(self, ranks: &[u8], dir: u8) -> u32
+        requires ranks { AreRanks ranks.now }
         requires dir { dir < 8 }
         requires room { self.base < 2 ^ 31 }
         ensures { result ≡ self.base + rank_of self.mask dir }
     {
-        self.base + (self.mask & ((1 << dir) - 1)).count_ones()
+        self.base + u32::from(ranks[usize::from(self.mask) * 8 + usize::from(dir)])
     }
 }

@@ -11,6 +11,7 @@ mod laws;
 mod mesh;
 mod numbering;
 mod place;
+mod ranks;
 mod shapes;
 mod sided_cell;
 mod sides;

@@ -1,14 +1,17 @@
 // The triangles of a cell by which of its corners are inside.
-ghost use Rattle.std.specs.Prelude.{◌≡◌, IfOk};
+ghost use Rattle.std.specs.Prelude.{◌≡◌, ◌≤◌, IfOk, length};
 ghost use Rattle.tetra_mesh.specs.Shapes.{AreShapes, shape_of};
 
+use crate::ranks::ranks;
 use kuhn_cells::{Triple, triangles};
 use std::alloc::{AllocError, Global};
 
-// The triangles of the cell at the origin, for all signs that a cell may have.
+// The triangles of the cell at the origin, for all signs that a cell may have, and what the numbers
+// of their vertices are looked up by.
 #[derive(Debug, Drop)]
 pub(crate) struct Shapes {
     pub(crate) shapes: Vec<Vec<Triple>>,
+    pub(crate) ranks: Vec<u8>,
 }
 
 impl Shapes {
@@ -20,7 +23,18 @@ impl Shapes {
         for signs in 0..256u16 {
             shapes.push(shape(alloc, signs as u8)?)?;
         }
-        Ok(Shapes { shapes })
+        let ranks = ranks(alloc)?;
+        Ok(Shapes { shapes, ranks })
+    }
+
+    // The triangles of the cell at the origin with these signs.
+    #[inline]
+    pub(crate) fn triangles(&self, signs: u8) -> &[Triple]
+        requires { AreShapes self.now }
+        ensures triangles { result.now ≡ shape_of signs }
+        ensures few { length result.now ≤ 12 }
+    {
+        &self.shapes[usize::from(signs)]
     }
 }
 

@@ -6,9 +6,9 @@ pub returns-clause-header : goal.returns-clause-header
 returns-clause-header c =
     rw (
       c.bytes_before.ensures.written,
-      c.count_before-start-2.ensures.written,
+      c.digits_before-start-2.ensures.written,
       c.bytes_before-start-2.ensures.written,
-      c.count_before-start.ensures.written,
+      c.digits_before-start.ensures.written,
       c.bytes_before-start.ensures.written,
     )
     (header_pieces c.args.vertices c.args.faces _)

@@ -7,8 +7,8 @@ use Rattle.tetra_mesh.proofs.FaceLaws.{numbered_as}
 use Rattle.tetra_mesh.proofs.SideLaws.{sides_as}
 use Rattle.tetra_mesh.proofs.building.faces_of.Goals as goal
 
-pub total_face_count-requires : goal.total_face_count-requires
-total_face_count-requires c =
+pub total_face_count-requires-clause-few : goal.total_face_count-requires-clause-few
+total_face_count-requires-clause-few c =
     let are = c.requires.1 in
     let long = ap length are.sides ∙ length-map c.requires.0 sided_of in
     let few = are.mixed.few in

@@ -1,22 +1,16 @@
 -- The triangles of a cell are those of the cell at the origin, moved.
-use Rattle.std.proofs.Common.{◌≡◌, ◌++◌, ◌<◌, List, Vec, Global, ap, arith, subst, ◌∙◌}
+use Rattle.std.proofs.Common.{◌≡◌, ◌++◌, List, subst}
 use Rattle.std.specs.Prelude.{OnOk}
-use Rattle.kuhn_cells.specs.declared.triple.Triple.{Triple}
 use Rattle.kuhn_cells.specs.Faces.{Face}
 use Rattle.kuhn_cells.specs.Laws.{OfEdges}
 use Rattle.tetra_mesh.specs.Numbering.{IsKept, face_in}
-use Rattle.tetra_mesh.specs.Shapes.{shape_of}
 use Rattle.tetra_mesh.proofs.TriangleLaws.{all_moved, faces_moved}
 use Rattle.tetra_mesh.proofs.faces.push_faces.Goals as goal
 
 pub push_triangles-requires-clause-kept : goal.push_triangles-requires-clause-kept
 push_triangles-requires-clause-kept c =
-    let few : c.from-signs.result < 256 = omega arith in
-    let is = c.deref.ensures.value ∙ ap (λ (v : Vec Triple Global). v.items) c.index.ensures ∙ c.requires.shapes.each c.from-signs.result c.index.result.now few ∙ ap shape_of c.from-signs.ensures in
-    all_moved (OfEdges (IsKept c.args.n)) c.args.cell.now c.deref.result.now is c.requires.kept
+    all_moved (OfEdges (IsKept c.args.n)) c.args.cell.now c.triangles-triangles.result.now c.triangles-triangles.ensures.triangles c.requires.kept
 
 pub returns : goal.returns
 returns c =
-    let few : c.from-signs.result < 256 = omega arith in
-    let is = c.deref.ensures.value ∙ ap (λ (v : Vec Triple Global). v.items) c.index.ensures ∙ c.requires.shapes.each c.from-signs.result c.index.result.now few ∙ ap shape_of c.from-signs.ensures in
-    subst (λ (l : List Face). OnOk c.push_triangles.result (c.push_triangles.new.faces.items ≡ c.args.faces.now.items ++ l)) (faces_moved (face_in c.args.n c.args.slots.now) c.args.cell.now c.deref.result.now is) c.push_triangles.ensures
+    subst (λ (l : List Face). OnOk c.push_triangles.result (c.push_triangles.new.faces.items ≡ c.args.faces.now.items ++ l)) (faces_moved (face_in c.args.n c.args.slots.now) c.args.cell.now c.triangles-triangles.result.now c.triangles-triangles.ensures.triangles) c.push_triangles.ensures

@@ -12,6 +12,7 @@ invariant_of-result c =
       full = rw (take_at c.header_before-start.new.block _ c.in_ok-block.block.len kept) (grind arith);
       within = omega (arith, c.header_before-start.ensures.before);
       placed = rw (c.new-places.ensures, c.as_slice-vertices.ensures.value) (rw (← c.mesh.view_is) at c.requires.placed);
+      written = c.in_ok-triples.ensures;
     }
 
 pub returns : goal.returns
