@@ -38,7 +38,8 @@ pub(crate) fn grow(
     Ok(())
 }
 
-// Moves the number at a place to another, and shifts those in between by one.
+// Moves the number at a place to another, and shifts those in between by one. A number that stands
+// there already, as that of a clause that goes last, is left alone.
 pub(crate) fn move_number(numbers: &mut Vec<u16>, places: &mut Vec<u16>, from: usize, to: usize)
     requires are { ArePlaces (record { numbers = numbers.old.items; places = places.old.items }) }
     requires from { from < length numbers.old.items }
@@ -46,6 +47,9 @@ pub(crate) fn move_number(numbers: &mut Vec<u16>, places: &mut Vec<u16>, from: u
     ensures are { ArePlaces (record { numbers = numbers.new.items; places = places.new.items }) }
     ensures moved { numbers.new.items ≡ move_index numbers.old.items from to }
 {
+    if from == to {
+        return;
+    }
     let number = numbers.remove(from);
     numbers.insert(to, number).unwrap();
     let order = numbers.as_slice();
