@@ -1,7 +1,6 @@
 -- A number that is moved among the others puts its clause in.
 use Rattle.std.proofs.Common.{◌≡◌, ℕ, suc, ◌+◌, ◌<◌, ◌≤◌, inl, inr, List, length, map, take, Some, slice_get, ap, sym, subst, ◌∙◌, arith}
 use Rattle.std.specs.List.{insert, remove}
-use Rattle.std.specs.Global.{Vec}
 use Rattle.std.proofs.lemmas.Bool.{cases_lt}
 use Rattle.std.proofs.lemmas.Option.{get_or_from_slice_get, slice_get_within}
 use Rattle.std.proofs.lemmas.Simd.{map-map}
@@ -20,7 +19,7 @@ use Rattle.solid_model.proofs.Lookups.{number-within, row-is}
 some-same : {A : Type 0} {x y : A} → Some x ≡ Some y → x ≡ y
 some-same e = (cc)
 
-module _ (order : Standing) (count : ℕ) (rows : List Row) (names : List (Vec ℕ)) (t : IsTable order count rows names) where
+module _ (order : Standing) (count : ℕ) (rows : List Row) (names : List (List ℕ)) (t : IsTable order count rows names) where
   -- the numbers that stand then
   pub front-stood : (new : Standing) (at from m : ℕ) → at ≤ count → count ≤ from → slice_get order.numbers from ≡ Some m → new.numbers ≡ move_index order.numbers from at
       → take (count + 1) new.numbers ≡ insert (take count order.numbers) at m

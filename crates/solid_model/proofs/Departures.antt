@@ -1,7 +1,6 @@
 -- A number that is moved behind the others takes its clause out.
 use Rattle.std.proofs.Common.{◌≡◌, ◌≢◌, ℕ, suc, ◌<◌, ◌==◌, inl, inr, true, false, cond, nat_le, ◌&&◌, ◌||◌, List, length, map, take, None, Some, slice_get, ap, sym, subst, ◌∙◌, arith}
 use Rattle.std.specs.List.{position, remove}
-use Rattle.std.specs.Global.{Vec}
 use Rattle.std.proofs.lemmas.Bool.{cases_lt}
 use Rattle.std.proofs.lemmas.Bool.Decides.{nat_tests}
 use Rattle.std.proofs.lemmas.List.Edits.{length-remove}
@@ -20,7 +19,7 @@ use Rattle.solid_model.proofs.NamePlaces.{down-le, down-more, map-alike, map-cut
 use Rattle.solid_model.proofs.OperandPlaces.{first-operand, second-operand, clause_by-moved, operand-moved}
 use Rattle.solid_model.proofs.Lookups.{clause-there, nowhere}
 
-module _ (order : Standing) (count : ℕ) (rows : List Row) (names : List (Vec ℕ)) (t : IsTable order count rows names) where
+module _ (order : Standing) (count : ℕ) (rows : List Row) (names : List (List ℕ)) (t : IsTable order count rows names) where
   -- the numbers that stand then
   pub front-removed : (new : Standing) (at last x : ℕ) → suc last ≡ count → at < count → slice_get order.numbers at ≡ Some x → new.numbers ≡ move_index order.numbers at last
       → take last new.numbers ≡ remove (take count order.numbers) at

@@ -2,7 +2,6 @@
 use Rattle.std.proofs.Common.{◌≡◌, ℕ, ◌+◌, ◌<◌, inl, inr, false, List, [], ◌∷◌, ◌++◌, length, map, take, Some, slice_get, ap, sym, subst, ◌∙◌, arith}
 use Rattle.std.specs.List.{list_any}
 use Rattle.std.specs.Str.{bytes_eq}
-use Rattle.std.specs.Global.{Vec}
 use Rattle.std.specs.Cmp.Lexicographic.{bytes_decides}
 use Rattle.std.proofs.lemmas.List.{get_or_append_left, length-append}
 use Rattle.std.proofs.lemmas.Option.{slice_get-get_or, slice_get-map, slice_get_within, unwrap_or-slice_get}
@@ -20,7 +19,7 @@ use Rattle.solid_model.proofs.Lookups.{nowhere, number-within}
 abbrev pub grown : Standing → Standing
 grown order = record { numbers = order.numbers ++ length order.numbers ∷ []; places = order.places ++ length order.numbers ∷ [] }
 
-module _ (order : Standing) (count : ℕ) (rows : List Row) (names : List (Vec ℕ)) (t : IsTable order count rows names) where
+module _ (order : Standing) (count : ℕ) (rows : List Row) (names : List (List ℕ)) (t : IsTable order count rows names) where
   pub ArePlaces-grown : length order.numbers < 65535 → ArePlaces (grown order)
   ArePlaces-grown room = record {
     few = omega (arith, room, length-append order.numbers (length order.numbers ∷ []));
@@ -38,7 +37,7 @@ module _ (order : Standing) (count : ℕ) (rows : List Row) (names : List (Vec �
       last-place : length order.places ≡ length order.numbers → slice_get (order.places ++ length order.numbers ∷ []) (length order.numbers) ≡ Some (length order.numbers)
       last-place same = subst (λ k. slice_get (order.places ++ length order.numbers ∷ []) k ≡ Some (length order.numbers)) same (get-last order.places (length order.numbers))
 
-  module _ (room : length order.numbers < 65535) (key : Vec ℕ) (new_name : list_any (λ k. bytes_eq key.items k.items) names ≡ false) where
+  module _ (room : length order.numbers < 65535) (key : List ℕ) (new_name : list_any (λ k. bytes_eq key k) names ≡ false) where
     more : length (order.numbers ++ length order.numbers ∷ []) ≡ length order.numbers + 1
     more = length-append order.numbers (length order.numbers ∷ [])
 
@@ -59,10 +58,10 @@ module _ (order : Standing) (count : ℕ) (rows : List Row) (names : List (Vec �
       distinct = λ i j x y at_i at_j same. elim (slice_get-push names key i x at_i) [
         | inl old ↦ elim (slice_get-push names key j y at_j) [
           | inl too ↦ t.distinct i j x y old too same
-          | inr last ↦ absurd (other i x old (sym (same ∙ ap (λ (k : Vec ℕ). k.items) last.1)))
+          | inr last ↦ absurd (other i x old (sym (same ∙ ap (λ (k : List ℕ). k) last.1)))
         ]
         | inr last ↦ elim (slice_get-push names key j y at_j) [
-          | inl old ↦ absurd (other j y old (ap (λ (k : Vec ℕ). k.items) (sym last.1) ∙ same))
+          | inl old ↦ absurd (other j y old (ap (λ (k : List ℕ). k) (sym last.1) ∙ same))
           | inr too ↦ last.0 ∙ sym too.0
         ]
       ];
@@ -71,10 +70,10 @@ module _ (order : Standing) (count : ℕ) (rows : List Row) (names : List (Vec �
         nothing : 0 < arity_of no_row.op → ⊥
         nothing h = omega (arith, h)
 
-        other : (n : ℕ) (k : Vec ℕ) → slice_get names n ≡ Some k → key.items ≡ k.items → ⊥
+        other : (n : ℕ) (k : List ℕ) → slice_get names n ≡ Some k → key ≡ k → ⊥
         other n k at same =
-            let no = nowhere names (λ (k : Vec ℕ). bytes_eq key.items k.items) new_name n k at in
-            let yes = (bytes_decides key.items k.items).1 same in
+            let no = nowhere names (λ (k : List ℕ). bytes_eq key k) new_name n k at in
+            let yes = (bytes_decides key k).1 same in
             (cc)
 
     place-kept : (a : ℕ) → a < length order.numbers → standing_place (grown order) a ≡ standing_place order a
@@ -92,9 +91,7 @@ module _ (order : Standing) (count : ℕ) (rows : List Row) (names : List (Vec �
             let row_is : row_of (rows ++ no_row ∷ []) n ≡ row_of rows n = get_or_append_left rows (no_row ∷ []) no_row n (omega (arith, known, t.rows_are)) in
             let there : slice_get rows n ≡ Some (row_of rows n) = slice_get-get_or rows n no_row (omega (arith, known, t.rows_are)) in
             let label_is : label_of (names ++ key ∷ []) n ≡ label_of names n =
-            sym (unwrap_or-slice_get (map (λ k. k.items) (names ++ key ∷ [])) n [])
-            ∙ ap (λ o. unwrap_or o []) (slice_get-map (λ k. k.items) (names ++ key ∷ []) n ∙ ap (option_map (λ k. k.items)) (get-push names key n (omega (arith, known, t.names_are))) ∙ sym (slice_get-map (λ k. k.items) names n))
-            ∙ unwrap_or-slice_get (map (λ k. k.items) names) n [] in
+            get_or_append_left names (key ∷ []) [] n (omega (arith, known, t.names_are)) in
             ap (λ name. clause_by (grown order) name (row_of (rows ++ no_row ∷ []) n)) label_is
             ∙ ap (clause_by (grown order) (label_of names n)) row_is
             ∙ clause_by-moved order (grown order) (λ k. k) (label_of names n) (row_of rows n)

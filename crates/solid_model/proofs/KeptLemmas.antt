@@ -2,7 +2,6 @@
 use Rattle.std.proofs.Common.{◌≡◌, ℕ, suc, ◌+◌, ◌<◌, ◌≤◌, List, [], ◌∷◌, ◌++◌, length, map, set, get_or, Some, false, slice_get, ap, sym, subst, ◌∙◌, arith, IfSome, inl, inr, refl, ◌⊎◌, Option}
 use Rattle.std.specs.List.{insert, list_any, position, swap_remove}
 use Rattle.std.specs.Str.{bytes_eq}
-use Rattle.std.specs.Global.{Vec}
 use Rattle.std.proofs.lemmas.Option.{slice_get_within, slice_get-get_or}
 use Rattle.indexmap.specs.IndexMap.{move_index}
 use Rattle.solid_model.specs.declared.clause.Clause.{Clause}
@@ -25,9 +24,9 @@ use Rattle.solid_model.proofs.Arrivals.{clauses-stood}
 no-users : (standing : List Row) → AreFirstUsers standing []
 no-users standing n h = absurd (omega (arith, h))
 
-module _ (order : Standing) (count : ℕ) (rows : List Row) (names : List (Vec ℕ)) (uses users : List ℕ)
+module _ (order : Standing) (count : ℕ) (rows : List Row) (names : List (List ℕ)) (uses users : List ℕ)
     (k : IsKept (record { order = order; count = count; rows = rows; names = names }) uses users) where
-  pub kept-grown : (key : Vec ℕ) → length order.numbers < 65535 → list_any (λ n. bytes_eq key.items n.items) names ≡ false
+  pub kept-grown : (key : List ℕ) → length order.numbers < 65535 → list_any (λ n. bytes_eq key n) names ≡ false
       → IsKept (record { order = grown order; count = count; rows = rows ++ no_row ∷ []; names = names ++ key ∷ [] }) (uses ++ 0 ∷ []) users
   kept-grown key room none = record {
     table = IsTable-grown order count rows names k.table room key none;
@@ -36,12 +35,12 @@ module _ (order : Standing) (count : ℕ) (rows : List Row) (names : List (Vec �
   }
 
   -- a new name takes the place of that of a number that does not stand
-  pub record Named (new : List (Vec ℕ)) (key : Vec ℕ) (m : ℕ) : Type 0 where
+  pub record Named (new : List (List ℕ)) (key : List ℕ) (m : ℕ) : Type 0 where
     pub kept : IsKept (record { order = order; count = count; rows = rows; names = new }) uses users
     pub clauses : clauses_of order count rows new ≡ clauses_of order count rows names
-    pub named : HasName new key.items m
+    pub named : HasName new key m
 
-  pub named-anew : (key : Vec ℕ) (put new : List (Vec ℕ)) (m : ℕ) (r : Option (Vec ℕ)) → list_any (λ n. bytes_eq key.items n.items) names ≡ false → put ≡ names ++ key ∷ []
+  pub named-anew : (key : List ℕ) (put new : List (List ℕ)) (m : ℕ) (r : Option (List ℕ)) → list_any (λ n. bytes_eq key n) names ≡ false → put ≡ names ++ key ∷ []
       → count < length order.numbers → m ≡ get_or order.numbers count m → r ≡ slice_get put m → IfSome r (λ n. new ≡ swap_remove put m n) → Named new key m
   named-anew key put new m r none put_is less is got swap =
       let number : slice_get order.numbers count ≡ Some m = slice_get-get_or order.numbers count m less ∙ ap Some (sym is) in
@@ -50,7 +49,7 @@ module _ (order : Standing) (count : ℕ) (rows : List Row) (names : List (Vec �
       rw new_is (record {
         kept = record { table = IsTable-named order count rows names k.table m key none; counted = k.counted; users = k.users };
         clauses = names-kept order count rows names k.table count m key (omega arith) number;
-        named = has-stored (set names m key) key.items m key key refl (get-set names m key known) ((bytes_decides key.items key.items).1 refl);
+        named = has-stored (set names m key) key m key key refl (get-set names m key known) ((bytes_decides key key).1 refl);
       })
 
   -- a first user that was found is told

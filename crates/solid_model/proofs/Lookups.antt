@@ -2,7 +2,6 @@
 use Rattle.std.proofs.Common.{◌≡◌, ℕ, zero, suc, ◌<◌, ◌≤◌, inl, inr, Bool, true, false, List, [], ◌∷◌, length, map, take, get_or, None, Some, slice_get, refl, ap, sym, subst, ◌∙◌, arith, is_some, nat_lt}
 use Rattle.std.specs.List.{list_any, position}
 use Rattle.std.specs.Str.{bytes_eq}
-use Rattle.std.specs.Global.{Vec}
 use Rattle.std.specs.Cmp.Lexicographic.{bytes_decides}
 use Rattle.std.proofs.lemmas.Bool.{cases_lt}
 use Rattle.std.proofs.lemmas.Bool.Decides.{nat_tests}
@@ -24,8 +23,8 @@ pub row-is : (rows : List Row) (n : ℕ) (row : Row) → slice_get rows n ≡ So
 row-is rows n row e = get_or_from_slice_get rows n row _ e
 
 -- the name of a number
-pub label-is : (names : List (Vec ℕ)) (n : ℕ) (key : Vec ℕ) → slice_get names n ≡ Some key → label_of names n ≡ key.items
-label-is names n key e = get_or_from_slice_get (map (λ k. k.items) names) n key.items [] (slice_get-map (λ k. k.items) names n ∙ (rw e refl))
+pub label-is : (names : List (List ℕ)) (n : ℕ) (key : List ℕ) → slice_get names n ≡ Some key → label_of names n ≡ key
+label-is names n key e = get_or_from_slice_get names n key [] e
 
 -- a test that passes nowhere passes for no element
 pub nowhere : {A : Type 0} (xs : List A) (p : A → Bool) → list_any p xs ≡ false → (n : ℕ) (x : A) → slice_get xs n ≡ Some x → p x ≡ false
@@ -36,13 +35,13 @@ nowhere xs p none n x at = by (p x) refl
     by true test = let some = list_any-found p xs n x at test in (cc)
 
 -- the number of a key that is found is the number of its name
-pub has-stored : (names : List (Vec ℕ)) (name : List ℕ) (n : ℕ) (key k : Vec ℕ) → key.items ≡ name → slice_get names n ≡ Some k → bytes_eq key.items k.items ≡ true → HasName names name n
+pub has-stored : (names : List (List ℕ)) (name : List ℕ) (n : ℕ) (key k : List ℕ) → key ≡ name → slice_get names n ≡ Some k → bytes_eq key k ≡ true → HasName names name n
 has-stored names name n key k named there same = record {
   known = slice_get_within names n k there;
-  is = label-is names n k there ∙ sym ((bytes_decides key.items k.items).0 same) ∙ named;
+  is = label-is names n k there ∙ sym ((bytes_decides key k).0 same) ∙ named;
 }
 
-module _ (order : Standing) (count : ℕ) (rows : List Row) (names : List (Vec ℕ)) (t : IsTable order count rows names) where
+module _ (order : Standing) (count : ℕ) (rows : List Row) (names : List (List ℕ)) (t : IsTable order count rows names) where
   pub number-within : (place n : ℕ) → slice_get order.numbers place ≡ Some n → n < length order.numbers
   number-within place n e = omega (arith, slice_get_within order.places n place (t.places.there place n e), t.places.as_many)
 
@@ -110,7 +109,7 @@ module _ (order : Standing) (count : ℕ) (rows : List Row) (names : List (Vec �
   ]
 
   -- a name that no number has is no clause's
-  pub found-nowhere : (name : List ℕ) → ((n : ℕ) (key : Vec ℕ) → slice_get names n ≡ Some key → bytes_eq name key.items ≡ false)
+  pub found-nowhere : (name : List ℕ) → ((n : ℕ) (key : List ℕ) → slice_get names n ≡ Some key → bytes_eq name key ≡ false)
       → place_of (clauses_of order count rows names) name ≡ None
   found-nowhere name never = position-none (λ (c : Clause). bytes_eq name c.name) (clauses_of order count rows names) other
     where
@@ -119,34 +118,34 @@ module _ (order : Standing) (count : ℕ) (rows : List Row) (names : List (Vec �
           let is = in-front (clause_of order rows names) order.numbers count k c at in
           elim (slice_get_cases names is.item).1 [
             | inl known ↦
-                let its : c.name ≡ known.0.items = ap (λ (d : Clause). d.name) is.is ∙ label-is names is.item known.0 known.2 in
+                let its : c.name ≡ known.0 = ap (λ (d : Clause). d.name) is.is ∙ label-is names is.item known.0 known.2 in
                 ap (bytes_eq name) its ∙ never is.item known.0 known.2
             | inr past ↦ absurd (omega (arith, past.0, number-within k is.item is.there, t.names_are))
           ]
 
   -- the number that the set finds for a name, and its place
-  has-name : (name : List ℕ) (n : ℕ) → position (λ (k : Vec ℕ). bytes_eq name k.items) names ≡ Some n → HasName names name n
+  has-name : (name : List ℕ) (n : ℕ) → position (λ (k : List ℕ). bytes_eq name k) names ≡ Some n → HasName names name n
   has-name name n e =
-      let found = position-passes (λ (k : Vec ℕ). bytes_eq name k.items) names n e in
+      let found = position-passes (λ (k : List ℕ). bytes_eq name k) names n e in
       record {
         known = slice_get_within names n found.item found.there;
-        is = label-is names n found.item found.there ∙ sym ((bytes_decides name found.item.items).0 found.test);
+        is = label-is names n found.item found.there ∙ sym ((bytes_decides name found.item).0 found.test);
       }
 
   pub place-known : (n place : ℕ) → n < length names → place ≡ get_or order.places n place → slice_get order.places n ≡ Some place
   place-known n place known is = slice_get-get_or order.places n place (omega (arith, known, t.names_are, t.places.as_many)) ∙ ap Some (sym is)
 
   -- where the set finds a number, the place is that of the number's clause, if it stands
-  pub lookup-there : (name : List ℕ) (n place : ℕ) → position (λ (k : Vec ℕ). bytes_eq name k.items) names ≡ Some n → place ≡ get_or order.places n place
+  pub lookup-there : (name : List ℕ) (n place : ℕ) → position (λ (k : List ℕ). bytes_eq name k) names ≡ Some n → place ≡ get_or order.places n place
       → place < count → place_of (clauses_of order count rows names) name ≡ Some place
   lookup-there name n place e is front = let has = has-name name n e in found-there name n place has (place-known n place has.known is) front
 
-  pub lookup-behind : (name : List ℕ) (n place : ℕ) → position (λ (k : Vec ℕ). bytes_eq name k.items) names ≡ Some n → place ≡ get_or order.places n place
+  pub lookup-behind : (name : List ℕ) (n place : ℕ) → position (λ (k : List ℕ). bytes_eq name k) names ≡ Some n → place ≡ get_or order.places n place
       → count ≤ place → place_of (clauses_of order count rows names) name ≡ None
   lookup-behind name n place e is behind = let has = has-name name n e in found-behind name n place has (place-known n place has.known is) behind
 
-  pub lookup-nowhere : (name : List ℕ) → position (λ (k : Vec ℕ). bytes_eq name k.items) names ≡ None → place_of (clauses_of order count rows names) name ≡ None
-  lookup-nowhere name none = found-nowhere name (nowhere names (λ (k : Vec ℕ). bytes_eq name k.items) (list_any-no_position (λ (k : Vec ℕ). bytes_eq name k.items) names none))
+  pub lookup-nowhere : (name : List ℕ) → position (λ (k : List ℕ). bytes_eq name k) names ≡ None → place_of (clauses_of order count rows names) name ≡ None
+  lookup-nowhere name none = found-nowhere name (nowhere names (λ (k : List ℕ). bytes_eq name k) (list_any-no_position (λ (k : List ℕ). bytes_eq name k) names none))
 
   pub length-clauses : length (clauses_of order count rows names) ≡ count
   length-clauses = length-map (take count order.numbers) (clause_of order rows names) ∙ length-front order.numbers count t.within

@@ -60,6 +60,18 @@ shifted-behind from to p h k = rw (down-more from p h) (omega (arith, h, up-le t
 pub move-is : {A : Type 0} (xs : List A) (from to : ℕ) (x : A) → slice_get xs from ≡ Some x → move_index xs from to ≡ insert (remove xs from) to x
 move-is xs from to x e = rw e refl
 
+-- what moves to its own place stays
+pub move-nowhere : {A : Type 0} (xs : List A) (at : ℕ) → at < length xs → move_index xs at at ≡ xs
+move-nowhere xs at within = elim (slice_get_cases xs at).1 [
+  | inl there ↦ move-is xs at at there.0 there.2 ∙ back xs at there.0 there.2
+  | inr past ↦ absurd (omega (arith, past.0, within))
+]
+  where
+    back : {A : Type 0} (xs : List A) (at : ℕ) (x : A) → slice_get xs at ≡ Some x → insert (remove xs at) at x ≡ xs
+    back [] at x e = (cc)
+    back (y ∷ ys) zero x e = let is : y ≡ x = (cc) in ap (λ z. z ∷ ys) (sym is)
+    back (y ∷ ys) (suc at) x e = ap (λ zs. y ∷ zs) (back ys at x e)
+
 pub get-moved : {A : Type 0} (xs : List A) (from to : ℕ) (x : A) (p : ℕ) → from < length xs → to < length xs → p ≢ from
     → slice_get (insert (remove xs from) to x) (shifted from to p) ≡ slice_get xs p
 get-moved xs from to x p within fits other =

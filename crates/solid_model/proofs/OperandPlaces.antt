@@ -1,6 +1,5 @@
 -- Where the operands of a clause stand, also after a number was moved.
 use Rattle.std.proofs.Common.{◌≡◌, ◌≢◌, ℕ, ◌<◌, ◌≤◌, Bool, true, false, cond, nat_le, List, length, Some, slice_get, refl, ap, sym, subst, ◌∙◌, arith}
-use Rattle.std.specs.Global.{Vec}
 use Rattle.std.proofs.lemmas.Bool.Decides.{nat_tests}
 use Rattle.std.proofs.lemmas.Option.{get_or_from_slice_get, slice_get-get_or}
 use Rattle.indexmap.specs.IndexMap.{move_index}
@@ -66,7 +65,7 @@ clause_by-is order numbers place clause row is fits found =
     choose true m n h k = h refl
     choose false m n h k = sym (k refl)
 
-module _ (order : Standing) (count : ℕ) (rows : List Row) (names : List (Vec ℕ)) (t : IsTable order count rows names) where
+module _ (order : Standing) (count : ℕ) (rows : List Row) (names : List (List ℕ)) (t : IsTable order count rows names) where
   pub operand-known : (a : ℕ) → a < length order.numbers → slice_get order.places a ≡ Some (standing_place order a)
   operand-known a h = slice_get-get_or order.places a 0 (omega (arith, h, t.places.as_many))
 

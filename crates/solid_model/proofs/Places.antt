@@ -4,7 +4,6 @@ use Rattle.std.specs.List.{prefix_len, position_or_len, position, list_any}
 use Rattle.std.proofs.lemmas.List.{length-map}
 use Rattle.std.proofs.lemmas.Bool.Decides.{nat_tests}
 use Rattle.std.specs.Str.{bytes_eq}
-use Rattle.std.specs.Global.{Vec}
 use Rattle.solid_model.specs.declared.clause.Clause.{Clause}
 use Rattle.solid_model.specs.Clauses.{place_of, names_of}
 
@@ -36,12 +35,6 @@ list_any-no_position p xs none = list_any-by_place p xs ∙ by (ltb (position_or
     by : (b : Bool) → cond b (Some (position_or_len p xs)) None ≡ None → b ≡ false
     by true e = (cc)
     by false e = refl
-
--- a name stands at the same place among the names as its clause among the clauses
-pub place_of-names : (clauses : List Clause) (names : List (Vec ℕ)) (name : List ℕ) → map (λ n. n.items) names ≡ names_of clauses
-    → position (λ n. bytes_eq name n.items) names ≡ place_of clauses name
-place_of-names clauses names name same =
-    sym (position-map (λ n. n.items) (bytes_eq name) names) ∙ ap (position (bytes_eq name)) same ∙ position-map (λ c. c.name) (bytes_eq name) clauses
 
 -- the place of an element that passes is a place of the list
 pub position_within : {A : Type 0} (p : A → Bool) (xs : List A) (i : ℕ) → position p xs ≡ Some i → i < length xs

@@ -1,7 +1,6 @@
 -- Which clauses have a number as an operand, and which is the first.
 use Rattle.std.proofs.Common.{◌≡◌, ℕ, ◌+◌, ◌<◌, ◌≤◌, ◌==◌, ◌⊎◌, inl, inr, Bool, true, false, cond, nat_le, ◌&&◌, ◌||◌, List, length, get_or, Option, None, Some, IfNone, IfSome, slice_get, refl, ap, sym, subst, ◌∙◌, arith, take}
 use Rattle.std.specs.List.{position}
-use Rattle.std.specs.Global.{Vec}
 use Rattle.std.proofs.lemmas.Bool.{cases_lt}
 use Rattle.std.proofs.lemmas.Bool.Decides.{nat_tests}
 use Rattle.std.proofs.lemmas.Option.{get_or_from_slice_get, slice_get-get_or, slice_get_cases}
@@ -58,7 +57,7 @@ eq-alike a b c d f g = by (a == b) refl (c == d) refl
     by true x false y = let same : a ≡ b = grind (arith, nat_tests) in let too = f same in grind (arith, nat_tests)
     by false x true y = let same : c ≡ d = grind (arith, nat_tests) in let too = g same in grind (arith, nat_tests)
 
-module _ (order : Standing) (count : ℕ) (rows : List Row) (names : List (Vec ℕ)) (t : IsTable order count rows names) where
+module _ (order : Standing) (count : ℕ) (rows : List Row) (names : List (List ℕ)) (t : IsTable order count rows names) where
   -- a clause reads a place where its row has the number that stands there
   pub reader-is : (at n place user : ℕ) → AreInOrder (clauses_of order count rows names) → slice_get order.numbers at ≡ Some n → place < count → slice_get order.numbers place ≡ Some user
       → reads at (clause_of order rows names user) ≡ row_reads n (row_of rows user)
@@ -118,8 +117,8 @@ module _ (order : Standing) (count : ℕ) (rows : List Row) (names : List (Vec �
   ]
 
   -- what is read of a number is its clause
-  pub clause-seen : (at n : ℕ) (row : Row) (key : Vec ℕ) (name : List ℕ) (a b : ℕ) → at < count → slice_get order.numbers at ≡ Some n → slice_get rows n ≡ Some row
-      → slice_get names n ≡ Some key → name ≡ key.items → a ≡ cond (nat_le 1 (arity_of row.op)) (standing_place order row.a) 0
+  pub clause-seen : (at n : ℕ) (row : Row) (key : List ℕ) (name : List ℕ) (a b : ℕ) → at < count → slice_get order.numbers at ≡ Some n → slice_get rows n ≡ Some row
+      → slice_get names n ≡ Some key → name ≡ key → a ≡ cond (nat_le 1 (arity_of row.op)) (standing_place order row.a) 0
       → b ≡ cond (nat_le 2 (arity_of row.op)) (standing_place order row.b) 0
       → slice_get (clauses_of order count rows names) at ≡ Some (record { name = name; op = row.op; a = a; b = b; value = row.value })
   clause-seen at n row key name a b there number row_there key_there name_is a_is b_is =

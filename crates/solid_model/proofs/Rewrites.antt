@@ -2,7 +2,6 @@
 use Rattle.std.proofs.Common.{◌≡◌, ◌≢◌, ℕ, zero, suc, ◌<◌, ◌≤◌, inl, inr, false, List, [], ◌∷◌, ◌++◌, length, map, set, take, Option, None, Some, IfSome, slice_get, ap, sym, subst, ◌∙◌, arith}
 use Rattle.std.specs.List.{list_any, swap_remove}
 use Rattle.std.specs.Str.{bytes_eq}
-use Rattle.std.specs.Global.{Vec}
 use Rattle.std.specs.Cmp.Lexicographic.{bytes_decides}
 use Rattle.std.proofs.lemmas.List.{length-set}
 use Rattle.std.proofs.lemmas.Option.{get_or_from_slice_get, slice_get-map, slice_get_cases, unwrap_or-slice_get}
@@ -20,7 +19,7 @@ use Rattle.solid_model.proofs.Lookups.{clause-there, nowhere, number-within, row
 some-same : {A : Type 0} {x y : A} → Some x ≡ Some y → x ≡ y
 some-same e = (cc)
 
-module _ (order : Standing) (count : ℕ) (rows : List Row) (names : List (Vec ℕ)) (t : IsTable order count rows names) where
+module _ (order : Standing) (count : ℕ) (rows : List Row) (names : List (List ℕ)) (t : IsTable order count rows names) where
   -- rows and names of other numbers than one that does not stand, or whose clause is told, stay
   pub row-kept : (m n : ℕ) (row : Row) → n ≢ m → row_of (set rows m row) n ≡ row_of rows n
   row-kept m n row other =
@@ -97,7 +96,7 @@ module _ (order : Standing) (count : ℕ) (rows : List Row) (names : List (Vec �
           let is : k ≡ from = some-same (sym (t.places.there k n e) ∙ ap (slice_get order.places) same ∙ t.places.there from m number) in
           omega (arith, is, less, behind)
 
-  pub names-kept : (from m : ℕ) (key : Vec ℕ) → count ≤ from → slice_get order.numbers from ≡ Some m
+  pub names-kept : (from m : ℕ) (key : List ℕ) → count ≤ from → slice_get order.numbers from ≡ Some m
       → clauses_of order count rows (set names m key) ≡ clauses_of order count rows names
   names-kept from m key behind number =
       map-alike (clause_of order rows (set names m key)) (clause_of order rows names) (take count order.numbers) (λ k n e.
@@ -111,11 +110,11 @@ module _ (order : Standing) (count : ℕ) (rows : List Row) (names : List (Vec �
 
       label-kept : (n : ℕ) → n ≢ m → label_of (set names m key) n ≡ label_of names n
       label-kept n other =
-          sym (unwrap_or-slice_get (map (λ k. k.items) (set names m key)) n [])
-          ∙ ap (λ o. unwrap_or o []) (slice_get-map (λ k. k.items) (set names m key) n ∙ ap (option_map (λ k. k.items)) (get-set-other names m key n other) ∙ sym (slice_get-map (λ k. k.items) names n))
-          ∙ unwrap_or-slice_get (map (λ k. k.items) names) n []
+          sym (unwrap_or-slice_get (set names m key) n [])
+          ∙ ap (λ o. unwrap_or o []) (get-set-other names m key n other)
+          ∙ unwrap_or-slice_get names n []
 
-  pub IsTable-named : (m : ℕ) (key : Vec ℕ) → list_any (λ k. bytes_eq key.items k.items) names ≡ false → IsTable order count rows (set names m key)
+  pub IsTable-named : (m : ℕ) (key : List ℕ) → list_any (λ k. bytes_eq key k) names ≡ false → IsTable order count rows (set names m key)
   IsTable-named m key new = record {
     places = t.places;
     within = t.within;
@@ -126,23 +125,23 @@ module _ (order : Standing) (count : ℕ) (rows : List Row) (names : List (Vec �
     distinct = λ i j x y at_i at_j same. elim (slice_get-set names m key i x at_i) [
       | inl here ↦ elim (slice_get-set names m key j y at_j) [
         | inl too ↦ here.0 ∙ sym too.0
-        | inr old ↦ absurd (other j y old (ap (λ (k : Vec ℕ). k.items) (sym here.1) ∙ same))
+        | inr old ↦ absurd (other j y old (ap (λ (k : List ℕ). k) (sym here.1) ∙ same))
       ]
       | inr old ↦ elim (slice_get-set names m key j y at_j) [
-        | inl here ↦ absurd (other i x old (sym (same ∙ ap (λ (k : Vec ℕ). k.items) here.1)))
+        | inl here ↦ absurd (other i x old (sym (same ∙ ap (λ (k : List ℕ). k) here.1)))
         | inr too ↦ t.distinct i j x y old too same
       ]
     ];
   }
     where
-      other : (n : ℕ) (k : Vec ℕ) → slice_get names n ≡ Some k → key.items ≡ k.items → ⊥
+      other : (n : ℕ) (k : List ℕ) → slice_get names n ≡ Some k → key ≡ k → ⊥
       other n k at same =
-          let no = nowhere names (λ (k : Vec ℕ). bytes_eq key.items k.items) new n k at in
-          let yes = (bytes_decides key.items k.items).1 same in
+          let no = nowhere names (λ (k : List ℕ). bytes_eq key k) new n k at in
+          let yes = (bytes_decides key k).1 same in
           (cc)
 
 -- the names after one was put last and then took the place of another
-pub swapped : (names : List (Vec ℕ)) (key : Vec ℕ) (old new : List (Vec ℕ)) (m : ℕ) (r : Option (Vec ℕ)) → old ≡ names ++ key ∷ [] → m < length names → r ≡ slice_get old m
+pub swapped : (names : List (List ℕ)) (key : List ℕ) (old new : List (List ℕ)) (m : ℕ) (r : Option (List ℕ)) → old ≡ names ++ key ∷ [] → m < length names → r ≡ slice_get old m
     → IfSome r (λ k. new ≡ swap_remove old m k) → new ≡ set names m key
 swapped names key old new m None is within got h = elim (slice_get_cases names m).1 [
   | inl known ↦
@@ -154,7 +153,7 @@ swapped names key old new m None is within got h = elim (slice_get_cases names m
 swapped names key old new m (Some k) is within got h = h ∙ ap (λ xs. swap_remove xs m k) is ∙ swap-last names key k m within
 
 -- the names after one was put last and taken out again
-pub unpushed : (names : List (Vec ℕ)) (key : Vec ℕ) (old new : List (Vec ℕ)) (m : ℕ) (r : Option (Vec ℕ)) → old ≡ names ++ key ∷ [] → m ≡ length names → r ≡ slice_get old m
+pub unpushed : (names : List (List ℕ)) (key : List ℕ) (old new : List (List ℕ)) (m : ℕ) (r : Option (List ℕ)) → old ≡ names ++ key ∷ [] → m ≡ length names → r ≡ slice_get old m
     → IfSome r (λ k. new ≡ swap_remove old m k) → new ≡ names
 unpushed names key old new m None is last got h =
     let there : slice_get old m ≡ Some key = ap (λ xs. slice_get xs m) is ∙ subst (λ k. slice_get (names ++ key ∷ []) k ≡ Some key) (sym last) (get-last names key) in

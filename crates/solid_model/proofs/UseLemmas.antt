@@ -1,7 +1,6 @@
 -- How often each number is an operand, when rows come, change and go.
 use Rattle.std.proofs.Common.{◌≡◌, ℕ, zero, suc, ◌+◌, ◌<◌, ◌≤◌, ◌==◌, inl, inr, Bool, true, false, cond, nat_le, ◌&&◌, ◌||◌, List, [], ◌∷◌, ◌++◌, length, map, set, sum_by, take, get_or, None, Some, slice_get, refl, ap, sym, subst, ◌∙◌, arith}
 use Rattle.std.specs.List.{insert, position, remove}
-use Rattle.std.specs.Global.{Vec}
 use Rattle.std.proofs.lemmas.Bool.{cases_lt}
 use Rattle.std.proofs.lemmas.Bool.Decides.{nat_tests}
 use Rattle.std.proofs.lemmas.List.{get_or_append_left, length-append, length-map}
@@ -67,7 +66,7 @@ reads-not row n none = by (nat_le 1 (arity_of row.op) && row.a == n) (nat_le 2 (
     by false true h = absurd (omega (arith, h))
     by false false h = refl
 
-module _ (order : Standing) (count : ℕ) (rows : List Row) (names : List (Vec ℕ)) (t : IsTable order count rows names) (uses : List ℕ)
+module _ (order : Standing) (count : ℕ) (rows : List Row) (names : List (List ℕ)) (t : IsTable order count rows names) (uses : List ℕ)
     (counted : AreCounted (length order.numbers) (standing_rows order count rows) uses) where
   length-standing : length (standing_rows order count rows) ≡ count
   length-standing = length-map (take count order.numbers) (row_of rows) ∙ length-front order.numbers count t.within

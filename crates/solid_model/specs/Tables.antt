@@ -1,6 +1,5 @@
 -- How a table keeps clauses: by numbers, which stand in an order.
 use Rattle.std.specs.Prelude.{◌≡◌, ℕ, ◌<◌, ◌≤◌, ◌+◌, ◌==◌, nat_le, pos, Bool, true, false, ◌&&◌, ◌||◌, List, [], length, map, sum_by, take, slice_get, slice_index_or, Some, if◌then◌else◌}
-use Rattle.std.specs.Global.{Vec}
 use Rattle.std.specs.List.{position}
 use Rattle.fixed_ops.specs.declared.operation.Op.TheVariants.{X}
 use Rattle.fixed_ops.specs.Arity.{arity_of}
@@ -28,8 +27,8 @@ no_row = record { op = X; a = 0; b = 0; value = pos 0 }
 abbrev pub row_of : List Row → ℕ → Row
 row_of rows number = slice_index_or rows number no_row
 
-abbrev pub label_of : List (Vec ℕ) → ℕ → List ℕ
-label_of names number = slice_index_or (map (λ name. name.items) names) number []
+abbrev pub label_of : List (List ℕ) → ℕ → List ℕ
+label_of names number = slice_index_or names number []
 
 -- where the clause of a number stands
 abbrev pub standing_place : Standing → ℕ → ℕ
@@ -46,11 +45,11 @@ clause_by order name row = record {
 }
 
 -- the clause of a number
-abbrev pub clause_of : Standing → List Row → List (Vec ℕ) → ℕ → Clause
+abbrev pub clause_of : Standing → List Row → List (List ℕ) → ℕ → Clause
 clause_of order rows names number = clause_by order (label_of names number) (row_of rows number)
 
 -- the clauses of the numbers that stand first
-abbrev pub clauses_of : Standing → ℕ → List Row → List (Vec ℕ) → List Clause
+abbrev pub clauses_of : Standing → ℕ → List Row → List (List ℕ) → List Clause
 clauses_of order count rows names = map (clause_of order rows names) (take count order.numbers)
 
 -- What a clause says, its operands by their places and by their numbers.
@@ -83,7 +82,7 @@ AreUnread numbers rows number first end = (place user : ℕ) → first ≤ place
 
 -- Numbers with a name and a row each, of which a count stand as clauses. The names are distinct, also those
 -- of numbers that stand no more, and no operand is past the numbers.
-pub record IsTable (order : Standing) (count : ℕ) (rows : List Row) (names : List (Vec ℕ)) : Type 0 where
+pub record IsTable (order : Standing) (count : ℕ) (rows : List Row) (names : List (List ℕ)) : Type 0 where
   pub places : ArePlaces order
   pub within : count ≤ length order.numbers
   pub rows_are : length rows ≡ length order.numbers
@@ -92,11 +91,11 @@ pub record IsTable (order : Standing) (count : ℕ) (rows : List Row) (names : L
       → row.a < length order.numbers
   pub second : (number : ℕ) (row : Row) → slice_get rows number ≡ Some row → 1 < arity_of row.op
       → row.b < length order.numbers
-  pub distinct : (i j : ℕ) (x y : Vec ℕ) → slice_get names i ≡ Some x → slice_get names j ≡ Some y
-      → x.items ≡ y.items → i ≡ j
+  pub distinct : (i j : ℕ) (x y : List ℕ) → slice_get names i ≡ Some x → slice_get names j ≡ Some y
+      → x ≡ y → i ≡ j
 
 -- a number has this name
-pub record HasName (names : List (Vec ℕ)) (name : List ℕ) (number : ℕ) : Type 0 where
+pub record HasName (names : List (List ℕ)) (name : List ℕ) (number : ℕ) : Type 0 where
   pub known : number < length names
   pub is : label_of names number ≡ name
 
@@ -126,7 +125,7 @@ pub record Kept : Type 0 where
   pub order : Standing
   pub count : ℕ
   pub rows : List Row
-  pub names : List (Vec ℕ)
+  pub names : List (List ℕ)
 
 -- its clauses
 abbrev pub clauses_in : Kept → List Clause

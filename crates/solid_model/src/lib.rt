@@ -5,6 +5,7 @@ mod clause;
 mod clause_ref;
 mod edit;
 mod form;
+mod key;
 mod laws;
 mod model;
 mod model_builder;

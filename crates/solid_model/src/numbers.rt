@@ -38,7 +38,8 @@ pub(crate) fn grow(
     Ok(())
 }
 
-// Moves the number at a place to another, and shifts those in between by one.
+// Moves the number at a place to another, and shifts those in between by one. A number that stands
+// there already, as that of a clause that goes last, is left alone.
 pub(crate) fn move_number(numbers: &mut Vec<u16>, places: &mut Vec<u16>, from: usize, to: usize)
     requires are { ArePlaces (record { numbers = numbers.old.items; places = places.old.items }) }
     requires from { from < length numbers.old.items }
@@ -46,24 +47,29 @@ pub(crate) fn move_number(numbers: &mut Vec<u16>, places: &mut Vec<u16>, from: u
     ensures are { ArePlaces (record { numbers = numbers.new.items; places = places.new.items }) }
     ensures moved { numbers.new.items ≡ move_index numbers.old.items from to }
 {
+    if from == to {
+        return;
+    }
     let number = numbers.remove(from);
     numbers.insert(to, number).unwrap();
+    let order = numbers.as_slice();
     if from < to {
-        note_places(numbers, places, from, to);
+        note_places(order, places.as_mut_slice(), from, to);
     } else {
-        note_places(numbers, places, to, from);
+        note_places(order, places.as_mut_slice(), to, from);
     }
 }
 
-// Notes where the numbers from a place to another stand.
-fn note_places(numbers: &Vec<u16>, places: &mut Vec<u16>, first: usize, last: usize)
-    requires few { length numbers.now.items ≤ 65535 }
-    requires distinct { AreDistinct numbers.now.items }
-    requires as_many { length places.old.items ≡ length numbers.now.items }
-    requires within { last < length numbers.now.items }
-    requires outside { AreNotedBut first (last + 1) numbers.now.items places.old.items }
-    ensures noted { AreNoted numbers.now.items places.new.items }
-    ensures length { length places.new.items ≡ length numbers.now.items }
+// Notes where the numbers from a place to another stand. It takes slices: where the lists lie in
+// memory is then read once, and not again after each write.
+fn note_places(numbers: &[u16], places: &mut [u16], first: usize, last: usize)
+    requires few { length numbers.now ≤ 65535 }
+    requires distinct { AreDistinct numbers.now }
+    requires as_many { length places.old ≡ length numbers.now }
+    requires within { last < length numbers.now }
+    requires outside { AreNotedBut first (last + 1) numbers.now places.old }
+    ensures noted { AreNoted numbers.now places.new }
+    ensures length { length places.new ≡ length numbers.now }
 {
     for place in first..last + 1 {
         let number = numbers[place] as usize;

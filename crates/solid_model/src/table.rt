@@ -13,6 +13,7 @@ ghost use Rattle.solid_model.specs.Seen.{clause_seen};
 ghost use Rattle.solid_model.specs.Surgery.{down, formed, moved, put_in, reads, reads_before, taken_out, up};
 ghost use Rattle.solid_model.specs.Tables.{clauses_in, label_of, standing_place, HasName, HasOperandsBefore, IsNumbered};
 
+use crate::key::{Key, number_in};
 use crate::numbers::{grow, move_number};
 use crate::row::Row;
 use crate::users::{first_reader, keep_user, kept_user};
@@ -39,7 +40,7 @@ pub(crate) struct Table {
     rows: Vec<Row>,
     uses: Vec<u32>,
     users: Vec<u16>,
-    names: IndexSet<Vec<u8>>,
+    names: IndexSet<Key>,
 }
 
 impl Model for Table {
@@ -106,7 +107,7 @@ impl Table {
         let row = self.rows[number];
         let operands = arity(row.op);
         ClauseRef {
-            name: self.names.as_slice()[number].as_slice(),
+            name: self.names.as_slice()[number].bytes(),
             op: row.op,
             a: operand_place(&self.places, row.a, operands >= 1),
             b: operand_place(&self.places, row.b, operands >= 2),
@@ -121,7 +122,7 @@ impl Table {
         ensures place { result ≡ place_of (clauses_in self.now) name.now }
         ensures within { IfSome result (λ at. at < length (clauses_in self.now)) }
     {
-        let number = self.names.get_index_of(name)?;
+        let number = number_in(&self.names, self.alloc, name)?;
         let place = self.places[number] as usize;
         if place < self.count {
             Some(place as u32)
@@ -311,7 +312,7 @@ impl Table {
         ensures clauses { clauses_in self.new ≡ clauses_in self.old }
         ensures count { self.new.count ≡ self.old.count }
     {
-        let key = Vec::from_slice(self.alloc, name)?;
+        let key = Key::copied(self.alloc, name)?;
         let Ok((last, is_new)) = self.names.insert_full(key) else {
             return Err(AllocError);
         };

@@ -1,5 +1,5 @@
 -- Each place is noted once, in order; the numbers are distinct, so nothing that is noted is overwritten.
-use Rattle.std.proofs.Common.{◌≡◌, ◌<◌, ◌∙◌, Some, slice_get, length, ap, sym, arith}
+use Rattle.std.proofs.Common.{◌≡◌, ◌<◌, Some, slice_get, get_or, length, ◌∙◌, arith}
 use Rattle.std.proofs.lemmas.List.{length-set}
 use Rattle.std.proofs.lemmas.Option.{slice_get-get_or}
 use Rattle.solid_model.proofs.MoveLemmas.{AreNoted-all, AreNotedBut-next}
@@ -10,15 +10,15 @@ loop-place-init c = record { long = c.requires.as_many; noted = c.requires.outsi
 
 pub loop-place-preserved : goal.loop-place-preserved
 loop-place-preserved c =
-    let numbers = c.args.numbers.now.items in
+    let numbers = c.args.numbers.now in
     let within : c.loop-place.place < length numbers = omega (arith, c.loop-place-test.true, c.requires.within) in
-    let there : slice_get numbers c.loop-place.place ≡ Some c.index.result.now = slice_get-get_or numbers c.loop-place.place c.index.result.now within ∙ ap Some (sym c.index.ensures) in
+    let there : slice_get numbers c.loop-place.place ≡ Some (get_or numbers c.loop-place.place 0) = slice_get-get_or numbers c.loop-place.place 0 within in
     record {
-      long = length-set c.loop-place.places.items c.index.result.now c.loop-place.place ∙ c.loop-place.invariant.long;
-      noted = AreNotedBut-next numbers c.loop-place.places.items c.loop-place.place c.args.last c.index.result.now c.requires.distinct
+      long = length-set c.loop-place.places (get_or numbers c.loop-place.place 0) c.loop-place.place ∙ c.loop-place.invariant.long;
+      noted = AreNotedBut-next numbers c.loop-place.places c.loop-place.place c.args.last (get_or numbers c.loop-place.place 0) c.requires.distinct
           c.loop-place.invariant.long c.loop-place.invariant.noted there;
     }
 
 pub returns-clause-noted : goal.returns-clause-noted
 returns-clause-noted c =
-    AreNoted-all c.args.numbers.now.items c.loop-place.places.items c.loop-place.place c.args.last (omega (arith, c.loop-place-test.false)) c.loop-place.invariant.noted
+    AreNoted-all c.args.numbers.now c.loop-place.places c.loop-place.place c.args.last (omega (arith, c.loop-place-test.false)) c.loop-place.invariant.noted

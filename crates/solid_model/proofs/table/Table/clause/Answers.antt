@@ -47,5 +47,5 @@ returns c =
     let first : c.operand_place.result ≡ cond (nat_le 1 (arity_of says.op)) (standing_place order says.a) 0 = rw c.arity-operands.ensures at c.operand_place.ensures in
     let second : c.operand_place-2.result ≡ cond (nat_le 2 (arity_of says.op)) (standing_place order says.b) 0 = rw c.arity-operands.ensures at c.operand_place-2.ensures in
     ap (λ k. slice_get (clauses_in k) c.args.at) (sym c.self.view_is)
-    ∙ clause-seen order c.self.inside.count c.self.inside.rows.items names c.self.invariant.table c.args.at c.index.result.now says key c.as_slice-2.result.now c.operand_place.result c.operand_place-2.result
-    at.front at.number row key_there c.as_slice-2.ensures.value first second
+    ∙ clause-seen order c.self.inside.count c.self.inside.rows.items names c.self.invariant.table c.args.at c.index.result.now says key c.bytes.result.now c.operand_place.result c.operand_place-2.result
+    at.front at.number row key_there c.bytes.ensures first second

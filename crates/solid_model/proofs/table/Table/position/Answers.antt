@@ -10,19 +10,19 @@ use Rattle.solid_model.proofs.Lookups.{lookup-behind, lookup-nowhere, lookup-the
 pub returns-in_err-number-clause-place : goal.returns-in_err-number-clause-place
 returns-in_err-number-clause-place c =
     let order : Standing = record { numbers = c.self.inside.numbers.items; places = c.self.inside.places.items } in
-    let none : position (λ k. bytes_eq c.args.name.now k.items) c.self.inside.names.keys ≡ None = grind (arith, common_steps) in
+    let none : position (λ k. bytes_eq c.args.name.now k) c.self.inside.names.keys ≡ None = grind (arith, common_steps) in
     rw (← c.self.view_is, lookup-nowhere order c.self.inside.count c.self.inside.rows.items c.self.inside.names.keys c.self.invariant.table c.args.name.now none) c.from_residual.ensures
 
 pub returns-then-place-self-clause-place : goal.returns-then-place-self-clause-place
 returns-then-place-self-clause-place c =
     let order : Standing = record { numbers = c.self.inside.numbers.items; places = c.self.inside.places.items } in
-    let found : position (λ k. bytes_eq c.args.name.now k.items) c.self.inside.names.keys ≡ Some c.in_ok-number.number = grind (arith, common_steps) in
+    let found : position (λ k. bytes_eq c.args.name.now k) c.self.inside.names.keys ≡ Some c.in_ok-number.number = grind (arith, common_steps) in
     rw (← c.self.view_is) (sym (lookup-there order c.self.inside.count c.self.inside.rows.items c.self.inside.names.keys c.self.invariant.table c.args.name.now
     c.in_ok-number.number c.index.result.now found c.index.ensures c.if-place-self.true))
 
 pub returns-else-place-self-clause-place : goal.returns-else-place-self-clause-place
 returns-else-place-self-clause-place c =
     let order : Standing = record { numbers = c.self.inside.numbers.items; places = c.self.inside.places.items } in
-    let found : position (λ k. bytes_eq c.args.name.now k.items) c.self.inside.names.keys ≡ Some c.in_ok-number.number = grind (arith, common_steps) in
+    let found : position (λ k. bytes_eq c.args.name.now k) c.self.inside.names.keys ≡ Some c.in_ok-number.number = grind (arith, common_steps) in
     rw (← c.self.view_is) (sym (lookup-behind order c.self.inside.count c.self.inside.rows.items c.self.inside.names.keys c.self.invariant.table c.args.name.now
     c.in_ok-number.number c.index.result.now found c.index.ensures c.if-place-self.false))
