@@ -6,7 +6,3 @@ use Rattle.std.proofs.lemmas.Fmt.{length-decimal-le}
 -- a count has at most ten digits
 pub count_short : (n : ℕ) → n < 2 ^ 32 → length (decimal n) ≤ 10
 count_short n h = length-decimal-le 10 n (omega arith) (omega arith) (omega arith)
-
--- that of its thousands at most seven
-pub front_short : (n : ℕ) → n < 10 ^ 7 → length (decimal n) ≤ 7
-front_short n h = length-decimal-le 7 n (omega arith) h (omega arith)

@@ -1,12 +1,13 @@
 // Counts, written three digits at a time.
-ghost use Rattle.std.specs.Prelude.{◌≡◌, ◌+◌, ◌≤◌, ◌<◌, ◌^◌, ◌∷◌, ◌++◌, IfOk, length, drop, decimal};
-ghost use Rattle.ply_writer.specs.Triples.{AreTriples, triple_text};
+ghost use Rattle.std.specs.Prelude.{◌≡◌, ◌+◌, ◌≤◌, ◌<◌, ◌∷◌, ◌++◌, IfOk, length, drop, decimal};
+ghost use Rattle.ply_writer.specs.Triples.{AreTriples, triple_text, zeros_before};
 
 use crate::digits::{COUNT, digits_before};
+use fixed_ops::byte_before;
 use std::alloc::{AllocError, Global};
 
-// The three digits of each number below a thousand, with a space in front of them, so that they are
-// copied as four bytes.
+// The three digits of each number below a thousand, and in front of them how many of these are
+// zeros that the number's own text has not. The four bytes are copied at once.
 #[derive(Debug, Drop)]
 pub(crate) struct Triples {
     pub(crate) texts: Vec<[u8; 4]>,
@@ -35,34 +36,16 @@ impl Triples {
         ensures before { result ≤ end }
         ensures written { drop result line.new ≡ decimal count ++ drop end line.old }
     {
-        if count < 1000 {
-            return self.few_before(count, line, end);
+        if 1000 <= count && count < 1_000_000 {
+            let start = self.triple_before(count % 1000, line, end);
+            return self.front_before(count / 1000, line, start);
         }
-        let start = self.triple_before(count % 1000, line, end);
-        self.front_before(count / 1000, line, start)
-    }
-
-    // Writes the digits of the thousands of a count before `end`, and returns where they start.
-    #[inline(always)]
-    #[tactic(auto, using(crate::proofs::DigitLaws::front_short))]
-    fn front_before(&self, front: u32, line: &mut [u8], end: usize) -> usize
-        requires triples { AreTriples self.now }
-        requires front { front < 10 ^ 7 }
-        requires room { 7 ≤ end }
-        requires within { end ≤ length line.old }
-        ensures few { end ≤ result + 7 }
-        ensures before { result ≤ end }
-        ensures written { drop result line.new ≡ decimal front ++ drop end line.old }
-    {
-        if front < 1000 {
-            return self.few_before(front, line, end);
-        }
-        digits_before(front, line, end)
+        digits_before(count, line, end)
     }
 
     // Writes the digits of a number below a thousand before `end`, and returns where they start.
     #[inline(always)]
-    fn few_before(&self, number: u32, line: &mut [u8], end: usize) -> usize
+    fn front_before(&self, number: u32, line: &mut [u8], end: usize) -> usize
         requires triples { AreTriples self.now }
         requires number { number < 1000 }
         requires room { 4 ≤ end }
@@ -72,16 +55,11 @@ impl Triples {
         ensures written { drop result line.new ≡ decimal number ++ drop end line.old }
     {
         let start = self.triple_before(number, line, end);
-        if number >= 100 {
-            start
-        } else if number >= 10 {
-            start + 1
-        } else {
-            start + 2
-        }
+        start + usize::from(self.texts[number as usize][0])
     }
 
-    // Writes three digits before `end`, and returns where they start.
+    // Writes three digits before `end`, and returns where they start. What stands in front of them
+    // is written over too.
     #[inline(always)]
     fn triple_before(&self, number: u32, line: &mut [u8], end: usize) -> usize
         requires triples { AreTriples self.now }
@@ -91,20 +69,38 @@ impl Triples {
         ensures start { result + 3 ≡ end }
         ensures written { drop result line.new ≡ triple_text number ++ drop end line.old }
     {
-        line[end - 4..end].copy_from_slice(&self.texts[number as usize]);
-        end - 3
+        let [zeros, hundreds, tens, ones] = self.texts[number as usize];
+        let third = byte_before(ones, line, end);
+        let second = byte_before(tens, line, third);
+        let first = byte_before(hundreds, line, second);
+        let _front = byte_before(zeros, line, first);
+        first
     }
 }
 
-// A space and the three digits of a number below a thousand.
+// How many zeros the three digits of a number below a thousand begin with that its own text has
+// not, and the three digits.
 fn text(number: u16) -> [u8; 4]
     requires { number < 1000 }
-    ensures { result ≡ 32 ∷ triple_text number }
+    ensures { result ≡ zeros_before number ∷ triple_text number }
 {
     [
-        b' ',
+        zeros(number),
         b'0' + (number / 100) as u8,
         b'0' + (number / 10 % 10) as u8,
         b'0' + (number % 10) as u8,
     ]
+}
+
+// How many digits the text of a number below a thousand lacks of three.
+#[tactic(auto, using(crate::proofs::TripleLaws::one_long, crate::proofs::TripleLaws::two_long, crate::proofs::TripleLaws::three_long))]
+fn zeros(number: u16) -> u8
+    requires { number < 1000 }
+    ensures { result ≡ zeros_before number }
+{
+    match number {
+        0..=9 => 2,
+        10..=99 => 1,
+        _ => 0,
+    }
 }

@@ -3,6 +3,6 @@ use Rattle.std.proofs.Common.{arith}
 use Rattle.ply_writer.proofs.TripleLaws.{count_pieces}
 use Rattle.ply_writer.proofs.triples.Triples.count_before.Goals as goal
 
-pub returns-clause-written : goal.returns-clause-written
-returns-clause-written c =
+pub returns-then-count-lt1000000-clause-written : goal.returns-then-count-lt1000000-clause-written
+returns-then-count-lt1000000-clause-written c =
     rw (c.front_before.ensures.written, c.triple_before-start.ensures.written) (count_pieces c.args.count _ (omega arith) (omega arith))
