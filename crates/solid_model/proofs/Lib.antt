@@ -1,4 +1,5 @@
 pub mod Arrivals
+mod ChangeLemmas
 pub mod Departures
 pub mod Examples
 pub mod Growth

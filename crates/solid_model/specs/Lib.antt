@@ -1,4 +1,5 @@
 pub mod Adding
+pub mod Changes
 pub mod Clauses
 pub mod Edits
 pub mod Laws

@@ -1,9 +1,7 @@
 // A clause of a model.
-ghost use Rattle.std.specs.Prelude.{◌≡◌};
-ghost use Rattle.solid_model.specs.Surgery.{reads_before};
 
 use crate::Name;
-use fixed_ops::{Fx, Op, arity};
+use fixed_ops::{Fx, Op};
 
 /// A clause: a name, an operation, the places of its operands, and the number of a constant.
 #[derive(Debug, Drop)]
@@ -18,14 +16,4 @@ pub struct Clause {
     pub b: u32,
     /// The number of a constant, or 0.
     pub value: Fx,
-}
-
-impl Clause {
-    // Whether each operand stands before a place.
-    pub(crate) fn reads_before(&self, place: u32) -> bool
-        ensures { result ≡ reads_before place self.now }
-    {
-        let operands = arity(self.op);
-        (operands < 1 || self.a < place) && (operands < 2 || self.b < place)
-    }
 }

@@ -1,6 +1,9 @@
 // A clause as a model shows it.
+ghost use Rattle.std.specs.Prelude.{◌≡◌};
+ghost use Rattle.solid_model.specs.Seen.{clause_seen};
+ghost use Rattle.solid_model.specs.Surgery.{reads_before};
 
-use fixed_ops::{Fx, Op};
+use fixed_ops::{Fx, Op, arity};
 
 /// A clause of a model, whose name is lent: an operation, the places of its operands, and the number
 /// of a constant.
@@ -16,4 +19,14 @@ pub struct ClauseRef<'m> {
     pub b: u32,
     /// The number of a constant, or 0.
     pub value: Fx,
+}
+
+impl ClauseRef<'_> {
+    // Whether each operand stands before a place.
+    pub(crate) fn reads_before(&self, place: u32) -> bool
+        ensures { result ≡ reads_before place (clause_seen self.now) }
+    {
+        let operands = arity(self.op);
+        (operands < 1 || self.a < place) && (operands < 2 || self.b < place)
+    }
 }

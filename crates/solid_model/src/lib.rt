@@ -1,6 +1,7 @@
 //! A solid as a list of named clauses, and the edits that change it.
 #![tactic(auto)]
 
+mod change;
 mod clause;
 mod clause_ref;
 mod edit;

@@ -2,7 +2,7 @@
 ghost use Rattle.std.specs.Prelude.{◌≡◌, ◌≢◌, ◌<◌, [], length, slice_get, IfErr, IfOk, OnErr, OnOk};
 ghost use Rattle.solid_model.specs.Clauses.{place_of, IsClauseAt, IsModel};
 ghost use Rattle.solid_model.specs.Edits.{edited, MakesClause};
-ghost use Rattle.solid_model.specs.declared.edit.Edit.TheVariants.{Add, Cut, Put, Set};
+ghost use Rattle.solid_model.specs.declared.edit.Edit.TheVariants.{Add};
 ghost use Rattle.solid_model.specs.Refusals.{RefusesAs, WantsMemoryFor};
 ghost use Rattle.solid_model.specs.Seen.{clause_seen};
 ghost use Rattle.solid_model.specs.Tables.{clauses_in};
@@ -45,7 +45,7 @@ impl Model {
             → (fault ≡ EditFault.UnknownName) × (form.args ≢ [])) }
     {
         let mut table = Table::new(alloc);
-        match table.add(name, form) {
+        match table.apply(&Edit::Add(name, form)) {
             Ok(()) => Ok(Model { table }),
             Err(fault) => Err(fault),
         }
@@ -65,54 +65,7 @@ impl Model {
         ensures makes { IfErr result (λ fault. fault ≡ EditFault.NoMemory → MakesClause edit) }
         ensures err { OnErr result (self.new ≡ self.old) }
     {
-        match edit {
-            Edit::Set(name, form) => self.set(name, form),
-            Edit::Add(name, form) => self.add(name, form),
-            Edit::Put(next, name, form) => self.put(next, name, form),
-            Edit::Cut(name) => self.cut(name),
-        }
-    }
-
-    // Gives the clause of this name another form.
-    fn set(&mut self, name: Name, form: Form) -> Result<(), EditFault>
-        ensures ok { OnOk result (edited self.old (Set name form) ≡ Ok self.new) }
-        ensures fault { IfErr result (λ fault. edited self.old (Set name form) ≡ Err fault) }
-        ensures memory { IfErr result (λ fault. fault ≢ EditFault.NoMemory) }
-        ensures err { OnErr result (self.new ≡ self.old) }
-    {
-        self.table.set(name, form)
-    }
-
-    // Adds a clause of this name and form as the last one.
-    fn add(&mut self, name: Name, form: Form) -> Result<(), EditFault>
-        ensures ok { OnOk result (edited self.old (Add name form) ≡ Ok self.new) }
-        ensures fault { RefusesAs (edited self.old (Add name form)) EditFault.NoMemory result }
-        ensures no_memory { WantsMemoryFor (edited self.old (Add name form)) EditFault.NoMemory
-            result }
-        ensures err { OnErr result (self.new ≡ self.old) }
-    {
-        self.table.add(name, form)
-    }
-
-    // Puts a clause of this name and form directly before that of another name.
-    fn put(&mut self, next: Name, name: Name, form: Form) -> Result<(), EditFault>
-        ensures ok { OnOk result (edited self.old (Put next name form) ≡ Ok self.new) }
-        ensures fault { RefusesAs (edited self.old (Put next name form)) EditFault.NoMemory result }
-        ensures no_memory { WantsMemoryFor (edited self.old (Put next name form)) EditFault.NoMemory
-            result }
-        ensures err { OnErr result (self.new ≡ self.old) }
-    {
-        self.table.put(next, name, form)
-    }
-
-    // Takes out the clause of this name.
-    fn cut(&mut self, name: Name) -> Result<(), EditFault>
-        ensures ok { OnOk result (edited self.old (Cut name) ≡ Ok self.new) }
-        ensures fault { IfErr result (λ fault. edited self.old (Cut name) ≡ Err fault) }
-        ensures memory { IfErr result (λ fault. fault ≢ EditFault.NoMemory) }
-        ensures err { OnErr result (self.new ≡ self.old) }
-    {
-        self.table.cut(name)
+        self.table.apply(&edit)
     }
 
     // The model of a table, whose clauses are one.

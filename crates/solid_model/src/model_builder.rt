@@ -5,7 +5,7 @@ ghost use Rattle.solid_model.specs.Names.{IsName};
 ghost use Rattle.solid_model.specs.Pushing.{push_fault};
 
 use crate::table::Table;
-use crate::{Clause, Model, Name, PushFault};
+use crate::{ClauseRef, Model, PushFault};
 use fixed_ops::{Fx, Op, raw_range};
 use std::alloc::Global;
 
@@ -76,11 +76,8 @@ impl ModelBuilder {
         ensures err { OnErr result (self.new ≡ self.old) }
     {
         raw_range(value);
-        let Ok(copy) = Name::copied(self.table.alloc(), name) else {
-            return Err(self.table.refusal(name));
-        };
-        self.table.push(Clause {
-            name: copy,
+        self.table.push(&ClauseRef {
+            name,
             op,
             a,
             b,

@@ -1,10 +1,12 @@
 // A list of clauses in which a name is found at once, and whose clauses move without their
 // operands.
-ghost use Rattle.std.specs.Prelude.{◌≡◌, ◌≢◌, ℕ, ◌<◌, ◌≤◌, [], ◌∷◌, ◌++◌, length, map, set, slice_get, slice_index_or, if◌then◌else◌, true, false, is_some, Some, None, IfErr, IfOk, IfSome, OnErr, OnOk};
+ghost use Rattle.std.specs.Prelude.{◌≡◌, ◌≢◌, ℕ, ◌<◌, ◌≤◌, [], ◌∷◌, ◌++◌, length, map, set, slice_get, slice_index_or, if◌then◌else◌, true, false, is_some, Some, None, IfErr, IfOk, IfSome, MatchResult, OnErr, OnOk};
 ghost use Rattle.std.specs.List.{insert, position, remove};
-ghost use Rattle.std.specs.Option.{unwrap_or};
+ghost use Rattle.std.specs.Option.{option_map, unwrap_or};
 ghost use Rattle.solid_model.specs.Adding.{added, clause_after, operand};
+ghost use Rattle.solid_model.specs.Changes.{done, surgery, Allows, PutsIn};
 ghost use Rattle.solid_model.specs.Clauses.{place_of, AreInOrder};
+ghost use Rattle.solid_model.specs.Edits.{IsEdit, MakesClause};
 ghost use Rattle.solid_model.specs.Names.{IsName};
 ghost use Rattle.solid_model.specs.Parts.{IsForm};
 ghost use Rattle.solid_model.specs.Pushing.{push_fault};
@@ -13,12 +15,13 @@ ghost use Rattle.solid_model.specs.Seen.{clause_seen};
 ghost use Rattle.solid_model.specs.Surgery.{down, formed, moved, put_in, reads, reads_before, taken_out, up};
 ghost use Rattle.solid_model.specs.Tables.{clauses_in, label_of, standing_place, HasName, HasOperandsBefore, IsNumbered};
 
+use crate::change::Change;
 use crate::key::{Key, number_in};
 use crate::numbers::{grow, move_number};
 use crate::row::Row;
 use crate::users::{first_reader, keep_user, kept_user};
 use crate::uses::{count_operands, uncount_operands};
-use crate::{Clause, ClauseRef, EditFault, Form, Name, PushFault};
+use crate::{ClauseRef, Edit, EditFault, Form, Name, PushFault};
 use fixed_ops::arity;
 use indexmap::IndexSet;
 use std::alloc::{AllocError, Global};
@@ -131,59 +134,120 @@ impl Table {
         }
     }
 
-    // Adds a clause of this name and form as the last one.
-    pub(crate) fn add(&mut self, name: Name, form: Form) -> Result<(), EditFault>
+    // Makes an edit, or leaves the clauses as they are.
+    pub(crate) fn apply(&mut self, edit: &Edit) -> Result<(), EditFault>
         requires in_order { AreInOrder (clauses_in self.old) }
-        ensures ok { OnOk result (added (clauses_in self.old) name form
+        ensures ok { OnOk result (surgery (clauses_in self.old) edit.now
             ≡ Ok (clauses_in self.new)) }
-        ensures fault { RefusesAs (added (clauses_in self.old) name form) EditFault.NoMemory
+        ensures fault { RefusesAs (surgery (clauses_in self.old) edit.now) EditFault.NoMemory
             result }
-        ensures no_memory { WantsMemoryFor (added (clauses_in self.old) name form)
+        ensures no_memory { WantsMemoryFor (surgery (clauses_in self.old) edit.now)
             EditFault.NoMemory result }
+        ensures makes { IfErr result (λ fault. fault ≡ EditFault.NoMemory
+            → MakesClause edit.now) }
         ensures err { OnErr result (clauses_in self.new ≡ clauses_in self.old) }
-        ensures name { IsName name }
-        ensures form { IsForm form }
+        ensures edit { IsEdit edit.now }
     {
-        let clause = self.clause_after(name, form).ok_or(EditFault::UnknownName)?;
-        self.push(clause)?;
-        Ok(())
+        match self.change(edit) {
+            Ok(change) => self.make(&change),
+            Err(fault) => {
+                self.keep(edit, fault);
+                Err(fault)
+            }
+        }
     }
 
-    // Gives the clause of this name another form.
-    pub(crate) fn set(&mut self, name: Name, form: Form) -> Result<(), EditFault>
-        ensures ok { OnOk result (formed (clauses_in self.old) name form
-            ≡ Ok (clauses_in self.new)) }
-        ensures fault { IfErr result (λ fault. formed (clauses_in self.old) name form ≡ Err fault) }
+    // What an edit does, or its first fault. Nothing is changed, and no memory is asked for, but
+    // that a long name is copied where there is room.
+    fn change<'e>(&self, edit: &'e Edit) -> Result<Change<'e>, EditFault>
+        requires in_order { AreInOrder (clauses_in self.now) }
+        ensures change { MatchResult result
+            (λ change. surgery (clauses_in self.now) edit.now
+                ≡ Ok (done (clauses_in self.now) change))
+            (λ fault. surgery (clauses_in self.now) edit.now ≡ Err fault) }
         ensures memory { IfErr result (λ fault. fault ≢ EditFault.NoMemory) }
-        ensures err { OnErr result (clauses_in self.new ≡ clauses_in self.old) }
-        ensures name { IsName name }
-        ensures form { IsForm form }
+        ensures allowed { IfOk result (λ change. Allows (clauses_in self.now) change) }
+        ensures puts { IfOk result (λ change. PutsIn change → MakesClause edit.now) }
+        ensures edit { IsEdit edit.now }
     {
+        match edit {
+            Edit::Set(name, form) => self.setting(name, form),
+            Edit::Add(name, form) => self.adding(name, form),
+            Edit::Put(next, name, form) => self.putting(next, name, form),
+            Edit::Cut(name) => self.cutting(name),
+        }
+    }
+
+    // The clause of this name gets another form.
+    fn setting<'e>(&self, name: &'e Name, form: &Form) -> Result<Change<'e>, EditFault>
+        ensures change { MatchResult result
+            (λ change. formed (clauses_in self.now) name.now form.now
+                ≡ Ok (done (clauses_in self.now) change))
+            (λ fault. formed (clauses_in self.now) name.now form.now ≡ Err fault) }
+        ensures memory { IfErr result (λ fault. fault ≢ EditFault.NoMemory) }
+        ensures allowed { IfOk result (λ change. Allows (clauses_in self.now) change) }
+        ensures puts { IfOk result (λ change. ¬ PutsIn change) }
+        ensures name { IsName name.now }
+        ensures form { IsForm form.now }
+    {
+        let formed = self.clause_after(name, form);
         let at = self.position(name.bytes()).ok_or(EditFault::UnknownName)?;
-        let clause = self.clause_after(name, form).ok_or(EditFault::UnknownName)?;
+        let Some(clause) = formed else {
+            return Err(EditFault::UnknownName);
+        };
         if !clause.reads_before(at) {
             return Err(EditFault::NotEarlier);
         }
-        self.write(at as usize, &clause);
-        Ok(())
+        Ok(Change::Write(at, clause))
     }
 
-    // Puts a clause of this name and form directly before that of another name.
-    pub(crate) fn put(&mut self, next: Name, name: Name, form: Form) -> Result<(), EditFault>
-        requires in_order { AreInOrder (clauses_in self.old) }
-        ensures ok { OnOk result (put_in (clauses_in self.old) next name form
-            ≡ Ok (clauses_in self.new)) }
-        ensures fault { RefusesAs (put_in (clauses_in self.old) next name form) EditFault.NoMemory
-            result }
-        ensures no_memory { WantsMemoryFor (put_in (clauses_in self.old) next name form)
-            EditFault.NoMemory result }
-        ensures err { OnErr result (clauses_in self.new ≡ clauses_in self.old) }
-        ensures name { IsName name }
-        ensures form { IsForm form }
+    // A clause of this name and form goes last.
+    fn adding<'e>(&self, name: &'e Name, form: &Form) -> Result<Change<'e>, EditFault>
+        requires in_order { AreInOrder (clauses_in self.now) }
+        ensures change { MatchResult result
+            (λ change. added (clauses_in self.now) name.now form.now
+                ≡ Ok (done (clauses_in self.now) change))
+            (λ fault. added (clauses_in self.now) name.now form.now ≡ Err fault) }
+        ensures memory { IfErr result (λ fault. fault ≢ EditFault.NoMemory) }
+        ensures allowed { IfOk result (λ change. Allows (clauses_in self.now) change) }
+        ensures name { IsName name.now }
+        ensures form { IsForm form.now }
     {
+        let Some(clause) = self.clause_after(name, form) else {
+            return Err(EditFault::UnknownName);
+        };
+        if self.position(clause.name).is_some() {
+            return Err(EditFault::DoubleName);
+        }
+        let count = self.len();
+        if count >= MOST {
+            return Err(EditFault::Full);
+        }
+        Ok(Change::Insert(count as u32, clause))
+    }
+
+    // A clause of this name and form goes directly before that of another name.
+    fn putting<'e>(
+        &self,
+        next: &Name,
+        name: &'e Name,
+        form: &Form,
+    ) -> Result<Change<'e>, EditFault>
+        ensures change { MatchResult result
+            (λ change. put_in (clauses_in self.now) next.now name.now form.now
+                ≡ Ok (done (clauses_in self.now) change))
+            (λ fault. put_in (clauses_in self.now) next.now name.now form.now ≡ Err fault) }
+        ensures memory { IfErr result (λ fault. fault ≢ EditFault.NoMemory) }
+        ensures allowed { IfOk result (λ change. Allows (clauses_in self.now) change) }
+        ensures name { IsName name.now }
+        ensures form { IsForm form.now }
+    {
+        let formed = self.clause_after(name, form);
         let at = self.position(next.bytes()).ok_or(EditFault::UnknownName)?;
-        let clause = self.clause_after(name, form).ok_or(EditFault::UnknownName)?;
-        if self.position(clause.name.bytes()).is_some() {
+        let Some(clause) = formed else {
+            return Err(EditFault::UnknownName);
+        };
+        if self.position(clause.name).is_some() {
             return Err(EditFault::DoubleName);
         }
         if !clause.reads_before(at) {
@@ -192,19 +256,20 @@ impl Table {
         if self.len() >= MOST {
             return Err(EditFault::Full);
         }
-        match self.insert(at as usize, clause) {
-            Ok(()) => Ok(()),
-            Err(_) => Err(EditFault::NoMemory),
-        }
+        Ok(Change::Insert(at, clause))
     }
 
-    // Takes out the clause of this name.
-    pub(crate) fn cut(&mut self, name: Name) -> Result<(), EditFault>
-        requires in_order { AreInOrder (clauses_in self.old) }
-        ensures ok { OnOk result (taken_out (clauses_in self.old) name ≡ Ok (clauses_in self.new)) }
-        ensures fault { IfErr result (λ fault. taken_out (clauses_in self.old) name ≡ Err fault) }
+    // The clause of this name is taken out.
+    fn cutting<'e>(&self, name: &Name) -> Result<Change<'e>, EditFault>
+        requires in_order { AreInOrder (clauses_in self.now) }
+        ensures change { MatchResult result
+            (λ change. taken_out (clauses_in self.now) name.now
+                ≡ Ok (done (clauses_in self.now) change))
+            (λ fault. taken_out (clauses_in self.now) name.now ≡ Err fault) }
         ensures memory { IfErr result (λ fault. fault ≢ EditFault.NoMemory) }
-        ensures err { OnErr result (clauses_in self.new ≡ clauses_in self.old) }
+        ensures allowed { IfOk result (λ change. Allows (clauses_in self.now) change) }
+        ensures puts { IfOk result (λ change. ¬ PutsIn change) }
+        ensures name { IsName name.now }
     {
         let at = self.position(name.bytes()).ok_or(EditFault::UnknownName)?;
         if let Some(user) = self.first_user(at) {
@@ -213,26 +278,76 @@ impl Table {
         if self.len() <= 1 {
             return Err(EditFault::LastClause);
         }
-        self.remove(at);
-        Ok(())
+        Ok(Change::Remove(at))
+    }
+
+    // Makes a change that the clauses allow.
+    fn make(&mut self, change: &Change<'_>) -> Result<(), EditFault>
+        requires in_order { AreInOrder (clauses_in self.old) }
+        requires allowed { Allows (clauses_in self.old) change.now }
+        ensures ok { OnOk result (clauses_in self.new ≡ done (clauses_in self.old) change.now) }
+        ensures fault { IfErr result (λ fault. fault ≡ EditFault.NoMemory) }
+        ensures puts { OnErr result (PutsIn change.now) }
+        ensures err { OnErr result (clauses_in self.new ≡ clauses_in self.old) }
+    {
+        match change {
+            Change::Write(at, clause) => {
+                self.write(*at as usize, clause);
+                Ok(())
+            }
+            Change::Insert(at, clause) => match self.insert(*at as usize, clause) {
+                Ok(()) => Ok(()),
+                Err(_) => Err(EditFault::NoMemory),
+            },
+            Change::Remove(at) => {
+                self.remove(*at);
+                Ok(())
+            }
+        }
+    }
+
+    // Keeps the first user that a refusal tells.
+    fn keep(&mut self, edit: &Edit, fault: EditFault)
+        requires in_order { AreInOrder (clauses_in self.old) }
+        requires refused { surgery (clauses_in self.old) edit.now ≡ Err fault }
+        ensures { clauses_in self.new ≡ clauses_in self.old }
+    {
+        if let Edit::Cut(name) = edit {
+            if let EditFault::InUse(user) = fault {
+                self.keep_user_of(name.bytes(), user);
+            }
+        }
+    }
+
+    // Keeps the first user of the clause of this name, until the clauses change.
+    fn keep_user_of(&mut self, name: &[u8], user: u32)
+        requires in_order { AreInOrder (clauses_in self.old) }
+        requires refused { taken_out (clauses_in self.old) name.now ≡ Err (EditFault.InUse user) }
+        ensures { clauses_in self.new ≡ clauses_in self.old }
+    {
+        if let Some(at) = self.position(name) {
+            let asked = self.numbers[at as usize];
+            keep_user(&mut self.users, asked, user as u16);
+        }
     }
 
     // The clause of this name and form, whose operands stand in the table, if they all do.
-    fn clause_after(&self, name: Name, form: Form) -> Option<Clause>
-        ensures clause { result ≡ clause_after (clauses_in self.now) name form }
-        ensures name { IsName name }
-        ensures form { IsForm form }
+    fn clause_after<'e>(&self, name: &'e Name, form: &Form) -> Option<ClauseRef<'e>>
+        ensures clause { option_map clause_seen result
+            ≡ clause_after (clauses_in self.now) name.now form.now }
+        ensures name { IsName name.now }
+        ensures form { IsForm form.now }
     {
-        let _bytes = name.bytes();
-        let Form { op, args, value } = form;
-        let a = self.operand(&args, 0)?;
-        let b = self.operand(&args, 1)?;
-        Some(Clause {
-            name,
-            op,
+        let bytes = name.bytes();
+        let args = form.args.as_slice();
+        let a = self.operand(args, 0)?;
+        let b = self.operand(args, 1)?;
+        Some(ClauseRef {
+            name: bytes,
+            op: form.op,
             a,
             b,
-            value,
+            value: form.value,
         })
     }
 
@@ -247,15 +362,16 @@ impl Table {
     }
 
     // Puts a clause last.
-    pub(crate) fn push(&mut self, clause: Clause) -> Result<(), PushFault>
+    pub(crate) fn push(&mut self, clause: &ClauseRef<'_>) -> Result<(), PushFault>
         requires in_order { AreInOrder (clauses_in self.old) }
-        requires operands { HasOperandsBefore (length (clauses_in self.old)) clause }
-        ensures free { OnOk result (push_fault (clauses_in self.old) clause.name ≡ None) }
-        ensures ok { OnOk result (clauses_in self.new ≡ (clauses_in self.old) ++ clause ∷ []) }
+        requires operands { HasOperandsBefore (length (clauses_in self.old)) (clause_seen clause.now) }
+        ensures free { OnOk result (push_fault (clauses_in self.old) clause.now.name.now ≡ None) }
+        ensures ok { OnOk result (clauses_in self.new
+            ≡ (clauses_in self.old) ++ clause_seen clause.now ∷ []) }
         ensures fault { IfErr result (λ fault. fault ≢ PushFault.NoMemory
-            → push_fault (clauses_in self.old) clause.name ≡ Some fault) }
+            → push_fault (clauses_in self.old) clause.now.name.now ≡ Some fault) }
         ensures no_memory { IfErr result (λ fault. fault ≡ PushFault.NoMemory
-            → push_fault (clauses_in self.old) clause.name ≡ None) }
+            → push_fault (clauses_in self.old) clause.now.name.now ≡ None) }
         ensures err { OnErr result (clauses_in self.new ≡ clauses_in self.old) }
     {
         self.insert(self.count, clause)
@@ -277,30 +393,29 @@ impl Table {
 
     // Puts a clause in at a place. Its name is hashed once. Where memory is refused, the name is
     // looked up after all, since a fault of the clause goes first.
-    fn insert(&mut self, at: usize, clause: Clause) -> Result<(), PushFault>
+    fn insert(&mut self, at: usize, clause: &ClauseRef<'_>) -> Result<(), PushFault>
         requires in_order { AreInOrder (clauses_in self.old) }
         requires within { at ≤ length (clauses_in self.old) }
-        requires operands { HasOperandsBefore at clause }
-        ensures free { OnOk result (push_fault (clauses_in self.old) clause.name ≡ None) }
+        requires operands { HasOperandsBefore at (clause_seen clause.now) }
+        ensures free { OnOk result (push_fault (clauses_in self.old) clause.now.name.now ≡ None) }
         ensures ok { OnOk result (clauses_in self.new
-            ≡ insert (map (moved (up at)) (clauses_in self.old)) at clause) }
+            ≡ insert (map (moved (up at)) (clauses_in self.old)) at (clause_seen clause.now)) }
         ensures fault { IfErr result (λ fault. fault ≢ PushFault.NoMemory
-            → push_fault (clauses_in self.old) clause.name ≡ Some fault) }
+            → push_fault (clauses_in self.old) clause.now.name.now ≡ Some fault) }
         ensures no_memory { IfErr result (λ fault. fault ≡ PushFault.NoMemory
-            → push_fault (clauses_in self.old) clause.name ≡ None) }
+            → push_fault (clauses_in self.old) clause.now.name.now ≡ None) }
         ensures err { OnErr result (clauses_in self.new ≡ clauses_in self.old) }
     {
-        let name = clause.name.bytes();
         if self.count >= MOST {
-            return Err(self.refusal(name));
+            return Err(self.refusal(clause.name));
         }
-        let Ok(number) = self.number_for(name) else {
-            return Err(self.refusal(name));
+        let Ok(number) = self.number_for(clause.name) else {
+            return Err(self.refusal(clause.name));
         };
         if self.stands(number) {
             return Err(PushFault::DoubleName);
         }
-        self.stand(number, at, &clause);
+        self.stand(number, at, clause);
         Ok(())
     }
 
@@ -351,15 +466,15 @@ impl Table {
     }
 
     // Puts the clause of a number that does not stand in at a place.
-    fn stand(&mut self, number: usize, at: usize, clause: &Clause)
+    fn stand(&mut self, number: usize, at: usize, clause: &ClauseRef<'_>)
         requires in_order { AreInOrder (clauses_in self.old) }
         requires within { at ≤ length (clauses_in self.old) }
-        requires operands { HasOperandsBefore at clause.now }
-        requires named { HasName self.old.names clause.now.name number }
+        requires operands { HasOperandsBefore at (clause_seen clause.now) }
+        requires named { HasName self.old.names clause.now.name.now number }
         requires behind { self.old.count ≤ standing_place self.old.order number }
         requires room { self.old.count < 65535 }
         ensures { clauses_in self.new
-            ≡ insert (map (moved (up at)) (clauses_in self.old)) at clause.now }
+            ≡ insert (map (moved (up at)) (clauses_in self.old)) at (clause_seen clause.now) }
     {
         let row = numbered(&self.numbers, clause);
         count_operands(&mut self.uses, &row);
@@ -371,10 +486,10 @@ impl Table {
     }
 
     // Gives the clause at a place, whose name stays, another form.
-    fn write(&mut self, at: usize, clause: &Clause)
-        requires named { place_of (clauses_in self.old) clause.now.name ≡ Some at }
-        requires operands { HasOperandsBefore at clause.now }
-        ensures { clauses_in self.new ≡ set (clauses_in self.old) at clause.now }
+    fn write(&mut self, at: usize, clause: &ClauseRef<'_>)
+        requires named { place_of (clauses_in self.old) clause.now.name.now ≡ Some at }
+        requires operands { HasOperandsBefore at (clause_seen clause.now) }
+        ensures { clauses_in self.new ≡ set (clauses_in self.old) at (clause_seen clause.now) }
     {
         let number = self.numbers[at] as usize;
         let row = numbered(&self.numbers, clause);
@@ -388,13 +503,12 @@ impl Table {
     // as they are. Where none has it, that is known at once, and else only a later one can have it.
     // A place that was found is kept until the clauses change. So between two changes one clause is
     // looked for at most once, past at most 65,535 rows, and a further call takes constant time.
-    fn first_user(&mut self, at: u32) -> Option<usize>
-        requires in_order { AreInOrder (clauses_in self.old) }
-        requires there { at < length (clauses_in self.old) }
-        ensures place { result ≡ position (reads at) (clauses_in self.old) }
-        ensures within { IfSome result (λ user. user < length (clauses_in self.old)) }
-        ensures few { length (clauses_in self.old) ≤ 65535 }
-        ensures clauses { clauses_in self.new ≡ clauses_in self.old }
+    fn first_user(&self, at: u32) -> Option<usize>
+        requires in_order { AreInOrder (clauses_in self.now) }
+        requires there { at < length (clauses_in self.now) }
+        ensures place { result ≡ position (reads at) (clauses_in self.now) }
+        ensures within { IfSome result (λ user. user < length (clauses_in self.now)) }
+        ensures few { length (clauses_in self.now) ≤ 65535 }
     {
         let number = self.numbers[at as usize];
         if self.uses[number as usize] == 0 {
@@ -404,15 +518,13 @@ impl Table {
         if known > 0 {
             return Some(known);
         }
-        let user = first_reader(
+        first_reader(
             &self.numbers,
             &self.rows,
             number,
             at as usize + 1,
             self.count,
-        )?;
-        keep_user(&mut self.users, number, user as u16);
-        Some(user)
+        )
     }
 
     // Takes out the clause at a place, which is no operand. Its number goes behind the others.
@@ -450,9 +562,9 @@ fn operand_place(places: &Vec<u16>, number: u16, there: bool) -> u32
 }
 
 // What a clause says, its operands by their numbers.
-fn numbered(numbers: &Vec<u16>, clause: &Clause) -> Row
-    requires { HasOperandsBefore (length numbers.now.items) clause.now }
-    ensures { IsNumbered numbers.now.items clause.now result }
+fn numbered(numbers: &Vec<u16>, clause: &ClauseRef<'_>) -> Row
+    requires { HasOperandsBefore (length numbers.now.items) (clause_seen clause.now) }
+    ensures { IsNumbered numbers.now.items (clause_seen clause.now) result }
 {
     let operands = arity(clause.op);
     Row {

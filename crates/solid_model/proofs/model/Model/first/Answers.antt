@@ -2,6 +2,7 @@
 use Rattle.std.proofs.Common.{◌≡◌, [], Ok, Err, IsOk, subst, ◌∙◌, arith}
 use Rattle.std.proofs.lemmas.Grind.{common_steps}
 use Rattle.solid_model.specs.Adding.{added}
+use Rattle.solid_model.proofs.ChangeLemmas.{first-fault}
 use Rattle.solid_model.proofs.ModelLemmas.{AreClauses-nil, IsModel-added, no_argument}
 use Rattle.solid_model.proofs.NamedLemmas.{edited-added}
 use Rattle.solid_model.proofs.model.Model.first.Goals as goal
@@ -9,25 +10,30 @@ use Rattle.solid_model.specs.Tables.{clauses_in}
 
 pub invariant_of-result : goal.invariant_of-result
 invariant_of-result c =
-    let made : added [] c.args.name c.args.form ≡ Ok (clauses_in c.add.new.self) = grind (arith, common_steps) in
-    IsModel-added [] c.args.name c.args.form _ AreClauses-nil c.add.ensures.name c.add.ensures.form made
+    let made : added [] c.args.name c.args.form ≡ Ok (clauses_in c.apply.new.self) = grind (arith, common_steps) in
+    IsModel-added [] c.args.name c.args.form _ AreClauses-nil c.apply.ensures.edit.0 c.apply.ensures.edit.1 made
 
 pub returns-in-Ok-clause-ok : goal.returns-in-Ok-clause-ok
 returns-in-Ok-clause-ok c =
-    let made : added [] c.args.name c.args.form ≡ Ok (clauses_in c.add.new.self) = grind (arith, common_steps) in
-    edited-added [] c.args.name c.args.form AreClauses-nil c.add.ensures.form ∙ made
+    let made : added [] c.args.name c.args.form ≡ Ok (clauses_in c.apply.new.self) = grind (arith, common_steps) in
+    edited-added [] c.args.name c.args.form AreClauses-nil c.apply.ensures.edit.1 ∙ made
 
 pub returns-in-Ok-clause-no_argument : goal.returns-in-Ok-clause-no_argument
 returns-in-Ok-clause-no_argument c =
-    let made : added [] c.args.name c.args.form ≡ Ok (clauses_in c.add.new.self) = grind (arith, common_steps) in
+    let made : added [] c.args.name c.args.form ≡ Ok (clauses_in c.apply.new.self) = grind (arith, common_steps) in
     no_argument c.args.name c.args.form _ made
 
 pub returns-in-Err-clause-fault : goal.returns-in-Err-clause-fault
 returns-in-Err-clause-fault c =
-    λ h. edited-added [] c.args.name c.args.form AreClauses-nil c.add.ensures.form
+    λ h. edited-added [] c.args.name c.args.form AreClauses-nil c.apply.ensures.edit.1
     ∙ subst (λ before. added before c.args.name c.args.form ≡ Err c.in-Err.fault) c.new-table.ensures (c.in-Err.ensures.fault h)
 
 pub returns-in-Err-clause-no_memory : goal.returns-in-Err-clause-no_memory
 returns-in-Err-clause-no_memory c =
-    rw (edited-added [] c.args.name c.args.form AreClauses-nil c.add.ensures.form)
+    rw (edited-added [] c.args.name c.args.form AreClauses-nil c.apply.ensures.edit.1)
     (λ h. subst (λ before. IsOk (added before c.args.name c.args.form)) c.new-table.ensures (c.in-Err.ensures.no_memory h))
+
+pub returns-in-Err-clause-argument : goal.returns-in-Err-clause-argument
+returns-in-Err-clause-argument c =
+    λ h. first-fault c.args.name c.args.form c.in-Err.fault
+    (subst (λ before. added before c.args.name c.args.form ≡ Err c.in-Err.fault) c.new-table.ensures (c.in-Err.ensures.fault h))

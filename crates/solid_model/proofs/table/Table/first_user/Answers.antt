@@ -39,24 +39,9 @@ pub first_reader-requires-clause-rows : goal.first_reader-requires-clause-rows
 first_reader-requires-clause-rows c =
     λ place user e. omega (arith, number-within _ _ _ _ c.self.invariant.table place user e, c.self.invariant.table.rows_are)
 
-pub returns-in_err-user-clause-place : goal.returns-in_err-user-clause-place
-returns-in_err-user-clause-place c =
-    let at = at-place _ _ _ _ _ _ c.self.invariant c.args.at c.index-number.result.now (subst (λ k. c.args.at < length (clauses_in k)) (sym c.self.view_is) c.requires.there) c.index-number.ensures in
-    let in_order = subst (λ k. AreInOrder (clauses_in k)) (sym c.self.view_is) c.requires.in_order in
-    let found = first-user _ _ _ _ c.self.invariant.table c.args.at c.index-number.result.now c.first_reader.result in_order at.number c.first_reader.ensures.none c.first_reader.ensures.some in
-    c.from_residual.ensures ∙ sym c.in_err-user.was ∙ found ∙ ap (λ k. position (reads c.args.at) (clauses_in k)) c.self.view_is
-
-pub invariant_of-self : goal.invariant_of-self
-invariant_of-self c =
-    let at = at-place _ _ _ _ _ _ c.self.invariant c.args.at c.index-number.result.now (subst (λ k. c.args.at < length (clauses_in k)) (sym c.self.view_is) c.requires.there) c.index-number.ensures in
-    let in_order = subst (λ k. AreInOrder (clauses_in k)) (sym c.self.view_is) c.requires.in_order in
-    let found = first-user _ _ _ _ c.self.invariant.table c.args.at c.index-number.result.now c.first_reader.result in_order at.number c.first_reader.ensures.none c.first_reader.ensures.some in
-    kept-told _ _ _ _ _ _ c.self.invariant c.args.at c.index-number.result.now c.in_ok-user.user c.keep_user.new.users.items in_order at.number (sym c.in_ok-user.was ∙ found)
-    c.keep_user.ensures
-
 pub returns-clause-place : goal.returns-clause-place
 returns-clause-place c =
     let at = at-place _ _ _ _ _ _ c.self.invariant c.args.at c.index-number.result.now (subst (λ k. c.args.at < length (clauses_in k)) (sym c.self.view_is) c.requires.there) c.index-number.ensures in
     let in_order = subst (λ k. AreInOrder (clauses_in k)) (sym c.self.view_is) c.requires.in_order in
     let found = first-user _ _ _ _ c.self.invariant.table c.args.at c.index-number.result.now c.first_reader.result in_order at.number c.first_reader.ensures.none c.first_reader.ensures.some in
-    sym c.in_ok-user.was ∙ found ∙ ap (λ k. position (reads c.args.at) (clauses_in k)) c.self.view_is
+    found ∙ ap (λ k. position (reads c.args.at) (clauses_in k)) c.self.view_is

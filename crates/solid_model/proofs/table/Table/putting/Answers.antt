@@ -1,0 +1,23 @@
+-- The name is new, there is room, and the operands of the form stand before the place.
+use Rattle.std.proofs.Common.{◌≡◌, ◌<◌, None, Some, Ok, true, false, length, nat_le, ap, sym, subst, arith}
+use Rattle.std.proofs.lemmas.Bool.Decides.{nat_tests}
+use Rattle.std.proofs.lemmas.Grind.{common_steps}
+use Rattle.solid_model.specs.Adding.{clause_after}
+use Rattle.solid_model.specs.Clauses.{place_of, AreInOrder}
+use Rattle.solid_model.specs.Seen.{clause_seen}
+use Rattle.solid_model.specs.Surgery.{reads, reads_before}
+use Rattle.solid_model.specs.Tables.{clauses_in}
+use Rattle.solid_model.proofs.PushLemmas.{operands-before}
+use Rattle.solid_model.proofs.Places.{position_within}
+use Rattle.solid_model.proofs.table.Table.putting.Goals as goal
+
+pub returns-clause-allowed : goal.returns-clause-allowed
+returns-clause-allowed c =
+    let clauses = clauses_in c.args.self.now in
+    let clause = clause_seen c.in-Some.clause in
+    let made : clause_after clauses c.args.name.now c.args.form.now ≡ Some clause = grind (arith, common_steps) in
+    let within : c.in_ok-at.at < length clauses = grind (arith, common_steps) in
+    let room : length clauses < 65535 = grind (arith, common_steps, nat_tests) in
+    let new : place_of clauses clause.name ≡ None = grind (arith, common_steps) in
+    let before : reads_before c.in_ok-at.at clause ≡ true = grind (arith, common_steps) in
+    (omega (arith, within), room, new, operands-before clauses c.args.name.now c.args.form.now clause c.in_ok-at.at c.clause_after-formed.ensures.form made before)
