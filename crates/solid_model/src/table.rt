@@ -163,7 +163,7 @@ impl Table {
         requires in_order { AreInOrder (clauses_in self.now) }
         ensures change { MatchResult result
             (λ change. surgery (clauses_in self.now) edit.now
-                ≡ Ok (done (clauses_in self.now) change))
+            ≡ Ok (done (clauses_in self.now) change))
             (λ fault. surgery (clauses_in self.now) edit.now ≡ Err fault) }
         ensures memory { IfErr result (λ fault. fault ≢ EditFault.NoMemory) }
         ensures allowed { IfOk result (λ change. Allows (clauses_in self.now) change) }
@@ -182,7 +182,7 @@ impl Table {
     fn setting<'e>(&self, name: &'e Name, form: &Form) -> Result<Change<'e>, EditFault>
         ensures change { MatchResult result
             (λ change. formed (clauses_in self.now) name.now form.now
-                ≡ Ok (done (clauses_in self.now) change))
+            ≡ Ok (done (clauses_in self.now) change))
             (λ fault. formed (clauses_in self.now) name.now form.now ≡ Err fault) }
         ensures memory { IfErr result (λ fault. fault ≢ EditFault.NoMemory) }
         ensures allowed { IfOk result (λ change. Allows (clauses_in self.now) change) }
@@ -206,7 +206,7 @@ impl Table {
         requires in_order { AreInOrder (clauses_in self.now) }
         ensures change { MatchResult result
             (λ change. added (clauses_in self.now) name.now form.now
-                ≡ Ok (done (clauses_in self.now) change))
+            ≡ Ok (done (clauses_in self.now) change))
             (λ fault. added (clauses_in self.now) name.now form.now ≡ Err fault) }
         ensures memory { IfErr result (λ fault. fault ≢ EditFault.NoMemory) }
         ensures allowed { IfOk result (λ change. Allows (clauses_in self.now) change) }
@@ -227,15 +227,10 @@ impl Table {
     }
 
     // A clause of this name and form goes directly before that of another name.
-    fn putting<'e>(
-        &self,
-        next: &Name,
-        name: &'e Name,
-        form: &Form,
-    ) -> Result<Change<'e>, EditFault>
+    fn putting<'e>(&self, next: &Name, name: &'e Name, form: &Form) -> Result<Change<'e>, EditFault>
         ensures change { MatchResult result
             (λ change. put_in (clauses_in self.now) next.now name.now form.now
-                ≡ Ok (done (clauses_in self.now) change))
+            ≡ Ok (done (clauses_in self.now) change))
             (λ fault. put_in (clauses_in self.now) next.now name.now form.now ≡ Err fault) }
         ensures memory { IfErr result (λ fault. fault ≢ EditFault.NoMemory) }
         ensures allowed { IfOk result (λ change. Allows (clauses_in self.now) change) }
@@ -264,7 +259,7 @@ impl Table {
         requires in_order { AreInOrder (clauses_in self.now) }
         ensures change { MatchResult result
             (λ change. taken_out (clauses_in self.now) name.now
-                ≡ Ok (done (clauses_in self.now) change))
+            ≡ Ok (done (clauses_in self.now) change))
             (λ fault. taken_out (clauses_in self.now) name.now ≡ Err fault) }
         ensures memory { IfErr result (λ fault. fault ≢ EditFault.NoMemory) }
         ensures allowed { IfOk result (λ change. Allows (clauses_in self.now) change) }

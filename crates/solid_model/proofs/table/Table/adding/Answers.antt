@@ -28,6 +28,9 @@ returns-clause-allowed c =
     let clause = clause_seen c.in-Some.clause in
     let made : clause_after clauses c.args.name.now c.args.form.now ≡ Some clause = grind (arith, common_steps) in
     let room : length clauses < 65535 = grind (arith, common_steps, nat_tests) in
-    let new : place_of clauses clause.name ≡ None = grind (arith, common_steps) in
-    (omega (arith, c.len-count.ensures.len), room, new,
-    rw c.len-count.ensures.len (operands-after clauses c.args.name.now c.args.form.now clause c.clause_after.ensures.form made))
+    let new : place_of clauses clause.name ≡ None = grind (arith, common_steps) in (
+      omega (arith, c.len-count.ensures.len),
+      room,
+      new,
+      rw c.len-count.ensures.len (operands-after clauses c.args.name.now c.args.form.now clause c.clause_after.ensures.form made),
+    )
