@@ -17,7 +17,7 @@ const BARS: &str =
 // A disc round the origin.
 const ROUND: &str = "x var-x\ny var-y\na square x\nb square y\nc add a b\nr const 0.5\nf sub c r";
 
-const CASES: [Case; 13] = [
+const CASES: [Case; 15] = [
     // A quotient whose divisor may be 0 decides nothing.
     (
         &["count", "w=8", "h=1"],
@@ -45,6 +45,23 @@ const CASES: [Case; 13] = [
     (&["count", "w=1", "h=1"], ROUND, 0, 7, 7),
     (&["count", "w=9", "h=8"], ROUND, 504, 21, 504),
     (&["count", "w=15", "h=17"], ROUND, 1785, 63, 1785),
+    // A floor that is 0 all over decides the whole picture.
+    (
+        &["count", "w=16", "h=1"],
+        "x var-x\nq const 0.25\nh const 0.5\na mul x q\nb add a h\nf floor b\ne sub f h",
+        0,
+        7,
+        112,
+    ),
+    // Of two floors that tie, the halves receive the first.
+    (
+        &["count", "w=16", "h=1"],
+        "x var-x\nq const 0.25\nh const 0.5\na mul x q\nb add a h\nf floor b\ng floor h\n\
+        m min f g\ne add m x",
+        0,
+        23,
+        144,
+    ),
 ];
 
 // The lines that tell these numbers.

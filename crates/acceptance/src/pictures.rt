@@ -6,7 +6,7 @@ use std::test::Fail;
 // Words, a model, and the image.
 type Case = (&'static [&'static str], &'static str, &'static [u8]);
 
-const CASES: [Case; 12] = [
+const CASES: [Case; 15] = [
     // The value 0 is outside.
     (
         &["render", "w=3", "h=1"],
@@ -72,6 +72,27 @@ const CASES: [Case; 12] = [
         &["render", "w=1", "h=1", "z=0.5"],
         "z var-z\nc const 0.25\nd sub c z",
         b"P5\n1 1\n255\n\xff",
+    ),
+    // Whole numbers are not above theirs, and 0 is outside.
+    (
+        &["render", "w=5", "h=1"],
+        "x var-x\nf floor x",
+        b"P5\n5 1\n255\n\xff\xff\x00\x00\x00",
+    ),
+    // A strip of the width 0.25 in the middle of each cell of the length 0.5.
+    (
+        &["render", "w=16", "h=1"],
+        "x var-x\ntwo const 2\nk mul x two\nf floor k\nu sub k f\nh const 0.5\np sub u h\n\
+        a abs p\nr const 0.25\ne sub a r",
+        b"P5\n16 1\n255\n\
+        \x00\xff\xff\x00\x00\xff\xff\x00\x00\xff\xff\x00\x00\xff\xff\x00",
+    ),
+    // Two floors that tie.
+    (
+        &["render", "w=8", "h=1"],
+        "x var-x\nq const 0.25\nh const 0.5\na mul x q\nb add a h\nf floor b\ng floor h\n\
+        m min f g\ne add m x",
+        b"P5\n8 1\n255\n\xff\xff\xff\xff\x00\x00\x00\x00",
     ),
     // A disc without a bar, and the bar.
     (

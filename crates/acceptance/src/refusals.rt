@@ -4,7 +4,7 @@ use modeller_cmd::Status;
 use std::test::Fail;
 
 // Texts, the lines that are noted, and the reasons. Line 0 stands for the whole text.
-pub const CASES: [(&str, u32, &str); 24] = [
+pub const CASES: [(&str, u32, &str); 28] = [
     // No clause at all.
     ("", 0, "Empty"),
     ("# only a comment", 0, "Empty"),
@@ -16,10 +16,14 @@ pub const CASES: [(&str, u32, &str); 24] = [
     ("a foo", 1, "UnknownOperation"),
     ("a VAR-X", 1, "UnknownOperation"),
     ("a #var-x", 1, "UnknownOperation"),
+    ("a var-x\nb Floor a", 2, "UnknownOperation"),
+    ("a var-x\nb FLOOR a", 2, "UnknownOperation"),
     // Too many or too few words after the operation.
     ("a var-y # y", 1, "WrongArity"),
     ("a const x y", 1, "WrongArity"),
     ("a var-x\nb neg a a\n", 2, "WrongArity"),
+    ("a var-x\nb floor", 2, "WrongArity"),
+    ("a var-x\nb floor a a", 2, "WrongArity"),
     // No numeral.
     ("a const .", 1, "BadNumeral"),
     ("a const 1e", 1, "BadNumeral"),

@@ -6,7 +6,7 @@ use std::alloc::{AllocError, Global};
 use std::test::Fail;
 
 // Inputs, and what they write. The pixels, the tops and the lengths were worked out by hand.
-const CASES: [(&str, &[u8]); 8] = [
+const CASES: [(&str, &[u8]); 9] = [
     // Edits that are refused, each for another reason, and the same picture before and after.
     (
         "x var-x\nc const 0.5\nf sub x c\n%%\nrender w=3 h=1\ncut c\nadd x var-y\nset c sub x f\n\
@@ -18,6 +18,11 @@ const CASES: [(&str, &[u8]); 8] = [
     (
         "x var-x\n%%\nput x c const 0.5\nadd f sub x c\ntext\ncut f\ncut x\ncut c\n",
         b"@ text 39\nc const 0.5000000000\nx var-x\nf sub x c\n@ refused 8 LastClause\n",
+    ),
+    // Floors, and a name that is the word of an operation.
+    (
+        "x var-x\n%%\nadd f floor x\nput f floor floor x\nset f floor floor\ntext\n",
+        b"@ text 36\nx var-x\nfloor floor x\nf floor floor\n",
     ),
     // Two bars, of which the right one is moved over the left one.
     (

@@ -4,7 +4,7 @@ use modeller_cmd::Status;
 use std::test::Fail;
 
 // Inputs, and the status and the note that they end with.
-const CASES: [(&str, Status, &str); 19] = [
+const CASES: [(&str, Status, &str); 22] = [
     (
         "x var-x\n",
         Status::BadScript,
@@ -64,6 +64,21 @@ const CASES: [(&str, Status, &str); 19] = [
         "x var-x\n%%\nset x foo\n",
         Status::BadScript,
         "modeller: script line 3: UnknownOperation\n",
+    ),
+    (
+        "x var-x\n%%\nadd f Floor x\n",
+        Status::BadScript,
+        "modeller: script line 3: UnknownOperation\n",
+    ),
+    (
+        "x var-x\n%%\nadd f floor\n",
+        Status::BadScript,
+        "modeller: script line 3: WrongArity\n",
+    ),
+    (
+        "x var-x\n%%\nadd f floor x x\n",
+        Status::BadScript,
+        "modeller: script line 3: WrongArity\n",
     ),
     (
         "x var-x\n%%\nset x neg\n",

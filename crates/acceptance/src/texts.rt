@@ -5,13 +5,15 @@ use std::alloc::{AllocError, Global};
 use std::test::Fail;
 
 // Inputs, and the texts of their models.
-const CASES: [(&str, &str); 6] = [
+const CASES: [(&str, &str); 7] = [
     // Constants are rounded to 2^-32, and written with ten decimals, cut towards 0.
     ("a const 1e-5", "a const 0.0000100000\n"),
     ("a const 99999999999", "a const 1073741823.9999999997\n"),
     ("a const 1e999", "a const 1073741823.9999999997\n"),
     ("a const -1e-999", "a const 0.0000000000\n"),
     ("a const -.5\n", "a const -0.5000000000\n"),
+    // The word of an operation may be a name.
+    ("floor var-x\n f  floor floor", "floor var-x\nf floor floor\n"),
     // Comments and blanks go, names and order stay.
     (
         "# union\n\n x\tvar-x\r\n _y var-y\r\nu min x _y\nn neg u",

@@ -4,7 +4,7 @@ use Rattle.std.proofs.lemmas.List.{length-append, get_or_append_left}
 use Rattle.std.proofs.Math.Seq.{get_or-append_seam}
 use Rattle.fixed_ops.specs.Arity.{arity_of}
 use Rattle.fixed_ops.specs.declared.operation.Op.{Op}
-use Rattle.fixed_ops.specs.declared.operation.Op.TheVariants.{X, Y, Z, Const, Neg, Square, Sqrt, Abs, Add, Sub, Mul, Div, Min, Max}
+use Rattle.fixed_ops.specs.declared.operation.Op.TheVariants.{X, Y, Z, Const, Add, Sub, Mul, Div, Min, Max}
 use Rattle.interval_ops.specs.Choices.{choice_of}
 use Rattle.interval_ops.specs.Spans.{Interval, all_numbers}
 use Rattle.interval_ops.specs.declared.region.Region.{Region}
@@ -24,16 +24,13 @@ step_hull-same X region value a b c d first second = refl
 step_hull-same Y region value a b c d first second = refl
 step_hull-same Z region value a b c d first second = refl
 step_hull-same Const region value a b c d first second = refl
-step_hull-same Neg region value a b c d first second = ap (λ (s : Interval). step_hull Neg region value s d) (first (omega arith))
-step_hull-same Square region value a b c d first second = ap (λ (s : Interval). step_hull Square region value s d) (first (omega arith))
-step_hull-same Sqrt region value a b c d first second = ap (λ (s : Interval). step_hull Sqrt region value s d) (first (omega arith))
-step_hull-same Abs region value a b c d first second = ap (λ (s : Interval). step_hull Abs region value s d) (first (omega arith))
 step_hull-same Add region value a b c d first second = both Add region value a b c d (first (omega arith)) (second (omega arith))
 step_hull-same Sub region value a b c d first second = both Sub region value a b c d (first (omega arith)) (second (omega arith))
 step_hull-same Mul region value a b c d first second = both Mul region value a b c d (first (omega arith)) (second (omega arith))
 step_hull-same Div region value a b c d first second = both Div region value a b c d (first (omega arith)) (second (omega arith))
 step_hull-same Min region value a b c d first second = both Min region value a b c d (first (omega arith)) (second (omega arith))
 step_hull-same Max region value a b c d first second = both Max region value a b c d (first (omega arith)) (second (omega arith))
+step_hull-same op region value a b c d first second = ap (λ (s : Interval). step_hull op region value s d) (first (omega arith))
 
 -- and so does its choice
 pub choice_of-same : (op : Op) (a b c d : Interval) → (0 < arity_of op → a ≡ c) → (1 < arity_of op → b ≡ d) → choice_of op a b ≡ choice_of op c d
@@ -41,18 +38,7 @@ choice_of-same Min a b c d first second =
     ap (λ (s : Interval). choice_of Min s b) (first (omega arith)) ∙ ap (λ (s : Interval). choice_of Min c s) (second (omega arith))
 choice_of-same Max a b c d first second =
     ap (λ (s : Interval). choice_of Max s b) (first (omega arith)) ∙ ap (λ (s : Interval). choice_of Max c s) (second (omega arith))
-choice_of-same X a b c d first second = refl
-choice_of-same Y a b c d first second = refl
-choice_of-same Z a b c d first second = refl
-choice_of-same Const a b c d first second = refl
-choice_of-same Neg a b c d first second = refl
-choice_of-same Square a b c d first second = refl
-choice_of-same Sqrt a b c d first second = refl
-choice_of-same Abs a b c d first second = refl
-choice_of-same Add a b c d first second = refl
-choice_of-same Sub a b c d first second = refl
-choice_of-same Mul a b c d first second = refl
-choice_of-same Div a b c d first second = refl
+choice_of-same op a b c d first second = refl
 
 -- a step has one hull over lists that agree before its place
 pub hull_after-same : (region : Region) (xs ys : List Interval) (place : ℕ) (step : Step) → IsStepAt place step

@@ -7,7 +7,7 @@ use Rattle.std.proofs.lemmas.Option.{slice_get-get_or, slice_get_within}
 use Rattle.fixed_ops.specs.Arity.{arity_of}
 use Rattle.fixed_ops.specs.Points.{Point}
 use Rattle.fixed_ops.specs.declared.operation.Op.{Op}
-use Rattle.fixed_ops.specs.declared.operation.Op.TheVariants.{X, Y, Z, Const, Neg, Square, Sqrt, Abs, Add, Sub, Mul, Div, Min, Max}
+use Rattle.fixed_ops.specs.declared.operation.Op.TheVariants.{X, Y, Z, Const}
 use Rattle.interval_ops.specs.Hulls.{IsHull, hull_of}
 use Rattle.interval_ops.specs.Spans.{Holds, Interval, IsSpan, all_numbers}
 use Rattle.interval_ops.specs.declared.region.Region.{Region}
@@ -57,16 +57,7 @@ module _ (laws : Lawful) where
   is_step_hull Y region value a b are = refl
   is_step_hull Z region value a b are = refl
   is_step_hull Const region value a b are = refl
-  is_step_hull Neg region value a b are = of_spans Neg a b (are (omega arith))
-  is_step_hull Square region value a b are = of_spans Square a b (are (omega arith))
-  is_step_hull Sqrt region value a b are = of_spans Sqrt a b (are (omega arith))
-  is_step_hull Abs region value a b are = of_spans Abs a b (are (omega arith))
-  is_step_hull Add region value a b are = of_spans Add a b (are (omega arith))
-  is_step_hull Sub region value a b are = of_spans Sub a b (are (omega arith))
-  is_step_hull Mul region value a b are = of_spans Mul a b (are (omega arith))
-  is_step_hull Div region value a b are = of_spans Div a b (are (omega arith))
-  is_step_hull Min region value a b are = of_spans Min a b (are (omega arith))
-  is_step_hull Max region value a b are = of_spans Max a b (are (omega arith))
+  is_step_hull op region value a b are = of_spans op a b (are (omega arith))
 
   -- and there is one such hull
   one_step_hull : (op : Op) (region : Region) (value : ℤ) (a b h k : Interval) → IsStepHull op region value a b h → IsStepHull op region value a b k → h ≡ k
@@ -74,16 +65,7 @@ module _ (laws : Lawful) where
   one_step_hull Y region value a b h k i j = i ∙ sym j
   one_step_hull Z region value a b h k i j = i ∙ sym j
   one_step_hull Const region value a b h k i j = i ∙ sym j
-  one_step_hull Neg region value a b h k i j = laws.only Neg a b h k i j
-  one_step_hull Square region value a b h k i j = laws.only Square a b h k i j
-  one_step_hull Sqrt region value a b h k i j = laws.only Sqrt a b h k i j
-  one_step_hull Abs region value a b h k i j = laws.only Abs a b h k i j
-  one_step_hull Add region value a b h k i j = laws.only Add a b h k i j
-  one_step_hull Sub region value a b h k i j = laws.only Sub a b h k i j
-  one_step_hull Mul region value a b h k i j = laws.only Mul a b h k i j
-  one_step_hull Div region value a b h k i j = laws.only Div a b h k i j
-  one_step_hull Min region value a b h k i j = laws.only Min a b h k i j
-  one_step_hull Max region value a b h k i j = laws.only Max a b h k i j
+  one_step_hull op region value a b h k i j = laws.only op a b h k i j
 
   -- equal operands have the same hulls
   over_same : (op : Op) (region : Region) (value : ℤ) (a b c d h : Interval) → (a ≡ c) × (b ≡ d) → IsStepHull op region value a b h → IsStepHull op region value c d h
@@ -97,16 +79,7 @@ module _ (laws : Lawful) where
   no_operand Y region value a b c d h same i = i
   no_operand Z region value a b c d h same i = i
   no_operand Const region value a b c d h same i = i
-  no_operand Neg region value a b c d h same i = over_same Neg region value a b c d h (same (omega arith)) i
-  no_operand Square region value a b c d h same i = over_same Square region value a b c d h (same (omega arith)) i
-  no_operand Sqrt region value a b c d h same i = over_same Sqrt region value a b c d h (same (omega arith)) i
-  no_operand Abs region value a b c d h same i = over_same Abs region value a b c d h (same (omega arith)) i
-  no_operand Add region value a b c d h same i = over_same Add region value a b c d h (same (omega arith)) i
-  no_operand Sub region value a b c d h same i = over_same Sub region value a b c d h (same (omega arith)) i
-  no_operand Mul region value a b c d h same i = over_same Mul region value a b c d h (same (omega arith)) i
-  no_operand Div region value a b c d h same i = over_same Div region value a b c d h (same (omega arith)) i
-  no_operand Min region value a b c d h same i = over_same Min region value a b c d h (same (omega arith)) i
-  no_operand Max region value a b c d h same i = over_same Max region value a b c d h (same (omega arith)) i
+  no_operand op region value a b c d h same i = over_same op region value a b c d h (same (omega arith)) i
 
   pub hulls_hold : HullsHold
   hulls_hold region steps ranges stand = record {

@@ -8,7 +8,7 @@ use Rattle.fixed_ops.specs.Operations.{op_result}
 use Rattle.fixed_ops.specs.Points.{Point, step_value}
 use Rattle.fixed_ops.specs.Raw.{IsRaw}
 use Rattle.fixed_ops.specs.declared.operation.Op.{Op}
-use Rattle.fixed_ops.specs.declared.operation.Op.TheVariants.{X, Y, Z, Const, Neg, Square, Sqrt, Abs, Add, Sub, Mul, Div, Min, Max}
+use Rattle.fixed_ops.specs.declared.operation.Op.TheVariants.{X, Y, Z, Const, Add, Sub, Mul, Div, Min, Max}
 use Rattle.interval_laws.specs.Laws.{Wins}
 use Rattle.interval_ops.specs.Choices.{choice_of}
 use Rattle.interval_ops.specs.Hulls.{hull_of}
@@ -107,16 +107,13 @@ module _ (laws : Lawful) where
   step_over Z region p value a b u v ranges inside raw first second = (ranges.z, inside.z)
   step_over Const region p value a b u v ranges inside raw first second =
       (record { lo = raw; hi = raw; order = omega (arith, ints) }, (omega (arith, ints), omega (arith, ints)))
-  step_over Neg region p value a b u v ranges inside raw first second = applied Neg a a u u (first (omega arith)) (first (omega arith))
-  step_over Square region p value a b u v ranges inside raw first second = applied Square a a u u (first (omega arith)) (first (omega arith))
-  step_over Sqrt region p value a b u v ranges inside raw first second = applied Sqrt a a u u (first (omega arith)) (first (omega arith))
-  step_over Abs region p value a b u v ranges inside raw first second = applied Abs a a u u (first (omega arith)) (first (omega arith))
   step_over Add region p value a b u v ranges inside raw first second = applied Add a b u v (first (omega arith)) (second (omega arith))
   step_over Sub region p value a b u v ranges inside raw first second = applied Sub a b u v (first (omega arith)) (second (omega arith))
   step_over Mul region p value a b u v ranges inside raw first second = applied Mul a b u v (first (omega arith)) (second (omega arith))
   step_over Div region p value a b u v ranges inside raw first second = applied Div a b u v (first (omega arith)) (second (omega arith))
   step_over Min region p value a b u v ranges inside raw first second = applied Min a b u v (first (omega arith)) (second (omega arith))
   step_over Max region p value a b u v ranges inside raw first second = applied Max a b u v (first (omega arith)) (second (omega arith))
+  step_over op region p value a b u v ranges inside raw first second = applied op a a u u (first (omega arith)) (first (omega arith))
 
   -- each hull of a list holds the value of its step at each point of the region
   pub held : (region : Region) (p : Point) (steps : List Step) → AreRanges region → IsIn region p → AreSteps steps

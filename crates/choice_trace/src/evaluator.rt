@@ -53,16 +53,7 @@ fn operands<D: Domain>(step: &Step, inputs: &Inputs<D>, regs: &[D]) -> (D, D)
         Op::Y => (inputs.y, inputs.y),
         Op::Z => (inputs.z, inputs.z),
         Op::Const => constant(step),
-        Op::Neg
-        | Op::Square
-        | Op::Sqrt
-        | Op::Abs
-        | Op::Add
-        | Op::Sub
-        | Op::Mul
-        | Op::Div
-        | Op::Min
-        | Op::Max => (a, b),
+        _ => (a, b),
     }
 }
 

@@ -166,6 +166,7 @@ fn trace_step<const L: usize>(
         Op::Square => hull_row::<L>(Op::Square, &earlier[a], &earlier[a], hulls, work),
         Op::Sqrt => hull_row::<L>(Op::Sqrt, &earlier[a], &earlier[a], hulls, work),
         Op::Abs => hull_row::<L>(Op::Abs, &earlier[a], &earlier[a], hulls, work),
+        Op::Floor => hull_row::<L>(Op::Floor, &earlier[a], &earlier[a], hulls, work),
         Op::Add => hull_row::<L>(Op::Add, &earlier[a], &earlier[b], hulls, work),
         Op::Sub => hull_row::<L>(Op::Sub, &earlier[a], &earlier[b], hulls, work),
         Op::Mul => hull_row::<L>(Op::Mul, &earlier[a], &earlier[b], hulls, work),

@@ -62,6 +62,7 @@ fn write_row<const L: usize>(
         Op::Square => write_unary::<L>(Op::Square, step, earlier, row),
         Op::Sqrt => write_unary::<L>(Op::Sqrt, step, earlier, row),
         Op::Abs => write_unary::<L>(Op::Abs, step, earlier, row),
+        Op::Floor => write_unary::<L>(Op::Floor, step, earlier, row),
         Op::Add => write_binary::<L>(Op::Add, step, earlier, row),
         Op::Sub => write_binary::<L>(Op::Sub, step, earlier, row),
         Op::Mul => write_binary::<L>(Op::Mul, step, earlier, row),

@@ -71,15 +71,6 @@ fn operands(step: &Step, region: &Region, regs: &[Span]) -> (Span, Span)
             let value = Span::new(step.value, step.value);
             (value, value)
         }
-        Op::Neg
-        | Op::Square
-        | Op::Sqrt
-        | Op::Abs
-        | Op::Add
-        | Op::Sub
-        | Op::Mul
-        | Op::Div
-        | Op::Min
-        | Op::Max => (a, b),
+        _ => (a, b),
     }
 }

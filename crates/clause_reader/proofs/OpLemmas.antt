@@ -4,26 +4,14 @@ use Rattle.std.specs.List.{find}
 use Rattle.std.specs.Str.{bytes_eq}
 use Rattle.std.specs.Cmp.Lexicographic.{bytes_decides}
 use Rattle.fixed_ops.specs.declared.operation.Op.{Op}
-use Rattle.fixed_ops.specs.declared.operation.Op.TheVariants.{X, Y, Z, Const, Neg, Square, Sqrt, Abs, Add, Sub, Mul, Div, Min, Max}
+use Rattle.fixed_ops.specs.declared.operation.Op.TheVariants.{X}
 use Rattle.fixed_ops.specs.OpNames.{name_of}
 use Rattle.clause_reader.specs.Forms.{operations, operation_of}
 
 -- the name of an operation names it
 pub operation_of-name : (op : Op) → operation_of (name_of op) ≡ Some op
 operation_of-name X = refl
-operation_of-name Y = refl
-operation_of-name Z = refl
-operation_of-name Const = refl
-operation_of-name Neg = refl
-operation_of-name Square = refl
-operation_of-name Sqrt = refl
-operation_of-name Abs = refl
-operation_of-name Add = refl
-operation_of-name Sub = refl
-operation_of-name Mul = refl
-operation_of-name Div = refl
-operation_of-name Min = refl
-operation_of-name Max = refl
+operation_of-name op = refl
 
 -- and a word that is no name names none
 pub operation_of-none : (word : List ℕ) → ((op : Op) → word ≢ name_of op) → operation_of word ≡ None

@@ -3,7 +3,7 @@ use Rattle.std.proofs.Common.{◌≡◌, ℕ, pos, nat_le, List, [], ◌∷◌, 
 use Rattle.std.specs.Prelude.{codes, map, negsuc}
 use Rattle.std.proofs.lemmas.List.Elements.{All-head}
 use Rattle.std.proofs.lemmas.List.Sums.{AllPass-from_list_all}
-use Rattle.fixed_ops.specs.declared.operation.Op.TheVariants.{X, Y, Z, Const, Neg, Square, Sqrt, Abs, Add, Sub, Mul, Div, Min, Max}
+use Rattle.fixed_ops.specs.declared.operation.Op.TheVariants.{X, Y, Z, Const, Neg, Square, Sqrt, Abs, Floor, Add, Sub, Mul, Div, Min, Max}
 use Rattle.fixed_ops.specs.Numerals.{is_unsigned_numeral, unsigned_raw, nearest_raw, cut_magnitude}
 use Rattle.solid_model.specs.declared.clause.Clause.{Clause}
 use Rattle.solid_model.specs.Clauses.{place_of}
@@ -205,13 +205,13 @@ token_is_not_cut is = let ends : true ≡ false = is.longest in (cc)
 -- the operations, by their words and by how many arguments they take
 each_operation_is_read : map operation_of
     (codes "var-x" ∷ codes "var-y" ∷ codes "var-z" ∷ codes "const" ∷ codes "neg" ∷ codes "square"
-    ∷ codes "sqrt" ∷ codes "abs" ∷ codes "add" ∷ codes "sub" ∷ codes "mul" ∷ codes "div"
+    ∷ codes "sqrt" ∷ codes "abs" ∷ codes "floor" ∷ codes "add" ∷ codes "sub" ∷ codes "mul" ∷ codes "div"
     ∷ codes "min" ∷ codes "max" ∷ codes "mod" ∷ [])
-    ≡ Some X ∷ Some Y ∷ Some Z ∷ Some Const ∷ Some Neg ∷ Some Square ∷ Some Sqrt ∷ Some Abs
+    ≡ Some X ∷ Some Y ∷ Some Z ∷ Some Const ∷ Some Neg ∷ Some Square ∷ Some Sqrt ∷ Some Abs ∷ Some Floor
     ∷ Some Add ∷ Some Sub ∷ Some Mul ∷ Some Div ∷ Some Min ∷ Some Max ∷ None ∷ []
 each_operation_is_read = refl
 
-arguments_of_each : map takes operations ≡ 0 ∷ 0 ∷ 0 ∷ 1 ∷ 1 ∷ 1 ∷ 1 ∷ 1 ∷ 2 ∷ 2 ∷ 2 ∷ 2 ∷ 2 ∷ 2 ∷ []
+arguments_of_each : map takes operations ≡ 0 ∷ 0 ∷ 0 ∷ 1 ∷ 1 ∷ 1 ∷ 1 ∷ 1 ∷ 1 ∷ 2 ∷ 2 ∷ 2 ∷ 2 ∷ 2 ∷ 2 ∷ []
 arguments_of_each = refl
 
 comments : map begins_comment ([] ∷ codes "#" ∷ codes "#a" ∷ codes "a#" ∷ [])

@@ -13,7 +13,7 @@ use Rattle.std.proofs.lemmas.List.Elements.{All-nil, All-cons, All-head, All-tai
 use Rattle.std.proofs.lemmas.List.Folds.{list_all-append}
 use Rattle.std.proofs.lemmas.Str.Parse.{digit_from_value}
 use Rattle.fixed_ops.specs.declared.operation.Op.{Op}
-use Rattle.fixed_ops.specs.declared.operation.Op.TheVariants.{X, Y, Z, Const, Neg, Square, Sqrt, Abs, Add, Sub, Mul, Div, Min, Max}
+use Rattle.fixed_ops.specs.declared.operation.Op.TheVariants.{X}
 use Rattle.fixed_ops.specs.NumberTexts.{number_text, size_text, zero_padded}
 use Rattle.fixed_ops.specs.OpNames.{name_of}
 use Rattle.fixed_ops.specs.Raw.{IsRaw}
@@ -111,19 +111,7 @@ name_is_token (byte ∷ bytes) is = (omega arith, (both_pass (not (eqb byte 35))
 -- so is the name of an operation
 pub op_is_token : (op : Op) → IsToken (name_of op)
 op_is_token X = (omega arith, refl)
-op_is_token Y = (omega arith, refl)
-op_is_token Z = (omega arith, refl)
-op_is_token Const = (omega arith, refl)
-op_is_token Neg = (omega arith, refl)
-op_is_token Square = (omega arith, refl)
-op_is_token Sqrt = (omega arith, refl)
-op_is_token Abs = (omega arith, refl)
-op_is_token Add = (omega arith, refl)
-op_is_token Sub = (omega arith, refl)
-op_is_token Mul = (omega arith, refl)
-op_is_token Div = (omega arith, refl)
-op_is_token Min = (omega arith, refl)
-op_is_token Max = (omega arith, refl)
+op_is_token op = (omega arith, refl)
 
 -- a digit may stand in a token
 digit_in_token : (c : ℕ) → digit_value c < 10 → is_token_byte c ≡ true

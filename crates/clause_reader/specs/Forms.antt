@@ -4,7 +4,7 @@ use Rattle.std.specs.List.{find, list_any}
 use Rattle.std.specs.Option.{unwrap_or}
 use Rattle.std.specs.Str.{bytes_eq}
 use Rattle.fixed_ops.specs.declared.operation.Op.{Op}
-use Rattle.fixed_ops.specs.declared.operation.Op.TheVariants.{X, Y, Z, Const, Neg, Square, Sqrt, Abs, Add, Sub, Mul, Div, Min, Max}
+use Rattle.fixed_ops.specs.declared.operation.Op.TheVariants.{X, Y, Z, Const, Neg, Square, Sqrt, Abs, Floor, Add, Sub, Mul, Div, Min, Max}
 use Rattle.fixed_ops.specs.Arity.{arity_of}
 use Rattle.fixed_ops.specs.Numerals.{numeral}
 use Rattle.fixed_ops.specs.OpNames.{name_of}
@@ -17,7 +17,7 @@ use Rattle.clause_reader.specs.Lines.{begins_comment}
 
 -- all operations
 abbrev pub operations : List Op
-operations = X ∷ Y ∷ Z ∷ Const ∷ Neg ∷ Square ∷ Sqrt ∷ Abs ∷ Add ∷ Sub ∷ Mul ∷ Div ∷ Min ∷ Max ∷ []
+operations = X ∷ Y ∷ Z ∷ Const ∷ Neg ∷ Square ∷ Sqrt ∷ Abs ∷ Floor ∷ Add ∷ Sub ∷ Mul ∷ Div ∷ Min ∷ Max ∷ []
 
 -- the operation that a word names
 abbrev pub operation_of : List ℕ → Option Op

@@ -7,3 +7,4 @@ pub mod QuotientLaws
 pub mod RootLaws
 pub mod SpellingLaws
 pub mod TextLaws
+pub mod WholeLaws

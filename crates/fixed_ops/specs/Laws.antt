@@ -1,6 +1,8 @@
 -- What always holds of rounding, of the range of raw numbers, of results, and of numerals.
-use Rattle.std.specs.Prelude.{◌≡◌, ◌≢◌, ℕ, ◌^◌, ◌<◌, ℤ, pos, ◌*ℤ◌, ◌<ℤ◌, Some}
+use Rattle.std.specs.Prelude.{◌≡◌, ◌≢◌, ℕ, ◌-◌, ◌^◌, ◌<◌, ℤ, pos, ◌+ℤ◌, ◌*ℤ◌, ◌≤ℤ◌, ◌<ℤ◌, Some}
+use lib.IntN.{neg_ℤ}
 use Rattle.fixed_ops.specs.declared.operation.Op.{Op}
+use Rattle.fixed_ops.specs.declared.operation.Op.TheVariants.{Floor}
 use Rattle.fixed_ops.specs.Floor.{IsFloor}
 use Rattle.fixed_ops.specs.Numerals.{numeral}
 use Rattle.fixed_ops.specs.NumberTexts.{number_text}
@@ -47,6 +49,29 @@ pub record IsOverZero (a r : ℤ) : Type 0 where
 
 abbrev pub QuotientByZeroHolds : Type 0
 QuotientByZeroHolds = (a : ℤ) → IsOverZero a (quotient_of a (pos 0))
+
+-- r is a whole number that is at most a, and the next one is above a
+pub record IsWholeBelow (a r : ℤ) : Type 0 where
+  pub count : ℤ
+  pub whole : r ≡ count *ℤ pos (2 ^ 32)
+  pub below : r ≤ℤ a
+  pub next : a <ℤ (r +ℤ pos (2 ^ 32))
+
+-- the least whole number that is a raw number
+abbrev pub least_whole : ℤ
+least_whole = neg_ℤ (pos (2 ^ 62 - 2 ^ 32))
+
+-- What the floor of a raw number is. Below the least whole number it is the least raw number, which
+-- is no whole number.
+pub record IsWhole (a r : ℤ) : Type 0 where
+  pub within : least_whole ≤ℤ a → IsWholeBelow a r
+  pub low : a <ℤ least_whole → r ≡ least
+
+abbrev pub WholeHolds : Type 0
+WholeHolds = (a b : ℤ) → IsRaw a → IsWhole a (op_result Floor a b)
+
+abbrev pub OnlyWholeHolds : Type 0
+OnlyWholeHolds = (a b r : ℤ) → IsRaw a → IsWhole a r → r ≡ op_result Floor a b
 
 -- results on raw numbers are raw numbers
 abbrev pub ResultsAreRaw : Type 0

@@ -1,7 +1,7 @@
 -- How operations are written.
 use Rattle.std.specs.Prelude.{ℕ, List, codes}
 use Rattle.fixed_ops.specs.declared.operation.Op.{Op}
-use Rattle.fixed_ops.specs.declared.operation.Op.TheVariants.{X, Y, Z, Const, Neg, Square, Sqrt, Abs, Add, Sub, Mul, Div, Min, Max}
+use Rattle.fixed_ops.specs.declared.operation.Op.TheVariants.{X, Y, Z, Const, Neg, Square, Sqrt, Abs, Floor, Add, Sub, Mul, Div, Min, Max}
 
 -- the bytes that name an operation
 abbrev pub name_of : Op → List ℕ
@@ -13,6 +13,7 @@ name_of Neg = codes "neg"
 name_of Square = codes "square"
 name_of Sqrt = codes "sqrt"
 name_of Abs = codes "abs"
+name_of Floor = codes "floor"
 name_of Add = codes "add"
 name_of Sub = codes "sub"
 name_of Mul = codes "mul"

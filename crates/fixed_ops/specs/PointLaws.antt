@@ -1,7 +1,7 @@
 -- What a step makes of its operands: it reads only those that it has, and gives raw numbers from raw numbers.
 use Rattle.std.proofs.Common.{◌≡◌, ◌<◌, ℤ, refl, arith}
 use Rattle.fixed_ops.specs.declared.operation.Op.{Op}
-use Rattle.fixed_ops.specs.declared.operation.Op.TheVariants.{X, Y, Z, Const, Neg, Square, Sqrt, Abs, Add, Sub, Mul, Div, Min, Max}
+use Rattle.fixed_ops.specs.declared.operation.Op.TheVariants.{X, Y, Z, Const, Neg, Square, Sqrt, Abs, Floor, Add, Sub, Mul, Div, Min, Max}
 use Rattle.fixed_ops.specs.Arity.{arity_of}
 use Rattle.fixed_ops.specs.Points.{Point, IsRawPoint, step_value}
 use Rattle.fixed_ops.specs.Raw.{IsRaw}
@@ -19,6 +19,7 @@ step_value-same Neg p value a b x y first second = let one = first (omega arith)
 step_value-same Square p value a b x y first second = let one = first (omega arith) in (cc)
 step_value-same Sqrt p value a b x y first second = let one = first (omega arith) in (cc)
 step_value-same Abs p value a b x y first second = let one = first (omega arith) in (cc)
+step_value-same Floor p value a b x y first second = let one = first (omega arith) in (cc)
 step_value-same Add p value a b x y first second =
     let one = first (omega arith) in let two = second (omega arith) in (cc)
 step_value-same Sub p value a b x y first second =
@@ -40,13 +41,4 @@ IsRaw-step_value X p constant a b at raw left right = at.x
 IsRaw-step_value Y p constant a b at raw left right = at.y
 IsRaw-step_value Z p constant a b at raw left right = at.z
 IsRaw-step_value Const p constant a b at raw left right = raw
-IsRaw-step_value Neg p constant a b at raw left right = IsRaw-op_result Neg a b left right
-IsRaw-step_value Square p constant a b at raw left right = IsRaw-op_result Square a b left right
-IsRaw-step_value Sqrt p constant a b at raw left right = IsRaw-op_result Sqrt a b left right
-IsRaw-step_value Abs p constant a b at raw left right = IsRaw-op_result Abs a b left right
-IsRaw-step_value Add p constant a b at raw left right = IsRaw-op_result Add a b left right
-IsRaw-step_value Sub p constant a b at raw left right = IsRaw-op_result Sub a b left right
-IsRaw-step_value Mul p constant a b at raw left right = IsRaw-op_result Mul a b left right
-IsRaw-step_value Div p constant a b at raw left right = IsRaw-op_result Div a b left right
-IsRaw-step_value Min p constant a b at raw left right = IsRaw-op_result Min a b left right
-IsRaw-step_value Max p constant a b at raw left right = IsRaw-op_result Max a b left right
+IsRaw-step_value op p constant a b at raw left right = IsRaw-op_result op a b left right

@@ -6,7 +6,7 @@ use Rattle.std.proofs.lemmas.Bool.Decides.{nat_tests}
 use Rattle.std.proofs.lemmas.Int.{ints, clamps}
 use Rattle.std.proofs.Math.Nat.{mul-le-mul}
 use Rattle.fixed_ops.specs.declared.operation.Op.{Op}
-use Rattle.fixed_ops.specs.declared.operation.Op.TheVariants.{X, Y, Z, Const, Neg, Square, Sqrt, Abs, Add, Sub, Mul, Div, Min, Max}
+use Rattle.fixed_ops.specs.declared.operation.Op.TheVariants.{X, Y, Z, Const, Neg, Square, Sqrt, Abs, Floor, Add, Sub, Mul, Div, Min, Max}
 use Rattle.fixed_ops.specs.Operations.{op_result, root_of}
 use Rattle.fixed_ops.specs.Quotient.{quotient_of, over_zero}
 use Rattle.fixed_ops.specs.Raw.{IsRaw, floor_div}
@@ -94,6 +94,7 @@ IsRaw-op_result Neg a b h k = (omega (arith, ints), omega (arith, ints))
 IsRaw-op_result Square a b h k = IsRaw-clamp (floor_div (a *ℤ a) (2 ^ 32))
 IsRaw-op_result Sqrt a b h k = IsRaw-root_of a h
 IsRaw-op_result Abs a b h k = (omega (arith, ints, clamps), omega (arith, ints, clamps))
+IsRaw-op_result Floor a b h k = IsRaw-clamp (floor_div a (2 ^ 32) *ℤ pos (2 ^ 32))
 IsRaw-op_result Add a b h k = IsRaw-clamp (a +ℤ b)
 IsRaw-op_result Sub a b h k = IsRaw-clamp (a -ℤ b)
 IsRaw-op_result Mul a b h k = IsRaw-clamp (floor_div (a *ℤ b) (2 ^ 32))

@@ -7,7 +7,7 @@ ghost use Rattle.fixed_ops.specs.Root.{IsRawRoot};
 
 use crate::quotient::quotient;
 use crate::root::root;
-use crate::rounding::{clamped, product};
+use crate::rounding::{clamped, product, whole};
 use crate::{Fx, Op, Tally};
 
 /// The result of an operation on two numbers, counted as one evaluation at a point. A coordinate
@@ -50,6 +50,7 @@ fn raw_result(op: Op, a: i64, b: i64) -> i64
         Op::Square => product(a, a),
         Op::Sqrt => root(a),
         Op::Abs => a.abs(),
+        Op::Floor => whole(a),
         Op::Add => clamped(a + b),
         Op::Sub => clamped(a - b),
         Op::Mul => product(a, b),

@@ -1,5 +1,5 @@
 // What always holds of the definitions that the contracts cite.
-ghost use Rattle.fixed_ops.specs.Laws.{ClampHolds, FloorHolds, NumberTextsAreRead, OnlyFloorHolds, OnlyQuotientHolds, QuotientByZeroHolds, QuotientHolds, ResultsAreRaw, SpellingsAreRead};
+ghost use Rattle.fixed_ops.specs.Laws.{ClampHolds, FloorHolds, NumberTextsAreRead, OnlyFloorHolds, OnlyQuotientHolds, OnlyWholeHolds, QuotientByZeroHolds, QuotientHolds, ResultsAreRaw, SpellingsAreRead, WholeHolds};
 
 /// A whole number divided by one above 0 is rounded down: the quotient is the greatest whole number
 /// that is at most the exact one.
@@ -20,6 +20,14 @@ pub fn quotients()
     ensures hold { QuotientHolds }
     ensures only { OnlyQuotientHolds }
     ensures by_zero { QuotientByZeroHolds }
+{}
+
+/// The floor of a raw number is the greatest whole number, a multiple of 2^32, that is not above it,
+/// and nothing else is. For numbers below 2^32 - 2^62 that lies below the range, and the floor is the
+/// least raw number, which is no whole number.
+pub fn whole_numbers()
+    ensures hold { WholeHolds }
+    ensures only { OnlyWholeHolds }
 {}
 
 /// The result of an operation on raw numbers is a raw number.

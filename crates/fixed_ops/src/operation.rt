@@ -21,6 +21,9 @@ pub enum Op {
     Sqrt,
     /// The distance of the operand from 0.
     Abs,
+    /// The greatest whole number that is not above the operand, or the least number where that whole
+    /// number is out of range.
+    Floor,
     /// The sum of two operands.
     Add,
     /// The first operand less the second.
@@ -42,7 +45,7 @@ pub fn arity(op: Op) -> u32
 {
     match op {
         Op::X | Op::Y | Op::Z | Op::Const => 0,
-        Op::Neg | Op::Square | Op::Sqrt | Op::Abs => 1,
+        Op::Neg | Op::Square | Op::Sqrt | Op::Abs | Op::Floor => 1,
         Op::Add | Op::Sub | Op::Mul | Op::Div | Op::Min | Op::Max => 2,
     }
 }

@@ -1,7 +1,7 @@
-// Sums and products, rounded down and brought into the range of raw numbers.
+// Sums, products and whole numbers, rounded down and brought into the range of raw numbers.
 ghost use Rattle.std.specs.Prelude.{◌≡◌, ◌^◌, ◌*ℤ◌};
 ghost use Rattle.fixed_ops.specs.Floor.{IsFloor};
-ghost use Rattle.fixed_ops.specs.Operations.{product_of};
+ghost use Rattle.fixed_ops.specs.Operations.{product_of, whole_of};
 ghost use Rattle.fixed_ops.specs.Raw.{IsRaw, clamp, floor_div};
 
 use crate::Fx;
@@ -28,6 +28,18 @@ fn nearest_end(v: i64) -> i64
 {
     v.clamp(-Fx::MAX_RAW, Fx::MAX_RAW)
 }
+
+// The greatest whole number that is not above a raw number, clamped.
+#[inline]
+pub(crate) fn whole(a: i64) -> i64
+    ensures value { result ≡ whole_of a }
+    ensures raw { IsRaw result }
+{
+    clamped((a >> 32) * ONE)
+}
+
+// The raw number of 1.
+const ONE: i64 = 1 << 32;
 
 // The product of two raw numbers, rounded down and clamped.
 #[inline]

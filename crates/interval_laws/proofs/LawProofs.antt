@@ -6,7 +6,7 @@ use Rattle.fixed_ops.specs.Operations.{op_result}
 use Rattle.fixed_ops.specs.Raw.{IsRaw}
 use Rattle.fixed_ops.specs.ResultLaws.{IsRaw-op_result}
 use Rattle.fixed_ops.specs.declared.operation.Op.{Op}
-use Rattle.fixed_ops.specs.declared.operation.Op.TheVariants.{X, Y, Z, Const, Neg, Square, Sqrt, Abs, Add, Sub, Mul, Div, Min, Max}
+use Rattle.fixed_ops.specs.declared.operation.Op.TheVariants.{X, Y, Z, Const, Div, Min, Max}
 use Rattle.interval_ops.specs.Hulls.{IsHull, IsQuotientHull, IsResult}
 use Rattle.interval_ops.specs.Spans.{Interval, IsSpan, Holds, IsWithin, all_numbers}
 use Rattle.interval_ops.specs.declared.choice.Choice.TheVariants.{Left, Right, Both}
@@ -40,15 +40,7 @@ included Y a b u v i j h e k l = subst (λ (s : Interval). Holds s u) (sym e) k
 included Z a b u v i j h e k l = subst (λ (s : Interval). Holds s u) (sym e) k
 included Const a b u v i j h e k l = subst (λ (s : Interval). Holds s u) (sym e) k
 included Div a b u v i j h hull k l = quotient_included a b h u v i j hull k l
-included Neg a b u v i j h hull k l = hull.all u v k l
-included Square a b u v i j h hull k l = hull.all u v k l
-included Sqrt a b u v i j h hull k l = hull.all u v k l
-included Abs a b u v i j h hull k l = hull.all u v k l
-included Add a b u v i j h hull k l = hull.all u v k l
-included Sub a b u v i j h hull k l = hull.all u v k l
-included Mul a b u v i j h hull k l = hull.all u v k l
-included Min a b u v i j h hull k l = hull.all u v k l
-included Max a b u v i j h hull k l = hull.all u v k l
+included op a b u v i j h hull k l = hull.all u v k l
 
 -- the ends of a span that is handed on
 handed_on : (op : Op) (a b h : Interval) → ((u v : ℤ) → op_result op u v ≡ u) → IsSpan a → IsSpan b
@@ -77,15 +69,7 @@ ends_attained Z a b i j h e free = handed_on Z a b h (λ u v. refl) i j e
 ends_attained Const a b i j h e free = handed_on Const a b h (λ u v. refl) i j e
 ends_attained Div a b i j h hull free =
     let extremes = hull.free (λ z. free (refl, z)) in (extremes.least, extremes.greatest)
-ends_attained Neg a b i j h hull free = (hull.least, hull.greatest)
-ends_attained Square a b i j h hull free = (hull.least, hull.greatest)
-ends_attained Sqrt a b i j h hull free = (hull.least, hull.greatest)
-ends_attained Abs a b i j h hull free = (hull.least, hull.greatest)
-ends_attained Add a b i j h hull free = (hull.least, hull.greatest)
-ends_attained Sub a b i j h hull free = (hull.least, hull.greatest)
-ends_attained Mul a b i j h hull free = (hull.least, hull.greatest)
-ends_attained Min a b i j h hull free = (hull.least, hull.greatest)
-ends_attained Max a b i j h hull free = (hull.least, hull.greatest)
+ends_attained op a b i j h hull free = (hull.least, hull.greatest)
 
 -- what lies in a narrower span lies in the span
 Holds-wider : (part whole : Interval) (v : ℤ) → IsWithin part whole → Holds part v → Holds whole v
@@ -137,24 +121,8 @@ shrinks Z a b c d i j m n h k hull inner p q =
     ends_included Z a b c d h k i j hull p q (ends_attained Z c d m n k inner (λ z. cc))
 shrinks Const a b c d i j m n h k hull inner p q =
     ends_included Const a b c d h k i j hull p q (ends_attained Const c d m n k inner (λ z. cc))
-shrinks Neg a b c d i j m n h k hull inner p q =
-    ends_included Neg a b c d h k i j hull p q (inner.least, inner.greatest)
-shrinks Square a b c d i j m n h k hull inner p q =
-    ends_included Square a b c d h k i j hull p q (inner.least, inner.greatest)
-shrinks Sqrt a b c d i j m n h k hull inner p q =
-    ends_included Sqrt a b c d h k i j hull p q (inner.least, inner.greatest)
-shrinks Abs a b c d i j m n h k hull inner p q =
-    ends_included Abs a b c d h k i j hull p q (inner.least, inner.greatest)
-shrinks Add a b c d i j m n h k hull inner p q =
-    ends_included Add a b c d h k i j hull p q (inner.least, inner.greatest)
-shrinks Sub a b c d i j m n h k hull inner p q =
-    ends_included Sub a b c d h k i j hull p q (inner.least, inner.greatest)
-shrinks Mul a b c d i j m n h k hull inner p q =
-    ends_included Mul a b c d h k i j hull p q (inner.least, inner.greatest)
-shrinks Min a b c d i j m n h k hull inner p q =
-    ends_included Min a b c d h k i j hull p q (inner.least, inner.greatest)
-shrinks Max a b c d i j m n h k hull inner p q =
-    ends_included Max a b c d h k i j hull p q (inner.least, inner.greatest)
+shrinks op a b c d i j m n h k hull inner p q =
+    ends_included op a b c d h k i j hull p q (inner.least, inner.greatest)
 
 -- what a choice between two tests answers
 left_by : (s t : Bool) → cond s Left (cond t Right Both) ≡ Left → s ≡ true

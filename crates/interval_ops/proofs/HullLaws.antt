@@ -8,7 +8,7 @@ use Rattle.fixed_ops.specs.Operations.{op_result, product_of}
 use Rattle.fixed_ops.specs.Raw.{IsRaw, clamp, floor_div, is_inside}
 use Rattle.fixed_ops.specs.ResultLaws.{IsRaw-op_result}
 use Rattle.fixed_ops.specs.declared.operation.Op.{Op}
-use Rattle.fixed_ops.specs.declared.operation.Op.TheVariants.{X, Y, Z, Const, Neg, Square, Sqrt, Abs, Add, Sub, Mul, Div, Min, Max}
+use Rattle.fixed_ops.specs.declared.operation.Op.TheVariants.{X, Y, Z, Const, Neg, Square, Sqrt, Abs, Floor, Add, Sub, Mul, Div, Min, Max}
 use Rattle.interval_ops.specs.Hulls.{IsResult, IsLeastAndGreatest, IsQuotientHull, IsHull, between, hull_of, hull_of_four, hull_of_even, hull_above, hull_below}
 use Rattle.interval_ops.proofs.Monotone.{rises, opposite_falls, difference_rises, times_rises, times_falls, rounded_le, even_alone, even_rises, even_falls, even_zero, even_above}
 use Rattle.interval_ops.proofs.QuotientOrder.{Holds-hull_above, Holds-hull_below}
@@ -246,6 +246,7 @@ hull_of_is_hull Neg a b h k = opposite_is_hull a b h k
 hull_of_is_hull Square a b h k = even_is_hull Square a b tt h k
 hull_of_is_hull Sqrt a b h k = rising_is_hull Sqrt a b tt h k
 hull_of_is_hull Abs a b h k = even_is_hull Abs a b tt h k
+hull_of_is_hull Floor a b h k = rising_is_hull Floor a b tt h k
 hull_of_is_hull Add a b h k = rising_is_hull Add a b tt h k
 hull_of_is_hull Sub a b h k = difference_is_hull a b h k
 hull_of_is_hull Mul a b h k = product_is_hull a b h k
@@ -303,15 +304,7 @@ hull_once Y a b h k i j = i ∙ sym j
 hull_once Z a b h k i j = i ∙ sym j
 hull_once Const a b h k i j = i ∙ sym j
 hull_once Div a b h k i j = quotient_once a b h k i j
-hull_once Neg a b h k i j = extremes_once Neg a b h k i j
-hull_once Square a b h k i j = extremes_once Square a b h k i j
-hull_once Sqrt a b h k i j = extremes_once Sqrt a b h k i j
-hull_once Abs a b h k i j = extremes_once Abs a b h k i j
-hull_once Add a b h k i j = extremes_once Add a b h k i j
-hull_once Sub a b h k i j = extremes_once Sub a b h k i j
-hull_once Mul a b h k i j = extremes_once Mul a b h k i j
-hull_once Min a b h k i j = extremes_once Min a b h k i j
-hull_once Max a b h k i j = extremes_once Max a b h k i j
+hull_once op a b h k i j = extremes_once op a b h k i j
 
 -- results on values of spans are raw numbers
 IsRaw-result : (op : Op) (a b : Interval) (r : ℤ) → IsSpan a → IsSpan b → IsResult op a b r
@@ -355,12 +348,4 @@ IsSpan-hull Y a b h i j e = subst IsSpan (sym e) i
 IsSpan-hull Z a b h i j e = subst IsSpan (sym e) i
 IsSpan-hull Const a b h i j e = subst IsSpan (sym e) i
 IsSpan-hull Div a b h i j hull = quotient_span a b h i j hull
-IsSpan-hull Neg a b h i j hull = extremes_span Neg a b h i j hull
-IsSpan-hull Square a b h i j hull = extremes_span Square a b h i j hull
-IsSpan-hull Sqrt a b h i j hull = extremes_span Sqrt a b h i j hull
-IsSpan-hull Abs a b h i j hull = extremes_span Abs a b h i j hull
-IsSpan-hull Add a b h i j hull = extremes_span Add a b h i j hull
-IsSpan-hull Sub a b h i j hull = extremes_span Sub a b h i j hull
-IsSpan-hull Mul a b h i j hull = extremes_span Mul a b h i j hull
-IsSpan-hull Min a b h i j hull = extremes_span Min a b h i j hull
-IsSpan-hull Max a b h i j hull = extremes_span Max a b h i j hull
+IsSpan-hull op a b h i j hull = extremes_span op a b h i j hull

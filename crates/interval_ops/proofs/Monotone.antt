@@ -11,7 +11,7 @@ use Rattle.fixed_ops.specs.ResultLaws.{floor_root_is_root}
 use Rattle.fixed_ops.specs.Root.{floor_root}
 use Rattle.fixed_ops.specs.RoundingLaws.{product_le}
 use Rattle.fixed_ops.specs.declared.operation.Op.{Op}
-use Rattle.fixed_ops.specs.declared.operation.Op.TheVariants.{Square, Sqrt, Abs, Add, Sub, Min, Max}
+use Rattle.fixed_ops.specs.declared.operation.Op.TheVariants.{Square, Sqrt, Abs, Floor, Add, Sub, Min, Max}
 use Rattle.interval_ops.specs.Shapes.{IsRising, IsEven}
 
 pub clamp_le : (s t : ℤ) → s ≤ℤ t → clamp s ≤ℤ clamp t
@@ -65,6 +65,9 @@ root_of_le (negsuc m) (negsuc n) h = omega (arith, ints)
 pub rises : (op : Op) (u v x y : ℤ) → IsRising op → u ≤ℤ x → v ≤ℤ y
     → op_result op u v ≤ℤ op_result op x y
 rises Sqrt u v x y is h k = root_of_le u x h
+rises Floor u v x y is h k =
+    clamp_le (floor_div u (2 ^ 32) *ℤ pos (2 ^ 32)) (floor_div x (2 ^ 32) *ℤ pos (2 ^ 32))
+    (product_le (floor_div u (2 ^ 32)) (floor_div x (2 ^ 32)) (2 ^ 32) (floor_div_le u x (2 ^ 32 - 1) h))
 rises Add u v x y is h k = omega (arith, ints, clamps)
 rises Min u v x y is h k = omega (arith, ints, clamps)
 rises Max u v x y is h k = omega (arith, ints, clamps)

@@ -5,7 +5,7 @@ use lib.IntN.{neg_ℤ}
 use Rattle.fixed_ops.specs.Operations.{op_result}
 use Rattle.fixed_ops.specs.Raw.{is_inside}
 use Rattle.fixed_ops.specs.declared.operation.Op.{Op}
-use Rattle.fixed_ops.specs.declared.operation.Op.TheVariants.{X, Y, Z, Const, Neg, Square, Sqrt, Abs, Add, Sub, Mul, Div, Min, Max}
+use Rattle.fixed_ops.specs.declared.operation.Op.TheVariants.{X, Y, Z, Const, Neg, Square, Sqrt, Abs, Floor, Add, Sub, Mul, Div, Min, Max}
 use Rattle.interval_ops.specs.Spans.{Interval, Holds, all_numbers}
 
 -- a number is the result on some value of each span
@@ -74,6 +74,7 @@ hull_of Neg a b = between (neg_ℤ a.hi) (neg_ℤ a.lo)
 hull_of Square a b = hull_of_even a (op_result Square a.lo a.lo) (op_result Square a.hi a.hi)
 hull_of Sqrt a b = between (op_result Sqrt a.lo a.lo) (op_result Sqrt a.hi a.hi)
 hull_of Abs a b = hull_of_even a (op_result Abs a.lo a.lo) (op_result Abs a.hi a.hi)
+hull_of Floor a b = between (op_result Floor a.lo a.lo) (op_result Floor a.hi a.hi)
 hull_of Add a b = between (op_result Add a.lo b.lo) (op_result Add a.hi b.hi)
 hull_of Sub a b = between (op_result Sub a.lo b.hi) (op_result Sub a.hi b.lo)
 hull_of Mul a b = hull_of_four

@@ -1,10 +1,11 @@
 -- How the result of an operation runs with its operands.
 use Rattle.fixed_ops.specs.declared.operation.Op.{Op}
-use Rattle.fixed_ops.specs.declared.operation.Op.TheVariants.{Square, Sqrt, Abs, Add, Min, Max}
+use Rattle.fixed_ops.specs.declared.operation.Op.TheVariants.{Square, Sqrt, Abs, Floor, Add, Min, Max}
 
 -- an operation whose result rises with each operand
 abbrev pub IsRising : Op → Type 0
 IsRising Sqrt = Unit {0}
+IsRising Floor = Unit {0}
 IsRising Add = Unit {0}
 IsRising Min = Unit {0}
 IsRising Max = Unit {0}

@@ -40,6 +40,7 @@ fn hull(op: Op, a: Span, b: Span, tally: &mut Tally) -> Span
         Op::Square => even(Op::Square, a, tally),
         Op::Sqrt => rising(Op::Sqrt, a, b, tally),
         Op::Abs => even(Op::Abs, a, tally),
+        Op::Floor => rising(Op::Floor, a, b, tally),
         Op::Add => rising(Op::Add, a, b, tally),
         Op::Sub => difference(a, b, tally),
         Op::Mul => product(a, b, tally),

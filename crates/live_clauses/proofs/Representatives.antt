@@ -2,7 +2,7 @@
 use Rattle.std.proofs.Common.{◌≡◌, ◌≢◌, ℕ, zero, suc, ◌<◌, ◌≤◌, List, length, Some, slice_get, inl, inr, ◌⊎◌, refl, ap, sym, subst, ◌∙◌, arith}
 use Rattle.std.proofs.lemmas.Option.{slice_get-get_or}
 use Rattle.fixed_ops.specs.declared.operation.Op.{Op}
-use Rattle.fixed_ops.specs.declared.operation.Op.TheVariants.{X, Y, Z, Const, Neg, Square, Sqrt, Abs, Add, Sub, Mul, Div, Min, Max}
+use Rattle.fixed_ops.specs.declared.operation.Op.TheVariants.{Min, Max}
 use Rattle.fixed_ops.specs.Arity.{arity_of}
 use Rattle.interval_ops.specs.declared.choice.Choice.{Choice}
 use Rattle.interval_ops.specs.declared.choice.Choice.TheVariants.{Left, Right, Both}
@@ -20,20 +20,9 @@ step_at-stands steps place stand within = stand place (step_at steps place) (sli
 
 -- only a minimum and a maximum choose, and both have two operands
 two_operands : (op : Op) (choice : Choice) → (op ≢ Min → op ≢ Max → choice ≡ Both) → choice ≢ Both → 1 < arity_of op
-two_operands X choice only chooses = absurd (chooses (only (λ e. grind arith) (λ e. grind arith)))
-two_operands Y choice only chooses = absurd (chooses (only (λ e. grind arith) (λ e. grind arith)))
-two_operands Z choice only chooses = absurd (chooses (only (λ e. grind arith) (λ e. grind arith)))
-two_operands Const choice only chooses = absurd (chooses (only (λ e. grind arith) (λ e. grind arith)))
-two_operands Neg choice only chooses = absurd (chooses (only (λ e. grind arith) (λ e. grind arith)))
-two_operands Square choice only chooses = absurd (chooses (only (λ e. grind arith) (λ e. grind arith)))
-two_operands Sqrt choice only chooses = absurd (chooses (only (λ e. grind arith) (λ e. grind arith)))
-two_operands Abs choice only chooses = absurd (chooses (only (λ e. grind arith) (λ e. grind arith)))
-two_operands Add choice only chooses = omega arith
-two_operands Sub choice only chooses = omega arith
-two_operands Mul choice only chooses = omega arith
-two_operands Div choice only chooses = omega arith
 two_operands Min choice only chooses = omega arith
 two_operands Max choice only chooses = omega arith
+two_operands op choice only chooses = absurd (chooses (only (λ e. grind arith) (λ e. grind arith)))
 
 -- what a choice is
 pub choice_cases : (choice : Choice) → (choice ≡ Left) ⊎ ((choice ≡ Right) ⊎ (choice ≡ Both))

@@ -75,7 +75,7 @@ fn hand_on(step: PackedStep, marks: &mut [u16])
 {
     match step.op {
         Op::X | Op::Y | Op::Z | Op::Const => {}
-        Op::Neg | Op::Square | Op::Sqrt | Op::Abs => marks[step.a as usize] = MARK,
+        Op::Neg | Op::Square | Op::Sqrt | Op::Abs | Op::Floor => marks[step.a as usize] = MARK,
         Op::Add | Op::Sub | Op::Mul | Op::Div | Op::Min | Op::Max => {
             marks[step.a as usize] = MARK;
             marks[step.b as usize] = MARK;

@@ -55,7 +55,7 @@ impl PackedStep {
     {
         let (a, b) = match self.op {
             Op::X | Op::Y | Op::Z | Op::Const => (0, 0),
-            Op::Neg | Op::Square | Op::Sqrt | Op::Abs => (numbers[self.a as usize], 0),
+            Op::Neg | Op::Square | Op::Sqrt | Op::Abs | Op::Floor => (numbers[self.a as usize], 0),
             Op::Add | Op::Sub | Op::Mul | Op::Div | Op::Min | Op::Max => {
                 (numbers[self.a as usize], numbers[self.b as usize])
             }

@@ -11,7 +11,7 @@ use Rattle.std.proofs.lemmas.List.Sums.{position_or_len_is}
 use Rattle.std.proofs.lemmas.Option.{slice_get-get_or, slice_get_within, slice_get_cases, slice_get-map, get_or_from_slice_get}
 use Rattle.std.proofs.lemmas.Simd.{map-map}
 use Rattle.fixed_ops.specs.declared.operation.Op.{Op}
-use Rattle.fixed_ops.specs.declared.operation.Op.TheVariants.{X, Y, Z, Const, Neg, Square, Sqrt, Abs, Add, Sub, Mul, Div, Min, Max}
+use Rattle.fixed_ops.specs.declared.operation.Op.TheVariants.{X}
 use Rattle.fixed_ops.specs.Arity.{arity_of}
 use Rattle.solid_model.specs.declared.clause.Clause.{Clause}
 use Rattle.solid_model.specs.declared.edit.Edit.TheVariants as edit
@@ -207,19 +207,7 @@ edited-args clauses name op (x ∷ y ∷ z ∷ more) value are few = absurd (ome
 
 pub arity-two : (op : Op) → arity_of op ≤ 2
 arity-two X = omega arith
-arity-two Y = omega arith
-arity-two Z = omega arith
-arity-two Const = omega arith
-arity-two Neg = omega arith
-arity-two Square = omega arith
-arity-two Sqrt = omega arith
-arity-two Abs = omega arith
-arity-two Add = omega arith
-arity-two Sub = omega arith
-arity-two Mul = omega arith
-arity-two Div = omega arith
-arity-two Min = omega arith
-arity-two Max = omega arith
+arity-two op = omega arith
 
 -- an addition by names is the addition by places
 pub edited-added : (clauses : List Clause) (name : List ℕ) (form : Parts) → AreClauses clauses → IsForm form
