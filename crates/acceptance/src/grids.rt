@@ -68,10 +68,11 @@ fn found(alloc: Global, text: &[u8], n: u32) -> Result<(CellList, Tally), Fail> 
 #[test]
 fn mixed_cells_take_no_more_than_the_bounds(rt: HostRuntime) -> Result<(), Fail> {
     // The numbers of cells, of evaluations at most and of traced steps at most.
-    let cases: [(&[u8], u32, usize, u64, u64); 10] = [
+    let cases: [(&[u8], u32, usize, u64, u64); 11] = [
         (BALL, 2, 8, 270, 90),
         (BALL, 4, 8, 270, 730),
         (BALL, 8, 56, 1240, 1370),
+        (BALL, 9, 98, 2080, 2810),
         (b"a const 1", 4, 0, 0, 1),
         (b"a const -1", 1, 0, 8, 1),
         (b"a const -1", 2, 8, 27, 9),

@@ -162,8 +162,10 @@ fn where_nothing_is_inside_the_mesh_is_empty(rt: HostRuntime) -> Result<(), Fail
 }
 
 // Words, a model, and how many bytes the mesh has, with their FNV-1a sum of 32 bits.
-const LARGE: [(&[&str], &str, usize, u32); 2] = [
+const LARGE: [(&[&str], &str, usize, u32); 3] = [
     (&["mesh", "n=7"], BALL, 13562, 3305145587),
+    // Its points stand in eight bricks.
+    (&["mesh", "n=9"], BALL, 20141, 2624381738),
     (
         &["mesh", "n=6", "z0=-0.75"],
         "x var-x\ny var-y\na mul x y\nb neg a",
@@ -195,8 +197,9 @@ fn cells_stand_in_their_order(rt: HostRuntime) -> Result<(), Fail> {
 }
 
 // Words, a model, and the most evaluations, hulls and corners that its mesh takes.
-const WORK: [(&[&str], &str, u64, u64, u64); 3] = [
+const WORK: [(&[&str], &str, u64, u64, u64); 4] = [
     (&["mesh", "n=2"], BALL, 270, 90, 360),
+    (&["mesh", "n=9"], BALL, 2080, 2810, 11240),
     (&["mesh", "n=4"], "a const 1", 0, 1, 4),
     (&["mesh", "n=4"], "a const -1", 124, 73, 292),
 ];

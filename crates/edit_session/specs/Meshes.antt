@@ -4,6 +4,7 @@ use Rattle.fixed_ops.specs.Points.{Point}
 use Rattle.kuhn_cells.specs.Grids.{Grid, over_block}
 use Rattle.kuhn_cells.specs.Triangles.{GridPoint}
 use Rattle.oct_descent.specs.GridValues.{bordered}
+use Rattle.oct_descent.specs.Sizes.{size_of}
 use Rattle.ply_writer.specs.Ply.{ply_of}
 use Rattle.solid_model.specs.Values.{solid_value}
 use Rattle.solid_model.specs.declared.clause.Clause.{Clause}
@@ -16,7 +17,7 @@ use Rattle.view_settings.specs.declared.lattice.Lattice.TheVariants as lattices
 -- place, or, on the outermost layer, the greater of that and 0. So no point of the outermost layer
 -- is inside.
 abbrev pub grid_value : Window → (Point → ℤ) → GridPoint → ℤ
-grid_value view value p = bordered view.n p (value (point_of view lattices.Grid p.x p.y p.z))
+grid_value view value p = bordered (size_of view) p (value (point_of view lattices.Grid p.x p.y p.z))
 
 -- the grid of a view with the values of its points, by z, then by y, then by x
 unfoldable pub grid_of : Window → (Point → ℤ) → Grid

@@ -14,6 +14,8 @@ use Rattle.view_settings.specs.Window.{Window}
 use Rattle.oct_descent.specs.Bound.{greatest}
 use Rattle.oct_descent.specs.GridValues.{grid_of, grid_value, value_on}
 use Rattle.oct_descent.specs.Laws.{GridsAreBordered}
+use Rattle.oct_descent.specs.Sizes.{size_of}
+use Rattle.oct_descent.specs.declared.grid_size.GridSize.{GridSize}
 use Rattle.oct_descent.proofs.Covered.{bordered-outside}
 
 greatest-append : (xs ys : List ℕ) → greatest (xs ++ ys) ≡ max (greatest xs) (greatest ys)
@@ -113,11 +115,11 @@ block-at {A = A} nx ny nz f p d x y z =
         let step : (a + 1) * m ≤ b * m = mul-le-mul_right m (omega (arith, less)) in
         omega (arith, step, within)
 
-point-parts : (n : ℕ) (p : GridPoint) → (nat_le p.x n && (nat_le p.y n && nat_le p.z n)) ≡ true → (p.x ≤ n) × ((p.y ≤ n) × (p.z ≤ n))
+point-parts : (n : GridSize) (p : GridPoint) → (nat_le p.x n.x && (nat_le p.y n.y && nat_le p.z n.z)) ≡ true → (p.x ≤ n.x) × ((p.y ≤ n.y) × (p.z ≤ n.z))
 point-parts n p e =
-    let x = and_parts (nat_le p.x n) (nat_le p.y n && nat_le p.z n) e in
-    let yz = and_parts (nat_le p.y n) (nat_le p.z n) x.1 in
-    (leb-true p.x n x.0, (leb-true p.y n yz.0, leb-true p.z n yz.1))
+    let x = and_parts (nat_le p.x n.x) (nat_le p.y n.y && nat_le p.z n.z) e in
+    let yz = and_parts (nat_le p.y n.y) (nat_le p.z n.z) x.1 in
+    (leb-true p.x n.x x.0, (leb-true p.y n.y yz.0, leb-true p.z n.z yz.1))
 
 -- the value at a point of the grid of a list is the grid value
 pub value-at_grid : (view : Window) (list : List Step) (p : GridPoint) → p.x ≤ view.n → p.y ≤ view.n → p.z ≤ view.n → value_at (grid_of view list) p ≡ grid_value view list p
@@ -135,6 +137,6 @@ unfolding grid_of
 grids_are_bordered_is view list = record {
   whole = grid-length view list;
   outside = λ p here outer.
-      let parts = point-parts view.n p here in
-      ap is_inside (value-at_grid view list p parts.0 parts.1.0 parts.1.1) ∙ bordered-outside view.n p (value_on view list p) outer;
+      let parts = point-parts (size_of view) p here in
+      ap is_inside (value-at_grid view list p parts.0 parts.1.0 parts.1.1) ∙ bordered-outside (size_of view) p (value_on view list p) outer;
 }

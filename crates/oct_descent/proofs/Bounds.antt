@@ -3,7 +3,7 @@ use Rattle.std.proofs.Common.{◌≡◌, ℕ, ◌+◌, ◌-◌, ◌*◌, ◌<◌
 use Rattle.std.specs.Prelude.{◌&&◌, ◌⊎◌, max, min, nat_le, Contains, All}
 use Rattle.std.proofs.lemmas.Bool.{and_from, and_parts, false≢true, le-leb, leb-true}
 use Rattle.std.proofs.lemmas.List.Elements.{All-head, All-nil}
-use Rattle.box_chains.specs.Chains.{Descent, Visit}
+use Rattle.box_chains.specs.Chains.{Visit}
 use Rattle.box_chains.specs.SumLaws.{size, sum_in-const, sum_in-plus, sum_in-same}
 use Rattle.box_chains.specs.Sums.{LiesIn, Sample, sum_in}
 use Rattle.box_chains.specs.ValueLaws.{IsVisit, Lawful}
@@ -14,14 +14,23 @@ use Rattle.live_clauses.specs.Steps.{IsTape}
 use Rattle.live_clauses.specs.declared.step.Step.{Step}
 use Rattle.view_settings.specs.Boxes.{Indices}
 use Rattle.view_settings.specs.Window.{Window, IsWindow}
-use Rattle.oct_descent.specs.Bound.{greatest, has_corner, least, lengths_at, mesh_points, mesh_spans, points_of_grid, sample_of, working_length, working_lengths}
+use Rattle.oct_descent.specs.Bound.{greatest, has_point, least, length_in, lengths_at, mesh_points, mesh_spans, points_of_grid, sample_of, working_lengths}
 use Rattle.oct_descent.specs.Laws.{MeshPointsAreBounded, MeshSpansAreBounded}
+use Rattle.oct_descent.specs.Sizes.{size_of}
 use Rattle.oct_descent.specs.Tables.{AreWorked, IsDue, IsEnough, PointValues, is_known, known_at}
-use Rattle.oct_descent.specs.Ways.{Covers, cell_box, gridded, is_working, way_end, whole}
+use Rattle.oct_descent.specs.Ways.{CellDescent, Covers, cell_box, gridded, is_working, way_end, whole}
 use Rattle.oct_descent.proofs.Blocks.{greatest-block, greatest-block_most}
 use Rattle.oct_descent.proofs.WayLaws.{end-below, spans-below}
 
-pub whole-visit : (view : Window) (list : List Step) → IsWindow view → IsTape list → IsVisit (gridded view) (whole view list)
+-- a cell has a point as a corner
+abbrev has_corner : GridPoint → GridPoint → Bool
+has_corner cell p = has_point (cell_box (sample_of cell)) p
+
+-- the length of the list that a working cell of the grid of a mesh receives
+abbrev working_length : Window → List Step → GridPoint → ℕ
+working_length view list = length_in (gridded view) (whole view list)
+
+pub whole-visit : (view : Window) (list : List Step) → IsWindow view → IsTape list → IsVisit (gridded view).boxes (whole view list)
 whole-visit view list window tape = record {
   window = window;
   box = record { x = window.n.some; y = window.n.some; z = window.n.some };
@@ -55,7 +64,7 @@ pub points_bounded : Lawful → MeshPointsAreBounded
 unfolding mesh_points
 points_bounded laws view list window tape =
     subst (λ (n : ℕ). mesh_points view list ≤ n * (n * n) * length list) side
-    (sum_in-most (points_of_grid view.n) (λ s. greatest (lengths_at view list (point s.i s.j s.k))) (length list)
+    (sum_in-most (points_of_grid (size_of view)) (λ s. greatest (lengths_at view list (point s.i s.j s.k))) (length list)
     (λ s. greatest-block_most view.n view.n view.n (λ cell. cond (has_corner cell (point s.i s.j s.k)) (working_length view list cell ∷ []) []) (length list)
     (λ cell x y z. at-most laws view list (point s.i s.j s.k) cell window tape x y z)))
   where
@@ -113,7 +122,7 @@ points_due view list s lies works p covers =
     least-of (working_lengths view list p) (length (way_end d w s).list)
     (in_block view.n view.n view.n at (point s.i s.j s.k) (length (way_end d w s).list) lies.x.1 lies.y.1 lies.z.1 (subst (λ (ns : List ℕ). Contains ns (length (way_end d w s).list)) (sym here) (in_head [] (length (way_end d w s).list))))
   where
-    d : Descent
+    d : CellDescent
     d = gridded view
 
     w : Visit
@@ -130,7 +139,7 @@ pub none_due : (view : Window) (list : List Step) (t : PointValues) (p : GridPoi
 none_due view list t p worked unknown =
     least-none (working_lengths view list p) (all_in_block (λ n. ⊥) view.n view.n view.n at (λ cell x y z. by cell x y z (has_corner cell p && is_working d w (sample_of cell)) refl))
   where
-    d : Descent
+    d : CellDescent
     d = gridded view
 
     w : Visit

@@ -3,10 +3,12 @@ use Rattle.std.proofs.Common.{◌≡◌, ◌≢◌, ℕ, zero, suc, ◌+◌, ◌
 use Rattle.std.specs.Prelude.{Option, is_some, unwrap_or, Some, None, IfSome, pos, nat_le, ◌&&◌}
 use Rattle.std.proofs.lemmas.Bool.{and_parts, cases_lt, false≢true, le-leb, leb-true}
 use Rattle.std.proofs.lemmas.List.{get_or-append_right, get_or-set_other, get_or-set_same, get_or-take, get_or_append_left, get_or_past, length-set, length-take, take_all}
-use Rattle.std.proofs.lemmas.Nat.{same_from_place}
+use Rattle.std.proofs.lemmas.Nat.{mul-add-lt, same_from_place}
 use Rattle.kuhn_cells.specs.Triangles.{GridPoint, further, point}
+use Rattle.oct_descent.proofs.Sizes.{size-none, size-then}
 use Rattle.oct_descent.specs.Corners.{AreTogether, IsRow, places_to}
 use Rattle.oct_descent.specs.Tables.{AreKept, IsSame, KeepsPlaces, Marks, PointValues, Sets, brick_of, is_known, is_within, known_at, read, read_at, same_point, slot, stand, stand_in}
+use Rattle.oct_descent.specs.declared.grid_size.GridSize.{GridSize}
 use Rattle.oct_descent.proofs.TableLaws.{same-is, same-self}
 
 -- ---- marks
@@ -90,25 +92,36 @@ read_at-same b after (Some at) same = same at
 
 -- ---- all bricks
 
-pub within-from : (n : ℕ) (p : GridPoint) → p.x ≤ n → p.y ≤ n → p.z ≤ n → is_within n p ≡ true
-within-from n p x y z = rw (le-leb p.x n x, le-leb p.y n y, le-leb p.z n z) refl
+pub within-from : (n : GridSize) (p : GridPoint) → p.x ≤ n.x → p.y ≤ n.y → p.z ≤ n.z → is_within n p ≡ true
+within-from n p x y z = rw (le-leb p.x n.x x, le-leb p.y n.y y, le-leb p.z n.z z) refl
 
-within-parts : (n : ℕ) (p : GridPoint) → is_within n p ≡ true → (p.x ≤ n) × ((p.y ≤ n) × (p.z ≤ n))
+within-parts : (n : GridSize) (p : GridPoint) → is_within n p ≡ true → (p.x ≤ n.x) × ((p.y ≤ n.y) × (p.z ≤ n.z))
 within-parts n p e =
-    let x = and_parts (nat_le p.x n) (nat_le p.y n && nat_le p.z n) e in
-    let yz = and_parts (nat_le p.y n) (nat_le p.z n) x.1 in
-    (leb-true p.x n x.0, (leb-true p.y n yz.0, leb-true p.z n yz.1))
+    let x = and_parts (nat_le p.x n.x) (nat_le p.y n.y && nat_le p.z n.z) e in
+    let yz = and_parts (nat_le p.y n.y) (nat_le p.z n.z) x.1 in
+    (leb-true p.x n.x x.0, (leb-true p.y n.y yz.0, leb-true p.z n.z yz.1))
 
 whole-from : (a b : ℕ) → a / 8 ≡ b / 8 → a % 8 ≡ b % 8 → a ≡ b
 whole-from a b e f = omega (arith, e, f)
 
+-- there are so many bricks along each axis
+pub brick-within : (n : GridSize) (x y z rows in_row : ℕ) → rows ≡ n.y / 8 + 1 → in_row ≡ n.x / 8 + 1 → x ≤ n.x → y ≤ n.y → z ≤ n.z
+    → (z / 8 * rows + y / 8) * in_row + x / 8 < (n.z / 8 + 1) * ((n.y / 8 + 1) * (n.x / 8 + 1))
+brick-within n x y z rows in_row height width fx fy fz =
+    let layers = n.z / 8 + 1 in
+    let row : z / 8 * rows + y / 8 < rows * layers = mul-add-lt (z / 8) rows (y / 8) layers (omega (arith, fz)) (omega (arith, height, fy)) in
+    let all : (z / 8 * rows + y / 8) * in_row + x / 8 < in_row * (rows * layers) = mul-add-lt (z / 8 * rows + y / 8) in_row (x / 8) (rows * layers) row (omega (arith, width, fx)) in
+    let turned : in_row * (rows * layers) ≡ layers * (rows * in_row) = grind arith in
+    let most : layers * (rows * in_row) ≡ layers * ((n.y / 8 + 1) * (n.x / 8 + 1)) = ap (λ r. layers * (r * in_row)) height ∙ ap (λ r. layers * ((n.y / 8 + 1) * r)) width in
+    omega (arith, all, turned, most)
+
 -- points that stand at one place of one brick are one
-place-one : (n : ℕ) (p q : GridPoint) → is_within n p ≡ true → is_within n q ≡ true → brick_of n p ≡ brick_of n q → slot p ≡ slot q → p ≡ q
+place-one : (n : GridSize) (p q : GridPoint) → is_within n p ≡ true → is_within n q ≡ true → brick_of n p ≡ brick_of n q → slot p ≡ slot q → p ≡ q
 place-one n p q here there bricks slots =
     let a = within-parts n p here in
     let b = within-parts n q there in
-    let row = same_from_place (p.z / 8 * (n / 8 + 1) + p.y / 8) (p.x / 8) (q.z / 8 * (n / 8 + 1) + q.y / 8) (q.x / 8) (n / 8 + 1) (omega (arith, a.0)) (omega (arith, b.0)) bricks in
-    let layer = same_from_place (p.z / 8) (p.y / 8) (q.z / 8) (q.y / 8) (n / 8 + 1) (omega (arith, a.1.0)) (omega (arith, b.1.0)) row.0 in
+    let row = same_from_place (p.z / 8 * (n.y / 8 + 1) + p.y / 8) (p.x / 8) (q.z / 8 * (n.y / 8 + 1) + q.y / 8) (q.x / 8) (n.x / 8 + 1) (omega (arith, a.0)) (omega (arith, b.0)) bricks in
+    let layer = same_from_place (p.z / 8) (p.y / 8) (q.z / 8) (q.y / 8) (n.y / 8 + 1) (omega (arith, a.1.0)) (omega (arith, b.1.0)) row.0 in
     let inner = same_from_place (p.z % 8 * 8 + p.y % 8) (p.x % 8) (q.z % 8 * 8 + q.y % 8) (q.x % 8) 8 (omega arith) (omega arith) slots in
     let innermost = same_from_place (p.z % 8) (p.y % 8) (q.z % 8) (q.y % 8) 8 (omega arith) (omega arith) inner.0 in
     ap (λ (i : ℕ). point i p.y p.z) (whole-from p.x q.x row.1 inner.1)
@@ -146,7 +159,7 @@ roomless t p e = by (get_or t.places (brick_of t.n p) 0) e
     by (suc k) h = absurd (false≢true (sym (ap is_some h)))
 
 -- what is read of a point
-pub reads : (t : PointValues) (p : GridPoint) (at : ℕ) → p.x ≤ t.n → p.y ≤ t.n → p.z ≤ t.n → stand t p ≡ Some at → read t.kept at ≡ known_at t p
+pub reads : (t : PointValues) (p : GridPoint) (at : ℕ) → p.x ≤ t.n.x → p.y ≤ t.n.y → p.z ≤ t.n.z → stand t p ≡ Some at → read t.kept at ≡ known_at t p
 unfolding known_at
 reads t p at x y z is = sym (ap (λ w. cond w (read_at t.kept (stand t p)) None) (within-from t.n p x y z) ∙ ap (read_at t.kept) is)
 
@@ -174,18 +187,18 @@ same-or a b = by (cases_lt a b) (cases_lt b a)
 pub kept-same : (t : PointValues) (after : Marks) → ((k : ℕ) → read after k ≡ read t.kept k) → IsSame t (record { n = t.n; places = t.places; kept = after })
 unfolding known_at stand
 kept-same t after same = record {
-  n = refl;
+  n = size-none t.n;
   each = λ q. ap (λ o. cond (is_within t.n q) o None) (read_at-same t.kept after (stand_in (get_or t.places (brick_of t.n q) 0) (slot q)) same);
 }
 
 pub same-then : (before mid after : PointValues) → IsSame before mid → IsSame mid after → IsSame before after
-same-then before mid after first second = record { n = second.n ∙ first.n; each = λ q. second.each q ∙ first.each q }
+same-then before mid after first second = record { n = size-then after.n mid.n before.n second.n first.n; each = λ q. second.each q ∙ first.each q }
 
 -- a brick that is kept from now on, behind all that is known, changes nothing
 pub brick-added : (t : PointValues) (at place : ℕ) → at < length t.places → get_or t.places at 0 ≡ 0 → ((k : ℕ) → place * 512 ≤ k → read t.kept k ≡ None)
     → IsSame t (record { n = t.n; places = set t.places at (place + 1); kept = t.kept })
 unfolding known_at stand
-brick-added t at place within none behind = record { n = refl; each = λ q. ap (λ o. cond (is_within t.n q) o None) (by q (same-or (brick_of t.n q) at)) }
+brick-added t at place within none behind = record { n = size-none t.n; each = λ q. ap (λ o. cond (is_within t.n q) o None) (by q (same-or (brick_of t.n q) at)) }
   where
     by : (q : GridPoint) → (brick_of t.n q ≡ at) ⊎ (brick_of t.n q ≢ at)
         → read_at t.kept (stand_in (get_or (set t.places at (place + 1)) (brick_of t.n q) 0) (slot q)) ≡ read_at t.kept (stand_in (get_or t.places (brick_of t.n q) 0) (slot q))
@@ -289,7 +302,7 @@ stand-one t p q at kept here there first second =
 pub brick-sets : (t : PointValues) (p : GridPoint) (v : ℤ) (at : ℕ) → AreKept t.places (length t.kept.known) (length t.kept.values) → is_within t.n p ≡ true → stand t p ≡ Some at → at < length t.kept.known
     → Sets p v t (record { n = t.n; places = t.places; kept = record { known = set t.kept.known at true; values = set t.kept.values at v } })
 unfolding known_at stand
-brick-sets t p v at kept inside is fits = record { n = refl; each = λ q. by q (same_point p q) refl (is_within t.n q) refl }
+brick-sets t p v at kept inside is fits = record { n = size-none t.n; each = λ q. by q (same_point p q) refl (is_within t.n q) refl }
   where
     now : Marks
     now = record { known = set t.kept.known at true; values = set t.kept.values at v }
@@ -333,13 +346,13 @@ next-part i b inner bit = by b bit
     by (suc (suc b)) h = absurd (omega (arith, h))
 
 -- eight points along x stand in one brick, from one on that begins it
-pub row-is : (t : PointValues) (p : GridPoint) (start : ℕ) → AreKept t.places (length t.kept.known) (length t.kept.values) → p.y ≤ t.n → p.z ≤ t.n → p.x % 8 ≡ 0 → stand t p ≡ Some start → IsRow t p start
+pub row-is : (t : PointValues) (p : GridPoint) (start : ℕ) → AreKept t.places (length t.kept.known) (length t.kept.values) → p.y ≤ t.n.y → p.z ≤ t.n.z → p.x % 8 ≡ 0 → stand t p ≡ Some start → IsRow t p start
 row-is t p start kept y z first is = record { within = omega (arith, at.0, at.1, first, kept.within (brick_of t.n p)); each = each }
   where
     at : (0 < get_or t.places (brick_of t.n p) 0) × (start ≡ (get_or t.places (brick_of t.n p) 0 - 1) * 512 + slot p)
     at = stand-place t p start is
 
-    each : (i : ℕ) → i < 8 → p.x + i ≤ t.n → read t.kept (start + i) ≡ known_at t (point (p.x + i) p.y p.z)
+    each : (i : ℕ) → i < 8 → p.x + i ≤ t.n.x → read t.kept (start + i) ≡ known_at t (point (p.x + i) p.y p.z)
     each i few x =
         let q = point (p.x + i) p.y p.z in
         let column : (p.x + i) / 8 ≡ p.x / 8 = omega (arith, first, few) in
@@ -349,7 +362,7 @@ row-is t p start kept y z first is = record { within = omega (arith, at.0, at.1,
         reads t q (start + i) x y z (stand-some t q place (ap (λ k. get_or t.places k 0) (sym brick)) at.0 ∙ ap Some (sym here))
 
 -- the corners of a cell that do not end their brick stand in one
-pub together-is : (t : PointValues) (p : GridPoint) (first : ℕ) → AreKept t.places (length t.kept.known) (length t.kept.values) → p.x < t.n → p.y < t.n → p.z < t.n
+pub together-is : (t : PointValues) (p : GridPoint) (first : ℕ) → AreKept t.places (length t.kept.known) (length t.kept.values) → p.x < t.n.x → p.y < t.n.y → p.z < t.n.z
     → stand t p ≡ Some first → p.x % 8 ≢ 7 → p.y % 8 ≢ 7 → p.z % 8 ≢ 7 → AreTogether t p first
 together-is t p first kept x y z is ix iy iz = record {
   within =
@@ -390,7 +403,7 @@ together-stays t after p (Some first) keeps h = record {
 -- what stands somewhere stays there where a brick is added
 pub added-keeps : (t : PointValues) (kept : Marks) (at place : ℕ) → get_or t.places at 0 ≡ 0 → length t.kept.known ≤ length kept.known
     → KeepsPlaces t (record { n = t.n; places = set t.places at place; kept = kept })
-added-keeps t kept at place none more = record { n = refl; more = more; each = λ q i is. by q i is (same-or (brick_of t.n q) at) }
+added-keeps t kept at place none more = record { n = size-none t.n; more = more; each = λ q i is. by q i is (same-or (brick_of t.n q) at) }
   where
     after : PointValues
     after = record { n = t.n; places = set t.places at place; kept = kept }
@@ -405,14 +418,14 @@ added-keeps t kept at place none more = record { n = refl; more = more; each = �
 -- and where other values are kept
 pub kept-keeps : (t : PointValues) (kept : Marks) → length t.kept.known ≤ length kept.known → KeepsPlaces t (record { n = t.n; places = t.places; kept = kept })
 unfolding stand
-kept-keeps t kept more = record { n = refl; more = more; each = λ q i is. is }
+kept-keeps t kept more = record { n = size-none t.n; more = more; each = λ q i is. is }
 
 pub keeps-then : (before mid after : PointValues) → KeepsPlaces before mid → KeepsPlaces mid after → KeepsPlaces before after
 keeps-then before mid after first second = record {
-  n = second.n ∙ first.n;
+  n = size-then after.n mid.n before.n second.n first.n;
   more = omega (arith, first.more, second.more);
   each = λ q at is. second.each q at (first.each q at is);
 }
 
 pub keeps-none : (t : PointValues) → KeepsPlaces t t
-keeps-none t = record { n = refl; more = omega arith; each = λ q at is. is }
+keeps-none t = record { n = size-none t.n; more = omega arith; each = λ q at is. is }

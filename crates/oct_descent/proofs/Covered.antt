@@ -20,8 +20,10 @@ use Rattle.box_chains.specs.Chains.{Visit, decision, handed_on}
 use Rattle.box_chains.specs.Sums.{LiesIn, Sample}
 use Rattle.box_chains.specs.ValueLaws.{IsVisit, Lawful, region-is}
 use Rattle.oct_descent.specs.GridValues.{bordered, grid_value, is_border, value_on}
+use Rattle.oct_descent.specs.Sizes.{size_of}
 use Rattle.oct_descent.specs.Tables.{IsUniform}
 use Rattle.oct_descent.specs.Ways.{Covers, cell_box, gridded, meets_border}
+use Rattle.oct_descent.specs.declared.grid_size.GridSize.{GridSize}
 
 -- the corners of a cell of a box are covered
 pub corner-covered : (b : Indices) (s : Sample) (p : GridPoint) → LiesIn b s → Covers (cell_box s) p → Covers b p
@@ -32,7 +34,7 @@ corner-covered b s p lies covers = record {
 }
 
 -- the ranges of a box hold the points that it covers
-region-holds : (laws : Lawful) (view : Window) (v : Visit) (p : GridPoint) → IsVisit (gridded view) v → Covers v.box p → IsIn (region_of view lattices.Grid v.box) (point_of view lattices.Grid p.x p.y p.z)
+region-holds : (laws : Lawful) (view : Window) (v : Visit) (p : GridPoint) → IsVisit (gridded view).boxes v → Covers v.box p → IsIn (region_of view lattices.Grid v.box) (point_of view lattices.Grid p.x p.y p.z)
 region-holds laws view v p is covers =
     let b = v.box in
     record {
@@ -42,46 +44,46 @@ region-holds laws view v p is covers =
     }
 
 -- the list that a box hands on has the value of the one that it receives at each point that it covers
-pub handed-grid_value : (laws : Lawful) (view : Window) (v : Visit) (p : GridPoint) → IsVisit (gridded view) v → Covers v.box p
-    → grid_value view (handed_on (gridded view) v) p ≡ grid_value view v.list p
+pub handed-grid_value : (laws : Lawful) (view : Window) (v : Visit) (p : GridPoint) → IsVisit (gridded view).boxes v → Covers v.box p
+    → grid_value view (handed_on (gridded view).boxes v) p ≡ grid_value view v.list p
 handed-grid_value laws view v p is covers =
     let region = region_of view lattices.Grid v.box in
     let at = point_of view lattices.Grid p.x p.y p.z in
-    ap (bordered view.n p) (laws.kept at v.list (choices_over region v.list) is.tape (laws.choices region v.list)
-    (laws.right region at v.list (region-is laws (gridded view) v is) (region-holds laws view v p is covers) is.tape))
+    ap (bordered (size_of view) p) (laws.kept at v.list (choices_over region v.list) is.tape (laws.choices region v.list)
+    (laws.right region at v.list (region-is laws (gridded view).boxes v is) (region-holds laws view v p is covers) is.tape))
 
 decided-right : (s : Interval) (x : ℤ) (inside : Bool) → Holds s x → decided_of s ≡ Some inside → is_inside x ≡ inside
 decided-right s x inside h e = grind (arith, ints, h, e)
 
 -- a box that is decided is decided rightly for each point that it covers, but for the outermost layer
-pub decision-right : (laws : Lawful) (view : Window) (v : Visit) (p : GridPoint) (inside : Bool) → IsVisit (gridded view) v → Covers v.box p
-    → decision (gridded view) v ≡ Some inside → is_inside (value_on view v.list p) ≡ inside
+pub decision-right : (laws : Lawful) (view : Window) (v : Visit) (p : GridPoint) (inside : Bool) → IsVisit (gridded view).boxes v → Covers v.box p
+    → decision (gridded view).boxes v ≡ Some inside → is_inside (value_on view v.list p) ≡ inside
 decision-right laws view v p inside is covers e =
     let region = region_of view lattices.Grid v.box in
     let at = point_of view lattices.Grid p.x p.y p.z in
     decided-right (tape_hull region v.list) (tape_value at v.list) inside
-    (laws.held region at v.list (region-is laws (gridded view) v is) (region-holds laws view v p is covers) is.tape) e
+    (laws.held region at v.list (region-is laws (gridded view).boxes v is) (region-holds laws view v p is covers) is.tape) e
 
 -- no number that is 0 or more is inside
 max-outside : (x : ℤ) → is_inside (int_max x (pos 0)) ≡ false
 max-outside x = grind (arith, ints)
 
-pub bordered-outside : (n : ℕ) (p : GridPoint) (v : ℤ) → is_border n p ≡ true → is_inside (bordered n p v) ≡ false
+pub bordered-outside : (n : GridSize) (p : GridPoint) (v : ℤ) → is_border n p ≡ true → is_inside (bordered n p v) ≡ false
 bordered-outside n p v e = rw e (max-outside v)
 
 -- what is outside stays so in the outermost layer
-bordered-stays : (n : ℕ) (p : GridPoint) (v : ℤ) → is_inside v ≡ false → is_inside (bordered n p v) ≡ false
+bordered-stays : (n : GridSize) (p : GridPoint) (v : ℤ) → is_inside v ≡ false → is_inside (bordered n p v) ≡ false
 bordered-stays n p v e = by (is_border n p)
   where
     by : (t : Bool) → is_inside (cond t (int_max v (pos 0)) v) ≡ false
     by true = max-outside v
     by false = e
 
-pub outside-uniform : (laws : Lawful) (view : Window) (v : Visit) (s : Sample) → IsVisit (gridded view) v → LiesIn v.box s → decision (gridded view) v ≡ Some false
+pub outside-uniform : (laws : Lawful) (view : Window) (v : Visit) (s : Sample) → IsVisit (gridded view).boxes v → LiesIn v.box s → decision (gridded view).boxes v ≡ Some false
     → IsUniform (grid_value view v.list) (cell_box s)
 outside-uniform laws view v s is lies e = record {
   inside = false;
-  each = λ p covers. bordered-stays view.n p (value_on view v.list p) (decision-right laws view v p false is (corner-covered v.box s p lies covers) e);
+  each = λ p covers. bordered-stays (size_of view) p (value_on view v.list p) (decision-right laws view v p false is (corner-covered v.box s p lies covers) e);
 }
 
 -- a box that covers no point of the outermost layer covers none
@@ -92,21 +94,21 @@ pub or-false : (a b : Bool) → (a || b) ≡ false → (a ≡ false) × (b ≡ f
 or-false true b e = absurd (grind (arith, e))
 or-false false b e = (refl, e)
 
-border-apart : (n : ℕ) (b : Indices) (p : GridPoint) → b.x1 ≤ n → b.y1 ≤ n → b.z1 ≤ n → Covers b p → meets_border n b ≡ false → is_border n p ≡ false
+border-apart : (n : GridSize) (b : Indices) (p : GridPoint) → b.x1 ≤ n.x → b.y1 ≤ n.y → b.z1 ≤ n.z → Covers b p → meets_border n b ≡ false → is_border n p ≡ false
 border-apart n b p x y z covers e =
-    let first = or-false (b.x0 == 0 || b.x1 == n) _ e in
-    let second = or-false (b.y0 == 0 || b.y1 == n) (b.z0 == 0 || b.z1 == n) first.1 in
-    let ex = axis-apart n b.x0 b.x1 p.x covers.x.0 covers.x.1 x first.0 in
-    let ey = axis-apart n b.y0 b.y1 p.y covers.y.0 covers.y.1 y second.0 in
-    let ez = axis-apart n b.z0 b.z1 p.z covers.z.0 covers.z.1 z second.1 in
+    let first = or-false (b.x0 == 0 || b.x1 == n.x) _ e in
+    let second = or-false (b.y0 == 0 || b.y1 == n.y) (b.z0 == 0 || b.z1 == n.z) first.1 in
+    let ex = axis-apart n.x b.x0 b.x1 p.x covers.x.0 covers.x.1 x first.0 in
+    let ey = axis-apart n.y b.y0 b.y1 p.y covers.y.0 covers.y.1 y second.0 in
+    let ez = axis-apart n.z b.z0 b.z1 p.z covers.z.0 covers.z.1 z second.1 in
     rw (ex, ey, ez) refl
 
-pub inside-uniform : (laws : Lawful) (view : Window) (v : Visit) (s : Sample) → IsVisit (gridded view) v → LiesIn v.box s → decision (gridded view) v ≡ Some true → meets_border view.n v.box ≡ false
+pub inside-uniform : (laws : Lawful) (view : Window) (v : Visit) (s : Sample) → IsVisit (gridded view).boxes v → LiesIn v.box s → decision (gridded view).boxes v ≡ Some true → meets_border (size_of view) v.box ≡ false
     → IsUniform (grid_value view v.list) (cell_box s)
 inside-uniform laws view v s is lies e apart = record {
   inside = true;
   each = λ p covers.
       let covered = corner-covered v.box s p lies covers in
-      ap is_inside (ap (λ t. cond t (int_max (value_on view v.list p) (pos 0)) (value_on view v.list p)) (border-apart view.n v.box p is.within.x is.within.y is.within.z covered apart))
+      ap is_inside (ap (λ t. cond t (int_max (value_on view v.list p) (pos 0)) (value_on view v.list p)) (border-apart (size_of view) v.box p is.within.x is.within.y is.within.z covered apart))
       ∙ decision-right laws view v p true is covered e;
 }

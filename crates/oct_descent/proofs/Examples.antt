@@ -12,6 +12,7 @@ use Rattle.oct_descent.specs.Bound.{CountsAtLeast, CountsHullsAtLeast, greatest,
 use Rattle.oct_descent.specs.Corners.{is_mixed, places_to, side_seen}
 use Rattle.oct_descent.specs.Fills.{point_box}
 use Rattle.oct_descent.specs.GridValues.{grid_of, grid_value, is_border}
+use Rattle.oct_descent.specs.declared.grid_size.GridSize.{GridSize}
 use Rattle.oct_descent.specs.declared.seen.Seen.{Seen}
 use Rattle.oct_descent.specs.Tables.{brick_of, is_within, same_point, slot, stand_in}
 use Rattle.oct_descent.specs.Ways.{is_open_by, meets_border, way_within}
@@ -31,6 +32,10 @@ window n = record {
   d = 1;
   n = n;
 }
+
+-- a grid of so many cells along each axis
+abbrev cells : ℕ → GridSize
+cells n = record { x = n; y = n; z = n }
 
 abbrev step : Op → ℕ → ℕ → Step
 step op a b = record { op = op; a = a; b = b; value = pos 0 }
@@ -193,63 +198,63 @@ side_of_full = refl
 
 -- ---- the outermost layer, on each side alone
 
-inner_point : is_border 5 (point 1 2 4) ≡ false
+inner_point : is_border (cells 5) (point 1 2 4) ≡ false
 inner_point = refl
 
-first_along_x : is_border 5 (point 0 2 3) ≡ true
+first_along_x : is_border (cells 5) (point 0 2 3) ≡ true
 first_along_x = refl
 
-last_along_x : is_border 5 (point 5 2 3) ≡ true
+last_along_x : is_border (cells 5) (point 5 2 3) ≡ true
 last_along_x = refl
 
-first_along_y : is_border 5 (point 2 0 3) ≡ true
+first_along_y : is_border (cells 5) (point 2 0 3) ≡ true
 first_along_y = refl
 
-last_along_y : is_border 5 (point 2 5 3) ≡ true
+last_along_y : is_border (cells 5) (point 2 5 3) ≡ true
 last_along_y = refl
 
-first_along_z : is_border 5 (point 2 3 0) ≡ true
+first_along_z : is_border (cells 5) (point 2 3 0) ≡ true
 first_along_z = refl
 
-last_along_z : is_border 5 (point 2 3 5) ≡ true
+last_along_z : is_border (cells 5) (point 2 3 5) ≡ true
 last_along_z = refl
 
 -- the cell at a point
 abbrev cell : ℕ → ℕ → ℕ → Indices
 cell x y z = record { x0 = x; x1 = suc x; y0 = y; y1 = suc y; z0 = z; z1 = suc z }
 
-inner_cell : meets_border 5 (cell 1 2 3) ≡ false
+inner_cell : meets_border (cells 5) (cell 1 2 3) ≡ false
 inner_cell = refl
 
-cell_first_along_x : meets_border 5 (cell 0 2 3) ≡ true
+cell_first_along_x : meets_border (cells 5) (cell 0 2 3) ≡ true
 cell_first_along_x = refl
 
-cell_last_along_x : meets_border 5 (cell 4 2 3) ≡ true
+cell_last_along_x : meets_border (cells 5) (cell 4 2 3) ≡ true
 cell_last_along_x = refl
 
-cell_first_along_y : meets_border 5 (cell 2 0 3) ≡ true
+cell_first_along_y : meets_border (cells 5) (cell 2 0 3) ≡ true
 cell_first_along_y = refl
 
-cell_last_along_y : meets_border 5 (cell 2 4 3) ≡ true
+cell_last_along_y : meets_border (cells 5) (cell 2 4 3) ≡ true
 cell_last_along_y = refl
 
-cell_first_along_z : meets_border 5 (cell 2 3 0) ≡ true
+cell_first_along_z : meets_border (cells 5) (cell 2 3 0) ≡ true
 cell_first_along_z = refl
 
-cell_last_along_z : meets_border 5 (cell 2 3 4) ≡ true
+cell_last_along_z : meets_border (cells 5) (cell 2 3 4) ≡ true
 cell_last_along_z = refl
 
 -- an undecided box stays open anywhere, and one that is decided inside stays open there alone
-undecided_box_stays_open : is_open_by 5 (cell 1 2 3) None ≡ true
+undecided_box_stays_open : is_open_by (meets_border (cells 5)) (cell 1 2 3) None ≡ true
 undecided_box_stays_open = refl
 
-inner_box_is_closed : is_open_by 5 (cell 1 2 3) (Some true) ≡ false
+inner_box_is_closed : is_open_by (meets_border (cells 5)) (cell 1 2 3) (Some true) ≡ false
 inner_box_is_closed = refl
 
-border_box_stays_open : is_open_by 5 (cell 2 4 3) (Some true) ≡ true
+border_box_stays_open : is_open_by (meets_border (cells 5)) (cell 2 4 3) (Some true) ≡ true
 border_box_stays_open = refl
 
-box_outside_is_closed : is_open_by 5 (cell 2 4 3) (Some false) ≡ false
+box_outside_is_closed : is_open_by (meets_border (cells 5)) (cell 2 4 3) (Some false) ≡ false
 box_outside_is_closed = refl
 
 -- evaluations and hulls are counted each by themselves, and what is too little is not enough
@@ -276,7 +281,7 @@ five_hulls h =
 place_in_a_brick : slot (point 3 9 18) ≡ 139
 place_in_a_brick = refl
 
-brick_of_a_point : map (λ p. brick_of 17 p) (point 3 9 18 ∷ point 16 0 0 ∷ point 0 0 8 ∷ [])
+brick_of_a_point : map (λ p. brick_of (cells 17) p) (point 3 9 18 ∷ point 16 0 0 ∷ point 0 0 8 ∷ [])
     ≡ 21 ∷ 2 ∷ 9 ∷ []
 brick_of_a_point = refl
 
@@ -288,7 +293,7 @@ corners_of_a_cell : map places_to (0 ∷ 1 ∷ 2 ∷ 3 ∷ 4 ∷ 5 ∷ 6 ∷ 7 �
     ≡ 0 ∷ 1 ∷ 8 ∷ 9 ∷ 64 ∷ 65 ∷ 72 ∷ 73 ∷ []
 corners_of_a_cell = refl
 
-points_of_five_cells : map (λ p. is_within 5 p)
+points_of_five_cells : map (λ p. is_within (cells 5) p)
     (point 5 5 5 ∷ point 6 0 0 ∷ point 0 6 0 ∷ point 0 0 6 ∷ [])
     ≡ true ∷ false ∷ false ∷ false ∷ []
 points_of_five_cells = refl

@@ -4,9 +4,13 @@ pub mod Bricks
 pub mod Corners
 pub mod Covered
 mod Examples
+pub mod Joined
 pub mod Listed
 pub mod Looks
+pub mod Reached
+pub mod Sizes
 pub mod TableLaws
 pub mod WayLaws
 pub mod Together
+pub mod WayProofs
 pub mod Whole

@@ -203,7 +203,7 @@ pub row-none : (view : Window) (list : List Step) (t : PointValues) (first x y z
     → is_known (read t.kept (start + (x - first))) ≡ false → [] ≡ cells_at view list (point x y z)
 row-none view list t first x y z start told row low high fx fy fz e =
     let back : first + (x - first) ≡ x = omega (arith, low) in
-    let within : first + (x - first) ≤ t.n = omega (arith, low, fx, told.n) in
+    let within : first + (x - first) ≤ t.n.x = omega (arith, low, fx, told.n.0) in
     listed-none view list t (point x y z) told fx fy fz (record {
       corner = 0;
       few = omega arith;
@@ -223,7 +223,7 @@ eight-none view list t first high y z told eighth within near fy fz e =
     (λ x low less.
     let less_high : x < high = omega (arith, low, less) in
     let same : x / 8 ≡ first / 8 = omega (arith, low, less_high, near, eighth) in
-    let brick : brick_of t.n (further (point x y z) 0) ≡ brick_of t.n (point first y z) = ap (brick_of t.n) (starts (point x y z)) ∙ ap (λ k. (z / 8 * (t.n / 8 + 1) + y / 8) * (t.n / 8 + 1) + k) same in
+    let brick : brick_of t.n (further (point x y z) 0) ≡ brick_of t.n (point first y z) = ap (brick_of t.n) (starts (point x y z)) ∙ ap (λ k. (z / 8 * (t.n.y / 8 + 1) + y / 8) * (t.n.x / 8 + 1) + k) same in
     listed-none view list t (point x y z) told (omega (arith, less_high, within)) fy fz (record { corner = 0; few = omega arith; unknown = roomless-unknown t (point first y z) (further (point x y z) 0) e brick }))
   where
     starts : (p : GridPoint) → further p 0 ≡ p

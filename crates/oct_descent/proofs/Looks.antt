@@ -9,7 +9,7 @@ use Rattle.std.proofs.lemmas.List.{take_all, take_more}
 use Rattle.std.proofs.lemmas.List.Concat.{flat_map-cons}
 use Rattle.std.proofs.lemmas.List.Elements.{All-append, All-cons, All-head, All-tail, All-contains, All-contains_itself, All-get_or, All-nil, All-weaker}
 use Rattle.std.proofs.lemmas.List.Sums.{sum_by-cons, sum_by-take-le, sum_by_more}
-use Rattle.box_chains.specs.Chains.{Descent, Visit, decision, half_with, handed_on, is_long, sides, visit}
+use Rattle.box_chains.specs.Chains.{Visit, decision, half_with, handed_on, is_long, sides, visit}
 use Rattle.box_chains.specs.HalfLaws.{IsPart, half_with-among, halves-are_parts, part-is_box, part-is_shorter, part-lies}
 use Rattle.box_chains.specs.Sums.{LiesIn, Sample}
 use Rattle.box_chains.specs.ValueLaws.{IsVisit, Lawful}
@@ -40,9 +40,11 @@ use Rattle.oct_descent.specs.Corners.{AllShow, IsSeen, IsShown, ShowsCorner}
 use Rattle.oct_descent.specs.Desks.{ChargesBelow, ChargesHalves, KeepsDesk, MayLook, PaysHalves, asked_of, halves_long_spans, halves_spans, long_spans_below, longer, own_spans, spans_below}
 use Rattle.oct_descent.specs.Fills.{ChargesCorners, PaysCorners}
 use Rattle.oct_descent.specs.GridValues.{grid_value}
+use Rattle.oct_descent.specs.Sizes.{SameSize, size_of}
 use Rattle.oct_descent.specs.Tables.{AllKnown, AreRight, AreSettled, AreWorked, Charges, ChargesBox, Grows, IsDue, IsEnough, IsUniform, PaysBox, PointValues, is_known}
-use Rattle.oct_descent.specs.Ways.{Covers, cell_box, gridded, is_cut, is_open, is_open_by, is_working, way_end}
+use Rattle.oct_descent.specs.Ways.{CellDescent, Covers, cell_box, gridded, is_cut, is_open, is_open_by, is_working, meets_border, way_end}
 use Rattle.oct_descent.specs.declared.desk.Desk.{Desk}
+use Rattle.oct_descent.specs.declared.grid_size.GridSize.{GridSize}
 use Rattle.oct_descent.specs.declared.seen.Seen.{Seen}
 use Rattle.oct_descent.proofs.Corners.{IsOne, mask-covered, short-one}
 use Rattle.oct_descent.proofs.Covered.{corner-covered, handed-grid_value, inside-uniform, outside-uniform}
@@ -59,39 +61,39 @@ on_ok (Err e) P p = tt
 
 -- what a look told is the box's decision
 pub looked : (view : Window) (lattice : Lattice) (b : Indices) (list : List Step) (region : Region) (told : Option Bool)
-    → lattice ≡ lattices.Grid → region ≡ region_of view lattice b → told ≡ decided_of (tape_hull region list) → decision (gridded view) (visit b list) ≡ told
+    → lattice ≡ lattices.Grid → region ≡ region_of view lattice b → told ≡ decided_of (tape_hull region list) → decision (gridded view).boxes (visit b list) ≡ told
 looked view lattice b list region told is placed tells =
     sym (tells ∙ ap (λ r. decided_of (tape_hull r list)) placed ∙ ap (λ l. decided_of (tape_hull (region_of view l b) list)) is)
 
 -- and what it hands on is the box's
 pub handed : (view : Window) (lattice : Lattice) (b : Indices) (list live : List Step) (region : Region) (choices : List Choice)
     → lattice ≡ lattices.Grid → region ≡ region_of view lattice b → take (length list) choices ≡ choices_over region list → live ≡ live_of list (take (length list) choices)
-    → live ≡ handed_on (gridded view) (visit b list)
+    → live ≡ handed_on (gridded view).boxes (visit b list)
 handed view lattice b list live region choices is placed chosen made =
     made ∙ ap (live_of list) chosen ∙ ap (λ r. live_of list (choices_over r list)) placed ∙ ap (λ l. live_of list (choices_over (region_of view l b) list)) is
 
 -- whether the box stays open, by what a look told
-pub opened : (view : Window) (b : Indices) (list : List Step) (n : ℕ) (told : Option Bool) (open' : Bool) → n ≡ view.n → decision (gridded view) (visit b list) ≡ told
-    → open' ≡ is_open_by n b told → is_open (gridded view) (visit b list) ≡ open'
-opened view b list n told open' same tells is = ap (is_open_by view.n b) tells ∙ ap (λ m. is_open_by m b told) (sym same) ∙ sym is
+pub opened : (view : Window) (b : Indices) (list : List Step) (n : GridSize) (told : Option Bool) (open' : Bool) → n ≡ size_of view → decision (gridded view).boxes (visit b list) ≡ told
+    → open' ≡ is_open_by (meets_border n) b told → is_open (gridded view) (visit b list) ≡ open'
+opened view b list n told open' same tells is = ap (is_open_by (meets_border (size_of view)) b) tells ∙ ap (λ m. is_open_by (meets_border m) b told) (sym same) ∙ sym is
 
 -- each cell of a box that does not stay open has all corners on one side
-closed-uniform : (laws : Lawful) (view : Window) (v : Visit) (s : Sample) → IsVisit (gridded view) v → is_open (gridded view) v ≡ false → LiesIn v.box s → IsUniform (grid_value view v.list) (cell_box s)
-closed-uniform laws view v s is e lies = by (decision (gridded view) v) refl
+closed-uniform : (laws : Lawful) (view : Window) (v : Visit) (s : Sample) → IsVisit (gridded view).boxes v → is_open (gridded view) v ≡ false → LiesIn v.box s → IsUniform (grid_value view v.list) (cell_box s)
+closed-uniform laws view v s is e lies = by (decision (gridded view).boxes v) refl
   where
-    by : (o : Option Bool) → decision (gridded view) v ≡ o → IsUniform (grid_value view v.list) (cell_box s)
-    by None h = absurd (false≢true (sym e ∙ ap (is_open_by view.n v.box) h))
+    by : (o : Option Bool) → decision (gridded view).boxes v ≡ o → IsUniform (grid_value view v.list) (cell_box s)
+    by None h = absurd (false≢true (sym e ∙ ap (is_open_by (meets_border (size_of view)) v.box) h))
     by (Some false) h = outside-uniform laws view v s is lies h
-    by (Some true) h = inside-uniform laws view v s is lies h (sym (ap (is_open_by view.n v.box) h) ∙ e)
+    by (Some true) h = inside-uniform laws view v s is lies h (sym (ap (is_open_by (meets_border (size_of view)) v.box) h) ∙ e)
 
-pub closed-settled : (laws : Lawful) (view : Window) (v : Visit) (t : PointValues) → IsVisit (gridded view) v → is_open (gridded view) v ≡ false → AreSettled (grid_value view v.list) v.box t
+pub closed-settled : (laws : Lawful) (view : Window) (v : Visit) (t : PointValues) → IsVisit (gridded view).boxes v → is_open (gridded view) v ≡ false → AreSettled (grid_value view v.list) v.box t
 closed-settled laws view v t is e s lies = inr (closed-uniform laws view v s is e lies)
 
 -- and no working one
-pub closed-worked : (view : Window) (v : Visit) (t : PointValues) → IsVisit (gridded view) v → is_open (gridded view) v ≡ false → AreWorked (gridded view) v t
+pub closed-worked : (view : Window) (v : Visit) (t : PointValues) → IsVisit (gridded view).boxes v → is_open (gridded view) v ≡ false → AreWorked (gridded view) v t
 closed-worked view v t is e s lies works = absurd (false≢true (sym idle ∙ works))
   where
-    d : Descent
+    d : CellDescent
     d = gridded view
 
     uncut : is_cut d v ≡ false
@@ -101,32 +103,32 @@ closed-worked view v t is e s lies works = absurd (false≢true (sym idle ∙ wo
     idle = ap (λ w. is_open d w && not (is_long 1 w.box)) (end-ends d v s is.box uncut) ∙ (rw e refl)
 
 -- a box takes at least its own trace
-pub trace-charged : (d : Descent) (v : Visit) (t : PointValues) (told now : Counts) → 0 < d.leaf → IsBox v.box → HalvesPart → CountsHulls (length v.list) told now → ChargesBox d v t t told now
+pub trace-charged : (d : CellDescent) (v : Visit) (t : PointValues) (told now : Counts) → 0 < d.boxes.leaf → IsBox v.box → HalvesPart → CountsHulls (length v.list) told now → ChargesBox d v t t told now
 trace-charged d v t told now some is law h f enough =
     charges-more f (length v.list) (spans_in d v) t t told now (spans-some d v some is law) (charges-hulls f (length v.list) t told now h)
 
 -- and no more than that, where it is not looked into
-pub look-charged : (d : Descent) (v : Visit) (t : PointValues) (told now : Counts) → 0 < d.leaf → IsBox v.box → HalvesPart → CountsAtMost 0 (length v.list) told now → ChargesBox d v t t told now
+pub look-charged : (d : CellDescent) (v : Visit) (t : PointValues) (told now : Counts) → 0 < d.boxes.leaf → IsBox v.box → HalvesPart → CountsAtMost 0 (length v.list) told now → ChargesBox d v t t told now
 look-charged d v t told now some is law h f enough =
     charges-more f (length v.list) (spans_in d v) t t told now (spans-some d v some is law) (charges-most f (length v.list) t told now h)
 
 -- nothing is due for a box that is not looked into
-pub look-paid : (d : Descent) (v : Visit) (t : PointValues) (told now : Counts) → CountsAtMost 0 (length v.list) told now → PaysBox d v t t told now
+pub look-paid : (d : CellDescent) (v : Visit) (t : PointValues) (told now : Counts) → CountsAtMost 0 (length v.list) told now → PaysBox d v t t told now
 look-paid d v t told now h f due = pays-most f 0 (length v.list) t told now h
 
 -- what is kept may be looked at again
 pub may-kept : (before after : Desk) (b : Indices) (list : List Step) (t : PointValues) → KeepsDesk before after → MayLook before b list t → MayLook after b list t
 may-kept before after b list t kept may = record {
   lattice = ap (λ p. p.lattice) kept.places ∙ may.lattice;
-  visit_is = subst (λ p. IsVisit (gridded p.view) (visit b list)) (sym kept.places) may.visit_is;
-  n = may.n ∙ ap (λ p. p.view.n) (sym kept.places);
+  visit_is = subst (λ p. IsVisit (gridded p.view).boxes (visit b list)) (sym kept.places) may.visit_is;
+  n = subst (λ p. SameSize t.n (size_of p.view)) (sym kept.places) may.n;
   room = omega (arith, kept.room, may.room);
   values = omega (arith, kept.values, may.values);
   right = subst (λ p. AreRight (grid_value p.view list) b t) (sym kept.places) may.right;
 }
 
 -- two known corners on either side show that a cell stays open
-pub sides-open : (laws : Lawful) (view : Window) (v : Visit) (t : PointValues) → IsVisit (gridded view) v → is_long 1 v.box ≡ false
+pub sides-open : (laws : Lawful) (view : Window) (v : Visit) (t : PointValues) → IsVisit (gridded view).boxes v → is_long 1 v.box ≡ false
     → AreRight (grid_value view v.list) v.box t → ShowsCorner t (point v.box.x0 v.box.y0 v.box.z0) true
     → ShowsCorner t (point v.box.x0 v.box.y0 v.box.z0) false → is_open (gridded view) v ≡ true
 sides-open laws view v t is short right inner outer = by (is_open (gridded view) v) refl
@@ -174,12 +176,12 @@ shown-sides t p seen is lacks (inr sides) = (by true seen.inside seen.inside ref
     by inside told false e shows none = absurd (unlike inside (sym shows.side ∙ none e shows.corner shows.value shows.few shows.known))
 
 -- what holds of each corner of each working cell of a box, and of the list that the cell receives, holds of a cell that stays open
-cell-corners : (view : Window) (v : Visit) (Q : ℕ → GridPoint → Type 0) → IsVisit (gridded view) v → is_open (gridded view) v ≡ true → is_long 1 v.box ≡ false
+cell-corners : (view : Window) (v : Visit) (Q : ℕ → GridPoint → Type 0) → IsVisit (gridded view).boxes v → is_open (gridded view) v ≡ true → is_long 1 v.box ≡ false
     → ((s : Sample) → LiesIn v.box s → is_working (gridded view) v s ≡ true → (p : GridPoint) → Covers (cell_box s) p → Q (length (way_end (gridded view) v s).list) p)
     → (p : GridPoint) → Covers v.box p → Q (length v.list) p
 cell-corners view v Q is open' short each p covers = subst (λ w. Q (length w.list) p) end (each s lies works p corner)
   where
-    d : Descent
+    d : CellDescent
     d = gridded view
 
     one : IsOne v.box
@@ -208,7 +210,7 @@ cell-corners view v Q is open' short each p covers = subst (λ w. Q (length w.li
     }
 
 -- a working cell takes what its corners do
-pub cell-charged : (laws : Lawful) (view : Window) (v : Visit) (before after : PointValues) (told since now : Counts) → IsVisit (gridded view) v → is_open (gridded view) v ≡ true → is_long 1 v.box ≡ false
+pub cell-charged : (laws : Lawful) (view : Window) (v : Visit) (before after : PointValues) (told since now : Counts) → IsVisit (gridded view).boxes v → is_open (gridded view) v ≡ true → is_long 1 v.box ≡ false
     → CountsAtMost 0 (length v.list) told since → ChargesCorners v.box (length v.list) before after since now → ChargesBox (gridded view) v before after told now
 cell-charged laws view v before after told since now is open' short hulls corners f enough =
     let uncut : is_cut (gridded view) v ≡ false = rw (open', short) refl in
@@ -216,7 +218,7 @@ cell-charged laws view v before after told since now is open' short hulls corner
     (charges-most f (length v.list) before told since hulls) (corners f (cell-corners view v (λ n p. n ≤ f p) is open' short enough))
 
 -- and what it takes is paid
-pub cell-paid : (view : Window) (v : Visit) (before after : PointValues) (told since now : Counts) → IsVisit (gridded view) v → is_open (gridded view) v ≡ true → is_long 1 v.box ≡ false
+pub cell-paid : (view : Window) (v : Visit) (before after : PointValues) (told since now : Counts) → IsVisit (gridded view).boxes v → is_open (gridded view) v ≡ true → is_long 1 v.box ≡ false
     → CountsAtMost 0 (length v.list) told since → PaysCorners v.box (length v.list) before after since now → PaysBox (gridded view) v before after told now
 cell-paid view v before after told since now is open' short hulls corners f due =
     pays-then f before before after told since now (pays-most f 0 (length v.list) before told since hulls) (corners f (cell-corners view v (λ n p. f p ≤ n) is open' short due))
@@ -226,24 +228,24 @@ pub known-settled : (g : GridPoint → ℤ) (b : Indices) (t : PointValues) → 
 known-settled g b t known s lies = inl (λ p covers. known p (corner-covered b s p lies covers))
 
 -- the list that a box hands on can be evaluated
-pub handed-tape : (laws : Lawful) (view : Window) (v : Visit) (live : List Step) → IsVisit (gridded view) v → live ≡ handed_on (gridded view) v → IsTape live
+pub handed-tape : (laws : Lawful) (view : Window) (v : Visit) (live : List Step) → IsVisit (gridded view).boxes v → live ≡ handed_on (gridded view).boxes v → IsTape live
 handed-tape laws view v live is same =
     let region = region_of view lattices.Grid v.box in
     subst IsTape (sym same) (laws.tapes v.list (choices_over region v.list) is.tape (laws.choices region v.list)).0
 
 -- what the halves of a box change by the list that it hands on, it changes by the one that it receives
-pub handed-grows : (laws : Lawful) (view : Window) (v : Visit) (live : List Step) (before after : PointValues) → IsVisit (gridded view) v → live ≡ handed_on (gridded view) v
+pub handed-grows : (laws : Lawful) (view : Window) (v : Visit) (live : List Step) (before after : PointValues) → IsVisit (gridded view).boxes v → live ≡ handed_on (gridded view).boxes v
     → Grows (grid_value view live) v.box before after → Grows (grid_value view v.list) v.box before after
 handed-grows laws view v live before after is same grows =
     grows-wider (grid_value view live) (grid_value view v.list) v.box v.box before after (λ p covers. covers)
     (λ p covers. ap (λ l. grid_value view l p) same ∙ handed-grid_value laws view v p is covers) grows
 
-pub handed-right : (laws : Lawful) (view : Window) (v : Visit) (live : List Step) (t : PointValues) → IsVisit (gridded view) v → live ≡ handed_on (gridded view) v
+pub handed-right : (laws : Lawful) (view : Window) (v : Visit) (live : List Step) (t : PointValues) → IsVisit (gridded view).boxes v → live ≡ handed_on (gridded view).boxes v
     → AreRight (grid_value view v.list) v.box t → AreRight (grid_value view live) v.box t
 handed-right laws view v live t is same right =
     right-same (grid_value view v.list) (grid_value view live) v.box t (λ p covers. sym (ap (λ l. grid_value view l p) same ∙ handed-grid_value laws view v p is covers)) right
 
-pub handed-settled : (laws : Lawful) (view : Window) (v : Visit) (live : List Step) (t : PointValues) → IsVisit (gridded view) v → live ≡ handed_on (gridded view) v
+pub handed-settled : (laws : Lawful) (view : Window) (v : Visit) (live : List Step) (t : PointValues) → IsVisit (gridded view).boxes v → live ≡ handed_on (gridded view).boxes v
     → AreSettled (grid_value view live) v.box t → AreSettled (grid_value view v.list) v.box t
 handed-settled laws view v live t is same settled =
     settled-same (grid_value view live) (grid_value view v.list) v.box t
@@ -257,7 +259,7 @@ pub own-long : (v : Visit) → is_long 1 v.box ≡ true → own_spans v ≡ leng
 own-long v long = ap (λ t. cond {A = ℕ} t (length v.list) 0) long
 
 -- that trace is among those of the box
-pub own-among : (laws : Lawful) (d : Descent) (v : Visit) → 0 < d.leaf → IsBox v.box → own_spans v ≤ spans_in d v
+pub own-among : (laws : Lawful) (d : CellDescent) (v : Visit) → 0 < d.boxes.leaf → IsBox v.box → own_spans v ≤ spans_in d v
 own-among laws d v some is = by (is_long 1 v.box)
   where
     by : (long : Bool) → cond {A = ℕ} long (length v.list) 0 ≤ spans_in d v
@@ -271,23 +273,23 @@ below-charged laws view v before after told since now is long hulls below f enou
     charges-then f (length v.list) (spans_below (gridded view) v) (spans_in (gridded view) v) before before after told since now
     (omega (arith, own-among laws (gridded view) v (omega arith) is, own-long v long)) (charges-hulls f (length v.list) before told since hulls) (below f enough)
 
-pub below-paid : (d : Descent) (v : Visit) (before after : PointValues) (told since now : Counts) → CountsHulls (length v.list) told since → PaysBox d v before after since now → PaysBox d v before after told now
+pub below-paid : (d : CellDescent) (v : Visit) (before after : PointValues) (told since now : Counts) → CountsHulls (length v.list) told since → PaysBox d v before after since now → PaysBox d v before after told now
 below-paid d v before after told since now hulls paid f due =
     pays-then f before before after told since now (pays-most f 0 (length v.list) before told since (most-hulls told since (length v.list) hulls)) (paid f due)
 
 -- a cell takes as much
-pub cell-below : (d : Descent) (v : Visit) (before after : PointValues) (told now : Counts) → is_long 1 v.box ≡ false → ChargesBox d v before after told now → ChargesBelow d v before after told now
+pub cell-below : (d : CellDescent) (v : Visit) (before after : PointValues) (told now : Counts) → is_long 1 v.box ≡ false → ChargesBox d v before after told now → ChargesBelow d v before after told now
 cell-below d v before after told now short charged f enough =
     charges-more f (spans_in d v) (spans_below d v) before after told now (omega (arith, own-short v short)) (charged f enough)
 
 -- the way to a cell of a half of a box that is split ends as that from the half on
-half-works : (laws : Lawful) (view : Window) (v : Visit) (live : List Step) (half : Indices) (s : Sample) → IsVisit (gridded view) v → is_cut (gridded view) v ≡ true → live ≡ handed_on (gridded view) v
+half-works : (laws : Lawful) (view : Window) (v : Visit) (live : List Step) (half : Indices) (s : Sample) → IsVisit (gridded view).boxes v → is_cut (gridded view) v ≡ true → live ≡ handed_on (gridded view).boxes v
     → Contains (halves_of 1 v.box) half → LiesIn half s → way_end (gridded view) v s ≡ way_end (gridded view) (visit half live) s
 half-works laws view v live half s is cut same among lies =
     end-of_half (gridded view) v half s (omega arith) is.box laws.halves cut among lies ∙ ap (λ l. way_end (gridded view) (visit half l) s) (sym same)
 
 -- what is due for a box is due for its halves
-halves-due : (laws : Lawful) (view : Window) (v : Visit) (live : List Step) (f : GridPoint → ℕ) → IsVisit (gridded view) v → is_cut (gridded view) v ≡ true → live ≡ handed_on (gridded view) v
+halves-due : (laws : Lawful) (view : Window) (v : Visit) (live : List Step) (f : GridPoint → ℕ) → IsVisit (gridded view).boxes v → is_cut (gridded view) v ≡ true → live ≡ handed_on (gridded view).boxes v
     → IsDue f (gridded view) v → All (λ half. IsDue f (gridded view) (visit half live)) (halves_of 1 v.box)
 halves-due laws view v live f is cut same due =
     All-weaker (Contains (halves_of 1 v.box)) (λ half. IsDue f d (visit half live))
@@ -298,11 +300,11 @@ halves-due laws view v live f is cut same due =
     subst (λ w. f p ≤ length w.list) end (due s (part-lies 1 v.box half s part lies) worked p covers))
     (halves_of 1 v.box) (All-contains_itself (halves_of 1 v.box))
   where
-    d : Descent
+    d : CellDescent
     d = gridded view
 
 -- what is enough for a box is enough for its halves
-halves-enough : (laws : Lawful) (view : Window) (v : Visit) (live : List Step) (f : GridPoint → ℕ) → IsVisit (gridded view) v → is_cut (gridded view) v ≡ true → live ≡ handed_on (gridded view) v
+halves-enough : (laws : Lawful) (view : Window) (v : Visit) (live : List Step) (f : GridPoint → ℕ) → IsVisit (gridded view).boxes v → is_cut (gridded view) v ≡ true → live ≡ handed_on (gridded view).boxes v
     → IsEnough f (gridded view) v → All (λ half. IsEnough f (gridded view) (visit half live)) (halves_of 1 v.box)
 halves-enough laws view v live f is cut same enough =
     All-weaker (Contains (halves_of 1 v.box)) (λ half. IsEnough f d (visit half live))
@@ -313,27 +315,27 @@ halves-enough laws view v live f is cut same enough =
     subst (λ w. length w.list ≤ f p) end (enough s (part-lies 1 v.box half s part lies) worked p covers))
     (halves_of 1 v.box) (All-contains_itself (halves_of 1 v.box))
   where
-    d : Descent
+    d : CellDescent
     d = gridded view
 
 -- a box that is split takes what its halves take, beside its own trace
-pub halves-charged : (laws : Lawful) (view : Window) (v : Visit) (live : List Step) (before after : PointValues) (told now : Counts) → IsVisit (gridded view) v → is_open (gridded view) v ≡ true
-    → is_long 1 v.box ≡ true → live ≡ handed_on (gridded view) v → ChargesHalves (gridded view) live (halves_of 1 v.box) before after told now
+pub halves-charged : (laws : Lawful) (view : Window) (v : Visit) (live : List Step) (before after : PointValues) (told now : Counts) → IsVisit (gridded view).boxes v → is_open (gridded view) v ≡ true
+    → is_long 1 v.box ≡ true → live ≡ handed_on (gridded view).boxes v → ChargesHalves (gridded view) live (halves_of 1 v.box) before after told now
     → ChargesBelow (gridded view) v before after told now
 halves-charged laws view v live before after told now is open' long same halves f enough =
     charges-more f (halves_spans d live (halves_of 1 v.box)) (spans_below d v) before after told now
     (omega (arith, spans-split d v (omega arith) is.box laws.halves cut, ap (λ l. halves_spans d l (halves_of 1 v.box)) same, own-long v long))
     (halves f (halves-enough laws view v live f is cut same enough))
   where
-    d : Descent
+    d : CellDescent
     d = gridded view
 
     cut : is_cut d v ≡ true
     cut = rw (open', long) refl
 
 -- and pays what its halves pay
-pub halves-paid : (laws : Lawful) (view : Window) (v : Visit) (live : List Step) (before after : PointValues) (told now : Counts) → IsVisit (gridded view) v → is_open (gridded view) v ≡ true
-    → is_long 1 v.box ≡ true → live ≡ handed_on (gridded view) v → PaysHalves (gridded view) live (halves_of 1 v.box) before after told now
+pub halves-paid : (laws : Lawful) (view : Window) (v : Visit) (live : List Step) (before after : PointValues) (told now : Counts) → IsVisit (gridded view).boxes v → is_open (gridded view) v ≡ true
+    → is_long 1 v.box ≡ true → live ≡ handed_on (gridded view).boxes v → PaysHalves (gridded view) live (halves_of 1 v.box) before after told now
     → PaysBox (gridded view) v before after told now
 halves-paid laws view v live before after told now is open' long same halves f due = halves f (halves-due laws view v live f is cut same due)
   where
@@ -341,14 +343,14 @@ halves-paid laws view v live before after told now is open' long same halves f d
     cut = rw (open', long) refl
 
 -- its working cells are those of its halves
-pub halves-worked : (laws : Lawful) (view : Window) (v : Visit) (live : List Step) (t : PointValues) → IsVisit (gridded view) v → is_open (gridded view) v ≡ true
-    → is_long 1 v.box ≡ true → live ≡ handed_on (gridded view) v → All (λ half. AreWorked (gridded view) (visit half live) t) (halves_of 1 v.box) → AreWorked (gridded view) v t
+pub halves-worked : (laws : Lawful) (view : Window) (v : Visit) (live : List Step) (t : PointValues) → IsVisit (gridded view).boxes v → is_open (gridded view) v ≡ true
+    → is_long 1 v.box ≡ true → live ≡ handed_on (gridded view).boxes v → All (λ half. AreWorked (gridded view) (visit half live) t) (halves_of 1 v.box) → AreWorked (gridded view) v t
 halves-worked laws view v live t is open' long same each s lies works =
     let half = half_with-among laws.halves 1 v.box s lies in
     let end = half-works laws view v live (half_with 1 v.box s) s is cut same half.0 half.1 in
     All-contains (λ h. AreWorked d (visit h live) t) (halves_of 1 v.box) (half_with 1 v.box s) each half.0 s half.1 (ap (λ w. is_open d w && not (is_long 1 w.box)) (sym end) ∙ works)
   where
-    d : Descent
+    d : CellDescent
     d = gridded view
 
     cut : is_cut d v ≡ true
@@ -362,7 +364,7 @@ half-part b half halves i is all within read =
     subst (λ h. IsPart 1 b h) (sym read) (All-get_or (IsPart 1 b) halves i half within (subst (λ hs. All (IsPart 1 b) hs) (sym all) (halves-are_parts 1 b (omega arith) is)))
 
 -- a half of a box can be visited
-pub half-visit : (view : Window) (list : List Step) (b half : Indices) → IsPart 1 b half → IsVisit (gridded view) (visit b list) → IsVisit (gridded view) (visit half list)
+pub half-visit : (view : Window) (list : List Step) (b half : Indices) → IsPart 1 b half → IsVisit (gridded view).boxes (visit b list) → IsVisit (gridded view).boxes (visit half list)
 half-visit view list b half part is = record {
   window = is.window;
   box = part-is_box 1 b half part;
@@ -377,10 +379,10 @@ half-shorter b half long part = part-is_shorter 1 b half long part
 abbrev pub owned : List Step → List Indices → ℕ
 owned list halves = sum_by (λ h. own_spans (visit h list)) halves
 
-abbrev pub halves_below : Descent → List Step → List Indices → ℕ
+abbrev pub halves_below : CellDescent → List Step → List Indices → ℕ
 halves_below d list halves = sum_by (λ h. spans_below d (visit h list)) halves
 
-abbrev pub halves_long_below : Descent → List Step → List Indices → ℕ
+abbrev pub halves_long_below : CellDescent → List Step → List Indices → ℕ
 halves_long_below d list halves = sum_by (λ h. long_spans_below d (visit h list)) halves
 
 -- all that is among what the halves take
@@ -396,7 +398,7 @@ owned-below laws view list (h ∷ hs) each = omega (
   owned-below laws view list hs (All-tail IsBox h hs each),
 )
 
-pub owned-long_below : (d : Descent) (list : List Step) (halves : List Indices) → halves_long_spans d list halves ≤ owned list halves + halves_long_below d list halves
+pub owned-long_below : (d : CellDescent) (list : List Step) (halves : List Indices) → halves_long_spans d list halves ≤ owned list halves + halves_long_below d list halves
 owned-long_below d list [] = omega arith
 owned-long_below d list (h ∷ hs) = omega (
   arith,
@@ -407,7 +409,7 @@ owned-long_below d list (h ∷ hs) = omega (
 )
 
 -- it is as many traces as there are longer halves
-pub longer-owned : (n : ℕ) (list : List Step) (halves : List Indices) → length (longer n halves) * length list ≡ owned list halves
+pub longer-owned : (n : GridSize) (list : List Step) (halves : List Indices) → length (longer n halves) * length list ≡ owned list halves
 longer-owned n list [] = omega arith
 longer-owned n list (h ∷ hs) =
     ap (λ l. length l * length list) (flat_map-cons piece h hs) ∙ by (is_long 1 h) refl (longer-owned n list hs) ∙ sym (sum_by-cons (λ b. own_spans (visit b list)) h hs)
@@ -420,7 +422,7 @@ longer-owned n list (h ∷ hs) =
     by false e others = ap (λ t. length (cond {A = List AskedBox} t (asked_of n h ∷ []) [] ++ longer n hs) * length list) e ∙ omega (arith, own-short (visit h list) e, others)
 
 -- they are boxes of the grid
-pub longer-in_root : (places : Sampling) (n : ℕ) (halves : List Indices) → All (IsInRoot places.view places.lattice) halves → AreInRoot places (longer n halves)
+pub longer-in_root : (places : Sampling) (n : GridSize) (halves : List Indices) → All (IsInRoot places.view places.lattice) halves → AreInRoot places (longer n halves)
 longer-in_root places n [] each = All-nil (λ (a : AskedBox). IsInRoot places.view places.lattice a.range)
 longer-in_root places n (h ∷ hs) each =
     subst (AreInRoot places) (sym (flat_map-cons piece h hs))
@@ -441,19 +443,27 @@ pub halves-boxes : (b : Indices) (halves : List Indices) → IsBox b → halves 
 halves-boxes b halves is all =
     subst (λ hs. All IsBox hs) (sym all) (All-weaker (IsPart 1 b) IsBox (λ h part. part-is_box 1 b h part) (halves_of 1 b) (halves-are_parts 1 b (omega arith) is))
 
+-- and boxes of the grid
+pub halves-in_root : (view : Window) (lattice : Lattice) (list : List Step) (b : Indices) (halves : List Indices) → lattice ≡ lattices.Grid → IsVisit (gridded view).boxes (visit b list) → halves ≡ halves_of 1 b
+    → All (IsInRoot view lattice) halves
+halves-in_root view lattice list b halves placed is all =
+    subst (λ l. All (IsInRoot view l) halves) (sym placed)
+    (subst (λ hs. All (IsInRoot view lattices.Grid) hs) (sym all)
+    (All-weaker (IsPart 1 b) (IsInRoot view lattices.Grid) (λ h part. (half-visit view list b h part is).within) (halves_of 1 b) (halves-are_parts 1 b (omega arith) is.box)))
+
 -- the traces of halves, whole or begun, are among what the halves take
-pub begun-charged : (laws : Lawful) (view : Window) (list : List Step) (b : Indices) (halves : List Indices) (n : ℕ) (t : PointValues) (told now : Counts) → IsBox b → halves ≡ halves_of 1 b
+pub begun-charged : (laws : Lawful) (view : Window) (list : List Step) (b : Indices) (halves : List Indices) (n : GridSize) (t : PointValues) (told now : Counts) → IsBox b → halves ≡ halves_of 1 b
     → CountsAtMost 0 (length (longer n halves) * length list) told now → ChargesHalves (gridded view) list (halves_of 1 b) t t told now
 begun-charged laws view list b halves n t told now is all begun f enough =
     charges-more f (length (longer n halves) * length list) (halves_spans (gridded view) list (halves_of 1 b)) t t told now
     (omega (arith, longer-owned n list halves, owned-below laws view list halves (halves-boxes b halves is all), ap (halves_spans (gridded view) list) all))
     (charges-most f (length (longer n halves) * length list) t told now begun)
 
-pub begun-paid : (d : Descent) (list : List Step) (halves : List Indices) (n : ℕ) (t : PointValues) (told now : Counts) → CountsAtMost 0 n told now → PaysHalves d list halves t t told now
+pub begun-paid : (d : CellDescent) (list : List Step) (halves : List Indices) (n : ℕ) (t : PointValues) (told now : Counts) → CountsAtMost 0 n told now → PaysHalves d list halves t t told now
 begun-paid d list halves n t told now begun f due = pays-most f 0 n t told now begun
 
 -- what holds once halves are traced, and before any is looked into
-pub first-charged : (d : Descent) (list : List Step) (halves : List Indices) (n : ℕ) (t : PointValues) (told now : Counts) → CountsHulls (length (longer n halves) * length list) told now
+pub first-charged : (d : CellDescent) (list : List Step) (halves : List Indices) (n : GridSize) (t : PointValues) (told now : Counts) → CountsHulls (length (longer n halves) * length list) told now
     → (f : GridPoint → ℕ) → All (λ h. IsEnough f d (visit h list)) halves → Charges f (owned list halves + halves_below d list (take 0 halves)) t t told now
 first-charged d list halves n t told now hulls f enough =
     charges-more f (length (longer n halves) * length list) (owned list halves + halves_below d list (take 0 halves)) t t told now (omega (arith, longer-owned n list halves))
@@ -521,7 +531,7 @@ next-charged view other list half halves i own before mid after told since now s
     (subst (λ v. ChargesBelow (gridded v) (visit half list) mid after since now) same here f
     (subst (λ h. IsEnough f d (visit h list)) (sym read) (All-get_or (λ h. IsEnough f d (visit h list)) halves i half within enough)))
   where
-    d : Descent
+    d : CellDescent
     d = gridded view
 
 -- the work of some of the halves, behind what was traced of all, is among that of all
@@ -555,7 +565,7 @@ hulls-then told since now m n k enough first second = record {
 pub traced-none : (counts : Counts) → CountsHullsAtLeast 0 counts counts
 traced-none counts = record { by = no_counts; many = omega arith; rises = RisesBy-none counts }
 
-pub first-traced : (d : Descent) (list : List Step) (halves : List Indices) (n : ℕ) (told now : Counts) → CountsHulls (length (longer n halves) * length list) told now
+pub first-traced : (d : CellDescent) (list : List Step) (halves : List Indices) (n : GridSize) (told now : Counts) → CountsHulls (length (longer n halves) * length list) told now
     → CountsHullsAtLeast (owned list halves + halves_long_below d list (take 0 halves)) told now
 first-traced d list halves n told now hulls =
     let least = hulls-least told now (length (longer n halves) * length list) hulls in
@@ -572,7 +582,7 @@ pub left-untraced : (told now : Counts) → now ≡ told → CountsNoHull told n
 left-untraced told now same = record { points = 0; counts = subst (λ c. CountsAtMost 0 0 told c) (sym same) (most-none told 0 0) }
 
 -- a cell need not be traced
-pub cell-traced : (d : Descent) (v : Visit) (before after : PointValues) (told now : Counts) → IsBox v.box → is_long d.leaf v.box ≡ false → PaysBox d v before after told now
+pub cell-traced : (d : CellDescent) (v : Visit) (before after : PointValues) (told now : Counts) → IsBox v.box → is_long d.boxes.leaf v.box ≡ false → PaysBox d v before after told now
     → CountsHullsAtLeast (long_spans_in d v) told now
 cell-traced d v before after told now is short pays =
     let paid = pays (λ p. 0) (λ s lies works p covers. omega arith) in
@@ -593,7 +603,7 @@ below-traced view v told since now long hulls below =
     hulls-then told since now (length v.list) (long_spans_below (gridded view) v) (long_spans_in (gridded view) v) (omega (arith, own-long v long)) (hulls-least told since (length v.list) hulls) below
 
 -- a cell is traced no more
-pub cell-traced_below : (d : Descent) (v : Visit) (told now : Counts) → CountsHullsAtLeast (long_spans_in d v) told now → CountsHullsAtLeast (long_spans_below d v) told now
+pub cell-traced_below : (d : CellDescent) (v : Visit) (told now : Counts) → CountsHullsAtLeast (long_spans_in d v) told now → CountsHullsAtLeast (long_spans_below d v) told now
 cell-traced_below d v told now least = record { by = least.by; many = omega (arith, least.many); rises = least.rises }
 
 -- nor a box of more cells that does not stay open
@@ -604,8 +614,8 @@ closed-traced view v told is closed =
     record { by = none.by; many = omega (arith, long-end (gridded view) v is uncut); rises = none.rises }
 
 -- but the halves of one that is split are
-pub halves-traced : (laws : Lawful) (view : Window) (v : Visit) (live : List Step) (told now : Counts) → IsVisit (gridded view) v → is_open (gridded view) v ≡ true → is_long 1 v.box ≡ true
-    → live ≡ handed_on (gridded view) v → CountsHullsAtLeast (halves_long_spans (gridded view) live (halves_of 1 v.box)) told now
+pub halves-traced : (laws : Lawful) (view : Window) (v : Visit) (live : List Step) (told now : Counts) → IsVisit (gridded view).boxes v → is_open (gridded view) v ≡ true → is_long 1 v.box ≡ true
+    → live ≡ handed_on (gridded view).boxes v → CountsHullsAtLeast (halves_long_spans (gridded view) live (halves_of 1 v.box)) told now
     → CountsHullsAtLeast (long_spans_below (gridded view) v) told now
 halves-traced laws view v live told now is open' long same halves = record {
   by = halves.by;
@@ -613,7 +623,7 @@ halves-traced laws view v live told now is open' long same halves = record {
   rises = halves.rises;
 }
   where
-    d : Descent
+    d : CellDescent
     d = gridded view
 
     cut : is_cut d v ≡ true
@@ -628,11 +638,11 @@ next-traced view other list half halves i own told since now same within read ea
     (omega (arith, sum_by_more (λ h. long_spans_below d (visit h list)) halves i half within, ap (λ h. long_spans_below d (visit h list)) read))
     earlier (subst (λ v. CountsHullsAtLeast (long_spans_below (gridded v) (visit half list)) since now) same here)
   where
-    d : Descent
+    d : CellDescent
     d = gridded view
 
 -- once all are
-pub all-traced : (d : Descent) (list : List Step) (halves : List Indices) (i : ℕ) (told now : Counts) → length halves ≤ i
+pub all-traced : (d : CellDescent) (list : List Step) (halves : List Indices) (i : ℕ) (told now : Counts) → length halves ≤ i
     → CountsHullsAtLeast (owned list halves + halves_long_below d list (take i halves)) told now → CountsHullsAtLeast (halves_long_spans d list halves) told now
 all-traced d list halves i told now all least = record {
   by = least.by;

@@ -1,7 +1,7 @@
 -- How known values become more, and what that takes.
 use Rattle.std.proofs.Common.{◌≡◌, ℕ, ◌+◌, ◌-◌, ◌*◌, ◌<◌, ◌≤◌, ℤ, Bool, true, false, cond, refl, sym, ap, ◌∙◌, ◌⊎◌, inl, inr, arith}
 use Rattle.std.specs.Prelude.{Some, None, ◌==◌, ◌&&◌}
-use Rattle.box_chains.specs.Chains.{Descent, Visit}
+use Rattle.box_chains.specs.Chains.{Visit}
 use Rattle.box_chains.specs.SumLaws.{along-parts, along-same, sum_in-plus, sum_in-same, upto-const}
 use Rattle.box_chains.specs.Sums.{LiesIn, Sample, sum_along, sum_in}
 use Rattle.box_chains.specs.Tallied.{CountsAtMost}
@@ -13,20 +13,22 @@ use Rattle.interval_ops.specs.HullCounts.{CountsHulls}
 use Rattle.kuhn_cells.specs.Triangles.{GridPoint, point}
 use Rattle.std.proofs.lemmas.Bool.{false≢true, and_parts, cond-false, cond-true, eq-eqb, eqb-true, ne_eqb}
 use Rattle.view_settings.specs.Boxes.{Indices}
+use Rattle.view_settings.specs.Window.{Window}
+use Rattle.oct_descent.proofs.Sizes.{size-is, size-none, size-then}
 use Rattle.oct_descent.specs.Bound.{CountsAtLeast, points_of_grid}
 use Rattle.oct_descent.specs.Fills.{point_box}
 use Rattle.oct_descent.specs.Tables.{AllKnown, AreRight, AreSettled, AreWorked, Charges, Grows, IsNew, IsSame, IsUniform, Pays, PointValues, Sets, is_known, known_at, left, same_point}
-use Rattle.oct_descent.specs.Ways.{Covers, cell_box}
+use Rattle.oct_descent.specs.Ways.{CellDescent, Covers, cell_box, gridded}
 use Rattle.oct_descent.proofs.Covered.{corner-covered}
 
 -- ---- growth
 
 pub grows-none : (g : GridPoint → ℤ) (b : Indices) (t : PointValues) → Grows g b t t
-grows-none g b t = record { n = refl; each = λ p. inl refl }
+grows-none g b t = record { n = size-none t.n; each = λ p. inl refl }
 
 pub grows-then : (g : GridPoint → ℤ) (b : Indices) (before mid after : PointValues) → Grows g b before mid → Grows g b mid after → Grows g b before after
 grows-then g b before mid after first second = record {
-  n = second.n ∙ first.n;
+  n = size-then after.n mid.n before.n second.n first.n;
   each = λ p. by p (first.each p) (second.each p);
 }
   where
@@ -135,12 +137,12 @@ pub same-self : (p : GridPoint) → same_point p p ≡ true
 same-self p = rw (eq-eqb p.x p.x refl, eq-eqb p.y p.y refl, eq-eqb p.z p.z refl) refl
 
 -- a point that becomes known is no longer left
-left-set : (f : GridPoint → ℕ) (p : GridPoint) (v : ℤ) (before after : PointValues) → p.x ≤ before.n → p.y ≤ before.n → p.z ≤ before.n → known_at before p ≡ None → Sets p v before after
+left-set : (f : GridPoint → ℕ) (p : GridPoint) (v : ℤ) (before after : PointValues) → p.x ≤ before.n.x → p.y ≤ before.n.y → p.z ≤ before.n.z → known_at before p ≡ None → Sets p v before after
     → f p + left f after ≡ left f before
 left-set f p v before after x y z unknown sets =
     let b = points_of_grid before.n in
     let lies : LiesIn b (record { i = p.x; j = p.y; k = p.z }) = record { x = (omega arith, omega (arith, x)); y = (omega arith, omega (arith, y)); z = (omega arith, omega (arith, z)) } in
-    let same : left f after ≡ sum_in b now = ap (λ n. sum_in (points_of_grid n) now) sets.n in
+    let same : left f after ≡ sum_in b now = ap (λ n. sum_in (points_of_grid n) now) (size-is after.n before.n sets.n) in
     let split = sum_in-same b then' (λ s. cond (same_point p (spot s)) (f p) 0 + now s) (λ s l. by (spot s) (same_point p (spot s)) refl) in
     omega (arith, same, split, sum_in-plus b (λ s. cond (same_point p (spot s)) (f p) 0) now, sum_in-one b p (f p) lies)
   where
@@ -190,7 +192,7 @@ charges-then f s t u before mid after told since now less first second = record 
   counts = most-then told since now first.points s second.points t (first.points + second.points) u (omega arith) less first.counts second.counts;
 }
 
-pub charges-set : (f : GridPoint → ℕ) (p : GridPoint) (v : ℤ) (len : ℕ) (before after : PointValues) (told now : Counts) → p.x ≤ before.n → p.y ≤ before.n → p.z ≤ before.n
+pub charges-set : (f : GridPoint → ℕ) (p : GridPoint) (v : ℤ) (len : ℕ) (before after : PointValues) (told now : Counts) → p.x ≤ before.n.x → p.y ≤ before.n.y → p.z ≤ before.n.z
     → known_at before p ≡ None → Sets p v before after → len ≤ f p → RisesBy told now (points_of len) → Charges f 0 before after told now
 charges-set f p v len before after told now x y z unknown sets few rises = record {
   points = len;
@@ -225,13 +227,13 @@ same-grows g b before after same = record { n = same.n; each = λ p. inl (same.e
 
 pub same-sets : (p : GridPoint) (v : ℤ) (before mid after : PointValues) → IsSame before mid → Sets p v mid after → Sets p v before after
 same-sets p v before mid after same sets = record {
-  n = sets.n ∙ same.n;
+  n = size-then after.n mid.n before.n sets.n same.n;
   each = λ q. sets.each q ∙ ap (λ o. cond (same_point p q) (Some v) o) (same.each q);
 }
 
 same-left : (f : GridPoint → ℕ) (before after : PointValues) → IsSame before after → left f after ≡ left f before
 same-left f before after same =
-    ap (λ n. sum_in (points_of_grid n) (λ s. cond (is_known (known_at after (point s.i s.j s.k))) 0 (f (point s.i s.j s.k)))) same.n
+    ap (λ n. sum_in (points_of_grid n) (λ s. cond (is_known (known_at after (point s.i s.j s.k))) 0 (f (point s.i s.j s.k)))) (size-is after.n before.n same.n)
     ∙ sum_in-same (points_of_grid before.n) (λ s. cond (is_known (known_at after (point s.i s.j s.k))) 0 (f (point s.i s.j s.k)))
     (λ s. cond (is_known (known_at before (point s.i s.j s.k))) 0 (f (point s.i s.j s.k)))
     (λ s lies. ap (λ o. cond (is_known o) 0 (f (point s.i s.j s.k))) (same.each (point s.i s.j s.k)))
@@ -266,7 +268,7 @@ pays-then f before mid after told since now first second = record {
   };
 }
 
-pub pays-set : (f : GridPoint → ℕ) (p : GridPoint) (v : ℤ) (len : ℕ) (before after : PointValues) (told now : Counts) → p.x ≤ before.n → p.y ≤ before.n → p.z ≤ before.n
+pub pays-set : (f : GridPoint → ℕ) (p : GridPoint) (v : ℤ) (len : ℕ) (before after : PointValues) (told now : Counts) → p.x ≤ before.n.x → p.y ≤ before.n.y → p.z ≤ before.n.z
     → known_at before p ≡ None → Sets p v before after → f p ≤ len → RisesBy told now (points_of len) → Pays f before after told now
 pays-set f p v len before after told now x y z unknown sets few rises = record {
   points = len;
@@ -284,8 +286,8 @@ same-pays f before after now same = record {
 -- ---- working cells
 
 -- all corners of a box are those of its working cells too
-pub known-worked : (d : Descent) (v : Visit) (t : PointValues) → AllKnown t v.box → AreWorked d v t
-known-worked d v t known s lies works p covers = known p (corner-covered v.box s p lies covers)
+pub known-worked : (view : Window) (v : Visit) (t : PointValues) → AllKnown t v.box → AreWorked (gridded view) v t
+known-worked view v t known s lies works p covers = known p (corner-covered v.box s p lies covers)
 
-pub worked-stays : (g : GridPoint → ℤ) (d : Descent) (v : Visit) (b : Indices) (before after : PointValues) → Grows g b before after → AreWorked d v before → AreWorked d v after
+pub worked-stays : (g : GridPoint → ℤ) (d : CellDescent) (v : Visit) (b : Indices) (before after : PointValues) → Grows g b before after → AreWorked d v before → AreWorked d v after
 worked-stays g d v b before after grows worked s lies works p covers = stays-known g b before after p grows (worked s lies works p covers)

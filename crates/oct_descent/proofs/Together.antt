@@ -1,5 +1,5 @@
 -- What tracing together told of the halves of a box.
-use Rattle.std.proofs.Common.{◌≡◌, ℕ, ◌+◌, ◌-◌, ◌<◌, ◌≤◌, Bool, true, false, cond, List, [], ◌∷◌, ◌++◌, length, get_or, drop, map, refl, sym, ap, subst, ◌∙◌, ◌⊎◌, inl, inr, arith}
+use Rattle.std.proofs.Common.{◌≡◌, ℕ, ◌+◌, ◌<◌, ◌≤◌, Bool, true, false, cond, List, [], ◌∷◌, ◌++◌, length, get_or, drop, refl, sym, ap, subst, ◌∙◌, ◌⊎◌, inl, inr, arith}
 use mir.Val.{bool_byte}
 use Rattle.std.specs.Prelude.{Option, Some, None}
 use Rattle.std.specs.List.{All}
@@ -18,7 +18,9 @@ use Rattle.view_settings.specs.Boxes.{Indices}
 use Rattle.view_settings.specs.Window.{Window}
 use Rattle.view_settings.specs.declared.lattice.Lattice.TheVariants as lattices
 use Rattle.oct_descent.specs.Desks.{IsAt, IsToldAt, asked_of, longer}
+use Rattle.oct_descent.specs.Sizes.{size_of}
 use Rattle.oct_descent.specs.Ways.{gridded, is_open, is_open_by, meets_border}
+use Rattle.oct_descent.specs.declared.grid_size.GridSize.{GridSize}
 
 -- whether an outcome hands on a list, and which
 unfoldable pub opens : Outcome → Bool
@@ -31,7 +33,7 @@ list_in Inside = []
 list_in Outside = []
 list_in (Open list) = list
 
-opens-by : (n : ℕ) (b : Indices) (told : Option Bool) (held : Bool) (live : List Step) → meets_border n b ≡ held → opens (outcome_by (held_decision held told) live) ≡ is_open_by n b told
+opens-by : (n : GridSize) (b : Indices) (told : Option Bool) (held : Bool) (live : List Step) → meets_border n b ≡ held → opens (outcome_by (held_decision held told) live) ≡ is_open_by (meets_border n) b told
 unfolding opens
 opens-by n b None false live e = refl
 opens-by n b None true live e = refl
@@ -50,14 +52,14 @@ list-by (Some false) false live e = absurd (false≢true e)
 list-by (Some false) true live e = absurd (false≢true e)
 
 -- a box stays open where its outcome hands on a list, and that is the box's
-pub told-opens : (view : Window) (b : Indices) (list : List Step) (o : Outcome) → o ≡ asked_outcome (record { view = view; lattice = lattices.Grid }) list (asked_of view.n b) → is_open (gridded view) (visit b list) ≡ opens o
+pub told-opens : (view : Window) (b : Indices) (list : List Step) (o : Outcome) → o ≡ asked_outcome (record { view = view; lattice = lattices.Grid }) list (asked_of (size_of view) b) → is_open (gridded view) (visit b list) ≡ opens o
 told-opens view b list o is =
-    sym (ap opens is ∙ opens-by view.n b (decision (gridded view) (visit b list)) (meets_border view.n b) (handed_on (gridded view) (visit b list)) refl)
+    sym (ap opens is ∙ opens-by (size_of view) b (decision (gridded view).boxes (visit b list)) (meets_border (size_of view) b) (handed_on (gridded view).boxes (visit b list)) refl)
 
-pub told-hands : (view : Window) (b : Indices) (list : List Step) (o : Outcome) → o ≡ asked_outcome (record { view = view; lattice = lattices.Grid }) list (asked_of view.n b) → opens o ≡ true
-    → list_in o ≡ handed_on (gridded view) (visit b list)
+pub told-hands : (view : Window) (b : Indices) (list : List Step) (o : Outcome) → o ≡ asked_outcome (record { view = view; lattice = lattices.Grid }) list (asked_of (size_of view) b) → opens o ≡ true
+    → list_in o ≡ handed_on (gridded view).boxes (visit b list)
 told-hands view b list o is open' =
-    ap list_in is ∙ list-by (decision (gridded view) (visit b list)) (meets_border view.n b) (handed_on (gridded view) (visit b list)) (sym (ap opens is) ∙ open')
+    ap list_in is ∙ list-by (decision (gridded view).boxes (visit b list)) (meets_border (size_of view) b) (handed_on (gridded view).boxes (visit b list)) (sym (ap opens is) ∙ open')
 
 -- what stands at a place stands first behind it
 head_or : {A : Type 0} → A → List A → A
@@ -84,15 +86,15 @@ next-is xs at d y ys e =
 -- first of these stands at that place, where it is longer than a cell, and the others behind it.
 pub record IsStep (places : Sampling) (list : List Step) (halves : List Indices) (half : Indices) (i : ℕ) (outcomes : List Outcome) (at next : ℕ) : Type 0 where
   pub told : IsToldAt places list half outcomes at
-  pub rest : drop next outcomes ≡ asked_outcomes places list (longer places.view.n (drop (i + 1) halves))
+  pub rest : drop next outcomes ≡ asked_outcomes places list (longer (size_of places.view) (drop (i + 1) halves))
 
 pub step-told : (places : Sampling) (list : List Step) (halves : List Indices) (half : Indices) (i : ℕ) (outcomes : List Outcome) (at next : ℕ) → i < length halves → half ≡ get_or halves i half
-    → All (HandsOn (length list)) outcomes → drop at outcomes ≡ asked_outcomes places list (longer places.view.n (drop i halves))
+    → All (HandsOn (length list)) outcomes → drop at outcomes ≡ asked_outcomes places list (longer (size_of places.view) (drop i halves))
     → next ≡ at + cond (is_long 1 half) 1 0 → IsStep places list halves half i outcomes at next
 step-told places list halves half i outcomes at next within read hands are step = by (is_long 1 half) refl
   where
-    n : ℕ
-    n = places.view.n
+    n : GridSize
+    n = size_of places.view
 
     piece : Indices → List AskedBox
     piece b = cond (is_long 1 b) (asked_of n b ∷ []) []
@@ -119,7 +121,7 @@ step-told places list halves half i outcomes at next within read hands are step 
 
 -- what is told of a box of a grid
 pub record IsLooked (view : Window) (b : Indices) (list : List Step) (o : Outcome) : Type 0 where
-  pub told : o ≡ asked_outcome (record { view = view; lattice = lattices.Grid }) list (asked_of view.n b)
+  pub told : o ≡ asked_outcome (record { view = view; lattice = lattices.Grid }) list (asked_of (size_of view) b)
   pub hands : HandsOn (length list) o
 
 pub at-told : (places : Sampling) (list : List Step) (b : Indices) (outcomes : List Outcome) (at : ℕ) (o : Outcome) → places.lattice ≡ lattices.Grid → IsAt places list b outcomes at → o ≡ get_or outcomes at o
@@ -127,14 +129,14 @@ pub at-told : (places : Sampling) (list : List Step) (b : Indices) (outcomes : L
 at-told places list b outcomes at o placed told read =
     let same = get_or_read outcomes at o told.within read Outside in
     record {
-      told = same ∙ told.is ∙ ap (λ l. asked_outcome (record { view = places.view; lattice = l }) list (asked_of places.view.n b)) placed;
+      told = same ∙ told.is ∙ ap (λ l. asked_outcome (record { view = places.view; lattice = l }) list (asked_of (size_of places.view) b)) placed;
       hands = subst (HandsOn (length list)) (sym same) told.hands;
     }
 
 -- a box that hands on a list stays open, and it is that box's list
 pub record IsOpened (view : Window) (b : Indices) (list live : List Step) : Type 0 where
   pub open' : is_open (gridded view) (visit b list) ≡ true
-  pub same : live ≡ handed_on (gridded view) (visit b list)
+  pub same : live ≡ handed_on (gridded view).boxes (visit b list)
   pub hands : IsHandedOn (length list) live
 
 pub opened-told : (view : Window) (b : Indices) (list live : List Step) (o : Outcome) → IsLooked view b list o → o ≡ Open live → IsOpened view b list live

@@ -1,5 +1,5 @@
 -- What looking into the box of all cells leaves.
-use Rattle.std.proofs.Common.{◌≡◌, ℕ, ◌≤◌, Bool, true, false, cond, List, refl, sym, ap, subst, ◌∙◌, ◌⊎◌, inl, inr, arith}
+use Rattle.std.proofs.Common.{◌≡◌, ℕ, Bool, true, false, cond, List, refl, sym, ap, subst, ◌∙◌, ◌⊎◌, inl, inr, arith}
 use Rattle.std.specs.Prelude.{Some, None}
 use Rattle.std.proofs.lemmas.Bool.{false≢true}
 use Rattle.box_chains.specs.Chains.{visit}
@@ -14,8 +14,10 @@ use Rattle.view_settings.specs.Boxes.{Indices}
 use Rattle.view_settings.specs.Spans.{root_of}
 use Rattle.view_settings.specs.Window.{Window}
 use Rattle.view_settings.specs.declared.lattice.Lattice.TheVariants as lattices
+use Rattle.oct_descent.proofs.Sizes.{size-from, size-then}
 use Rattle.oct_descent.specs.Bound.{CountsAtLeast, greatest, least, lengths_at, mesh_least, mesh_points, mesh_spans, points_of_grid, working_lengths}
 use Rattle.oct_descent.specs.GridValues.{grid_value}
+use Rattle.oct_descent.specs.Sizes.{IsSmall, SameSize, size_of}
 use Rattle.oct_descent.specs.Tables.{AreSettled, AreWorked, ChargesBox, Grows, IsNew, PaysBox, PointValues, is_known, known_at, left}
 use Rattle.oct_descent.specs.Trees.{IsTold}
 use Rattle.oct_descent.specs.Ways.{gridded, whole}
@@ -27,13 +29,13 @@ left-all f t none =
     sum_in-same (points_of_grid t.n) (λ s. cond (is_known (known_at t (point s.i s.j s.k))) 0 (f (point s.i s.j s.k))) (λ s. f (point s.i s.j s.k))
     (λ s lies. ap (λ o. cond (is_known o) 0 (f (point s.i s.j s.k))) (none (point s.i s.j s.k)))
 
-mesh-left : (view : Window) (list : List Step) (t : PointValues) → t.n ≡ view.n → ((p : GridPoint) → known_at t p ≡ None) → left (λ p. greatest (lengths_at view list p)) t ≡ mesh_points view list
+mesh-left : (view : Window) (list : List Step) (t : PointValues) → t.n ≡ size_of view → ((p : GridPoint) → known_at t p ≡ None) → left (λ p. greatest (lengths_at view list p)) t ≡ mesh_points view list
 unfolding mesh_points
 mesh-left view list t same none =
     left-all (λ p. greatest (lengths_at view list p)) t none ∙ ap (λ n. sum_in (points_of_grid n) (λ s. greatest (lengths_at view list (point s.i s.j s.k)))) same
 
 -- the work of the box of all cells is within that of the grid
-pub whole-counted : (view other : Window) (list : List Step) (b : Indices) (before after : PointValues) (told now : Counts) → other ≡ view → b ≡ root_of view lattices.Grid → before.n ≡ view.n
+pub whole-counted : (view other : Window) (list : List Step) (b : Indices) (before after : PointValues) (told now : Counts) → other ≡ view → b ≡ root_of view lattices.Grid → before.n ≡ size_of view
     → ((p : GridPoint) → known_at before p ≡ None) → ChargesBox (gridded other) (visit b list) before after told now → CountsAtMost (mesh_points view list) (mesh_spans view list) told now
 whole-counted view other list b before after told now same root n none charges =
     let f : GridPoint → ℕ = λ p. greatest (lengths_at view list p) in
@@ -41,7 +43,7 @@ whole-counted view other list b before after told now same root n none charges =
     let h = here f (points_suffice view list) in
     most-more told now h.points (mesh_spans view list) (mesh_points view list) (mesh_spans view list) (omega (arith, h.enough, mesh-left view list before n none)) (omega arith) h.counts
 
-mesh-due : (view : Window) (list : List Step) (t : PointValues) → t.n ≡ view.n → ((p : GridPoint) → known_at t p ≡ None) → left (λ p. least (working_lengths view list p)) t ≡ mesh_least view list
+mesh-due : (view : Window) (list : List Step) (t : PointValues) → t.n ≡ size_of view → ((p : GridPoint) → known_at t p ≡ None) → left (λ p. least (working_lengths view list p)) t ≡ mesh_least view list
 unfolding mesh_least
 mesh-due view list t same none =
     left-all (λ p. least (working_lengths view list p)) t none ∙ ap (λ n. sum_in (points_of_grid n) (λ s. least (working_lengths view list (point s.i s.j s.k)))) same
@@ -58,7 +60,7 @@ none-left view list t worked =
     by p false e = none_due view list t p worked e
 
 -- and no less work is counted than what is due
-pub whole-paid : (view other : Window) (list : List Step) (b : Indices) (before after : PointValues) (told now : Counts) → other ≡ view → b ≡ root_of view lattices.Grid → before.n ≡ view.n
+pub whole-paid : (view other : Window) (list : List Step) (b : Indices) (before after : PointValues) (told now : Counts) → other ≡ view → b ≡ root_of view lattices.Grid → before.n ≡ size_of view
     → ((p : GridPoint) → known_at before p ≡ None) → AreWorked (gridded other) (visit b list) after → PaysBox (gridded other) (visit b list) before after told now → CountsAtLeast (mesh_least view list) told now
 whole-paid view other list b before after told now same root n none worked pays =
     let f : GridPoint → ℕ = λ p. least (working_lengths view list p) in
@@ -68,15 +70,18 @@ whole-paid view other list b before after told now same root n none worked pays 
     record { by = h.counts.by; many = omega (arith, h.due, h.counts.many, mesh-due view list before n none, none-left view list after there); rises = h.counts.rises }
 
 -- and what it leaves tells the grid
-pub whole-told : (view other : Window) (list : List Step) (b : Indices) (before after : PointValues) → other ≡ view → b ≡ root_of view lattices.Grid → before.n ≡ view.n → view.n ≤ 256
+pub whole-told : (view other : Window) (list : List Step) (b : Indices) (before after : PointValues) → other ≡ view → b ≡ root_of view lattices.Grid → before.n ≡ size_of view → IsSmall (size_of view)
     → ((p : GridPoint) → known_at before p ≡ None) → Grows (grid_value other list) b before after → AreSettled (grid_value other list) b after → IsTold view list after
 whole-told view other list b before after same root n few none grows settled = record {
-  n = grows.n ∙ n;
-  few = omega (arith, grows.n, n, few);
+  n = size-then after.n before.n (size_of view) grows.n all;
+  few = (omega (arith, grows.n.0, all.0, few.0), (omega (arith, grows.n.1.0, all.1.0, few.1.0), omega (arith, grows.n.1.1, all.1.1, few.1.1)));
   right = λ p known. by p known (grows.each p);
   settled = subst (λ v. AreSettled (grid_value v list) (root_of view lattices.Grid) after) same (subst (λ c. AreSettled (grid_value other list) c after) root settled);
 }
   where
+    all : SameSize before.n (size_of view)
+    all = size-from before.n (size_of view) n
+
     by : (p : GridPoint) → is_known (known_at after p) ≡ true → (known_at after p ≡ known_at before p) ⊎ IsNew (grid_value other list) b before after p → known_at after p ≡ Some (grid_value view list p)
     by p known (inl stays) = absurd (false≢true (sym (ap is_known (stays ∙ none p)) ∙ known))
     by p known (inr new) = new.value ∙ ap (λ v. Some (grid_value v list p)) same

@@ -20,7 +20,7 @@ pub record LacksCorner (t : PointValues) (p : GridPoint) : Type 0 where
 -- the values of eight points along x stand there, from one on
 pub record IsRow (t : PointValues) (p : GridPoint) (start : ℕ) : Type 0 where
   pub within : start + 7 < length t.kept.known
-  pub each : (i : ℕ) → i < 8 → p.x + i ≤ t.n
+  pub each : (i : ℕ) → i < 8 → p.x + i ≤ t.n.x
       → read t.kept (start + i) ≡ known_at t (point (p.x + i) p.y p.z)
 
 -- how far behind the value of the lowest corner of a cell that of a corner stands in their brick

@@ -1,7 +1,7 @@
 -- What looking into a box needs, and what it leaves.
 use Rattle.std.specs.Prelude.{◌≡◌, ℕ, ◌-◌, ◌<◌, ◌≤◌, true, List, [], ◌∷◌, length, get_or, if◌then◌else◌}
 use Rattle.std.specs.List.{All, flat_map, sum_by}
-use Rattle.box_chains.specs.Chains.{Descent, Visit, is_long, visit}
+use Rattle.box_chains.specs.Chains.{Visit, is_long, visit}
 use Rattle.box_chains.specs.Outcomes.{HandsOn, asked_outcome}
 use Rattle.box_chains.specs.Placing.{Sampling}
 use Rattle.box_chains.specs.declared.asked_box.AskedBox.{AskedBox}
@@ -16,16 +16,18 @@ use Rattle.view_settings.specs.Window.{Window}
 use Rattle.view_settings.specs.declared.lattice.Lattice.TheVariants as lattices
 use Rattle.oct_descent.specs.Bound.{long_spans_in, spans_in}
 use Rattle.oct_descent.specs.GridValues.{grid_value}
+use Rattle.oct_descent.specs.Sizes.{SameSize, size_of}
 use Rattle.oct_descent.specs.Tables.{AreRight, Charges, IsDue, IsEnough, Pays, PointValues}
-use Rattle.oct_descent.specs.Ways.{gridded, meets_border}
+use Rattle.oct_descent.specs.Ways.{CellDescent, gridded, meets_border}
 use Rattle.oct_descent.specs.declared.desk.Desk.{Desk}
+use Rattle.oct_descent.specs.declared.grid_size.GridSize.{GridSize}
 
 -- The box is one of the grid's, whose points these are, and there is room for the list. What is
 -- known of the points that the box covers are the list's grid values.
 pub record MayLook (desk : Desk) (b : Indices) (list : List Step) (t : PointValues) : Type 0 where
   pub lattice : desk.places.lattice ≡ lattices.Grid
-  pub visit_is : IsVisit (gridded desk.places.view) (visit b list)
-  pub n : t.n ≡ desk.places.view.n
+  pub visit_is : IsVisit (gridded desk.places.view).boxes (visit b list)
+  pub n : SameSize t.n (size_of desk.places.view)
   pub room : length list ≤ length desk.room
   pub values : length list ≤ length desk.values.items
   pub right : AreRight (grid_value desk.places.view list) b t
@@ -43,22 +45,22 @@ pub record IsDesk (view : Window) (len : ℕ) (desk : Desk) : Type 0 where
   pub values : length desk.values.items ≡ len
 
 -- the steps that are traced over some halves of a box, which receive a list
-abbrev pub halves_spans : Descent → List Step → List Indices → ℕ
+abbrev pub halves_spans : CellDescent → List Step → List Indices → ℕ
 halves_spans d list halves = sum_by (λ half. spans_in d (visit half list)) halves
 
 -- and of these, those that are traced over boxes of more than one cell
-abbrev pub halves_long_spans : Descent → List Step → List Indices → ℕ
+abbrev pub halves_long_spans : CellDescent → List Step → List Indices → ℕ
 halves_long_spans d list halves = sum_by (λ half. long_spans_in d (visit half list)) halves
 
 -- whatever points take, if it is enough for each half of a box, no more is counted
-abbrev pub ChargesHalves : Descent → List Step → List Indices → PointValues → PointValues → Counts
+abbrev pub ChargesHalves : CellDescent → List Step → List Indices → PointValues → PointValues → Counts
     → Counts → Type 0
 ChargesHalves d list halves before after told now =
     (f : GridPoint → ℕ) → All (λ half. IsEnough f d (visit half list)) halves
     → Charges f (halves_spans d list halves) before after told now
 
 -- whatever points take, if the working cells of each half of a box take as much, no less is counted
-abbrev pub PaysHalves : Descent → List Step → List Indices → PointValues → PointValues → Counts
+abbrev pub PaysHalves : CellDescent → List Step → List Indices → PointValues → PointValues → Counts
     → Counts → Type 0
 PaysHalves d list halves before after told now = (f : GridPoint → ℕ)
     → All (λ half. IsDue f d (visit half list)) halves → Pays f before after told now
@@ -69,31 +71,31 @@ abbrev pub own_spans : Visit → ℕ
 own_spans v = if is_long 1 v.box then length v.list else 0
 
 -- the steps that are traced over a box while it is looked into
-abbrev pub spans_below : Descent → Visit → ℕ
+abbrev pub spans_below : CellDescent → Visit → ℕ
 spans_below d v = spans_in d v - own_spans v
 
 -- and of these, those that are traced over boxes of more than one cell
-abbrev pub long_spans_below : Descent → Visit → ℕ
+abbrev pub long_spans_below : CellDescent → Visit → ℕ
 long_spans_below d v = long_spans_in d v - own_spans v
 
 -- whatever points take, if it is enough for a box that is traced already, no more is counted
-abbrev pub ChargesBelow : Descent → Visit → PointValues → PointValues → Counts → Counts → Type 0
+abbrev pub ChargesBelow : CellDescent → Visit → PointValues → PointValues → Counts → Counts → Type 0
 ChargesBelow d v before after told now =
     (f : GridPoint → ℕ) → IsEnough f d v → Charges f (spans_below d v) before after told now
 
 -- a box as it is traced: held open where it covers a point of the outermost layer
-abbrev pub asked_of : ℕ → Indices → AskedBox
+abbrev pub asked_of : GridSize → Indices → AskedBox
 asked_of n b = record { range = b; held = meets_border n b }
 
 -- those of some boxes that are longer than a cell
-abbrev pub longer : ℕ → List Indices → List AskedBox
+abbrev pub longer : GridSize → List Indices → List AskedBox
 longer n boxes = flat_map (λ b. if is_long 1 b then asked_of n b ∷ [] else []) boxes
 
 -- what tracing a list over a box told stands at a place
 pub record IsAt (places : Sampling) (list : List Step) (b : Indices) (outcomes : List Outcome)
     (at : ℕ) : Type 0 where
   pub within : at < length outcomes
-  pub is : get_or outcomes at Outside ≡ asked_outcome places list (asked_of places.view.n b)
+  pub is : get_or outcomes at Outside ≡ asked_outcome places list (asked_of (size_of places.view) b)
   pub hands : HandsOn (length list) (get_or outcomes at Outside)
 
 -- it does where the box is longer than a cell

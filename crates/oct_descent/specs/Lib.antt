@@ -5,6 +5,7 @@ pub mod Fills
 pub mod GridValues
 pub mod Laws
 pub mod Rows
+pub mod Sizes
 pub mod Tables
 pub mod Trees
 pub mod Ways

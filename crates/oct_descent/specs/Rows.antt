@@ -7,6 +7,7 @@ use Rattle.kuhn_cells.specs.declared.cell_list.CellValues.{CellValues}
 use Rattle.live_clauses.specs.declared.step.Step.{Step}
 use Rattle.view_settings.specs.Window.{Window}
 use Rattle.oct_descent.specs.GridValues.{grid_of}
+use Rattle.oct_descent.specs.Sizes.{size_of}
 
 -- the cell at a place, where it is mixed
 abbrev pub cells_at : Window → List Step → GridPoint → List CellValues
@@ -20,8 +21,9 @@ cells_between view list low high y z =
 -- the mixed cells of row y of layer z
 abbrev pub cells_in_row : Window → List Step → ℕ → ℕ → List CellValues
 cells_in_row view list y z =
-    flat_map (λ x. cells_at view list (point x y z)) (range_with_len 0 view.n)
+    flat_map (λ x. cells_at view list (point x y z)) (range_with_len 0 (size_of view).x)
 
 -- the mixed cells of layer z
 abbrev pub cells_in_layer : Window → List Step → ℕ → List CellValues
-cells_in_layer view list z = flat_map (λ y. cells_in_row view list y z) (range_with_len 0 view.n)
+cells_in_layer view list z =
+    flat_map (λ y. cells_in_row view list y z) (range_with_len 0 (size_of view).y)

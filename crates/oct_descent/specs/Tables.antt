@@ -1,6 +1,6 @@
 -- Values of some points of a grid, and how they become more.
 use Rattle.std.specs.Prelude.{◌≡◌, ℕ, zero, suc, ◌+◌, ◌*◌, ◌/◌, ◌%◌, ◌≤◌, ◌==◌, nat_le, ℤ, pos, Bool, true, false, ◌&&◌, List, length, get_or, Option, Some, None, ◌⊎◌, if◌then◌else◌}
-use Rattle.box_chains.specs.Chains.{Descent, Visit}
+use Rattle.box_chains.specs.Chains.{Visit}
 use Rattle.box_chains.specs.Sums.{LiesIn, Sample, sum_in}
 use Rattle.box_chains.specs.Tallied.{CountsAtMost}
 use Rattle.fixed_ops.specs.Counts.{Counts}
@@ -8,7 +8,9 @@ use Rattle.fixed_ops.specs.Raw.{is_inside}
 use Rattle.kuhn_cells.specs.Triangles.{GridPoint, point}
 use Rattle.view_settings.specs.Boxes.{Indices}
 use Rattle.oct_descent.specs.Bound.{CountsAtLeast, points_of_grid, spans_in}
-use Rattle.oct_descent.specs.Ways.{Covers, cell_box, is_working, way_end}
+use Rattle.oct_descent.specs.Sizes.{SameSize}
+use Rattle.oct_descent.specs.Ways.{CellDescent, Covers, cell_box, is_working, way_end}
+use Rattle.oct_descent.specs.declared.grid_size.GridSize.{GridSize}
 
 -- the values that are known of some points: a mark and a value for each place, where a value counts
 -- where its mark is true
@@ -20,11 +22,10 @@ pub record Marks : Type 0 where
 abbrev pub read : Marks → ℕ → Option ℤ
 read b place = if get_or b.known place false then Some (get_or b.values place (pos 0)) else None
 
--- The values that are known of the points of a grid of n cells along each axis, in bricks of eight
--- points along each axis. Of each brick, by z, then by y, then by x, stands as which one it is
--- kept, from 1 on, and 0 where it is not.
+-- The values that are known of the points of a grid, in bricks of eight points along each axis. Of each
+-- brick, by z, then by y, then by x, stands as which one it is kept, from 1 on, and 0 where it is not.
 pub record PointValues : Type 0 where
-  pub n : ℕ
+  pub n : GridSize
   pub places : List ℕ
   pub kept : Marks
 
@@ -42,12 +43,12 @@ is_known None = false
 is_known (Some v) = true
 
 -- a point is one of a grid
-abbrev pub is_within : ℕ → GridPoint → Bool
-is_within n p = nat_le p.x n && (nat_le p.y n && nat_le p.z n)
+abbrev pub is_within : GridSize → GridPoint → Bool
+is_within n p = nat_le p.x n.x && (nat_le p.y n.y && nat_le p.z n.z)
 
 -- the brick of a point
-abbrev pub brick_of : ℕ → GridPoint → ℕ
-brick_of n p = (p.z / 8 * (n / 8 + 1) + p.y / 8) * (n / 8 + 1) + p.x / 8
+abbrev pub brick_of : GridSize → GridPoint → ℕ
+brick_of n p = (p.z / 8 * (n.y / 8 + 1) + p.y / 8) * (n.x / 8 + 1) + p.x / 8
 
 -- where the value of a point stands in its brick
 abbrev pub slot : GridPoint → ℕ
@@ -76,18 +77,18 @@ same_point p q = p.x == q.x && (p.y == q.y && p.z == q.z)
 
 -- the same values are known
 pub record IsSame (before after : PointValues) : Type 0 where
-  pub n : after.n ≡ before.n
+  pub n : SameSize after.n before.n
   pub each : (q : GridPoint) → known_at after q ≡ known_at before q
 
 -- what stands somewhere stays there
 pub record KeepsPlaces (before after : PointValues) : Type 0 where
-  pub n : after.n ≡ before.n
+  pub n : SameSize after.n before.n
   pub more : length before.kept.known ≤ length after.kept.known
   pub each : (q : GridPoint) (at : ℕ) → stand before q ≡ Some at → stand after q ≡ Some at
 
 -- one point gets a value
 pub record Sets (p : GridPoint) (v : ℤ) (before after : PointValues) : Type 0 where
-  pub n : after.n ≡ before.n
+  pub n : SameSize after.n before.n
   pub each : (q : GridPoint)
       → known_at after q ≡ (if same_point p q then Some v else known_at before q)
 
@@ -100,7 +101,7 @@ pub record IsNew (g : GridPoint → ℤ) (b : Indices)
 
 -- some points of a box that were not known get their values, and all else stays
 pub record Grows (g : GridPoint → ℤ) (b : Indices) (before after : PointValues) : Type 0 where
-  pub n : after.n ≡ before.n
+  pub n : SameSize after.n before.n
   pub each : (p : GridPoint) → (known_at after p ≡ known_at before p) ⊎ IsNew g b before after p
 
 -- what is known of the points that a box covers are their values
@@ -134,12 +135,12 @@ pub record Charges (f : GridPoint → ℕ) (spans : ℕ)
   pub counts : CountsAtMost points spans told now
 
 -- each corner of a working cell of a box takes no less than the length of the list that the cell receives
-abbrev pub IsEnough : (GridPoint → ℕ) → Descent → Visit → Type 0
+abbrev pub IsEnough : (GridPoint → ℕ) → CellDescent → Visit → Type 0
 IsEnough f d v = (s : Sample) → LiesIn v.box s → is_working d v s ≡ true → (p : GridPoint)
-    → Covers (cell_box s) p → length (way_end d v s).list ≤ f p
+    → Covers (d.cell s) p → length (way_end d v s).list ≤ f p
 
 -- whatever points take, if it is enough for a box, no more is counted
-abbrev pub ChargesBox : Descent → Visit → PointValues → PointValues → Counts → Counts → Type 0
+abbrev pub ChargesBox : CellDescent → Visit → PointValues → PointValues → Counts → Counts → Type 0
 ChargesBox d v before after told now =
     (f : GridPoint → ℕ) → IsEnough f d v → Charges f (spans_in d v) before after told now
 
@@ -151,16 +152,16 @@ pub record Pays (f : GridPoint → ℕ)
   pub counts : CountsAtLeast points told now
 
 -- each corner of a working cell of a box takes no more than the length of the list that the cell receives
-abbrev pub IsDue : (GridPoint → ℕ) → Descent → Visit → Type 0
+abbrev pub IsDue : (GridPoint → ℕ) → CellDescent → Visit → Type 0
 IsDue f d v = (s : Sample) → LiesIn v.box s → is_working d v s ≡ true → (p : GridPoint)
-    → Covers (cell_box s) p → f p ≤ length (way_end d v s).list
+    → Covers (d.cell s) p → f p ≤ length (way_end d v s).list
 
 -- whatever points take, if each working cell of a box takes as much, no less is counted
-abbrev pub PaysBox : Descent → Visit → PointValues → PointValues → Counts → Counts → Type 0
+abbrev pub PaysBox : CellDescent → Visit → PointValues → PointValues → Counts → Counts → Type 0
 PaysBox d v before after told now =
     (f : GridPoint → ℕ) → IsDue f d v → Pays f before after told now
 
 -- all corners of the working cells of a box are known
-abbrev pub AreWorked : Descent → Visit → PointValues → Type 0
+abbrev pub AreWorked : CellDescent → Visit → PointValues → Type 0
 AreWorked d v t =
-    (s : Sample) → LiesIn v.box s → is_working d v s ≡ true → AllKnown t (cell_box s)
+    (s : Sample) → LiesIn v.box s → is_working d v s ≡ true → AllKnown t (d.cell s)

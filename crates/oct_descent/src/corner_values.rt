@@ -2,6 +2,7 @@
 ghost use Rattle.std.specs.Prelude.{◌≡◌, ◌<◌, ◌≤◌, None, IfSome};
 ghost use Rattle.kuhn_cells.specs.Triangles.{point};
 ghost use Rattle.oct_descent.specs.Corners.{AreCorners, IsSeen, LacksCorner, is_mixed as is_mixed_of, side_seen};
+ghost use Rattle.oct_descent.specs.Sizes.{IsSmall};
 
 use crate::grid_values::GridValues;
 use crate::seen::Seen;
@@ -10,10 +11,10 @@ use fixed_ops::{Fx, is_inside};
 /// What the known corners of the cell at a place show.
 #[inline]
 pub fn seen(values: &GridValues, x: u32, y: u32, z: u32) -> Seen
-    requires few { values.now.n ≤ 256 }
-    requires x { x < values.now.n }
-    requires y { y < values.now.n }
-    requires z { z < values.now.n }
+    requires few { IsSmall values.now.n }
+    requires x { x < values.now.n.x }
+    requires y { y < values.now.n.y }
+    requires z { z < values.now.n.z }
     ensures { IsSeen values.now (point x y z) result }
 {
     let first = values.together(x, y, z);
@@ -47,10 +48,10 @@ fn with_corner(seen: Seen, corner: Option<Fx>) -> Seen
 /// them are known.
 #[inline]
 pub fn corners(values: &GridValues, x: u32, y: u32, z: u32) -> Option<[Fx; 8]>
-    requires few { values.now.n ≤ 256 }
-    requires x { x < values.now.n }
-    requires y { y < values.now.n }
-    requires z { z < values.now.n }
+    requires few { IsSmall values.now.n }
+    requires x { x < values.now.n.x }
+    requires y { y < values.now.n.y }
+    requires z { z < values.now.n.z }
     ensures all { IfSome result (λ found. AreCorners values.now (point x y z) found) }
     ensures lacks { result ≡ None → LacksCorner values.now (point x y z) }
 {

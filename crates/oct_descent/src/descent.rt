@@ -13,12 +13,14 @@ ghost use Rattle.oct_descent.specs.Bound.{CountsHullsAtLeast, CountsNoHull, long
 ghost use Rattle.oct_descent.specs.Corners.{IsSeen, IsShown};
 ghost use Rattle.oct_descent.specs.Desks.{ChargesBelow, ChargesHalves, IsToldAt, KeepsDesk, MayLook, PaysHalves, asked_of, halves_long_spans, long_spans_below, longer};
 ghost use Rattle.oct_descent.specs.GridValues.{grid_value};
+ghost use Rattle.oct_descent.specs.Sizes.{SameSize, size_of};
 ghost use Rattle.oct_descent.specs.Tables.{AreSettled, AreWorked, ChargesBox, Grows, PaysBox, PointValues};
 ghost use Rattle.oct_descent.specs.Ways.{gridded, is_open as is_open_for, is_open_by, meets_border as meets_border_of};
 
 use crate::corner_values::seen;
 use crate::desk::Desk;
 use crate::filling::fill_cell;
+use crate::grid_size::GridSize;
 use crate::grid_values::GridValues;
 use crate::seen::Seen;
 use arrayvec::ArrayVec;
@@ -155,7 +157,7 @@ fn trace_longer(
     desk: &mut Desk,
     boxes: &[IndexBox],
     received: &Tape,
-    n: u32,
+    n: GridSize,
     tally: &mut Tally,
 ) -> Result<ArrayVec<Outcome, 8>, AllocError>
     requires whole { IsWhole received.now }
@@ -179,7 +181,7 @@ fn trace_longer(
 
 // Those of some boxes that are longer than a cell.
 #[inline]
-fn longer_boxes(n: u32, boxes: &[IndexBox]) -> ArrayVec<AskedBox, 8>
+fn longer_boxes(n: GridSize, boxes: &[IndexBox]) -> ArrayVec<AskedBox, 8>
     requires { length boxes.now ≤ 8 }
     ensures items { result.items ≡ longer n boxes.now }
 {
@@ -194,7 +196,7 @@ fn longer_boxes(n: u32, boxes: &[IndexBox]) -> ArrayVec<AskedBox, 8>
 
 // A box that is held open where it covers a point of the outermost layer.
 #[inline]
-fn asked_box(n: u32, b: IndexBox) -> AskedBox
+fn asked_box(n: GridSize, b: IndexBox) -> AskedBox
     ensures { result ≡ asked_of n b }
 {
     AskedBox {
@@ -245,14 +247,14 @@ fn is_working(
     desk: &mut Desk,
     b: IndexBox,
     received: &Tape,
-    n: u32,
+    n: GridSize,
     seen: Seen,
     tally: &mut Tally,
 ) -> bool
     requires may { (t : PointValues) × MayLook desk.old b received.now t × IsSeen t
         (point b.x0 b.y0 b.z0) seen }
     requires one { is_long_for 1 b ≡ false }
-    requires n { n ≡ desk.old.places.view.n }
+    requires n { SameSize n (size_of desk.old.places.view) }
     ensures open { result ≡ is_open_for (gridded desk.old.places.view) (visit b received.now) }
     ensures counted { CountsAtMost 0 (length received.now) tally.old tally.new }
     ensures untraced { IsTrue seen.inside → IsTrue seen.outside → tally.new ≡ tally.old }
@@ -268,8 +270,8 @@ fn is_working(
 
 // Whether a box stays open, by what a look told.
 #[inline]
-fn is_open(told: Option<bool>, n: u32, b: IndexBox) -> bool
-    ensures { result ≡ is_open_by n b told }
+fn is_open(told: Option<bool>, n: GridSize, b: IndexBox) -> bool
+    ensures { result ≡ is_open_by (meets_border_of n) b told }
 {
     match told {
         None => true,
@@ -280,8 +282,8 @@ fn is_open(told: Option<bool>, n: u32, b: IndexBox) -> bool
 
 // Whether a box covers a point of the outermost layer.
 #[inline]
-fn meets_border(n: u32, b: IndexBox) -> bool
+fn meets_border(n: GridSize, b: IndexBox) -> bool
     ensures { result ≡ meets_border_of n b }
 {
-    b.x0 == 0 || b.x1 == n || b.y0 == 0 || b.y1 == n || b.z0 == 0 || b.z1 == n
+    b.x0 == 0 || b.x1 == n.x || b.y0 == 0 || b.y1 == n.y || b.z0 == 0 || b.z1 == n.z
 }

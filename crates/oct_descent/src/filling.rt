@@ -8,9 +8,11 @@ ghost use Rattle.oct_descent.specs.Corners.{AreTogether};
 ghost use Rattle.oct_descent.specs.Desks.{KeepsDesk, MayLook};
 ghost use Rattle.oct_descent.specs.Fills.{ChargesCorners, PaysCorners, point_box};
 ghost use Rattle.oct_descent.specs.GridValues.{bordered, grid_value, value_on};
+ghost use Rattle.oct_descent.specs.Sizes.{IsSmall, SameSize, size_of};
 ghost use Rattle.oct_descent.specs.Tables.{AllKnown, Grows, KeepsPlaces, is_known, known_at};
 
 use crate::desk::Desk;
+use crate::grid_size::GridSize;
 use crate::grid_values::GridValues;
 use choice_trace::{Inputs, evaluate};
 use fixed_ops::{Fx, Tally, border};
@@ -59,12 +61,12 @@ fn fill_corner(
 ) -> Result<(), AllocError>
     requires first { IfSome first (AreTogether values.old (point x y z)) }
     requires lattice { desk.old.places.lattice ≡ lattices.Grid }
-    requires n { values.old.n ≡ desk.old.places.view.n }
-    requires few { values.old.n ≤ 256 }
+    requires n { SameSize values.old.n (size_of desk.old.places.view) }
+    requires few { IsSmall values.old.n }
     requires room { length list.now ≤ length desk.old.values.items }
-    requires x { x < values.old.n }
-    requires y { y < values.old.n }
-    requires z { z < values.old.n }
+    requires x { x < values.old.n.x }
+    requires y { y < values.old.n.y }
+    requires z { z < values.old.n.z }
     requires c { c < 8 }
     ensures known { OnOk result (is_known (known_at values.new (further (point x y z) c)) ≡ true) }
     ensures grows { Grows (grid_value desk.old.places.view list.now)
@@ -105,10 +107,10 @@ fn value_at(desk: &mut Desk, x: u32, y: u32, z: u32, list: &Tape, tally: &mut Ta
 
 // A value as it counts at a point: in the outermost layer no point is inside.
 #[inline]
-fn closed(value: Fx, n: u32, x: u32, y: u32, z: u32) -> Fx
+fn closed(value: Fx, n: GridSize, x: u32, y: u32, z: u32) -> Fx
     ensures { result ≡ bordered n (point x y z) value }
 {
-    if x == 0 || x == n || y == 0 || y == n || z == 0 || z == n {
+    if x == 0 || x == n.x || y == 0 || y == n.y || z == 0 || z == n.z {
         border(value)
     } else {
         value

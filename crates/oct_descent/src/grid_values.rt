@@ -2,8 +2,10 @@
 ghost use Rattle.std.specs.Prelude.{◌≡◌, ◌+◌, ◌*◌, ◌/◌, ◌%◌, ◌<◌, ◌≤◌, None, Some, IfOk, IfSome, IsTrue, OnOk, length};
 ghost use Rattle.kuhn_cells.specs.Triangles.{GridPoint, further, point};
 ghost use Rattle.oct_descent.specs.Corners.{AreTogether, IsRow};
+ghost use Rattle.oct_descent.specs.Sizes.{IsSmall};
 ghost use Rattle.oct_descent.specs.Tables.{IsSame, KeepsPlaces, Sets, brick_of as brick_of_point, is_known as is_known_of, is_within, known_at, read as read_of, slot as slot_of, stand as stand_of};
 
+use crate::grid_size::GridSize;
 use fixed_ops::Fx;
 use std::alloc::{AllocError, Global};
 use std::marker::Model;
@@ -11,13 +13,12 @@ use std::marker::Model;
 /// How many points a brick has.
 const POINTS: usize = 512;
 
-/// The values that are known of the points of a grid of n cells along each axis. They stand in bricks
-/// of eight points along each axis, and there is memory for those bricks alone that have some: one
-/// brick after another, in two lists. `places` tells of each brick as which one it is kept, from 1
-/// on, and 0 where it is not.
+/// The values that are known of the points of a grid. They stand in bricks of eight points along each
+/// axis, and there is memory for those bricks alone that have some: one brick after another, in two
+/// lists. `places` tells of each brick as which one it is kept, from 1 on, and 0 where it is not.
 #[derive(Debug, Drop)]
 pub struct GridValues {
-    n: u32,
+    n: GridSize,
     places: Vec<usize>,
     known: Vec<bool>,
     values: Vec<Fx>,
@@ -25,6 +26,7 @@ pub struct GridValues {
 
 impl Model for GridValues {
     ghost use Rattle.std.specs.Prelude.{◌≡◌, ◌+◌, ◌*◌, ◌/◌, ◌≤◌, length};
+    ghost use Rattle.oct_descent.specs.Sizes.{IsSmall};
     ghost use Rattle.oct_descent.specs.Tables.{AreKept, PointValues};
 
     ghost Value = { PointValues };
@@ -35,20 +37,20 @@ impl Model for GridValues {
       kept = record { known = g.known.items; values = g.values.items };
     } };
 
-    ghost invariant = { λ g. (g.n ≤ 256)
-        × (length g.places.items ≡ (g.n / 8 + 1) * ((g.n / 8 + 1) * (g.n / 8 + 1)))
+    ghost invariant = { λ g. IsSmall g.n
+        × (length g.places.items ≡ (g.n.z / 8 + 1) * ((g.n.y / 8 + 1) * (g.n.x / 8 + 1)))
         × AreKept g.places.items (length g.known.items) (length g.values.items) };
 }
 
 impl GridValues {
     /// No known value. AllocError: there is no memory for the bricks' places.
-    pub fn new(alloc: Global, n: u32) -> Result<GridValues, AllocError>
-        requires { n ≤ 256 }
+    pub fn new(alloc: Global, n: GridSize) -> Result<GridValues, AllocError>
+        requires { IsSmall n }
         ensures n { IfOk result (λ values. values.n ≡ n) }
         ensures none { IfOk result (λ values. (p : GridPoint) → known_at values p ≡ None) }
     {
-        let side = n as usize / 8 + 1;
-        let places = vec![in alloc; 0usize; side * (side * side)]?;
+        let (x, y, z) = (bricks_along(n.x), bricks_along(n.y), bricks_along(n.z));
+        let places = vec![in alloc; 0usize; z * (y * x)]?;
         Ok(GridValues {
             n,
             places,
@@ -57,9 +59,9 @@ impl GridValues {
         })
     }
 
-    /// How many cells there are along each axis.
+    /// How many cells the grid has along each axis.
     #[inline]
-    pub fn n(&self) -> u32
+    pub fn n(&self) -> GridSize
         ensures { result ≡ self.now.n }
     {
         self.n
@@ -68,9 +70,9 @@ impl GridValues {
     /// The value of a point, where it is known.
     #[inline]
     pub fn get(&self, x: u32, y: u32, z: u32) -> Option<Fx>
-        requires x { x ≤ self.now.n }
-        requires y { y ≤ self.now.n }
-        requires z { z ≤ self.now.n }
+        requires x { x ≤ self.now.n.x }
+        requires y { y ≤ self.now.n.y }
+        requires z { z ≤ self.now.n.z }
         ensures { result ≡ known_at self.now (point x y z) }
     {
         self.read(self.stand(x, y, z)?)
@@ -79,9 +81,9 @@ impl GridValues {
     /// Where the value of a point stands, if its brick is kept.
     #[inline]
     pub fn stand(&self, x: u32, y: u32, z: u32) -> Option<usize>
-        requires x { x ≤ self.now.n }
-        requires y { y ≤ self.now.n }
-        requires z { z ≤ self.now.n }
+        requires x { x ≤ self.now.n.x }
+        requires y { y ≤ self.now.n.y }
+        requires z { z ≤ self.now.n.z }
         ensures stand { result ≡ stand_of self.now (point x y z) }
         ensures within { IfSome result (λ at. at < length self.now.kept.known) }
     {
@@ -96,9 +98,9 @@ impl GridValues {
     /// their brick is kept.
     #[inline]
     pub fn row(&self, x: u32, y: u32, z: u32) -> Option<usize>
-        requires x { x ≤ self.now.n }
-        requires y { y ≤ self.now.n }
-        requires z { z ≤ self.now.n }
+        requires x { x ≤ self.now.n.x }
+        requires y { y ≤ self.now.n.y }
+        requires z { z ≤ self.now.n.z }
         requires eighth { x % 8 ≡ 0 }
         ensures row { IfSome result (IsRow self.now (point x y z)) }
         ensures none { result ≡ None → stand_of self.now (point x y z) ≡ None }
@@ -121,9 +123,9 @@ impl GridValues {
     /// corners of the cell.
     #[inline]
     pub fn together(&self, x: u32, y: u32, z: u32) -> Option<usize>
-        requires x { x < self.now.n }
-        requires y { y < self.now.n }
-        requires z { z < self.now.n }
+        requires x { x < self.now.n.x }
+        requires y { y < self.now.n.y }
+        requires z { z < self.now.n.z }
         ensures { IfSome result (AreTogether self.now (point x y z)) }
     {
         // Each brick that is kept has a place of its own.
@@ -138,13 +140,13 @@ impl GridValues {
     #[inline]
     pub fn corner(&self, first: Option<usize>, x: u32, y: u32, z: u32, c: u32) -> Option<Fx>
         requires first { IfSome first (AreTogether self.now (point x y z)) }
-        requires x { x < self.now.n }
-        requires y { y < self.now.n }
-        requires z { z < self.now.n }
+        requires x { x < self.now.n.x }
+        requires y { y < self.now.n.y }
+        requires z { z < self.now.n.z }
         requires c { c < 8 }
         ensures { result ≡ known_at self.now (further (point x y z) c) }
     {
-        // No grid has more than 256 cells along an axis.
+        // No grid has more than 512 cells along an axis.
         let _n = self.n;
         let (i, j, k) = (c % 2, c / 2 % 2, c / 4 % 2);
         match first {
@@ -165,16 +167,16 @@ impl GridValues {
         c: u32,
     ) -> Result<usize, AllocError>
         requires first { IfSome first (AreTogether self.old (point x y z)) }
-        requires x { x < self.old.n }
-        requires y { y < self.old.n }
-        requires z { z < self.old.n }
+        requires x { x < self.old.n.x }
+        requires y { y < self.old.n.y }
+        requires z { z < self.old.n.z }
         requires c { c < 8 }
         ensures room { IfOk result (λ at. stand_of self.new (further (point x y z) c) ≡ Some at) }
         ensures within { IfOk result (λ at. at < length self.new.kept.known) }
         ensures keeps { OnOk result (KeepsPlaces self.old self.new) }
         ensures same { IsSame self.old self.new }
     {
-        // No grid has more than 256 cells along an axis.
+        // No grid has more than 512 cells along an axis.
         let _n = self.n;
         let (i, j, k) = (c % 2, c / 2 % 2, c / 4 % 2);
         match first {
@@ -200,9 +202,9 @@ impl GridValues {
     // memory for the brick.
     #[inline]
     fn make_room(&mut self, x: u32, y: u32, z: u32) -> Result<usize, AllocError>
-        requires x { x ≤ self.old.n }
-        requires y { y ≤ self.old.n }
-        requires z { z ≤ self.old.n }
+        requires x { x ≤ self.old.n.x }
+        requires y { y ≤ self.old.n.y }
+        requires z { z ≤ self.old.n.z }
         ensures room { IfOk result (λ at. stand_of self.new (point x y z) ≡ Some at) }
         ensures within { IfOk result (λ at. at < length self.new.kept.known) }
         ensures keeps { OnOk result (KeepsPlaces self.old self.new) }
@@ -216,9 +218,9 @@ impl GridValues {
 
     // The same for a brick that is not kept. Few calls come here.
     fn add_brick(&mut self, x: u32, y: u32, z: u32) -> Result<usize, AllocError>
-        requires x { x ≤ self.old.n }
-        requires y { y ≤ self.old.n }
-        requires z { z ≤ self.old.n }
+        requires x { x ≤ self.old.n.x }
+        requires y { y ≤ self.old.n.y }
+        requires z { z ≤ self.old.n.z }
         requires room { stand_of self.old (point x y z) ≡ None }
         ensures room { IfOk result (λ at. stand_of self.new (point x y z) ≡ Some at) }
         ensures within { IfOk result (λ at. at < length self.new.kept.known) }
@@ -248,16 +250,24 @@ impl GridValues {
 
 // Which brick has a point.
 #[inline]
-fn brick_of(n: u32, x: u32, y: u32, z: u32) -> usize
-    requires few { n ≤ 256 }
-    requires x { x ≤ n }
-    requires y { y ≤ n }
-    requires z { z ≤ n }
+fn brick_of(n: GridSize, x: u32, y: u32, z: u32) -> usize
+    requires few { IsSmall n }
+    requires x { x ≤ n.x }
+    requires y { y ≤ n.y }
+    requires z { z ≤ n.z }
     ensures brick { result ≡ brick_of_point n (point x y z) }
-    ensures within { result < (n / 8 + 1) * ((n / 8 + 1) * (n / 8 + 1)) }
+    ensures within { result < (n.z / 8 + 1) * ((n.y / 8 + 1) * (n.x / 8 + 1)) }
 {
-    let side = n as usize / 8 + 1;
-    (z as usize / 8 * side + y as usize / 8) * side + x as usize / 8
+    let (in_row, rows) = (bricks_along(n.x), bricks_along(n.y));
+    (z as usize / 8 * rows + y as usize / 8) * in_row + x as usize / 8
+}
+
+// How many bricks lie along an axis of so many cells.
+#[inline]
+fn bricks_along(cells: u32) -> usize
+    ensures { result ≡ cells / 8 + 1 }
+{
+    cells as usize / 8 + 1
 }
 
 // Where the value of a point stands in its brick.

@@ -1,5 +1,5 @@
 // What always holds of grids of lists and of the work that their cells take.
-ghost use Rattle.oct_descent.specs.Laws.{GridsAreBordered, MeshPointsAreBounded, MeshSpansAreBounded};
+ghost use Rattle.oct_descent.specs.Laws.{GridsAreBordered, LongMeshSpansAddUp, MeshPointsAreBounded, MeshSpansAddUp, MeshSpansAreBounded, ReachedBoxesAreCountedOnce, WaysGoOn};
 
 use box_chains::layers_hold;
 
@@ -14,6 +14,31 @@ pub fn grids_are_bordered()
 pub fn grid_work_is_bounded()
     ensures points { MeshPointsAreBounded }
     ensures spans { MeshSpansAreBounded }
+{
+    layers_hold();
+}
+
+/// The way to a cell goes on from a box that is split into the half that holds the cell, and ends at
+/// any other box.
+pub fn ways_go_on()
+    ensures { WaysGoOn }
+{
+    layers_hold();
+}
+
+/// The steps that are traced over a box of cells are those of its own list and, where it is split,
+/// those of its halves. The same holds of those that are traced over boxes of more than one cell.
+pub fn mesh_spans_add_up()
+    ensures spans { MeshSpansAddUp }
+    ensures long { LongMeshSpansAddUp }
+{
+    layers_hold();
+}
+
+/// The steps that are traced are those of the lists that the different boxes on the ways to the
+/// cells receive: each box is counted once.
+pub fn reached_boxes_are_counted_once()
+    ensures { ReachedBoxesAreCountedOnce }
 {
     layers_hold();
 }

@@ -6,12 +6,16 @@ mod corner_values;
 mod descent;
 mod desk;
 mod filling;
+mod grid_size;
 mod grid_values;
 mod laws;
 mod listing;
 mod oct_tree;
 mod seen;
 
-pub use laws::{grid_work_is_bounded, grids_are_bordered};
+pub use laws::{
+    grid_work_is_bounded, grids_are_bordered, mesh_spans_add_up, reached_boxes_are_counted_once,
+    ways_go_on,
+};
 pub use listing::cell_list;
 pub use oct_tree::{OctTree, cells};

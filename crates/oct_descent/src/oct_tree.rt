@@ -6,6 +6,7 @@ ghost use Rattle.oct_descent.specs.Bound.{CountsAtLeast, CountsHullsAtLeast, mes
 
 use crate::descent::look_into;
 use crate::desk::Desk;
+use crate::grid_size::mesh_size;
 use crate::grid_values::GridValues;
 use fixed_ops::Tally;
 use live_clauses::Tape;
@@ -33,9 +34,10 @@ impl Model for OctTree {
 }
 
 /// Looks into the boxes of the grid of a list of steps over a view. Each step that is traced over a
-/// box is counted, at most four corners with it, and each step that is evaluated at a point: each
-/// corner of a working cell is evaluated, none twice, and no other point. AllocError: there is no
-/// memory for the values.
+/// box is counted, at most four corners with it, and each step that is evaluated at a point. In all
+/// there are no more evaluations than one of a list at each corner of a working cell, the longest
+/// that such a cell receives, and no fewer than one of the shortest. AllocError: there is no memory
+/// for the values.
 pub fn cells(
     alloc: Global,
     list: &Tape,
@@ -52,7 +54,7 @@ pub fn cells(
         (CountsHullsAtLeast (mesh_long_spans view.now list.now) tally.old tally.new) }
 {
     let mut desk = Desk::new(alloc, view, list.len())?;
-    let mut values = GridValues::new(alloc, view.n)?;
+    let mut values = GridValues::new(alloc, mesh_size(view))?;
     look_into(
         alloc,
         &mut desk,

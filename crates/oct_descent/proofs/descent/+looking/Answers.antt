@@ -4,17 +4,17 @@ use Rattle.std.proofs.lemmas.List.{take_all}
 use Rattle.std.proofs.lemmas.List.Elements.{All-nil}
 use Rattle.box_chains.specs.Chains.{visit}
 use Rattle.box_chains.specs.Outcomes.{HandsOn, asked_outcomes}
-use Rattle.live_clauses.specs.Steps.{IsTape}
 use Rattle.box_chains.specs.TallyLaws.{most-hulls}
 use Rattle.box_chains.specs.ValueLaws.{IsVisit}
 use Rattle.interval_ops.specs.HullCounts.{CountsHulls}
+use Rattle.oct_descent.proofs.Sizes.{size-is, size-then}
 use Rattle.oct_descent.specs.Bound.{CountsHullsAtLeast}
 use Rattle.oct_descent.specs.Desks.{ChargesHalves, IsToldAt, PaysHalves, halves_long_spans, longer}
 use Rattle.oct_descent.specs.GridValues.{grid_value}
-use Rattle.kuhn_cells.specs.Triangles.{GridPoint}
-use Rattle.oct_descent.specs.Tables.{AreRight, AreSettled, AreWorked, Charges, IsEnough}
+use Rattle.oct_descent.specs.Sizes.{SameSize, size_of}
+use Rattle.oct_descent.specs.Tables.{AreRight, AreSettled, AreWorked}
 use Rattle.oct_descent.specs.Ways.{gridded}
-use Rattle.oct_descent.proofs.Looks.{all-settled, all-traced, begun-charged, begun-paid, cell-below, cell-traced, cell-traced_below, closed-settled, closed-traced, closed-worked, first-charged, first-traced, half-grows, half-part, half-shorter, half-visit, halves-boxes, halves-charged, halves-paid, halves-traced, halves-worked, handed-grows, handed-right, handed-settled, handed-tape, next-charged, next-paid, next-settled, next-traced, next-worked, on_ok, on_ok-then, part-covers, some-charged}
+use Rattle.oct_descent.proofs.Looks.{all-settled, all-traced, begun-charged, begun-paid, cell-below, cell-traced, cell-traced_below, closed-settled, closed-traced, closed-worked, first-charged, first-traced, half-grows, half-part, half-shorter, half-visit, halves-boxes, halves-charged, halves-in_root, halves-paid, halves-traced, halves-worked, handed-grows, handed-right, handed-settled, handed-tape, next-charged, next-paid, next-settled, next-traced, next-worked, on_ok, on_ok-then, part-covers, some-charged}
 use Rattle.oct_descent.proofs.TableLaws.{charges-none, grows-none, grows-then, pays-none, right-grows}
 use Rattle.oct_descent.proofs.Together.{at-told, byte-is, byte-most, closed-told, opened-told, step-told}
 use Rattle.oct_descent.proofs.descent.+looking.Goals as goal
@@ -177,6 +177,10 @@ look_into_told-returns-in-Inside-2-clause-traced t c =
     let closed = closed-told view c.args.b c.args.received.now c.index-outcomes-at.result looked c.in-Inside.is in
     closed-traced view v c.args.tally.now c.requires.may.visit_is.box closed
 
+pub look_into_halves-trace_longer-requires-clause-within : goal.look_into_halves-trace_longer-requires-clause-within
+look_into_halves-trace_longer-requires-clause-within t c =
+    halves-in_root c.args.desk.now.places.view c.args.desk.now.places.lattice c.args.live.now c.args.b c.as_slice.result.now c.requires.may.lattice c.requires.may.visit_is (c.as_slice.ensures.value ∙ c.split-halves.ensures)
+
 pub look_into_halves-returns-in_err-outcomes-clause-counted : goal.look_into_halves-returns-in_err-outcomes-clause-counted
 look_into_halves-returns-in_err-outcomes-clause-counted t c =
     begun-charged c.layers_hold.ensures c.args.desk.now.places.view c.args.live.now c.args.b c.as_slice.result.now c.n.result c.args.values.now c.args.tally.now c.trace_longer.new.tally c.requires.may.visit_is.box
@@ -197,7 +201,7 @@ look_into_halves-loop-half-init t c =
       kept = c.in_ok-outcomes.ensures.kept;
       few = omega arith;
       told = c.as_slice-outcomes.ensures.value ∙ c.in_ok-outcomes.ensures.outcomes ∙ ap (λ hs. asked_outcomes c.args.desk.now.places live (longer c.n.result hs)) same
-          ∙ ap (λ n. asked_outcomes c.args.desk.now.places live (longer n halves)) (c.n.ensures ∙ c.requires.may.n);
+          ∙ ap (λ n. asked_outcomes c.args.desk.now.places live (longer n halves)) (c.n.ensures ∙ size-is c.args.values.now.n (size_of view) c.requires.may.n);
       settled = All-nil (λ h. AreSettled (grid_value view live) h c.args.values.now);
       grows = grows-none (grid_value view live) c.args.b c.args.values.now;
       counted = first-charged (gridded view) live halves c.n.result c.args.values.now c.args.tally.now c.trace_longer.new.tally hulls;
@@ -222,8 +226,8 @@ look_into_halves-look_into_told-requires t c =
       (
         record {
           lattice = ap (λ p. p.lattice) kept.places ∙ c.requires.may.lattice;
-          visit_is = subst (λ p. IsVisit (gridded p.view) (visit half live)) (sym kept.places) (half-visit places.view live c.args.b half part c.requires.may.visit_is);
-          n = c.loop-half.invariant.grows.n ∙ c.requires.may.n ∙ ap (λ p. p.view.n) (sym kept.places);
+          visit_is = subst (λ p. IsVisit (gridded p.view).boxes (visit half live)) (sym kept.places) (half-visit places.view live c.args.b half part c.requires.may.visit_is);
+          n = subst (λ p. SameSize c.loop-half.values.n (size_of p.view)) (sym kept.places) (size-then c.loop-half.values.n c.args.values.now.n (size_of places.view) c.loop-half.invariant.grows.n c.requires.may.n);
           room = omega (arith, kept.room, c.requires.may.room);
           values = omega (arith, kept.values, c.requires.may.values);
           right = subst (λ p. AreRight (grid_value p.view live) half c.loop-half.values) (sym kept.places)
@@ -330,3 +334,8 @@ look_into_halves-returns-clause-traced t c =
     let halves = c.as_slice-half-items.result.now in
     subst (λ hs. CountsHullsAtLeast (halves_long_spans d c.args.live.now hs) c.args.tally.now c.loop-half.tally) all
     (all-traced d c.args.live.now halves c.loop-half.half-index c.args.tally.now c.loop-half.tally (omega (arith, c.loop-half-test.false)) c.loop-half.invariant.traced)
+
+pub look_into_halves-returns-clause-paid : goal.look_into_halves-returns-clause-paid
+look_into_halves-returns-clause-paid t c =
+    subst (λ hs. PaysHalves (gridded c.args.desk.now.places.view) c.args.live.now hs c.args.values.now c.loop-half.values c.args.tally.now c.loop-half.tally)
+    (c.as_slice-half-items.ensures.value ∙ c.split-halves.ensures) c.loop-half.invariant.paid

@@ -6,6 +6,7 @@ use Rattle.kuhn_cells.specs.Triangles.{GridPoint}
 use Rattle.oct_descent.specs.Bound.{CountsHullsAtLeast}
 use Rattle.oct_descent.specs.Desks.{KeepsDesk, PaysHalves, longer}
 use Rattle.oct_descent.specs.GridValues.{grid_value}
+use Rattle.oct_descent.specs.Sizes.{size_of}
 use Rattle.oct_descent.specs.Tables.{AreSettled, AreWorked, Charges, Grows, IsEnough}
 use Rattle.oct_descent.specs.Ways.{gridded}
 use Rattle.oct_descent.proofs.Looks.{halves_below, halves_long_below, owned}
@@ -22,7 +23,7 @@ abbrev pub invariant-look_into_halves-loop-half : goal.invariant-look_into_halve
 invariant-look_into_halves-loop-half l = record {
   kept : KeepsDesk l.fn.desk l.desk;
   few : l.at ≤ l.half-index;
-  told : drop l.at l.outcomes ≡ asked_outcomes l.fn.desk.places l.live (longer l.fn.desk.places.view.n (drop l.half-index l.half-items));
+  told : drop l.at l.outcomes ≡ asked_outcomes l.fn.desk.places l.live (longer (size_of l.fn.desk.places.view) (drop l.half-index l.half-items));
   settled : All (λ h. AreSettled (grid_value l.fn.desk.places.view l.live) h l.values) (take l.half-index l.half-items);
   grows : Grows (grid_value l.fn.desk.places.view l.live) l.fn.b l.fn.values l.values;
   counted : (f : GridPoint → ℕ) → All (λ h. IsEnough f (gridded l.fn.desk.places.view) (visit h l.live)) l.half-items

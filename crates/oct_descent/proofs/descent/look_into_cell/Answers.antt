@@ -37,7 +37,7 @@ returns-clause-counted c =
 pub returns-then-seen-clause-worked : goal.returns-then-seen-clause-worked
 returns-then-seen-clause-worked c =
     let b = c.args.b in
-    known-worked (gridded c.args.desk.now.places.view) (visit b c.args.received.now) c.args.values.now
+    known-worked c.args.desk.now.places.view (visit b c.args.received.now) c.args.values.now
     (all-known b c.args.values.now (short-one b c.requires.may.visit_is.box c.requires.one)
     (λ k less. ap (λ i. is_known (known_at c.args.values.now (further (point i.x0 i.y0 i.z0) k))) (sym c.b.view_is) ∙ c.seen-seen.ensures.all c.if-seen.true k less))
 
@@ -54,7 +54,7 @@ returns-then-not-is_working-clause-paid c =
 
 pub returns-clause-worked : goal.returns-clause-worked
 returns-clause-worked c =
-    on_ok-then c.fill_cell.result _ _ (known-worked (gridded c.args.desk.now.places.view) (visit c.args.b c.args.received.now) c.fill_cell.new.values) c.fill_cell.ensures.known
+    on_ok-then c.fill_cell.result _ _ (known-worked c.args.desk.now.places.view (visit c.args.b c.args.received.now) c.fill_cell.new.values) c.fill_cell.ensures.known
 
 pub returns-clause-paid : goal.returns-clause-paid
 returns-clause-paid c =

@@ -1,6 +1,8 @@
 use Rattle.std.proofs.Common.{ap, arith, sym, ◌∙◌}
 use Rattle.kuhn_cells.specs.Triangles.{further, point}
+use Rattle.oct_descent.proofs.Sizes.{size-is}
 use Rattle.oct_descent.specs.GridValues.{bordered, grid_value}
+use Rattle.oct_descent.specs.Sizes.{size_of}
 use Rattle.oct_descent.proofs.Bricks.{within-from}
 use Rattle.oct_descent.proofs.Corners.{itself, unknown-is}
 use Rattle.oct_descent.proofs.TableLaws.{charges-none, charges-set, pays-none, pays-set, same-charges, same-pays, same-sets, set-grows}
@@ -18,9 +20,9 @@ returns-clause-grows c =
     let view = c.args.desk.now.places.view in
     let unknown = sym c.corner.ensures ∙ unknown-is c.corner.result (sym c.is_some.ensures ∙ c.if-is_some.false) in
     let same = c.in_ok-at.ensures.same in
-    let n = c.n.ensures ∙ same.n ∙ c.requires.n in
-    let right = c.closed.ensures ∙ ap (λ n. bordered n p c.value_at-value.result) n ∙ ap (bordered view.n p) c.value_at-value.ensures.value in
-    let within = within-from c.corner_room.new.self.n p (omega (arith, same.n, c.requires.x)) (omega (arith, same.n, c.requires.y)) (omega (arith, same.n, c.requires.z)) in
+    let n = c.n.ensures ∙ size-is c.corner_room.new.self.n c.args.values.now.n same.n ∙ size-is c.args.values.now.n (size_of view) c.requires.n in
+    let right = c.closed.ensures ∙ ap (λ n. bordered n p c.value_at-value.result) n ∙ ap (bordered (size_of view) p) c.value_at-value.ensures.value in
+    let within = within-from c.corner_room.new.self.n p (omega (arith, same.n.0, c.requires.x)) (omega (arith, same.n.1.0, c.requires.y)) (omega (arith, same.n.1.1, c.requires.z)) in
     let sets = same-sets p c.closed.result c.args.values.now c.corner_room.new.self c.set.new.self same (c.set.ensures.sets p within c.in_ok-at.ensures.room) in
     set-grows (grid_value view c.args.list.now) p c.closed.result c.args.values.now c.set.new.self unknown right sets
 
@@ -29,7 +31,7 @@ returns-clause-counted c f enough =
     let p = further (point c.args.x c.args.y c.args.z) c.args.c in
     let unknown = sym c.corner.ensures ∙ unknown-is c.corner.result (sym c.is_some.ensures ∙ c.if-is_some.false) in
     let same = c.in_ok-at.ensures.same in
-    let within = within-from c.corner_room.new.self.n p (omega (arith, same.n, c.requires.x)) (omega (arith, same.n, c.requires.y)) (omega (arith, same.n, c.requires.z)) in
+    let within = within-from c.corner_room.new.self.n p (omega (arith, same.n.0, c.requires.x)) (omega (arith, same.n.1.0, c.requires.y)) (omega (arith, same.n.1.1, c.requires.z)) in
     let sets = same-sets p c.closed.result c.args.values.now c.corner_room.new.self c.set.new.self same (c.set.ensures.sets p within c.in_ok-at.ensures.room) in
     charges-set f p c.closed.result _ c.args.values.now c.set.new.self c.args.tally.now c.value_at-value.new.tally (omega (arith, c.requires.x)) (omega (arith, c.requires.y)) (omega (arith, c.requires.z)) unknown sets
     (enough p (itself p)) c.value_at-value.ensures.counted
@@ -45,7 +47,7 @@ returns-clause-paid c f due =
     let p = further (point c.args.x c.args.y c.args.z) c.args.c in
     let unknown = sym c.corner.ensures ∙ unknown-is c.corner.result (sym c.is_some.ensures ∙ c.if-is_some.false) in
     let same = c.in_ok-at.ensures.same in
-    let within = within-from c.corner_room.new.self.n p (omega (arith, same.n, c.requires.x)) (omega (arith, same.n, c.requires.y)) (omega (arith, same.n, c.requires.z)) in
+    let within = within-from c.corner_room.new.self.n p (omega (arith, same.n.0, c.requires.x)) (omega (arith, same.n.1.0, c.requires.y)) (omega (arith, same.n.1.1, c.requires.z)) in
     let sets = same-sets p c.closed.result c.args.values.now c.corner_room.new.self c.set.new.self same (c.set.ensures.sets p within c.in_ok-at.ensures.room) in
     pays-set f p c.closed.result _ c.args.values.now c.set.new.self c.args.tally.now c.value_at-value.new.tally (omega (arith, c.requires.x)) (omega (arith, c.requires.y)) (omega (arith, c.requires.z)) unknown sets
     (due p (itself p)) c.value_at-value.ensures.counted

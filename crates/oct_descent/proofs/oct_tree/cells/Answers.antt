@@ -1,9 +1,10 @@
-use Rattle.std.proofs.Common.{◌≤◌, ap, arith, subst, sym, ◌∙◌}
+use Rattle.std.proofs.Common.{ap, subst, sym, ◌∙◌}
 use Rattle.box_chains.specs.TallyLaws.{most-none}
 use Rattle.box_chains.specs.Chains.{visit}
 use Rattle.view_settings.specs.Spans.{root_of}
 use Rattle.view_settings.specs.declared.lattice.Lattice.TheVariants as lattices
 use Rattle.oct_descent.specs.Bound.{CountsHullsAtLeast, long_spans_in}
+use Rattle.oct_descent.specs.Sizes.{IsSmall}
 use Rattle.oct_descent.specs.Trees.{IsTold}
 use Rattle.oct_descent.specs.Ways.{gridded}
 use Rattle.oct_descent.proofs.Whole.{whole-counted, whole-paid, whole-told}
@@ -18,28 +19,28 @@ returns-in_err-values-clause-at_most c = most-none c.args.tally.now _ _
 pub returns-in_err-look_into-clause-at_most : goal.returns-in_err-look_into-clause-at_most
 returns-in_err-look_into-clause-at_most c =
     let view = ap (λ p. p.view) c.in_ok-desk.ensures.places in
-    let n = c.in_ok-values.ensures.n ∙ ap (λ v. v.n) c.view.view_is in
+    let n = c.in_ok-values.ensures.n ∙ c.mesh_size.ensures.size in
     whole-counted c.args.view.now c.in_ok-desk.desk.places.view c.args.list.now c.root.result c.in_ok-values.values c.look_into.new.values c.args.tally.now c.look_into.new.tally view c.root.ensures n c.in_ok-values.ensures.none
     c.in_err-look_into.ensures.counted
 
 pub returns-in_err-share-clause-at_most : goal.returns-in_err-share-clause-at_most
 returns-in_err-share-clause-at_most c =
     let view = ap (λ p. p.view) c.in_ok-desk.ensures.places in
-    let n = c.in_ok-values.ensures.n ∙ ap (λ v. v.n) c.view.view_is in
+    let n = c.in_ok-values.ensures.n ∙ c.mesh_size.ensures.size in
     whole-counted c.args.view.now c.in_ok-desk.desk.places.view c.args.list.now c.root.result c.in_ok-values.values c.look_into.new.values c.args.tally.now c.look_into.new.tally view c.root.ensures n c.in_ok-values.ensures.none
     c.in_ok-look_into.ensures.counted
 
 pub returns-clause-at_most : goal.returns-clause-at_most
 returns-clause-at_most c =
     let view = ap (λ p. p.view) c.in_ok-desk.ensures.places in
-    let n = c.in_ok-values.ensures.n ∙ ap (λ v. v.n) c.view.view_is in
+    let n = c.in_ok-values.ensures.n ∙ c.mesh_size.ensures.size in
     whole-counted c.args.view.now c.in_ok-desk.desk.places.view c.args.list.now c.root.result c.in_ok-values.values c.look_into.new.values c.args.tally.now c.look_into.new.tally view c.root.ensures n c.in_ok-values.ensures.none
     c.in_ok-look_into.ensures.counted
 
 pub returns-clause-at_least : goal.returns-clause-at_least
 returns-clause-at_least c =
     let view = ap (λ p. p.view) c.in_ok-desk.ensures.places in
-    let n = c.in_ok-values.ensures.n ∙ ap (λ v. v.n) c.view.view_is in
+    let n = c.in_ok-values.ensures.n ∙ c.mesh_size.ensures.size in
     whole-paid c.args.view.now c.in_ok-desk.desk.places.view c.args.list.now c.root.result c.in_ok-values.values c.look_into.new.values c.args.tally.now c.look_into.new.tally view c.root.ensures n c.in_ok-values.ensures.none
     c.in_ok-look_into.ensures.worked c.in_ok-look_into.ensures.paid
 
@@ -49,12 +50,11 @@ returns-clause-traced c =
     subst (λ v. CountsHullsAtLeast (long_spans_in (gridded v) (visit (root_of c.args.view.now lattices.Grid) c.args.list.now)) c.args.tally.now c.look_into.new.tally) view
     (subst (λ b. CountsHullsAtLeast (long_spans_in (gridded c.in_ok-desk.desk.places.view) (visit b c.args.list.now)) c.args.tally.now c.look_into.new.tally) c.root.ensures c.in_ok-look_into.ensures.traced)
 
-pub invariant_of-result-2 : goal.invariant_of-result-2
-invariant_of-result-2 c =
-    let seen = c.view.view_is in
+pub invariant_of-result : goal.invariant_of-result
+invariant_of-result c =
     let view = ap (λ p. p.view) c.in_ok-desk.ensures.places in
-    let n = c.in_ok-values.ensures.n ∙ ap (λ v. v.n) seen in
-    let few : c.args.view.now.n ≤ 256 = omega (arith, ap (λ v. v.n) seen, c.view.invariant.n.few) in
+    let n = c.in_ok-values.ensures.n ∙ c.mesh_size.ensures.size in
+    let few = subst IsSmall c.mesh_size.ensures.size c.mesh_size.ensures.small in
     let told = whole-told c.args.view.now c.in_ok-desk.desk.places.view c.args.list.now c.root.result c.in_ok-values.values c.look_into.new.values view c.root.ensures n few c.in_ok-values.ensures.none
     c.in_ok-look_into.ensures.grows c.in_ok-look_into.ensures.settled in
-    subst (λ v. IsTold v c.in_ok-share.field-0 c.look_into.new.values) (sym seen) (subst (λ l. IsTold c.args.view.now l c.look_into.new.values) (sym c.in_ok-share.ensures) told)
+    subst (λ l. IsTold c.args.view.now l c.look_into.new.values) (sym c.in_ok-share.ensures) told
