@@ -13,7 +13,10 @@ const CASES: [(&str, &str); 7] = [
     ("a const -1e-999", "a const 0.0000000000\n"),
     ("a const -.5\n", "a const -0.5000000000\n"),
     // The word of an operation may be a name.
-    ("floor var-x\n f  floor floor", "floor var-x\nf floor floor\n"),
+    (
+        "floor var-x\n f  floor floor",
+        "floor var-x\nf floor floor\n",
+    ),
     // Comments and blanks go, names and order stay.
     (
         "# union\n\n x\tvar-x\r\n _y var-y\r\nu min x _y\nn neg u",

@@ -5,7 +5,7 @@ use Rattle.std.specs.Prelude.{Result, Ok, Err, OnErr, OnOk}
 use Rattle.fixed_ops.specs.Counts.{Counts}
 use Rattle.interval_ops.specs.Laws.{HullCountsAdd}
 use Rattle.interval_ops.specs.HullCounts.{CountsHulls}
-use Rattle.box_chains.specs.TallyLaws.{exactly-hulls, most-after, most-exactly}
+use Rattle.box_chains.proofs.TallyLaws.{exactly-hulls, most-after, most-exactly}
 use Rattle.box_chains.specs.Tallied.{CountsAtMost}
 
 -- some more boxes are traced

@@ -54,6 +54,10 @@ half_with leaf b s = unwrap_or (find (λ half. has_sample s.i s.j s.k half) (hal
 abbrev pub next_visit : Descent → Visit → Sample → Visit
 next_visit d v s = record { box = half_with d.leaf v.box s; list = handed_on d v }
 
+-- a half of a box that is split, with the list that it receives
+abbrev pub half_visit : Descent → Visit → Indices → Visit
+half_visit d v half = record { box = half; list = handed_on d v }
+
 -- the lengths of the sides, of which a half has fewer
 abbrev pub sides : Indices → ℕ
 sides b = (b.x1 - b.x0) + (b.y1 - b.y0) + (b.z1 - b.z0)

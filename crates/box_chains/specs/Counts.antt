@@ -1,11 +1,11 @@
 -- The work that boxes take: evaluations at samples, and steps that are traced over boxes.
-use Rattle.std.specs.Prelude.{ℕ, ◌==◌, Bool, ◌&&◌, List, length, Option, Some, None, if◌then◌else◌}
+use Rattle.std.specs.Prelude.{ℕ, ◌*◌, ◌==◌, Bool, ◌&&◌, List, length, Option, Some, None, if◌then◌else◌}
 use Rattle.std.specs.List.{sum_by}
 use Rattle.live_clauses.specs.declared.step.Step.{Step}
-use Rattle.view_settings.specs.Boxes.{Indices}
+use Rattle.view_settings.specs.Boxes.{Indices, halves_of}
 use Rattle.view_settings.specs.Spans.{root_of}
-use Rattle.box_chains.specs.Chains.{Descent, Visit, chain, chain_end, decision, handed_on}
-use Rattle.box_chains.specs.Sums.{Sample, sum_in}
+use Rattle.box_chains.specs.Chains.{Descent, Visit, chain, chain_end, decision, handed_on, is_long, visit}
+use Rattle.box_chains.specs.Sums.{Sample, size, sum_in}
 
 -- the evaluations that a sample takes in the last box on the way to it: none where that is decided,
 -- and else one for each step of the list that it hands on
@@ -40,3 +40,18 @@ spans_in d v = sum_in v.box (λ s. first_lengths s (chain d v s))
 -- the box of all samples, which receives the whole list
 abbrev pub root_visit : Descent → List Step → Visit
 root_visit d list = record { box = root_of d.view d.lattice; list = list }
+
+-- the evaluations that some boxes take that receive a list, and the steps that are traced over them
+abbrev pub halves_points : Descent → List Step → List Indices → ℕ
+halves_points d list halves = sum_by (λ half. points_in d (visit half list)) halves
+
+abbrev pub halves_spans : Descent → List Step → List Indices → ℕ
+halves_spans d list halves = sum_by (λ half. spans_in d (visit half list)) halves
+
+-- the work of an undecided box that hands on a list, but for its own trace
+abbrev pub open_points : Descent → Indices → List Step → ℕ
+open_points d b list =
+    if is_long d.leaf b then halves_points d list (halves_of d.leaf b) else size b * length list
+
+abbrev pub open_spans : Descent → Indices → List Step → ℕ
+open_spans d b list = if is_long d.leaf b then halves_spans d list (halves_of d.leaf b) else 0

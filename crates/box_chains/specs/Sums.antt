@@ -1,5 +1,5 @@
 -- Sums over the samples of a box.
-use Rattle.std.specs.Prelude.{ℕ, ◌-◌, ◌≤◌, ◌<◌}
+use Rattle.std.specs.Prelude.{ℕ, ◌-◌, ◌*◌, ◌≤◌, ◌<◌}
 use Rattle.std.specs.List.{range_with_len, sum_by}
 use Rattle.view_settings.specs.Boxes.{Indices}
 
@@ -24,3 +24,7 @@ abbrev pub sum_in : Indices → (Sample → ℕ) → ℕ
 sum_in b f =
     sum_along b.z0 b.z1 (λ k. sum_along b.y0 b.y1 (λ j. sum_along b.x0 b.x1 (λ i.
     f (record { i = i; j = j; k = k }))))
+
+-- how many samples a box has
+abbrev pub size : Indices → ℕ
+size b = (b.z1 - b.z0) * ((b.y1 - b.y0) * (b.x1 - b.x0))

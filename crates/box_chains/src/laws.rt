@@ -1,12 +1,12 @@
 // What always holds of chains of boxes and of the work that boxes take.
-ghost use Rattle.box_chains.specs.Laws.{BoxesAreCountedOnce, ChainsGoOn, PointsAddUp, PointsAreBounded, SamplesAreTold, SpansAddUp, SpansAreBounded};
-ghost use Rattle.box_chains.specs.ValueLaws.{Lawful};
+ghost use Rattle.box_chains.specs.Laws.{BoxesAreCountedOnce, ChainsGoOn, Lawful, PointsAddUp, PointsAreBounded, SamplesAreTold, SpansAddUp, SpansAreBounded, TestedWorkAddsUp};
 
 use choice_trace::traces_are_right;
 use live_clauses::{choices_keep_the_value, live_steps_are_the_least};
 use view_settings::{halves_part, ranges_hold};
 
-/// What the layers below promise of boxes, lists and points, in one place.
+/// What the layers below promise of boxes, lists and points, and what follows from it of boxes and
+/// their halves, of chains and of work, in one place.
 #[inline]
 pub fn layers_hold()
     ensures { Lawful }
@@ -34,6 +34,14 @@ pub fn work_adds_up()
     ensures spans { SpansAddUp }
     ensures points_bounded { PointsAreBounded }
     ensures spans_bounded { SpansAreBounded }
+{
+    layers_hold();
+}
+
+/// The work of those samples of a box that pass a test, where the box is split, is that of those
+/// samples of its halves.
+pub fn tested_work_adds_up()
+    ensures { TestedWorkAddsUp }
 {
     layers_hold();
 }

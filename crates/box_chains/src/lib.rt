@@ -10,7 +10,10 @@ mod rows;
 mod workspace;
 
 pub use asked_box::AskedBox;
-pub use laws::{boxes_are_counted_once, chains_go_on, layers_hold, samples_are_told, work_adds_up};
+pub use laws::{
+    boxes_are_counted_once, chains_go_on, layers_hold, samples_are_told, tested_work_adds_up,
+    work_adds_up,
+};
 pub use leaves::is_long;
 pub use outcome::Outcome;
 pub use places::Places;

@@ -5,3 +5,4 @@ mod GridLaws
 mod GridWork
 mod MeshLaws
 mod SoundTexts
+pub mod WorkLaws

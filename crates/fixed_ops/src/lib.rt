@@ -21,7 +21,9 @@ pub use arithmetic::{apply, corner};
 pub use crossing::cut;
 pub use digits::read_digits;
 pub use fixed::{Fx, border, is_inside, le, lt, raw_range};
-pub use laws::{clamps, floors, number_texts, quotients, raw_results, spelled_values, whole_numbers};
+pub use laws::{
+    clamps, floors, number_texts, quotients, raw_results, spelled_values, whole_numbers,
+};
 pub use number_text::{write_number, write_raw};
 pub use numeral::{BadNumeral, read_numeral, read_raw};
 pub use op_names::{op_name, read_op};

@@ -44,7 +44,12 @@ fn operations_give_the_exact_results(rt: HostRuntime) {
         (Op::Floor, -ONE, 0, -4_294_967_296),
         (Op::Floor, -ONE - 1, 0, -8_589_934_592),
         (Op::Floor, GREATEST, 0, 4_611_686_014_132_420_608),
-        (Op::Floor, -4_611_686_014_132_420_608, 0, -4_611_686_014_132_420_608),
+        (
+            Op::Floor,
+            -4_611_686_014_132_420_608,
+            0,
+            -4_611_686_014_132_420_608,
+        ),
         (Op::Floor, -4_611_686_014_132_420_609, 0, -GREATEST),
         (Op::Floor, -GREATEST, 0, -GREATEST),
         (Op::Add, HALF, ONE, 6_442_450_944),

@@ -6,9 +6,8 @@ use Rattle.std.proofs.Math.Seq.{drop-append_seam, take-append_seam}
 use Rattle.std.proofs.lemmas.Bool.Decides.{nat_tests}
 use Rattle.std.proofs.lemmas.Grind.{flat_map-append}
 use Rattle.std.proofs.lemmas.List.Concat.{flat_map-cons}
-use Rattle.std.proofs.lemmas.List.Elements.{All-cons, All-nil, All-weaker}
+use Rattle.std.proofs.lemmas.List.Elements.{All-append, All-cons, All-head, All-nil, All-tail, All-weaker}
 use Rattle.std.proofs.lemmas.List.Sums.{sum_by-append, sum_by-cons}
-use Rattle.box_chains.specs.HalfLaws.{All-flat_map}
 use Rattle.live_clauses.specs.declared.step.Step.{Step}
 use Rattle.view_settings.specs.Boxes.{Indices, IsBox, halves_of, halves_x, halves_y, middle}
 use Rattle.view_settings.specs.Window.{Window}
@@ -16,6 +15,12 @@ use Rattle.height_map.specs.Beside.{LieBeside, beside_top, farther, level_halves
 use Rattle.height_map.specs.Columns.{covers, leaf_top, lifted}
 use Rattle.height_map.specs.Tops.{inside, top_among}
 use Rattle.height_map.proofs.TopLaws.{lifted-twice}
+
+-- what holds of all parts of each
+All-flat_map : {X Y : Type 0} (P : Y → Type 0) (f : X → List Y) (xs : List X) → All (λ x. All P (f x)) xs → All P (flat_map f xs)
+All-flat_map P f [] h = All-nil P
+All-flat_map P f (x ∷ xs) h =
+    rw (flat_map-cons f x xs) (All-append P (f x) (flat_map f xs) (All-head (λ y. All P (f y)) x xs h) (All-flat_map P f xs (All-tail (λ y. All P (f y)) x xs h)))
 
 -- what the first of some boxes that has a column says of it, or else what is said without them
 abbrev said_by : (Indices → Bool) → (Indices → ℕ) → ℕ → List Indices → ℕ

@@ -1,9 +1,9 @@
 -- The work of a height map is bounded by that of its box of all samples.
-use Rattle.std.proofs.Common.{◌≡◌, ◌+◌, ◌-◌, ◌*◌, ◌≤◌, List, length, subst, arith}
+use Rattle.std.proofs.Common.{◌≡◌, ◌+◌, ◌-◌, ◌*◌, ◌≤◌, true, List, length, refl, subst, arith}
 use Rattle.box_chains.specs.Counts.{points_in}
-use Rattle.box_chains.specs.Laws.{PointsAreBounded, SpansAreBounded}
-use Rattle.box_chains.specs.SumLaws.{size}
-use Rattle.box_chains.specs.ValueLaws.{IsVisit}
+use Rattle.box_chains.specs.Laws.{PointsAreBounded, SpansAreBounded, TestedWorkAddsUp}
+use Rattle.box_chains.specs.Sums.{size}
+use Rattle.box_chains.specs.Visits.{IsVisit}
 use Rattle.live_clauses.specs.Steps.{IsTape}
 use Rattle.live_clauses.specs.declared.step.Step.{Step}
 use Rattle.view_settings.specs.Spans.{root_of}
@@ -11,7 +11,6 @@ use Rattle.view_settings.specs.Window.{Window, IsWindow}
 use Rattle.view_settings.specs.declared.lattice.Lattice.TheVariants.{Height}
 use Rattle.height_map.specs.Bound.{height_spans, is_near, layered, whole}
 use Rattle.height_map.specs.Laws.{HeightPointsAreBounded, HeightSpansAreBounded}
-use Rattle.height_map.proofs.WorkLaws.{points-all}
 
 pub whole-visit : (view : Window) (list : List Step) → IsWindow view → IsTape list → IsVisit (layered view) (whole view list)
 whole-visit view list window tape = record {
@@ -24,11 +23,16 @@ whole-visit view list window tape = record {
 whole-size : (view : Window) → size (root_of view Height) ≡ view.w * view.h * view.d
 whole-size view = grind arith
 
-pub points_bounded : PointsAreBounded → HeightPointsAreBounded
-points_bounded law view list window tape =
+pub points_bounded : TestedWorkAddsUp → PointsAreBounded → HeightPointsAreBounded
+points_bounded tested law view list window tape =
     let all : points_in (layered view) (whole view list) ≤ view.w * view.h * view.d * length list =
     subst (λ n. points_in (layered view) (whole view list) ≤ n * length list) (whole-size view) (law (layered view) (whole view list) (omega arith) (whole-visit view list window tape)) in
-    omega (arith, all, points-all (is_near view list) (layered view) (whole view list))
+    omega (
+      arith,
+      all,
+      tested.points_more (is_near view list) (λ s. true) (layered view) (whole view list) (λ s lies e. refl),
+      tested.points_all (layered view) (whole view list),
+    )
 
 pub spans_bounded : SpansAreBounded → HeightSpansAreBounded
 spans_bounded law view list window tape =

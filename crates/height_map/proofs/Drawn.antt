@@ -6,10 +6,11 @@ use Rattle.std.proofs.lemmas.Bool.{le-leb, lt-ltb}
 use Rattle.std.proofs.lemmas.Nat.{div-mul-add, mod-mul-add}
 use Rattle.std.specs.List.{All}
 use Rattle.std.proofs.lemmas.List.Elements.{All-drop, All-take, All-weaker}
-use Rattle.box_chains.specs.Chains.{Visit, decision, handed_on, is_long}
-use Rattle.box_chains.specs.HalfLaws.{IsPart, halves-are_parts, part-is_box}
+use Rattle.box_chains.specs.Chains.{Visit, decision, handed_on, is_long, visit}
+use Rattle.box_chains.specs.Parts.{IsPart}
 use Rattle.box_chains.specs.Sums.{LiesIn, Sample, sum_in}
-use Rattle.box_chains.specs.ValueLaws.{IsVisit, Lawful, decision-right, handed-value}
+use Rattle.box_chains.specs.Visits.{IsVisit}
+use Rattle.box_chains.specs.Laws.{Lawful}
 use Rattle.fixed_ops.specs.Counts.{Counts, RisesBy, points_of}
 use Rattle.fixed_ops.specs.Raw.{is_inside}
 use Rattle.live_clauses.specs.declared.step.Step.{Step}
@@ -17,11 +18,11 @@ use Rattle.view_settings.specs.Boxes.{Indices, IsBox, halves_of}
 use Rattle.view_settings.specs.Spans.{IsInRoot}
 use Rattle.view_settings.specs.Window.{IsWindow, Window}
 use Rattle.view_settings.specs.declared.lattice.Lattice.TheVariants.{Height}
-use Rattle.box_chains.specs.Chains.{visit}
 use Rattle.box_chains.specs.Tallied.{CountsAtMost}
-use Rattle.height_map.specs.Bound.{layered, open_points, open_spans}
+use Rattle.height_map.specs.Bound.{layered}
+use Rattle.box_chains.specs.Counts.{open_spans}
+use Rattle.box_chains.specs.Tested.{open_points_where}
 use Rattle.height_map.specs.Columns.{Changes, IsAmong, covers, is_open, leaf_cost, leaf_top, lifted}
-use Rattle.box_chains.specs.TallyLaws.{most-points}
 use Rattle.height_map.specs.Tops.{inside, top_among}
 use Rattle.height_map.proofs.ChangeLaws.{Changes-numbers, cell-of, covers-place, place-within}
 use Rattle.height_map.proofs.Beside.{far-dropped, far-taken, farther-below, halves-top, nearer-ends}
@@ -53,21 +54,21 @@ pub handed-top : (laws : Lawful) (view : Window) (b : Indices) (list : List Step
     → top_among view (handed_on (layered view) (visit b list)) b.z0 b.z1 i j ≡ top_among view list b.z0 b.z1 i j
 handed-top laws view b list i j is x y =
     best-same (inside view (handed_on (layered view) (visit b list)) i j) (inside view list i j) b.z0 b.z1
-    (λ k l h. ap is_inside (handed-value laws (layered view) (visit b list) (record { i = i; j = j; k = k }) is (sample-lies b i j k x y l h)))
+    (λ k l h. ap is_inside (laws.visits.values (layered view) (visit b list) (record { i = i; j = j; k = k }) is (sample-lies b i j k x y l h)))
 
 -- a box that is inside gives each column a top right above it
 pub inside-top : (laws : Lawful) (view : Window) (b : Indices) (list : List Step) (i j : ℕ) → IsVisit (layered view) (visit b list) → decision (layered view) (visit b list) ≡ Some true
     → (b.x0 ≤ i) × (i < b.x1) → (b.y0 ≤ j) × (j < b.y1) → top_among view list b.z0 b.z1 i j ≡ b.z1
 inside-top laws view b list i j is e x y =
     best-all (inside view list i j) b.z0 b.z1 is.box.z
-    (λ k l h. decision-right laws (layered view) (visit b list) (record { i = i; j = j; k = k }) true is (sample-lies b i j k x y l h) e)
+    (λ k l h. laws.visits.decided (layered view) (visit b list) (record { i = i; j = j; k = k }) true is (sample-lies b i j k x y l h) e)
 
 -- and a box that is outside gives none
 pub outside-top : (laws : Lawful) (view : Window) (b : Indices) (list : List Step) (i j : ℕ) → IsVisit (layered view) (visit b list) → decision (layered view) (visit b list) ≡ Some false
     → (b.x0 ≤ i) × (i < b.x1) → (b.y0 ≤ j) × (j < b.y1) → top_among view list b.z0 b.z1 i j ≡ 0
 outside-top laws view b list i j is e x y =
     best-none (inside view list i j) b.z0 b.z1
-    (λ k l h. decision-right laws (layered view) (visit b list) (record { i = i; j = j; k = k }) false is (sample-lies b i j k x y l h) e)
+    (λ k l h. laws.visits.decided (layered view) (visit b list) (record { i = i; j = j; k = k }) false is (sample-lies b i j k x y l h) e)
 
 -- what a box that is inside changes
 pub inside-drawn : (laws : Lawful) (view : Window) (list : List Step) (b : Indices) (w : ℕ) (before after : List ℕ) → w ≡ view.w → IsVisit (layered view) (visit b list)
@@ -111,10 +112,10 @@ outcome-drawn laws view list b o w before after width is told changed =
     by None e changed = undecided-drawn laws view list (handed_on (layered view) v) b w before after width is refl changed
 
 -- the work of a leaf is its evaluations
-pub leaf-counted : (view : Window) (list : List Step) (b : Indices) (tops : List ℕ) (before after : Counts) → is_long 8 b ≡ false
+pub leaf-counted : (laws : Lawful) (view : Window) (list : List Step) (b : Indices) (tops : List ℕ) (before after : Counts) → is_long 8 b ≡ false
     → RisesBy before after (points_of (sum_in b (leaf_cost view list b tops)))
-    → CountsAtMost (open_points (is_open view list b tops) (layered view) b list) (open_spans (layered view) b list) before after
-leaf-counted view list b tops before after short h = rw short (most-points before after (sum_in b (leaf_cost view list b tops)) h)
+    → CountsAtMost (open_points_where (is_open view list b tops) (layered view) b list) (open_spans (layered view) b list) before after
+leaf-counted laws view list b tops before after short h = rw short (laws.bounds.points before after (sum_in b (leaf_cost view list b tops)) h)
 
 -- a column of a part is one of the box
 pub part-covers : (w p : ℕ) (b part : Indices) → IsPart 8 b part → covers w part p ≡ true → covers w b p ≡ true
@@ -151,17 +152,17 @@ half-open view list b half old mid among is s lies =
     part.z.above (omega (arith, part.z.some)) part.z.below lies.z.0 lies.z.1 drawn
 
 -- the nearer halves are parts of the box, and so are the farther ones
-pub nearer-parts : (b : Indices) → IsBox b → All (IsPart 8 b) (nearer 8 b)
-nearer-parts b is =
-    subst (All (IsPart 8 b)) (far-dropped 8 (length (farther 8 b)) b (halves_of 8 b) refl refl) (All-drop (IsPart 8 b) (length (farther 8 b)) (halves_of 8 b) (halves-are_parts 8 b (omega arith) is))
+pub nearer-parts : (laws : Lawful) (b : Indices) → IsBox b → All (IsPart 8 b) (nearer 8 b)
+nearer-parts laws b is =
+    subst (All (IsPart 8 b)) (far-dropped 8 (length (farther 8 b)) b (halves_of 8 b) refl refl) (All-drop (IsPart 8 b) (length (farther 8 b)) (halves_of 8 b) (laws.parts.all 8 b (omega arith) is))
 
-pub farther-parts : (b : Indices) → IsBox b → All (IsPart 8 b) (farther 8 b)
-farther-parts b is =
-    subst (All (IsPart 8 b)) (far-taken 8 (length (farther 8 b)) b (halves_of 8 b) refl refl) (All-take (IsPart 8 b) (length (farther 8 b)) (halves_of 8 b) (halves-are_parts 8 b (omega arith) is))
+pub farther-parts : (laws : Lawful) (b : Indices) → IsBox b → All (IsPart 8 b) (farther 8 b)
+farther-parts laws b is =
+    subst (All (IsPart 8 b)) (far-taken 8 (length (farther 8 b)) b (halves_of 8 b) refl refl) (All-take (IsPart 8 b) (length (farther 8 b)) (halves_of 8 b) (laws.parts.all 8 b (omega arith) is))
 
 -- before any half is drawn
-pub nearer-drawn : (view : Window) (list : List Step) (b : Indices) (old : List ℕ) → IsBox b → All (IsDrawnTo view list b old old) (nearer 8 b)
-nearer-drawn view list b old is =
+pub nearer-drawn : (laws : Lawful) (view : Window) (list : List Step) (b : Indices) (old : List ℕ) → IsBox b → All (IsDrawnTo view list b old old) (nearer 8 b)
+nearer-drawn laws view list b old is =
     All-weaker (λ h. IsPart 8 b h × (h.z1 ≡ b.z1)) (IsDrawnTo view list b old old)
     (λ h near. record {
       part = near.0;
@@ -169,13 +170,13 @@ nearer-drawn view list b old is =
           sym (ap (λ z. lifted (top_among view list z b.z1 (p % view.w) (p / view.w)) (get_or old p 0)) near.1
           ∙ ap (λ n. lifted n (get_or old p 0)) (best-empty (inside view list (p % view.w) (p / view.w)) b.z1) ∙ lifted-nothing (get_or old p 0));
     })
-    (nearer 8 b) (λ k d h. (nearer-parts b is k d h, nearer-ends 8 b k d h))
+    (nearer 8 b) (λ k d h. (nearer-parts laws b is k d h, nearer-ends 8 b k d h))
 
 -- and once the nearer ones are
-pub farther-drawn : (view : Window) (list : List Step) (b : Indices) (old mid : List ℕ) → IsBox b → Changes (λ p. true) (beside_top view list (nearer 8 b)) old mid
+pub farther-drawn : (laws : Lawful) (view : Window) (list : List Step) (b : Indices) (old mid : List ℕ) → IsBox b → Changes (λ p. true) (beside_top view list (nearer 8 b)) old mid
     → All (IsDrawnTo view list b old mid) (farther 8 b)
-farther-drawn view list b old mid is changed k d h =
-    let part = farther-parts b is k d h in
+farther-drawn laws view list b old mid is changed k d h =
+    let part = farther-parts laws b is k d h in
     record {
       part = part;
       drawn = λ p within e. changed.each p within ∙ farther-below view list 8 b (λ q. get_or old q 0) k d h p (part-covers view.w p b (get_or (farther 8 b) k d) part e);
@@ -197,11 +198,11 @@ columns-there view b w len window within width all =
     record { columns = omega (arith, width, within.x); rows = omega (arith, rows, same, all); few = omega (arith, width, window.w.few) }
 
 -- a half of a box of the map is one
-pub half-placed : (desk : Desk) (b half : Indices) (list : List Step) (len : ℕ) → IsPart 8 b half → MayDraw desk b list len → IsPlaced desk len half
-half-placed desk b half list len part may = record {
+pub half-placed : (laws : Lawful) (desk : Desk) (b half : Indices) (list : List Step) (len : ℕ) → IsPart 8 b half → MayDraw desk b list len → IsPlaced desk len half
+half-placed laws desk b half list len part may = record {
   lattice = may.lattice;
   window = may.visit_is.window;
-  box = part-is_box 8 b half part;
+  box = laws.parts.box 8 b half part;
   within = record { x = omega (arith, part.x.below, may.visit_is.within.x); y = omega (arith, part.y.below, may.visit_is.within.y); z = omega (arith, part.z.below, may.visit_is.within.z) };
   width = may.width;
   tops = may.tops;

@@ -4,9 +4,9 @@ use Rattle.std.specs.Prelude.{Option, Some, None, nat_le, ◌==◌, ◌&&◌}
 use Rattle.std.proofs.lemmas.Bool.{ne_eqb}
 use Rattle.box_chains.specs.Chains.{Descent, Visit, decision, handed_on, is_long, visit}
 use Rattle.box_chains.specs.Counts.{cost, end_cost}
-use Rattle.box_chains.specs.SumLaws.{sum_in-same}
 use Rattle.box_chains.specs.Sums.{LiesIn, Sample, sum_in}
-use Rattle.box_chains.specs.ValueLaws.{IsVisit, Lawful}
+use Rattle.box_chains.specs.Visits.{IsVisit}
+use Rattle.box_chains.specs.Laws.{Lawful}
 use Rattle.fixed_ops.specs.CountLaws.{risen-risen, risen-zero}
 use Rattle.fixed_ops.specs.Counts.{Counts, RisesBy, points_of, risen}
 use Rattle.interval_ops.specs.HullCounts.{CountsHulls}
@@ -17,7 +17,8 @@ use Rattle.view_settings.specs.Window.{Window}
 use Rattle.view_settings.specs.declared.lattice.Lattice.TheVariants.{Height}
 use Rattle.box_chains.specs.Outcomes.{outcome_by, outcome_of}
 use Rattle.height_map.specs.Opened.{outcome_points, sampling}
-use Rattle.height_map.specs.Bound.{CountsPoints, halves_points, height_points, is_near, layered, open_points, points_where, whole}
+use Rattle.height_map.specs.Bound.{CountsPoints, height_points, is_near, layered, whole}
+use Rattle.box_chains.specs.Tested.{halves_points_where, open_points_where, points_where}
 use Rattle.height_map.specs.Columns.{IsAmong, covers, is_open, leaf_cost}
 use Rattle.height_map.specs.Tops.{top_among, top_of}
 use Rattle.height_map.proofs.ChangeLaws.{covers-place, place-within}
@@ -45,16 +46,9 @@ points-hulls before after n h = ap (λ (c : Counts). c.points) h.rises
 pub points-rise : (before after : Counts) (n : ℕ) → RisesBy before after (points_of n) → CountsPoints n before after
 points-rise before after n h = ap (λ (c : Counts). c.points) h
 
--- where the same samples pass
-pub points-same : (test other : Sample → Bool) (d : Descent) (v : Visit) → ((s : Sample) → LiesIn v.box s → test s ≡ other s) → points_where test d v ≡ points_where other d v
-unfolding points_where
-points-same test other d v same =
-    sum_in-same v.box (λ s. cond (test s) (cost d v s) 0) (λ s. cond (other s) (cost d v s) 0) (λ s lies. ap (λ t. cond t (cost d v s) 0) (same s lies))
-
 -- where none passes
-pub points-closed : (test : Sample → Bool) (d : Descent) (v : Visit) → ((s : Sample) → LiesIn v.box s → test s ≡ false) → points_where test d v ≡ 0
-unfolding points_where
-points-closed test d v none = sum-nothing v.box (λ s. cond (test s) (cost d v s) 0) (λ s lies. ap (λ t. cond t (cost d v s) 0) (none s lies))
+pub points-closed : (laws : Lawful) (test : Sample → Bool) (d : Descent) (v : Visit) → ((s : Sample) → LiesIn v.box s → test s ≡ false) → points_where test d v ≡ 0
+points-closed laws test d v none = laws.tested.points_same test (λ s. false) d v none ∙ laws.tested.points_none d v
 
 -- no sample of a box is open whose columns all have tops
 pub covered-closed : (view : Window) (list : List Step) (b : Indices) (w : ℕ) (tops : List ℕ) → w ≡ view.w → IsAmong view.w (length tops) b
@@ -68,11 +62,11 @@ covered-closed view list b w tops width among covered s lies =
     ap (λ t. t && nat_le (top_among view list b.z0 b.z1 s.i s.j) (s.k + 1)) (ne_eqb (get_or tops p 0) 0 (λ e. omega (arith, some, e)))
 
 -- so it takes no evaluation
-pub points-covered : (view : Window) (list : List Step) (b : Indices) (w : ℕ) (tops : List ℕ) (counts : Counts) → w ≡ view.w → IsAmong view.w (length tops) b
+pub points-covered : (laws : Lawful) (view : Window) (list : List Step) (b : Indices) (w : ℕ) (tops : List ℕ) (counts : Counts) → w ≡ view.w → IsAmong view.w (length tops) b
     → ((p : ℕ) → p < length tops → covers w b p ≡ true → 0 < get_or tops p 0)
     → CountsPoints (points_where (is_open view list b tops) (layered view) (visit b list)) counts counts
-points-covered view list b w tops counts width among covered =
-    points-none counts _ (points-closed (is_open view list b tops) (layered view) (visit b list) (covered-closed view list b w tops width among covered))
+points-covered laws view list b w tops counts width among covered =
+    points-none counts _ (points-closed laws (is_open view list b tops) (layered view) (visit b list) (covered-closed view list b w tops width among covered))
 
 -- the same samples are open by the list that is handed on
 pub handed-open : (laws : Lawful) (view : Window) (list live : List Step) (b : Indices) (tops : List ℕ) → IsVisit (layered view) (visit b list) → live ≡ handed_on (layered view) (visit b list)
@@ -103,24 +97,24 @@ points-outcome laws view list b tops is = by (decision d v) refl
 
     none : (inside : Bool) → decision d v ≡ Some inside → points_where test d v ≡ 0
     none inside e =
-        points-end test d v is.box (decided-split d v inside e)
-        ∙ sum-nothing b (λ s. cond (test s) (end_cost d v) 0) (λ s lies. ap (λ n. cond (test s) n 0) (free inside e) ∙ either (test s))
+        points-end laws test d v (omega arith) is.box (decided-split d v inside e)
+        ∙ sum-nothing laws b (λ s. cond (test s) (end_cost d v) 0) (λ s lies. ap (λ n. cond (test s) n 0) (free inside e) ∙ either (test s))
 
     by : (t : Option Bool) → decision d v ≡ t → points_where test d v ≡ outcome_points view tops b (outcome_by t (handed_on d v))
     by (Some true) e = none true e
     by (Some false) e = none false e
     by None e =
-        sym (points-same (is_open view (handed_on d v) b tops) test d v (handed-open laws view list (handed_on d v) b tops is refl))
-        ∙ points-open (is_open view (handed_on d v) b tops) d v (omega arith) is.box laws.halves e
+        sym (laws.tested.points_same (is_open view (handed_on d v) b tops) test d v (handed-open laws view list (handed_on d v) b tops is refl))
+        ∙ points-open laws (is_open view (handed_on d v) b tops) d v (omega arith) is.box e
 
 pub points-leaf : (view : Window) (list : List Step) (b : Indices) (tops : List ℕ) (before after : Counts) → is_long 8 b ≡ false
     → RisesBy before after (points_of (sum_in b (leaf_cost view list b tops)))
-    → CountsPoints (open_points (is_open view list b tops) (layered view) b list) before after
+    → CountsPoints (open_points_where (is_open view list b tops) (layered view) b list) before after
 points-leaf view list b tops before after short h = rw short (points-rise before after (sum_in b (leaf_cost view list b tops)) h)
 
 pub points-halves : (view : Window) (list : List Step) (b : Indices) (tops : List ℕ) (before after : Counts) → is_long 8 b ≡ true
-    → CountsPoints (halves_points (is_open view list b tops) (layered view) list (halves_of 8 b)) before after
-    → CountsPoints (open_points (is_open view list b tops) (layered view) b list) before after
+    → CountsPoints (halves_points_where (is_open view list b tops) (layered view) list (halves_of 8 b)) before after
+    → CountsPoints (open_points_where (is_open view list b tops) (layered view) b list) before after
 points-halves view list b tops before after long h = rw long h
 
 no_tops : (n p : ℕ) → get_or (replicate n zero) p zero ≡ zero
@@ -135,9 +129,9 @@ map-open view list n tops empty s =
     ap (λ t. t == 0 && nat_le (top_of view list s.i s.j) (s.k + 1)) (ap (λ l. get_or l p 0) empty ∙ no_tops n p)
 
 -- the evaluations of the box of all samples, over no tops
-pub map-points : (view : Window) (list : List Step) (b : Indices) (n : ℕ) (tops : List ℕ) (before after : Counts) → b ≡ root_of view Height → tops ≡ replicate n 0
+pub map-points : (laws : Lawful) (view : Window) (list : List Step) (b : Indices) (n : ℕ) (tops : List ℕ) (before after : Counts) → b ≡ root_of view Height → tops ≡ replicate n 0
     → CountsPoints (points_where (is_open view list b tops) (layered view) (visit b list)) before after → CountsPoints (height_points view list) before after
-map-points view list b n tops before after is empty h =
+map-points laws view list b n tops before after is empty h =
     points-are before after _ (height_points view list)
-    (points-same (is_open view list (root_of view Height) tops) (is_near view list) (layered view) (whole view list) (λ s lies. map-open view list n tops empty s))
+    (laws.tested.points_same (is_open view list (root_of view Height) tops) (is_near view list) (layered view) (whole view list) (λ s lies. map-open view list n tops empty s))
     (subst (λ c. CountsPoints (points_where (is_open view list c tops) (layered view) (visit c list)) before after) is h)

@@ -6,7 +6,8 @@ use Rattle.fixed_ops.specs.Counts.{Counts}
 use Rattle.fixed_ops.specs.declared.operation.Op.TheVariants.{X, Y, Z, Const, Neg, Sub, Max}
 use Rattle.live_clauses.specs.declared.step.Step.{Step}
 use Rattle.view_settings.specs.Window.{Window}
-use Rattle.height_map.specs.Bound.{CountsPoints, CountsSpans, height_points, height_spans, near_spans, points_where, spans_where}
+use Rattle.height_map.specs.Bound.{CountsPoints, CountsSpans, height_points, height_spans, near_spans}
+use Rattle.box_chains.specs.Tested.{points_where, spans_where}
 use Rattle.height_map.specs.Tops.{tops_of}
 
 -- from -1 to 1

@@ -12,8 +12,8 @@ use Rattle.std.proofs.lemmas.List.FromFn.{map-range_with_len_more}
 use Rattle.std.proofs.lemmas.List.Sums.{sum_by-append, sum_by-cons}
 use Rattle.std.proofs.lemmas.Map.Views.{any-filter_same}
 use Rattle.std.proofs.lemmas.Nat.{div-mul-add, mod-mul-add}
-use Rattle.box_chains.specs.SumLaws.{along-parts, along-same, size, sum_in-const, sum_in-same}
-use Rattle.box_chains.specs.Sums.{LiesIn, Sample, sum_along, sum_in}
+use Rattle.box_chains.specs.Sums.{LiesIn, Sample, size, sum_along, sum_in}
+use Rattle.box_chains.specs.Laws.{Lawful}
 use Rattle.fixed_ops.specs.CountLaws.{RisesBy-none, RisesBy-then}
 use Rattle.fixed_ops.specs.Counts.{Counts, RisesBy, points_of}
 use Rattle.live_clauses.specs.declared.step.Step.{Step}
@@ -33,8 +33,8 @@ pub along-one : (j : ℕ) (f : ℕ → ℕ) → sum_along j (j + 1) f ≡ f j
 along-one j f = let count : j + 1 - j ≡ 1 = omega arith in rw count (zero-add (f j))
 
 -- no sample adds anything
-pub sum-nothing : (b : Indices) (g : Sample → ℕ) → ((s : Sample) → LiesIn b s → g s ≡ 0) → sum_in b g ≡ 0
-sum-nothing b g none = sum_in-same b g (λ s. 0) none ∙ sum_in-const b 0 ∙ mul-zero (size b)
+pub sum-nothing : (laws : Lawful) (b : Indices) (g : Sample → ℕ) → ((s : Sample) → LiesIn b s → g s ≡ 0) → sum_in b g ≡ 0
+sum-nothing laws b g none = laws.sums.same b g (λ s. 0) none ∙ laws.sums.const b 0 ∙ mul-zero (size b)
 
 -- how many elements pass, each taken so many times
 passing : {X : Type 0} (test : X → Bool) (n : ℕ) (xs : List X) → length (filter test xs) * n ≡ sum_by (λ x. cond (test x) n 0) xs
@@ -55,14 +55,14 @@ sum-map f g [] = refl
 sum-map f g (x ∷ xs) = omega (arith, sum_by-cons f (g x) (map g xs), sum_by-cons (λ y. f (g y)) x xs, sum-map f g xs)
 
 -- the evaluations of a layer are those of the columns that have no top
-pub layer-cost : (view : Window) (list : List Step) (b : Indices) (tops : List ℕ) (w k : ℕ) → w ≡ view.w
+pub layer-cost : (laws : Lawful) (view : Window) (list : List Step) (b : Indices) (tops : List ℕ) (w k : ℕ) → w ≡ view.w
     → length (open_among tops (columns_of w b)) * length list ≡ sum_in (layer_of b k) (leaf_cost view list (layer_of b k) tops)
-layer-cost view list b tops w k width =
+layer-cost laws view list b tops w k width =
     passing (λ (column : Column). get_or tops column.place 0 == 0) (length list) (columns_of w b)
     ∙ sum-flat cost (columns_in w b) (range_with_len b.y0 (b.y1 - b.y0))
-    ∙ along-same b.y0 b.y1 (λ j. sum_by cost (columns_in w b j)) row
+    ∙ laws.axes.same b.y0 b.y1 (λ j. sum_by cost (columns_in w b j)) row
     (λ j yl yh. sum-map cost (λ i. record { i = i; j = j; place = j * w + i }) (range_with_len b.x0 (b.x1 - b.x0))
-    ∙ along-same b.x0 b.x1 (λ i. cost (record { i = i; j = j; place = j * w + i })) (λ i. leaf_cost view list (layer_of b k) tops (record { i = i; j = j; k = k }))
+    ∙ laws.axes.same b.x0 b.x1 (λ i. cost (record { i = i; j = j; place = j * w + i })) (λ i. leaf_cost view list (layer_of b k) tops (record { i = i; j = j; k = k }))
     (λ i xl xh. sample i j))
     ∙ sym (along-one k (λ m. sum_along b.y0 b.y1 (λ j. sum_along b.x0 b.x1 (λ i. leaf_cost view list (layer_of b k) tops (record { i = i; j = j; k = m })))))
   where
@@ -278,11 +278,11 @@ deeper view list b w k xs ys zs below first second = record {
     by f false n = refl
 
 -- what it takes
-layer-same : (view : Window) (list : List Step) (b : Indices) (w k len : ℕ) (xs ys : List ℕ) → w ≡ view.w → IsAmong w len b → length xs ≡ len → b.z0 ≤ k → k < b.z1
+layer-same : (laws : Lawful) (view : Window) (list : List Step) (b : Indices) (w k len : ℕ) (xs ys : List ℕ) → w ≡ view.w → IsAmong w len b → length xs ≡ len → b.z0 ≤ k → k < b.z1
     → Changes (covers w b) (leaf_top view list (record b { z0 = k + 1 })) xs ys
     → sum_in (layer_of b k) (leaf_cost view list (layer_of b k) ys) ≡ sum_in (layer_of b k) (leaf_cost view list b xs)
-layer-same view list b w k len xs ys width among there above below changed =
-    sum_in-same (layer_of b k) (leaf_cost view list (layer_of b k) ys) (leaf_cost view list b xs) (λ s lies. ap (λ t. cond {A = ℕ} t (length list) 0) (sample s lies))
+layer-same laws view list b w k len xs ys width among there above below changed =
+    laws.sums.same (layer_of b k) (leaf_cost view list (layer_of b k) ys) (leaf_cost view list b xs) (λ s lies. ap (λ t. cond {A = ℕ} t (length list) 0) (sample s lies))
   where
     sample : (s : Sample) → LiesIn (layer_of b k) s → is_open view list (layer_of b k) ys s ≡ is_open view list b xs s
     sample s lies =
@@ -297,17 +297,17 @@ layer-same view list b w k len xs ys width among there above below changed =
         ∙ ap (λ n. lifted (top_among view list (k + 1) b.z1 s.i n) (get_or xs p 0)) (div-mul-add s.j view.w s.i narrow) in
         open-same (inside view list s.i s.j) b.z0 k (k + 1) b.z1 s.k (get_or xs p 0) (get_or ys p 0) above (omega arith) (omega (arith, below)) lies.z.0 lies.z.1 drawn
 
-pub deeper-counted : (view : Window) (list : List Step) (b : Indices) (w k len : ℕ) (columns : List Column) (xs ys : List ℕ) (before mid after : Counts)
+pub deeper-counted : (laws : Lawful) (view : Window) (list : List Step) (b : Indices) (w k len : ℕ) (columns : List Column) (xs ys : List ℕ) (before mid after : Counts)
     → w ≡ view.w → IsAmong w len b → length xs ≡ len → b.z0 ≤ k → k < b.z1 → columns ≡ open_among ys (columns_of w b)
     → Changes (covers w b) (leaf_top view list (record b { z0 = k + 1 })) xs ys
     → RisesBy before mid (points_of (sum_in (record b { z0 = k + 1 }) (leaf_cost view list b xs))) → RisesBy mid after (points_of (length columns * length list))
     → RisesBy before after (points_of (sum_in (record b { z0 = k }) (leaf_cost view list b xs)))
-deeper-counted view list b w k len columns xs ys before mid after width among there above below all changed first second =
+deeper-counted laws view list b w k len columns xs ys before mid after width among there above below all changed first second =
     let nearer = sum_in (record b { z0 = k + 1 }) (leaf_cost view list b xs) in
     let layer = length columns * length list in
     let cost : length columns * length list ≡ sum_in (layer_of b k) (leaf_cost view list b xs) =
-    ap (λ l. length l * length list) all ∙ layer-cost view list b ys w k width ∙ layer-same view list b w k len xs ys width among there above below changed in
-    let parts = along-parts k (k + 1) b.z1 (λ k. sum_along b.y0 b.y1 (λ j. sum_along b.x0 b.x1 (λ i. leaf_cost view list b xs (record { i = i; j = j; k = k })))) (omega arith) (omega (arith, below)) in
+    ap (λ l. length l * length list) all ∙ layer-cost laws view list b ys w k width ∙ layer-same laws view list b w k len xs ys width among there above below changed in
+    let parts = laws.axes.parts k (k + 1) b.z1 (λ k. sum_along b.y0 b.y1 (λ j. sum_along b.x0 b.x1 (λ i. leaf_cost view list b xs (record { i = i; j = j; k = k })))) (omega arith) (omega (arith, below)) in
     subst (λ n. RisesBy before after (points_of n)) (omega (arith, parts, cost)) (RisesBy-then before mid after (points_of nearer) (points_of layer) first second)
 
 -- before any layer is drawn nothing has changed, and nothing is counted
@@ -317,9 +317,9 @@ none-drawn view list b w high tops all =
     (λ p h e. ap (λ k. lifted (top_among view list k b.z1 (p % view.w) (p / view.w)) (get_or tops p 0)) all
     ∙ ap (λ m. lifted m (get_or tops p 0)) (best-empty (inside view list (p % view.w) (p / view.w)) b.z1) ∙ lifted-nothing (get_or tops p 0))
 
-pub none-counted : (b : Indices) (high : ℕ) (g : Sample → ℕ) (counts : Counts) → high ≡ b.z1 → RisesBy counts counts (points_of (sum_in (record b { z0 = high }) g))
-none-counted b high g counts all =
-    subst (λ n. RisesBy counts counts (points_of n)) (sym (sum-nothing (record b { z0 = high }) g (λ s lies. absurd (omega (arith, all, lies.z))))) (RisesBy-none counts)
+pub none-counted : (laws : Lawful) (b : Indices) (high : ℕ) (g : Sample → ℕ) (counts : Counts) → high ≡ b.z1 → RisesBy counts counts (points_of (sum_in (record b { z0 = high }) g))
+none-counted laws b high g counts all =
+    subst (λ n. RisesBy counts counts (points_of n)) (sym (sum-nothing laws (record b { z0 = high }) g (λ s lies. absurd (omega (arith, all, lies.z))))) (RisesBy-none counts)
 
 -- a column that is there is the same by any default
 any-default : (xs : List Column) (n : ℕ) (d e : Column) → n < length xs → get_or xs n d ≡ get_or xs n e

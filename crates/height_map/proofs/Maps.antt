@@ -18,13 +18,13 @@ use Rattle.view_settings.specs.Window.{Window}
 use Rattle.view_settings.specs.declared.lattice.Lattice.TheVariants.{Height}
 use Rattle.box_chains.specs.Chains.{visit}
 use Rattle.box_chains.specs.Tallied.{CountsAtMost}
-use Rattle.height_map.specs.Bound.{height_points, height_spans, is_near, layered, points_where, whole}
+use Rattle.height_map.specs.Bound.{height_points, height_spans, is_near, layered, whole}
+use Rattle.box_chains.specs.Tested.{points_where}
+use Rattle.box_chains.specs.Laws.{Lawful}
 use Rattle.height_map.specs.Columns.{Changes, covers, is_open, leaf_top}
-use Rattle.box_chains.specs.TallyLaws.{most-more}
 use Rattle.height_map.specs.TopMaps.{Heights}
 use Rattle.height_map.specs.Tops.{row_of, top_of, tops_of}
 use Rattle.height_map.proofs.ChangeLaws.{lifted-none}
-use Rattle.height_map.proofs.WorkLaws.{points-below}
 
 -- numbers from one on, and more behind them
 range-parts : (low m n : ℕ) → range_with_len low (m + n) ≡ range_with_len low m ++ range_with_len (low + m) n
@@ -112,13 +112,13 @@ map-drawn view list b w before after is width some empty changed =
         ∙ lifted-none (top_at view list p) (get_or before p 0) none
 
 -- and its work is at most the map's
-pub map-counted : (view : Window) (list : List Step) (b : Indices) (tops : List ℕ) (before after : Counts) → b ≡ root_of view Height
+pub map-counted : (laws : Lawful) (view : Window) (list : List Step) (b : Indices) (tops : List ℕ) (before after : Counts) → b ≡ root_of view Height
     → CountsAtMost (points_where (is_open view list b tops) (layered view) (visit b list)) (spans_in (layered view) (visit b list)) before after
     → CountsAtMost (height_points view list) (height_spans view list) before after
-map-counted view list b tops before after is h =
+map-counted laws view list b tops before after is h =
     let at = subst (λ c. CountsAtMost (points_where (is_open view list c tops) (layered view) (visit c list)) (spans_in (layered view) (visit c list)) before after) is h in
-    most-more before after (points_where (is_open view list (root_of view Height) tops) (layered view) (whole view list)) (height_spans view list) (height_points view list) (height_spans view list)
-    (points-below (is_open view list (root_of view Height) tops) (is_near view list) (layered view) (whole view list)
+    laws.bounds.more before after (points_where (is_open view list (root_of view Height) tops) (layered view) (whole view list)) (height_spans view list) (height_points view list) (height_spans view list)
+    (laws.tested.points_more (is_open view list (root_of view Height) tops) (is_near view list) (layered view) (whole view list)
     (λ s lies e. (and_parts (get_or tops (s.j * view.w + s.i) 0 == 0) (nat_le (top_of view list s.i s.j) (s.k + 1)) e).1)) (omega arith) at
 
 -- height maps are equal where each part of them is

@@ -6,9 +6,8 @@ use Rattle.std.proofs.lemmas.List.{drop_all, drop_more, get_or-map, length-drop,
 use Rattle.std.proofs.lemmas.List.Elements.{All-get_or, All-head, All-tail, All-weaker}
 use Rattle.std.proofs.lemmas.List.Sums.{sum_by-append, sum_by-cons}
 use Rattle.box_chains.specs.Chains.{Descent, Visit, decision, handed_on, is_long, sides, visit}
-use Rattle.box_chains.specs.ChainLaws.{box-has_sides}
-use Rattle.box_chains.specs.Counts.{spans_in}
-use Rattle.box_chains.specs.HalfLaws.{IsPart, part-is_box, part-is_shorter}
+use Rattle.box_chains.specs.Counts.{halves_spans, spans_in}
+use Rattle.box_chains.specs.Parts.{IsPart}
 use Rattle.box_chains.specs.Placing.{Sampling}
 use Rattle.box_chains.specs.declared.outcome.Outcome.TheVariants.{Inside as AllInside, Outside as AllOutside, Open}
 use Rattle.live_clauses.specs.Steps.{IsTape}
@@ -16,30 +15,38 @@ use Rattle.view_settings.specs.declared.lattice.Lattice.TheVariants.{Height}
 use Rattle.height_map.specs.Desks.{IsPlaced, KeepsDesk, MayDraw, MayOpen}
 use Rattle.height_map.specs.declared.desk.Desk.{Desk}
 use Rattle.box_chains.specs.Outcomes.{HandsOn, IsHandedOn, outcome_by, outcome_of, outcomes_of}
-use Rattle.box_chains.specs.SumLaws.{sum_by-equal}
 use Rattle.box_chains.specs.Sums.{LiesIn, Sample}
 use Rattle.box_chains.specs.Tallied.{CountsAtMost}
-use Rattle.box_chains.specs.TallyLaws.{most-hulls, most-more, most-then}
-use Rattle.box_chains.specs.ValueLaws.{IsVisit, Lawful, handed-is}
+use Rattle.box_chains.specs.Visits.{IsVisit}
+use Rattle.box_chains.specs.Laws.{Lawful}
 use Rattle.box_chains.specs.declared.outcome.Outcome.{Outcome}
 use Rattle.fixed_ops.specs.Counts.{Counts}
 use Rattle.interval_ops.specs.HullCounts.{CountsHulls}
 use Rattle.live_clauses.specs.declared.step.Step.{Step}
 use Rattle.view_settings.specs.Boxes.{Indices, IsBox, halves_of}
-use Rattle.view_settings.specs.Laws.{HalvesPart}
 use Rattle.view_settings.specs.Window.{Window}
 use Rattle.height_map.specs.Beside.{LieBeside, beside_points, beside_top, beside_traced, farther, nearer}
-use Rattle.height_map.specs.Bound.{CountsPoints, CountsSpans, halves_points, halves_spans, halves_traced, has_some, layered, points_where, spans_where}
+use Rattle.height_map.specs.Bound.{CountsPoints, CountsSpans, layered}
+use Rattle.box_chains.specs.Tested.{halves_points_where, halves_spans_where, has_some, points_where, spans_where}
 use Rattle.height_map.specs.Columns.{Changes, IsAmong, covers, has_open, is_open, leaf_top}
 use Rattle.height_map.specs.Opened.{outcome_points, outcome_spans, outcome_top, outcome_traced, sampling}
 use Rattle.height_map.specs.Tops.{greatest, top_among}
 use Rattle.height_map.proofs.Beside.{halves-parts}
 use Rattle.height_map.proofs.ChangeLaws.{covers-place, lifted-some, place-within}
 use Rattle.height_map.proofs.Drawn.{IsDrawnTo, half-open, columns-there, farther-drawn, half-placed, nearer-drawn, outcome-drawn, placed-kept, placed-visit}
-use Rattle.height_map.proofs.Evaluated.{covered-closed, points-are, points-closed, points-hulls, points-outcome, points-same, points-then}
+use Rattle.height_map.proofs.Evaluated.{covered-closed, points-are, points-closed, points-hulls, points-outcome, points-then}
 use Rattle.height_map.proofs.Opens.{kept-top, rest-none, sum-kept, sum-kept_below, told-covered, told-open, untouched}
-use Rattle.height_map.proofs.Traced.{open-some, some-same, spans-are, spans-hulls, spans-then, traced-closed, traced-outcome, traced-same}
+use Rattle.height_map.proofs.Traced.{open-some, some-same, spans-are, spans-hulls, spans-then, traced-closed, traced-outcome}
 use Rattle.height_map.proofs.WorkLaws.{spans-decided, spans-open, sum-drop_below}
+
+-- sums over a list of equal numbers are equal
+sum_by-equal : {X : Type 0} (f g : X → ℕ) (xs : List X) → All (λ x. f x ≡ g x) xs → sum_by f xs ≡ sum_by g xs
+sum_by-equal f g [] same = refl
+sum_by-equal f g (x ∷ xs) same =
+    omega (arith, sum_by-cons f x xs, sum_by-cons g x xs, All-head (λ y. f y ≡ g y) x xs same, sum_by-equal f g xs (All-tail (λ y. f y ≡ g y) x xs same))
+
+box-has_sides : (b : Indices) → IsBox b → 0 < sides b
+box-has_sides b is = omega (arith, is.x)
 
 -- ---- one box
 
@@ -55,25 +62,25 @@ spans-outcome laws view list b is = by (decision d v) refl
     v = visit b list
 
     by : (t : Option Bool) → decision d v ≡ t → spans_in d v ≡ length list + outcome_spans view b (outcome_by t (handed_on d v))
-    by (Some true) e = omega (arith, spans-decided d v true is e)
-    by (Some false) e = omega (arith, spans-decided d v false is e)
-    by None e = spans-open d v (omega arith) is laws.halves e
+    by (Some true) e = omega (arith, spans-decided laws d v true (omega arith) is e)
+    by (Some false) e = omega (arith, spans-decided laws d v false (omega arith) is e)
+    by None e = spans-open laws d v (omega arith) is e
 
 -- a box that is traced, and then drawn by its outcome
 pub box-bounded : (laws : Lawful) (view : Window) (list : List Step) (b : Indices) (o : Outcome) (tops : List ℕ) (before mid after : Counts) → IsVisit (layered view) (visit b list)
     → o ≡ outcome_of (sampling view) list b → CountsHulls (length list) before mid → CountsAtMost (outcome_points view tops b o) (outcome_spans view b o) mid after
     → CountsAtMost (points_where (is_open view list b tops) (layered view) (visit b list)) (spans_in (layered view) (visit b list)) before after
 box-bounded laws view list b o tops before mid after is told h below =
-    most-then before mid after 0 (length list) (outcome_points view tops b o) (outcome_spans view b o)
+    laws.bounds.sum before mid after 0 (length list) (outcome_points view tops b o) (outcome_spans view b o)
     (points_where (is_open view list b tops) (layered view) (visit b list)) (spans_in (layered view) (visit b list))
     (omega (arith, points-outcome laws view list b tops is, ap (outcome_points view tops b) told))
-    (omega (arith, spans-outcome laws view list b is.box, ap (outcome_spans view b) told)) (most-hulls before mid (length list) h) below
+    (omega (arith, spans-outcome laws view list b is.box, ap (outcome_spans view b) told)) (laws.bounds.hulls before mid (length list) h) below
 
 -- a trace alone is among its work
 pub trace-bounded : (laws : Lawful) (view : Window) (list : List Step) (b : Indices) (points : ℕ) (before after : Counts) → IsBox b → CountsHulls (length list) before after
     → CountsAtMost points (spans_in (layered view) (visit b list)) before after
 trace-bounded laws view list b points before after is h =
-    most-more before after 0 (length list) points (spans_in (layered view) (visit b list)) (omega arith) (omega (arith, spans-outcome laws view list b is)) (most-hulls before after (length list) h)
+    laws.bounds.more before after 0 (length list) points (spans_in (layered view) (visit b list)) (omega arith) (omega (arith, spans-outcome laws view list b is)) (laws.bounds.hulls before after (length list) h)
 
 pub box-points : (laws : Lawful) (view : Window) (list : List Step) (b : Indices) (o : Outcome) (tops : List ℕ) (before mid after : Counts) → IsVisit (layered view) (visit b list)
     → o ≡ outcome_of (sampling view) list b → CountsHulls (length list) before mid → CountsPoints (outcome_points view tops b o) mid after
@@ -137,7 +144,7 @@ may-open laws before desk list b o len other kept same placed tape room values t
         by : (t : Option Bool) → outcome_by t (handed_on d v) ≡ Open live → IsTape live
         by (Some true) e = absurd (other-in live e)
         by (Some false) e = absurd (other-out live e)
-        by None e = subst IsTape (ap opened e) (handed-is laws d v (placed-visit before b list len placed tape)).0
+        by None e = subst IsTape (ap opened e) (laws.visits.handed d v (placed-visit before b list len placed tape)).0
 
 -- ---- one more of some boxes that lie beside each other
 
@@ -209,7 +216,7 @@ more-points laws view list boxes old mid i b o is =
       arith,
       ap (beside_points view list old) is.more,
       sum_by-cons (λ h. points_where (is_open view list h old) (layered view) (visit h list)) b (drop (suc i) boxes),
-      points-same (is_open view list b mid) (is_open view list b old) (layered view) (visit b list) (next-open view list boxes old mid i b o is),
+      laws.tested.points_same (is_open view list b mid) (is_open view list b old) (layered view) (visit b list) (next-open view list boxes old mid i b o is),
       points-outcome laws view list b mid is.visit_is,
       ap (outcome_points view mid b) is.told,
     )
@@ -240,10 +247,10 @@ next-traced laws view list boxes old mid n i b o start between end left is some 
     open' = next-open view list boxes old mid i b o is
 
     same : spans_where (is_open view list b mid) (layered view) (visit b list) ≡ spans_where (is_open view list b old) (layered view) (visit b list)
-    same = traced-same (is_open view list b mid) (is_open view list b old) (layered view) (visit b list) (omega arith) is.visit_is.box laws.halves open'
+    same = laws.tested.spans_same (is_open view list b mid) (is_open view list b old) (layered view) (visit b list) (omega arith) is.visit_is.box open'
 
     own : spans_where (is_open view list b mid) (layered view) (visit b list) ≡ length list + outcome_traced view mid b (outcome_of (sampling view) list b)
-    own = traced-outcome laws view list b mid is.visit_is (some-same (is_open view list b mid) (is_open view list b old) b open' ∙ some)
+    own = traced-outcome laws view list b mid is.visit_is (some-same laws (is_open view list b mid) (is_open view list b old) b open' ∙ some)
 
     told : outcome_traced view mid b o ≡ outcome_traced view mid b (outcome_of (sampling view) list b)
     told = ap (outcome_traced view mid b) is.told
@@ -254,7 +261,7 @@ pub next-bounded : (laws : Lawful) (view : Window) (list : List Step) (boxes : L
     → CountsAtMost (outcome_points view mid b o) (outcome_spans view b o) between end
     → CountsAtMost (beside_points view list old (drop i boxes)) (i * length list + halves_spans (layered view) list (drop i boxes)) start end
 next-bounded laws view list boxes old mid n i b o start between end left is first second =
-    most-then start between end (beside_points view list old (drop n boxes)) (n * length list + halves_spans (layered view) list (drop n boxes))
+    laws.bounds.sum start between end (beside_points view list old (drop n boxes)) (n * length list + halves_spans (layered view) list (drop n boxes))
     (outcome_points view mid b o) (outcome_spans view b o) (beside_points view list old (drop i boxes)) (i * length list + halves_spans (layered view) list (drop i boxes))
     (omega (arith, more-points laws view list boxes old mid i b o is, ap (λ m. beside_points view list old (drop m boxes)) left))
     (omega (arith, ap (λ m. m * length list) left, once, ap (λ m. halves_spans (layered view) list (drop m boxes)) left, ap (halves_spans (layered view) list) is.more, cons, own, told))
@@ -291,7 +298,7 @@ pub rest-bounded : (laws : Lawful) (view : Window) (list : List Step) (boxes : L
     → CountsAtMost (beside_points view list old (drop i boxes)) (i * length list + halves_spans (layered view) list (drop i boxes)) start end
     → CountsAtMost (beside_points view list old boxes) (halves_spans (layered view) list boxes) start end
 rest-bounded laws view list boxes old i start end are within h =
-    most-more start end (beside_points view list old (drop i boxes)) (i * length list + halves_spans (layered view) list (drop i boxes))
+    laws.bounds.more start end (beside_points view list old (drop i boxes)) (i * length list + halves_spans (layered view) list (drop i boxes))
     (beside_points view list old boxes) (halves_spans (layered view) list boxes)
     (sum-drop_below (λ b. points_where (is_open view list b old) (layered view) (visit b list)) boxes i) (rest-below laws view list boxes i are within) h
 
@@ -299,7 +306,7 @@ rest-bounded laws view list boxes old i start end are within h =
 pub traces-bounded : (laws : Lawful) (view : Window) (list : List Step) (boxes : List Indices) (old : List ℕ) (start end : Counts) → All IsBox boxes
     → CountsAtMost 0 (length boxes * length list) start end → CountsAtMost (beside_points view list old boxes) (halves_spans (layered view) list boxes) start end
 traces-bounded laws view list boxes old start end are h =
-    most-more start end 0 (length boxes * length list) (beside_points view list old boxes) (halves_spans (layered view) list boxes) (omega arith)
+    laws.bounds.more start end 0 (length boxes * length list) (beside_points view list old boxes) (halves_spans (layered view) list boxes) (omega arith)
     (omega (arith, rest-below laws view list boxes (length boxes) are (omega arith))) h
 
 -- the next box of some of the map, of a list that there is room for
@@ -336,17 +343,17 @@ begun-traced view list boxes tops n before after all h =
     spans-are before after (length boxes * length list) (n * length list + beside_traced view list tops (drop n boxes))
     (omega (arith, ap (λ m. m * length list) all, ap (beside_traced view list tops) (drop_all n boxes (omega (arith, all))))) (spans-hulls before after (length boxes * length list) h)
 
-pub begun-bounded : (view : Window) (list : List Step) (boxes : List Indices) (tops : List ℕ) (n : ℕ) (before after : Counts) → n ≡ length boxes → CountsHulls (length boxes * length list) before after
+pub begun-bounded : (laws : Lawful) (view : Window) (list : List Step) (boxes : List Indices) (tops : List ℕ) (n : ℕ) (before after : Counts) → n ≡ length boxes → CountsHulls (length boxes * length list) before after
     → CountsAtMost (beside_points view list tops (drop n boxes)) (n * length list + halves_spans (layered view) list (drop n boxes)) before after
-begun-bounded view list boxes tops n before after all h =
-    most-more before after 0 (length boxes * length list) (beside_points view list tops (drop n boxes)) (n * length list + halves_spans (layered view) list (drop n boxes)) (omega arith)
-    (omega (arith, ap (λ m. m * length list) all)) (most-hulls before after (length boxes * length list) h)
+begun-bounded laws view list boxes tops n before after all h =
+    laws.bounds.more before after 0 (length boxes * length list) (beside_points view list tops (drop n boxes)) (n * length list + halves_spans (layered view) list (drop n boxes)) (omega arith)
+    (omega (arith, ap (λ m. m * length list) all)) (laws.bounds.hulls before after (length boxes * length list) h)
 
 -- ---- all of them, where only those are traced that have an open column
 
 -- a box that has one by the test has an open sample
-pub told-some : (view : Window) (list : List Step) (b : Indices) (w : ℕ) (tops : List ℕ) → w ≡ view.w → IsBox b → has_open w tops b ≡ true → has_some (is_open view list b tops) b ≡ true
-told-some view list b w tops width is e = open-some view list b w tops width is (told-open w b tops e)
+pub told-some : (laws : Lawful) (view : Window) (list : List Step) (b : Indices) (w : ℕ) (tops : List ℕ) → w ≡ view.w → IsBox b → has_open w tops b ≡ true → has_some (is_open view list b tops) b ≡ true
+told-some laws view list b w tops width is e = open-some laws view list b w tops width is (told-open w b tops e)
 
 -- a box of the map, over its tops
 pub record IsOver (view : Window) (w : ℕ) (tops : List ℕ) (b : Indices) : Type 0 where
@@ -382,34 +389,34 @@ kept-drawn view list w old new boxes kept over apart are changed = record {
         lifted-some (top_among view list b.z0 b.z1 (p % view.w) (p / view.w)) (get_or old p 0) (λ none. omega (arith, some, none))
 
 -- and what they take is what all take
-pub kept-points : (view : Window) (list : List Step) (w : ℕ) (tops : List ℕ) (boxes kept : List Indices) → All (IsOver view w tops) boxes → kept ≡ filter (has_open w tops) boxes
+pub kept-points : (laws : Lawful) (view : Window) (list : List Step) (w : ℕ) (tops : List ℕ) (boxes kept : List Indices) → All (IsOver view w tops) boxes → kept ≡ filter (has_open w tops) boxes
     → beside_points view list tops kept ≡ beside_points view list tops boxes
-kept-points view list w tops boxes kept over are =
+kept-points laws view list w tops boxes kept over are =
     ap (beside_points view list tops) are
     ∙ sum-kept f (has_open w tops) boxes
     (All-weaker (IsOver view w tops) (λ b. has_open w tops b ≡ false → f b ≡ 0)
-    (λ b is e. points-closed (is_open view list b tops) (layered view) (visit b list) (left-closed view list w tops b is e)) boxes over)
+    (λ b is e. points-closed laws (is_open view list b tops) (layered view) (visit b list) (left-closed view list w tops b is e)) boxes over)
   where
     f : Indices → ℕ
     f b = points_where (is_open view list b tops) (layered view) (visit b list)
 
-pub kept-traced : (view : Window) (list : List Step) (w : ℕ) (tops : List ℕ) (boxes kept : List Indices) → HalvesPart → All (IsOver view w tops) boxes
+pub kept-traced : (laws : Lawful) (view : Window) (list : List Step) (w : ℕ) (tops : List ℕ) (boxes kept : List Indices) → All (IsOver view w tops) boxes
     → kept ≡ filter (has_open w tops) boxes → beside_traced view list tops kept ≡ beside_traced view list tops boxes
-kept-traced view list w tops boxes kept law over are =
+kept-traced laws view list w tops boxes kept over are =
     ap (beside_traced view list tops) are
     ∙ sum-kept f (has_open w tops) boxes
     (All-weaker (IsOver view w tops) (λ b. has_open w tops b ≡ false → f b ≡ 0)
-    (λ b is e. traced-closed (is_open view list b tops) (layered view) (visit b list) (omega arith) is.box law (left-closed view list w tops b is e)) boxes over)
+    (λ b is e. traced-closed laws (is_open view list b tops) (layered view) (visit b list) (omega arith) is.box (left-closed view list w tops b is e)) boxes over)
   where
     f : Indices → ℕ
     f b = spans_where (is_open view list b tops) (layered view) (visit b list)
 
-pub kept-bounded : (view : Window) (list : List Step) (w : ℕ) (tops : List ℕ) (boxes kept : List Indices) (start end : Counts) → All (IsOver view w tops) boxes
+pub kept-bounded : (laws : Lawful) (view : Window) (list : List Step) (w : ℕ) (tops : List ℕ) (boxes kept : List Indices) (start end : Counts) → All (IsOver view w tops) boxes
     → kept ≡ filter (has_open w tops) boxes → CountsAtMost (beside_points view list tops kept) (halves_spans (layered view) list kept) start end
     → CountsAtMost (beside_points view list tops boxes) (halves_spans (layered view) list boxes) start end
-kept-bounded view list w tops boxes kept start end over are h =
-    most-more start end (beside_points view list tops kept) (halves_spans (layered view) list kept) (beside_points view list tops boxes) (halves_spans (layered view) list boxes)
-    (omega (arith, kept-points view list w tops boxes kept over are))
+kept-bounded laws view list w tops boxes kept start end over are h =
+    laws.bounds.more start end (beside_points view list tops kept) (halves_spans (layered view) list kept) (beside_points view list tops boxes) (halves_spans (layered view) list boxes)
+    (omega (arith, kept-points laws view list w tops boxes kept over are))
     (omega (arith, ap (halves_spans (layered view) list) are, sum-kept_below (λ b. spans_in (layered view) (visit b list)) (has_open w tops) boxes)) h
 
 -- ---- the longest of some boxes
@@ -439,11 +446,11 @@ longest-below n (c ∷ cs) some are = omega (arith, All-head (λ b. sides b < n)
 halves-sum : (f : Indices → ℕ) (b : Indices) → sum_by f (halves_of 8 b) ≡ sum_by f (nearer 8 b) + sum_by f (farther 8 b)
 halves-sum f b = omega (arith, ap (sum_by f) (halves-parts 8 b), sum_by-append f (farther 8 b) (nearer 8 b))
 
-group-points : (view : Window) (list : List Step) (b : Indices) (old mid : List ℕ) (hs : List Indices) → IsAmong view.w (length old) b → All (IsDrawnTo view list b old mid) hs
-    → beside_points view list mid hs ≡ halves_points (is_open view list b old) (layered view) list hs
-group-points view list b old mid hs among are =
+group-points : (laws : Lawful) (view : Window) (list : List Step) (b : Indices) (old mid : List ℕ) (hs : List Indices) → IsAmong view.w (length old) b → All (IsDrawnTo view list b old mid) hs
+    → beside_points view list mid hs ≡ halves_points_where (is_open view list b old) (layered view) list hs
+group-points laws view list b old mid hs among are =
     sum_by-equal f g hs (All-weaker (IsDrawnTo view list b old mid) (λ h. f h ≡ g h)
-    (λ h is. points-same (is_open view list h mid) (is_open view list b old) (layered view) (visit h list) (half-open view list b h old mid among is)) hs are)
+    (λ h is. laws.tested.points_same (is_open view list h mid) (is_open view list b old) (layered view) (visit h list) (half-open view list b h old mid among is)) hs are)
   where
     f : Indices → ℕ
     f h = points_where (is_open view list h mid) (layered view) (visit h list)
@@ -451,12 +458,12 @@ group-points view list b old mid hs among are =
     g : Indices → ℕ
     g h = points_where (is_open view list b old) (layered view) (visit h list)
 
-group-traced : (view : Window) (list : List Step) (b : Indices) (old mid : List ℕ) (hs : List Indices) → HalvesPart → IsAmong view.w (length old) b → All (IsDrawnTo view list b old mid) hs
-    → beside_traced view list mid hs ≡ halves_traced (is_open view list b old) (layered view) list hs
-group-traced view list b old mid hs law among are =
+group-traced : (laws : Lawful) (view : Window) (list : List Step) (b : Indices) (old mid : List ℕ) (hs : List Indices) → IsAmong view.w (length old) b → All (IsDrawnTo view list b old mid) hs
+    → beside_traced view list mid hs ≡ halves_spans_where (is_open view list b old) (layered view) list hs
+group-traced laws view list b old mid hs among are =
     sum_by-equal f g hs (All-weaker (IsDrawnTo view list b old mid) (λ h. f h ≡ g h)
     (λ h is.
-    traced-same (is_open view list h mid) (is_open view list b old) (layered view) (visit h list) (omega arith) (part-is_box 8 b h is.part) law (half-open view list b h old mid among is)) hs are)
+    laws.tested.spans_same (is_open view list h mid) (is_open view list b old) (layered view) (visit h list) (omega arith) (laws.parts.box 8 b h is.part) (half-open view list b h old mid among is)) hs are)
   where
     f : Indices → ℕ
     f h = spans_where (is_open view list h mid) (layered view) (visit h list)
@@ -469,14 +476,14 @@ pub rest-is : {X : Type 0} (xs : List X) (n : ℕ) → take (length xs - n) (dro
 rest-is xs n = take_all (length xs - n) (drop n xs) (omega (arith, length-drop n xs))
 
 -- parts of a box that is split are shorter
-pub group-shorter : (b : Indices) (hs : List Indices) → IsBox b → is_long 8 b ≡ true → All (IsPart 8 b) hs → longest hs < sides b
-group-shorter b hs is long parts =
-    longest-below (sides b) hs (box-has_sides b is) (All-weaker (IsPart 8 b) (λ h. sides h < sides b) (λ h part. part-is_shorter 8 b h long part) hs parts)
+pub group-shorter : (laws : Lawful) (b : Indices) (hs : List Indices) → IsBox b → is_long 8 b ≡ true → All (IsPart 8 b) hs → longest hs < sides b
+group-shorter laws b hs is long parts =
+    longest-below (sides b) hs (box-has_sides b is) (All-weaker (IsPart 8 b) (λ h. sides h < sides b) (λ h part. laws.parts.shorter 8 b h long part) hs parts)
 
-pub group-placed : (before after : Desk) (b : Indices) (hs : List Indices) (list : List Step) (len other : ℕ) → KeepsDesk before after → other ≡ len → MayDraw before b list len
+pub group-placed : (laws : Lawful) (before after : Desk) (b : Indices) (hs : List Indices) (list : List Step) (len other : ℕ) → KeepsDesk before after → other ≡ len → MayDraw before b list len
     → All (IsPart 8 b) hs → All (IsPlaced after other) hs
-group-placed before after b hs list len other kept same may parts =
-    All-weaker (IsPart 8 b) (IsPlaced after other) (λ h part. placed-kept before after len other h kept same (half-placed before b h list len part may)) hs parts
+group-placed laws before after b hs list len other kept same may parts =
+    All-weaker (IsPart 8 b) (IsPlaced after other) (λ h part. placed-kept before after len other h kept same (half-placed laws before b h list len part may)) hs parts
 
 -- the two groups, one after the other
 pub record AreGroups (view : Window) (list : List Step) (b : Indices) (old mid : List ℕ) : Type 0 where
@@ -484,63 +491,63 @@ pub record AreGroups (view : Window) (list : List Step) (b : Indices) (old mid :
   pub near : All (IsDrawnTo view list b old old) (nearer 8 b)
   pub far : All (IsDrawnTo view list b old mid) (farther 8 b)
 
-pub groups-are : (desk : Desk) (list : List Step) (b : Indices) (old mid : List ℕ) → MayDraw desk b list (length old) → Changes (λ p. true) (beside_top desk.places.view list (nearer 8 b)) old mid
+pub groups-are : (laws : Lawful) (desk : Desk) (list : List Step) (b : Indices) (old mid : List ℕ) → MayDraw desk b list (length old) → Changes (λ p. true) (beside_top desk.places.view list (nearer 8 b)) old mid
     → AreGroups desk.places.view list b old mid
-groups-are desk list b old mid may first = record {
+groups-are laws desk list b old mid may first = record {
   among = columns-there desk.places.view b desk.places.view.w (length old) may.visit_is.window may.visit_is.within refl may.tops;
-  near = nearer-drawn desk.places.view list b old may.visit_is.box;
-  far = farther-drawn desk.places.view list b old mid may.visit_is.box first;
+  near = nearer-drawn laws desk.places.view list b old may.visit_is.box;
+  far = farther-drawn laws desk.places.view list b old mid may.visit_is.box first;
 }
 
-pub groups-points : (view : Window) (list : List Step) (b : Indices) (old mid : List ℕ) (start between end : Counts) → AreGroups view list b old mid
+pub groups-points : (laws : Lawful) (view : Window) (list : List Step) (b : Indices) (old mid : List ℕ) (start between end : Counts) → AreGroups view list b old mid
     → CountsPoints (beside_points view list old (nearer 8 b)) start between → CountsPoints (beside_points view list mid (farther 8 b)) between end
-    → CountsPoints (halves_points (is_open view list b old) (layered view) list (halves_of 8 b)) start end
-groups-points view list b old mid start between end are first second =
-    points-then start between end (beside_points view list old (nearer 8 b)) (beside_points view list mid (farther 8 b)) (halves_points (is_open view list b old) (layered view) list (halves_of 8 b))
+    → CountsPoints (halves_points_where (is_open view list b old) (layered view) list (halves_of 8 b)) start end
+groups-points laws view list b old mid start between end are first second =
+    points-then start between end (beside_points view list old (nearer 8 b)) (beside_points view list mid (farther 8 b)) (halves_points_where (is_open view list b old) (layered view) list (halves_of 8 b))
     (omega (
       arith,
-      group-points view list b old old (nearer 8 b) are.among are.near,
-      group-points view list b old mid (farther 8 b) are.among are.far,
+      group-points laws view list b old old (nearer 8 b) are.among are.near,
+      group-points laws view list b old mid (farther 8 b) are.among are.far,
       halves-sum (λ h. points_where (is_open view list b old) (layered view) (visit h list)) b,
     )) first second
 
-pub groups-traced : (view : Window) (list : List Step) (b : Indices) (old mid : List ℕ) (start between end : Counts) → HalvesPart → AreGroups view list b old mid
+pub groups-traced : (laws : Lawful) (view : Window) (list : List Step) (b : Indices) (old mid : List ℕ) (start between end : Counts) → AreGroups view list b old mid
     → CountsSpans (beside_traced view list old (nearer 8 b)) start between → CountsSpans (beside_traced view list mid (farther 8 b)) between end
-    → CountsSpans (halves_traced (is_open view list b old) (layered view) list (halves_of 8 b)) start end
-groups-traced view list b old mid start between end law are first second =
-    spans-then start between end (beside_traced view list old (nearer 8 b)) (beside_traced view list mid (farther 8 b)) (halves_traced (is_open view list b old) (layered view) list (halves_of 8 b))
+    → CountsSpans (halves_spans_where (is_open view list b old) (layered view) list (halves_of 8 b)) start end
+groups-traced laws view list b old mid start between end are first second =
+    spans-then start between end (beside_traced view list old (nearer 8 b)) (beside_traced view list mid (farther 8 b)) (halves_spans_where (is_open view list b old) (layered view) list (halves_of 8 b))
     (omega (
       arith,
-      group-traced view list b old old (nearer 8 b) law are.among are.near,
-      group-traced view list b old mid (farther 8 b) law are.among are.far,
+      group-traced laws view list b old old (nearer 8 b) are.among are.near,
+      group-traced laws view list b old mid (farther 8 b) are.among are.far,
       halves-sum (λ h. spans_where (is_open view list b old) (layered view) (visit h list)) b,
     )) first second
 
-pub groups-bounded : (view : Window) (list : List Step) (b : Indices) (old mid : List ℕ) (start between end : Counts) → AreGroups view list b old mid
+pub groups-bounded : (laws : Lawful) (view : Window) (list : List Step) (b : Indices) (old mid : List ℕ) (start between end : Counts) → AreGroups view list b old mid
     → CountsAtMost (beside_points view list old (nearer 8 b)) (halves_spans (layered view) list (nearer 8 b)) start between
     → CountsAtMost (beside_points view list mid (farther 8 b)) (halves_spans (layered view) list (farther 8 b)) between end
-    → CountsAtMost (halves_points (is_open view list b old) (layered view) list (halves_of 8 b)) (halves_spans (layered view) list (halves_of 8 b)) start end
-groups-bounded view list b old mid start between end are first second =
-    most-then start between end (beside_points view list old (nearer 8 b)) (halves_spans (layered view) list (nearer 8 b))
+    → CountsAtMost (halves_points_where (is_open view list b old) (layered view) list (halves_of 8 b)) (halves_spans (layered view) list (halves_of 8 b)) start end
+groups-bounded laws view list b old mid start between end are first second =
+    laws.bounds.sum start between end (beside_points view list old (nearer 8 b)) (halves_spans (layered view) list (nearer 8 b))
     (beside_points view list mid (farther 8 b)) (halves_spans (layered view) list (farther 8 b))
-    (halves_points (is_open view list b old) (layered view) list (halves_of 8 b)) (halves_spans (layered view) list (halves_of 8 b))
+    (halves_points_where (is_open view list b old) (layered view) list (halves_of 8 b)) (halves_spans (layered view) list (halves_of 8 b))
     (omega (
       arith,
-      group-points view list b old old (nearer 8 b) are.among are.near,
-      group-points view list b old mid (farther 8 b) are.among are.far,
+      group-points laws view list b old old (nearer 8 b) are.among are.near,
+      group-points laws view list b old mid (farther 8 b) are.among are.far,
       halves-sum (λ h. points_where (is_open view list b old) (layered view) (visit h list)) b,
     ))
     (omega (arith, halves-sum (λ h. spans_in (layered view) (visit h list)) b)) first second
 
-pub nearer-bounded : (view : Window) (list : List Step) (b : Indices) (old : List ℕ) (start end : Counts) → IsAmong view.w (length old) b → All (IsDrawnTo view list b old old) (nearer 8 b)
+pub nearer-bounded : (laws : Lawful) (view : Window) (list : List Step) (b : Indices) (old : List ℕ) (start end : Counts) → IsAmong view.w (length old) b → All (IsDrawnTo view list b old old) (nearer 8 b)
     → CountsAtMost (beside_points view list old (nearer 8 b)) (halves_spans (layered view) list (nearer 8 b)) start end
-    → CountsAtMost (halves_points (is_open view list b old) (layered view) list (halves_of 8 b)) (halves_spans (layered view) list (halves_of 8 b)) start end
-nearer-bounded view list b old start end among near h =
-    most-more start end (beside_points view list old (nearer 8 b)) (halves_spans (layered view) list (nearer 8 b))
-    (halves_points (is_open view list b old) (layered view) list (halves_of 8 b)) (halves_spans (layered view) list (halves_of 8 b))
+    → CountsAtMost (halves_points_where (is_open view list b old) (layered view) list (halves_of 8 b)) (halves_spans (layered view) list (halves_of 8 b)) start end
+nearer-bounded laws view list b old start end among near h =
+    laws.bounds.more start end (beside_points view list old (nearer 8 b)) (halves_spans (layered view) list (nearer 8 b))
+    (halves_points_where (is_open view list b old) (layered view) list (halves_of 8 b)) (halves_spans (layered view) list (halves_of 8 b))
     (omega (
       arith,
-      group-points view list b old old (nearer 8 b) among near,
+      group-points laws view list b old old (nearer 8 b) among near,
       halves-sum (λ h. points_where (is_open view list b old) (layered view) (visit h list)) b,
     ))
     (omega (arith, halves-sum (λ h. spans_in (layered view) (visit h list)) b)) h

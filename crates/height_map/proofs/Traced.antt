@@ -5,25 +5,24 @@ use Rattle.std.specs.List.{Contains, sum_by}
 use Rattle.std.proofs.lemmas.Bool.{and_from, eq-eqb, le-leb, lt-ltb}
 use Rattle.std.proofs.lemmas.List.Elements.{All-contains_itself, All-weaker}
 use Rattle.std.proofs.lemmas.List.Sums.{sum_by-cons}
-use Rattle.box_chains.specs.ChainLaws.{box-has_sides, chain-ends, chain-goes_on, half_visit, split-is_long}
-use Rattle.box_chains.specs.Chains.{Descent, Visit, chain, decision, handed_on, is_long, is_split, next_visit, sides, visit}
+use Rattle.box_chains.specs.Chains.{Descent, Visit, chain, decision, half_visit, handed_on, is_long, is_split, next_visit, sides, visit}
 use Rattle.box_chains.specs.Counts.{is_first}
-use Rattle.box_chains.specs.HalfLaws.{IsPart, half_with-is, halves-are_parts, part-is_box, part-is_shorter, part-lies}
-use Rattle.box_chains.specs.SumLaws.{along-parts, size, sum_by-equal, sum_in-const, sum_in-first, sum_in-halves, sum_in-plus, sum_in-same}
-use Rattle.box_chains.specs.Sums.{LiesIn, Sample, sum_along, sum_in}
-use Rattle.box_chains.specs.ValueLaws.{IsVisit, Lawful}
+use Rattle.box_chains.specs.Parts.{IsPart}
+use Rattle.box_chains.specs.Sums.{LiesIn, Sample, size, sum_along, sum_in}
+use Rattle.box_chains.specs.Visits.{IsVisit}
+use Rattle.box_chains.specs.Laws.{Lawful}
 use Rattle.fixed_ops.specs.CountLaws.{risen-risen, risen-zero}
 use Rattle.fixed_ops.specs.Counts.{Counts, RisesBy, points_of, risen}
 use Rattle.interval_ops.specs.HullCounts.{CountsHulls}
 use Rattle.live_clauses.specs.declared.step.Step.{Step}
 use Rattle.view_settings.specs.Boxes.{Indices, IsBox, halves_of}
-use Rattle.view_settings.specs.Laws.{HalvesPart}
 use Rattle.view_settings.specs.Spans.{root_of}
 use Rattle.view_settings.specs.Window.{Window}
 use Rattle.view_settings.specs.declared.lattice.Lattice.TheVariants.{Height}
 use Rattle.box_chains.specs.Outcomes.{outcome_by, outcome_of}
 use Rattle.height_map.specs.Opened.{outcome_traced, sampling}
-use Rattle.height_map.specs.Bound.{CountsSpans, halves_traced, has_some, is_near, layered, lengths_where, near_spans, open_traced, spans_where, whole}
+use Rattle.height_map.specs.Bound.{CountsSpans, is_near, layered, near_spans, whole}
+use Rattle.box_chains.specs.Tested.{halves_spans_where, has_some, lengths_where, open_spans_where, spans_where}
 use Rattle.height_map.specs.Columns.{HasOpen, IsAmong, covers, is_open}
 use Rattle.height_map.specs.Tops.{inside, top_among}
 use Rattle.height_map.proofs.ChangeLaws.{IsCell, cell-of}
@@ -34,123 +33,53 @@ use Rattle.height_map.proofs.WorkLaws.{decided-split, open-split}
 
 -- ---- the steps that are traced over a box, from those of its halves
 
--- what a box adds where a sample is its first
-abbrev own_where : (Sample → Bool) → Visit → Sample → ℕ
-own_where test v s = cond (has_some test v.box && is_first v.box s) (length v.list) 0
+-- a box that is not split
+traced-end : (laws : Lawful) (test : Sample → Bool) (d : Descent) (v : Visit) → 0 < d.leaf → IsBox v.box → is_split d v ≡ false
+    → spans_where test d v ≡ cond (has_some test v.box) (length v.list) 0 + 0
+traced-end laws test d v some is e = rw e at (laws.tested.spans test d v some is)
 
-own-once : (t : Bool) (v : Visit) → IsBox v.box → sum_in v.box (λ s. cond (t && is_first v.box s) (length v.list) 0) ≡ cond t (length v.list) 0
-own-once true v is = sum_in-first v.box (length v.list) is
-own-once false v is = sum-nothing v.box (λ s. 0) (λ s lies. refl)
-
--- a box that is split
-traced-split : (test : Sample → Bool) (d : Descent) (v : Visit) → 0 < d.leaf → IsBox v.box → HalvesPart → is_split d v ≡ true
-    → spans_where test d v ≡ cond (has_some test v.box) (length v.list) 0 + halves_traced test d (handed_on d v) (halves_of d.leaf v.box)
-unfolding spans_where
-traced-split test d v some is law e =
-    let apart = sum_in-same v.box (λ s. lengths_where test s (chain d v s)) (λ s. own_where test v s + rest s)
-    (λ s lies. ap (lengths_where test s) (chain-goes_on d v s some is lies law e)
-    ∙ sum_by-cons (λ w. cond (has_some test w.box && is_first w.box s) (length w.list) 0) v (chain d (next_visit d v s) s)) in
-    omega (arith, apart, sum_in-plus v.box (own_where test v) rest, own-once (has_some test v.box) v is, below)
-  where
-    rest : Sample → ℕ
-    rest s = lengths_where test s (chain d (next_visit d v s) s)
-
-    each : Indices → Sample → ℕ
-    each half s = lengths_where test s (chain d (half_visit d v half) s)
-
-    below : sum_in v.box rest ≡ sum_by (λ half. sum_in half (each half)) (halves_of d.leaf v.box)
-    below =
-        sym (sum_in-halves d.leaf v.box rest)
-        ∙ sum_by-equal (λ half. sum_in half rest) (λ half. sum_in half (each half)) (halves_of d.leaf v.box)
-        (All-weaker (Contains (halves_of d.leaf v.box)) (λ half. sum_in half rest ≡ sum_in half (each half))
-        (λ half among. sum_in-same half rest (each half)
-        (λ s lies. ap (λ next. lengths_where test s (chain d next s)) (ap (λ b. half_visit d v b) (half_with-is law d.leaf v.box half s among lies))))
-        (halves_of d.leaf v.box) (All-contains_itself (halves_of d.leaf v.box)))
-
--- and one that is not
-traced-end : (test : Sample → Bool) (d : Descent) (v : Visit) → IsBox v.box → is_split d v ≡ false → spans_where test d v ≡ cond (has_some test v.box) (length v.list) 0
-unfolding spans_where
-traced-end test d v is e =
-    let apart = sum_in-same v.box (λ s. lengths_where test s (chain d v s)) (own_where test v)
-    (λ s lies. ap (lengths_where test s) (chain-ends d v s is e) ∙ zero-add (own_where test v s)) in
-    omega (arith, apart, own-once (has_some test v.box) v is)
+-- and one that is
+traced-split : (laws : Lawful) (test : Sample → Bool) (d : Descent) (v : Visit) → 0 < d.leaf → IsBox v.box → is_split d v ≡ true
+    → spans_where test d v ≡ cond (has_some test v.box) (length v.list) 0 + halves_spans_where test d (handed_on d v) (halves_of d.leaf v.box)
+traced-split laws test d v some is e = rw e at (laws.tested.spans test d v some is)
 
 -- an undecided box takes its own trace and what lies open below it
-traced-open : (test : Sample → Bool) (d : Descent) (v : Visit) → 0 < d.leaf → IsBox v.box → HalvesPart → decision d v ≡ None
-    → spans_where test d v ≡ cond (has_some test v.box) (length v.list) 0 + open_traced test d v.box (handed_on d v)
-traced-open test d v some is law e = by (is_long d.leaf v.box) refl
+traced-open : (laws : Lawful) (test : Sample → Bool) (d : Descent) (v : Visit) → 0 < d.leaf → IsBox v.box → decision d v ≡ None
+    → spans_where test d v ≡ cond (has_some test v.box) (length v.list) 0 + open_spans_where test d v.box (handed_on d v)
+traced-open laws test d v some is e = by (is_long d.leaf v.box) refl
   where
     by : (t : Bool) → is_long d.leaf v.box ≡ t
-        → spans_where test d v ≡ cond (has_some test v.box) (length v.list) 0 + cond t (halves_traced test d (handed_on d v) (halves_of d.leaf v.box)) 0
-    by true h = traced-split test d v some is law (open-split d v e ∙ h)
-    by false h = omega (arith, traced-end test d v is (open-split d v e ∙ h))
+        → spans_where test d v ≡ cond (has_some test v.box) (length v.list) 0 + cond t (halves_spans_where test d (handed_on d v) (halves_of d.leaf v.box)) 0
+    by true h = traced-split laws test d v some is (open-split d v e ∙ h)
+    by false h = traced-end laws test d v some is (open-split d v e ∙ h)
 
 -- ---- which samples pass
 
-pub some-same : (test other : Sample → Bool) (b : Indices) → ((s : Sample) → LiesIn b s → test s ≡ other s) → has_some test b ≡ has_some other b
-some-same test other b same =
-    ap (nat_lt 0) (sum_in-same b (λ s. cond (test s) 1 0) (λ s. cond (other s) 1 0) (λ s lies. ap (λ t. cond {A = ℕ} t 1 0) (same s lies)))
-
--- where the same samples pass
-traced-same_within : (n : ℕ) (test other : Sample → Bool) (d : Descent) (v : Visit) → 0 < d.leaf → IsBox v.box → HalvesPart → sides v.box ≤ n
-    → ((s : Sample) → LiesIn v.box s → test s ≡ other s) → spans_where test d v ≡ spans_where other d v
-traced-same_within zero test other d v some is law few same = absurd (omega (arith, box-has_sides v.box is, few))
-traced-same_within (suc n) test other d v some is law few same =
-    by (is_split d v) refl
-    (λ half part less. traced-same_within n test other d (half_visit d v half) some (part-is_box d.leaf v.box half part) law (omega (arith, less, few))
-    (λ s lies. same s (part-lies d.leaf v.box half s part lies)))
-  where
-    own : cond {A = ℕ} (has_some test v.box) (length v.list) 0 ≡ cond {A = ℕ} (has_some other v.box) (length v.list) 0
-    own = ap (λ t. cond {A = ℕ} t (length v.list) 0) (some-same test other v.box same)
-
-    by : (t : Bool) → is_split d v ≡ t
-        → ((half : Indices) → IsPart d.leaf v.box half → sides half < sides v.box → spans_where test d (half_visit d v half) ≡ spans_where other d (half_visit d v half))
-        → spans_where test d v ≡ spans_where other d v
-    by false e below = traced-end test d v is e ∙ own ∙ sym (traced-end other d v is e)
-    by true e below =
-        let halves = sum_by-equal (λ half. spans_where test d (half_visit d v half)) (λ half. spans_where other d (half_visit d v half)) (halves_of d.leaf v.box)
-        (All-weaker (IsPart d.leaf v.box) (λ half. spans_where test d (half_visit d v half) ≡ spans_where other d (half_visit d v half))
-        (λ half part. below half part (part-is_shorter d.leaf v.box half (split-is_long d v e) part))
-        (halves_of d.leaf v.box) (halves-are_parts d.leaf v.box some is)) in
-        omega (arith, traced-split test d v some is law e, traced-split other d v some is law e, own, halves)
-
-pub traced-same : (test other : Sample → Bool) (d : Descent) (v : Visit) → 0 < d.leaf → IsBox v.box → HalvesPart
-    → ((s : Sample) → LiesIn v.box s → test s ≡ other s) → spans_where test d v ≡ spans_where other d v
-traced-same test other d v some is law same = traced-same_within (sides v.box) test other d v some is law (omega arith) same
+pub some-same : (laws : Lawful) (test other : Sample → Bool) (b : Indices) → ((s : Sample) → LiesIn b s → test s ≡ other s) → has_some test b ≡ has_some other b
+some-same laws test other b same =
+    ap (nat_lt 0) (laws.sums.same b (λ s. cond (test s) 1 0) (λ s. cond (other s) 1 0) (λ s lies. ap (λ t. cond {A = ℕ} t 1 0) (same s lies)))
 
 -- where none passes
-pub traced-closed : (test : Sample → Bool) (d : Descent) (v : Visit) → 0 < d.leaf → IsBox v.box → HalvesPart
+pub traced-closed : (laws : Lawful) (test : Sample → Bool) (d : Descent) (v : Visit) → 0 < d.leaf → IsBox v.box
     → ((s : Sample) → LiesIn v.box s → test s ≡ false) → spans_where test d v ≡ 0
-unfolding spans_where
-traced-closed test d v some is law none =
-    traced-same test (λ s. false) d v some is law none
-    ∙ sum-nothing v.box (λ s. lengths_where (λ t. false) s (chain d v s)) (λ s lies. nothing s (chain d v s))
-  where
-    closed : (b : Indices) → has_some (λ t. false) b ≡ false
-    closed b = ap (nat_lt 0) (sum_in-const b 0 ∙ mul-zero (size b))
-
-    nothing : (s : Sample) (ws : List Visit) → lengths_where (λ t. false) s ws ≡ 0
-    nothing s [] = refl
-    nothing s (w ∷ ws) =
-        let own = ap (λ t. cond {A = ℕ} (t && is_first w.box s) (length w.list) 0) (closed w.box) in
-        omega (arith, sum_by-cons (λ v. cond (has_some (λ t. false) v.box && is_first v.box s) (length v.list) 0) w ws, own, nothing s ws)
+traced-closed laws test d v some is none = laws.tested.spans_same test (λ s. false) d v some is none ∙ laws.tested.spans_none d v
 
 -- ---- a sample that passes
 
-along-above : (low high i : ℕ) (f : ℕ → ℕ) → low ≤ i → i < high → f i ≤ sum_along low high f
-along-above low high i f below above =
-    omega (arith, along-parts low i high f below (omega (arith, above)), along-parts i (i + 1) high f (omega arith) (omega (arith, above)), along-one i f)
+along-above : (laws : Lawful) (low high i : ℕ) (f : ℕ → ℕ) → low ≤ i → i < high → f i ≤ sum_along low high f
+along-above laws low high i f below above =
+    omega (arith, laws.axes.parts low i high f below (omega (arith, above)), laws.axes.parts i (i + 1) high f (omega arith) (omega (arith, above)), along-one i f)
 
-sum-above : (b : Indices) (f : Sample → ℕ) (s : Sample) → LiesIn b s → f s ≤ sum_in b f
-sum-above b f s lies =
-    let x = along-above b.x0 b.x1 s.i (λ i. f (record { i = i; j = s.j; k = s.k })) lies.x.0 lies.x.1 in
-    let y = along-above b.y0 b.y1 s.j (λ j. sum_along b.x0 b.x1 (λ i. f (record { i = i; j = j; k = s.k }))) lies.y.0 lies.y.1 in
-    let z = along-above b.z0 b.z1 s.k (λ k. sum_along b.y0 b.y1 (λ j. sum_along b.x0 b.x1 (λ i. f (record { i = i; j = j; k = k })))) lies.z.0 lies.z.1 in
+sum-above : (laws : Lawful) (b : Indices) (f : Sample → ℕ) (s : Sample) → LiesIn b s → f s ≤ sum_in b f
+sum-above laws b f s lies =
+    let x = along-above laws b.x0 b.x1 s.i (λ i. f (record { i = i; j = s.j; k = s.k })) lies.x.0 lies.x.1 in
+    let y = along-above laws b.y0 b.y1 s.j (λ j. sum_along b.x0 b.x1 (λ i. f (record { i = i; j = j; k = s.k }))) lies.y.0 lies.y.1 in
+    let z = along-above laws b.z0 b.z1 s.k (λ k. sum_along b.y0 b.y1 (λ j. sum_along b.x0 b.x1 (λ i. f (record { i = i; j = j; k = k })))) lies.z.0 lies.z.1 in
     omega (arith, x, y, z)
 
 -- the nearest sample of a column that has no top is open
-pub open-some : (view : Window) (list : List Step) (b : Indices) (w : ℕ) (tops : List ℕ) → w ≡ view.w → IsBox b → HasOpen w b tops → has_some (is_open view list b tops) b ≡ true
-open-some view list b w tops width is open' = lt-ltb 0 (sum_in b passed) (omega (arith, sum-above b passed s lies, one))
+pub open-some : (laws : Lawful) (view : Window) (list : List Step) (b : Indices) (w : ℕ) (tops : List ℕ) → w ≡ view.w → IsBox b → HasOpen w b tops → has_some (is_open view list b tops) b ≡ true
+open-some laws view list b w tops width is open' = lt-ltb 0 (sum_in b passed) (omega (arith, sum-above laws b passed s lies, one))
   where
     p : ℕ
     p = open'.place
@@ -200,11 +129,11 @@ pub spans-hulls : (before after : Counts) (n : ℕ) → CountsHulls n before aft
 spans-hulls before after n h = ap (λ (c : Counts). c.spans) h.rises
 
 -- a box whose columns all have tops takes none
-pub traced-covered : (view : Window) (list : List Step) (b : Indices) (w : ℕ) (tops : List ℕ) (counts : Counts) → w ≡ view.w → IsAmong view.w (length tops) b → IsBox b → HalvesPart
+pub traced-covered : (laws : Lawful) (view : Window) (list : List Step) (b : Indices) (w : ℕ) (tops : List ℕ) (counts : Counts) → w ≡ view.w → IsAmong view.w (length tops) b → IsBox b
     → ((p : ℕ) → p < length tops → covers w b p ≡ true → 0 < get_or tops p 0)
     → CountsSpans (spans_where (is_open view list b tops) (layered view) (visit b list)) counts counts
-traced-covered view list b w tops counts width among is law covered =
-    spans-none counts _ (traced-closed (is_open view list b tops) (layered view) (visit b list) (omega arith) is law (covered-closed view list b w tops width among covered))
+traced-covered laws view list b w tops counts width among is covered =
+    spans-none counts _ (traced-closed laws (is_open view list b tops) (layered view) (visit b list) (omega arith) is (covered-closed view list b w tops width among covered))
 
 -- another one takes its own trace, and those below it
 pub traced-outcome : (laws : Lawful) (view : Window) (list : List Step) (b : Indices) (tops : List ℕ) → IsVisit (layered view) (visit b list) → has_some (is_open view list b tops) b ≡ true
@@ -230,30 +159,30 @@ traced-outcome laws view list b tops is some = by (decision d v) refl
     own passes e = ap (λ t. cond {A = ℕ} t (length list) 0) e
 
     by : (t : Option Bool) → decision d v ≡ t → spans_where test d v ≡ length list + outcome_traced view tops b (outcome_by t live)
-    by (Some true) e = omega (arith, traced-end test d v is.box (decided-split d v true e), own test some)
-    by (Some false) e = omega (arith, traced-end test d v is.box (decided-split d v false e), own test some)
+    by (Some true) e = omega (arith, traced-end laws test d v (omega arith) is.box (decided-split d v true e), own test some)
+    by (Some false) e = omega (arith, traced-end laws test d v (omega arith) is.box (decided-split d v false e), own test some)
     by None e =
         omega (
           arith,
-          traced-open (is_open view live b tops) d v (omega arith) is.box laws.halves e,
-          traced-same (is_open view live b tops) test d v (omega arith) is.box laws.halves opened,
-          own (is_open view live b tops) (some-same (is_open view live b tops) test b opened ∙ some),
+          traced-open laws (is_open view live b tops) d v (omega arith) is.box e,
+          laws.tested.spans_same (is_open view live b tops) test d v (omega arith) is.box opened,
+          own (is_open view live b tops) (some-same laws (is_open view live b tops) test b opened ∙ some),
         )
 
 -- a leaf is evaluated without a hull
 pub traced-leaf : (view : Window) (list : List Step) (b : Indices) (tops : List ℕ) (n : ℕ) (before after : Counts) → is_long 8 b ≡ false → RisesBy before after (points_of n)
-    → CountsSpans (open_traced (is_open view list b tops) (layered view) b list) before after
+    → CountsSpans (open_spans_where (is_open view list b tops) (layered view) b list) before after
 traced-leaf view list b tops n before after short h = rw short (ap (λ (c : Counts). c.spans) h)
 
 pub traced-halves : (view : Window) (list : List Step) (b : Indices) (tops : List ℕ) (before after : Counts) → is_long 8 b ≡ true
-    → CountsSpans (halves_traced (is_open view list b tops) (layered view) list (halves_of 8 b)) before after
-    → CountsSpans (open_traced (is_open view list b tops) (layered view) b list) before after
+    → CountsSpans (halves_spans_where (is_open view list b tops) (layered view) list (halves_of 8 b)) before after
+    → CountsSpans (open_spans_where (is_open view list b tops) (layered view) b list) before after
 traced-halves view list b tops before after long h = rw long h
 
 -- the box of all samples, over no tops
-pub map-traced : (view : Window) (list : List Step) (b : Indices) (n : ℕ) (tops : List ℕ) (before after : Counts) → b ≡ root_of view Height → IsBox (root_of view Height) → HalvesPart → tops ≡ replicate n 0
+pub map-traced : (laws : Lawful) (view : Window) (list : List Step) (b : Indices) (n : ℕ) (tops : List ℕ) (before after : Counts) → b ≡ root_of view Height → IsBox (root_of view Height) → tops ≡ replicate n 0
     → CountsSpans (spans_where (is_open view list b tops) (layered view) (visit b list)) before after → CountsSpans (near_spans view list) before after
-map-traced view list b n tops before after is box law empty h =
+map-traced laws view list b n tops before after is box empty h =
     spans-are before after _ (near_spans view list)
-    (traced-same (is_open view list (root_of view Height) tops) (is_near view list) (layered view) (whole view list) (omega arith) box law (λ s lies. map-open view list n tops empty s))
+    (laws.tested.spans_same (is_open view list (root_of view Height) tops) (is_near view list) (layered view) (whole view list) (omega arith) box (λ s lies. map-open view list n tops empty s))
     (subst (λ c. CountsSpans (spans_where (is_open view list c tops) (layered view) (visit c list)) before after) is h)

@@ -1,6 +1,6 @@
 -- What drawing a box needs, and what it leaves.
 use Rattle.std.specs.Prelude.{◌≡◌, ℕ, ◌*◌, ◌≤◌, List, length}
-use Rattle.box_chains.specs.ValueLaws.{IsVisit}
+use Rattle.box_chains.specs.Visits.{IsVisit}
 use Rattle.box_chains.specs.declared.outcome.Outcome.{Outcome}
 use Rattle.box_chains.specs.declared.outcome.Outcome.TheVariants.{Open}
 use Rattle.live_clauses.specs.Live.{IsWhole}

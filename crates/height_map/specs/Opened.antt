@@ -6,7 +6,9 @@ use Rattle.box_chains.specs.declared.outcome.Outcome.TheVariants.{Inside as AllI
 use Rattle.view_settings.specs.Boxes.{Indices}
 use Rattle.view_settings.specs.Window.{Window}
 use Rattle.view_settings.specs.declared.lattice.Lattice.TheVariants.{Height}
-use Rattle.height_map.specs.Bound.{layered, open_points, open_spans, open_traced}
+use Rattle.height_map.specs.Bound.{layered}
+use Rattle.box_chains.specs.Counts.{open_spans}
+use Rattle.box_chains.specs.Tested.{open_points_where, open_spans_where}
 use Rattle.height_map.specs.Columns.{is_open, leaf_top, lifted}
 
 -- the samples of a height map
@@ -24,14 +26,14 @@ abbrev pub outcome_points : Window → List ℕ → Indices → Outcome → ℕ
 outcome_points view tops b AllInside = 0
 outcome_points view tops b AllOutside = 0
 outcome_points view tops b (Open list) =
-    open_points (is_open view list b tops) (layered view) b list
+    open_points_where (is_open view list b tops) (layered view) b list
 
 -- the steps that are traced below it, and those that are at most
 abbrev pub outcome_traced : Window → List ℕ → Indices → Outcome → ℕ
 outcome_traced view tops b AllInside = 0
 outcome_traced view tops b AllOutside = 0
 outcome_traced view tops b (Open list) =
-    open_traced (is_open view list b tops) (layered view) b list
+    open_spans_where (is_open view list b tops) (layered view) b list
 
 abbrev pub outcome_spans : Window → Indices → Outcome → ℕ
 outcome_spans view b AllInside = 0

@@ -1,14 +1,14 @@
 // Boxes that are drawn.
 ghost use Rattle.std.specs.Prelude.{◌≡◌, ◌≤◌, true, length, OnOk, IsTrue};
 ghost use Rattle.std.specs.List.{All};
-ghost use Rattle.box_chains.specs.Chains.{is_long as is_long_for};
-ghost use Rattle.box_chains.specs.Counts.{spans_in};
+ghost use Rattle.box_chains.specs.Chains.{is_long as is_long_for, visit};
+ghost use Rattle.box_chains.specs.Counts.{halves_spans, open_spans, spans_in};
 ghost use Rattle.view_settings.specs.Boxes.{halves_of};
 ghost use Rattle.live_clauses.specs.Live.{IsWhole};
-ghost use Rattle.box_chains.specs.Chains.{visit};
 ghost use Rattle.box_chains.specs.Tallied.{CountsAtMost};
 ghost use Rattle.height_map.specs.Beside.{LieBeside, beside_points, beside_top, beside_traced};
-ghost use Rattle.height_map.specs.Bound.{CountsPoints, CountsSpans, halves_points, halves_spans, halves_traced, layered, open_points, open_spans, open_traced, points_where, spans_where};
+ghost use Rattle.height_map.specs.Bound.{CountsPoints, CountsSpans, layered};
+ghost use Rattle.box_chains.specs.Tested.{halves_points_where, halves_spans_where, open_points_where, open_spans_where, points_where, spans_where};
 ghost use Rattle.height_map.specs.Columns.{Changes, covers, has_open, is_open, leaf_top};
 ghost use Rattle.height_map.specs.Desks.{HasRoom, IsPlaced, KeepsDesk, MayDraw, MayOpen};
 ghost use Rattle.height_map.specs.Opened.{outcome_points, outcome_spans, outcome_top, outcome_traced};
@@ -86,6 +86,7 @@ fn draw_outcome(
         tally.old tally.new) }
     ensures kept { KeepsDesk desk.old desk.new }
 {
+    layers_hold();
     match outcome {
         Outcome::Inside => {
             lift(desk.w, b, tops);
@@ -111,19 +112,20 @@ fn draw_undecided(
     ensures tops { OnOk result (Changes (covers desk.old.w b)
         (leaf_top desk.old.places.view live.now b) tops.old tops.new) }
     ensures at_most { CountsAtMost
-        (open_points (is_open desk.old.places.view live.now b tops.old)
+        (open_points_where (is_open desk.old.places.view live.now b tops.old)
         (layered desk.old.places.view) b live.now)
         (open_spans (layered desk.old.places.view) b live.now) tally.old tally.new }
     ensures points { OnOk result
-        (CountsPoints (open_points (is_open desk.old.places.view live.now b tops.old)
+        (CountsPoints (open_points_where (is_open desk.old.places.view live.now b tops.old)
         (layered desk.old.places.view) b live.now)
         tally.old tally.new) }
     ensures hulls { OnOk result
-        (CountsSpans (open_traced (is_open desk.old.places.view live.now b tops.old)
+        (CountsSpans (open_spans_where (is_open desk.old.places.view live.now b tops.old)
         (layered desk.old.places.view) b live.now)
         tally.old tally.new) }
     ensures kept { KeepsDesk desk.old desk.new }
 {
+    layers_hold();
     if is_long(b, LEAF) {
         draw_halves(alloc, desk, b, live, tops, tally)
     } else {
@@ -148,15 +150,15 @@ fn draw_halves(
     ensures tops { OnOk result (Changes (covers desk.old.w b)
         (leaf_top desk.old.places.view live.now b) tops.old tops.new) }
     ensures at_most { CountsAtMost
-        (halves_points (is_open desk.old.places.view live.now b tops.old)
+        (halves_points_where (is_open desk.old.places.view live.now b tops.old)
         (layered desk.old.places.view) live.now (halves_of 8 b))
         (halves_spans (layered desk.old.places.view) live.now (halves_of 8 b)) tally.old tally.new }
     ensures points { OnOk result
-        (CountsPoints (halves_points (is_open desk.old.places.view live.now b tops.old)
+        (CountsPoints (halves_points_where (is_open desk.old.places.view live.now b tops.old)
         (layered desk.old.places.view) live.now (halves_of 8 b))
         tally.old tally.new) }
     ensures hulls { OnOk result
-        (CountsSpans (halves_traced (is_open desk.old.places.view live.now b tops.old)
+        (CountsSpans (halves_spans_where (is_open desk.old.places.view live.now b tops.old)
         (layered desk.old.places.view) live.now (halves_of 8 b))
         tally.old tally.new) }
     ensures kept { KeepsDesk desk.old desk.new }

@@ -13,8 +13,8 @@ use fixed_ops::{Fx, Tally, is_inside};
 use live_clauses::Tape;
 use view_settings::Lattice;
 
-/// Gives each of some columns whose sample in layer k is inside the top right above it. The list is
-/// evaluated once at each of these samples.
+/// Gives each of some columns whose sample in layer k is inside the top right above it. One
+/// evaluation of the list is counted for each of these samples.
 pub fn draw_layer(
     places: &Places,
     k: u32,

@@ -10,13 +10,14 @@ ghost use Rattle.height_map.specs.Layers.{columns_in, columns_of as columns_for,
 use crate::column::Column;
 use crate::layer::draw_layer;
 use arrayvec::ArrayVec;
-use box_chains::Places;
+use box_chains::{Places, layers_hold};
 use fixed_ops::{Fx, Tally};
 use live_clauses::Tape;
 use view_settings::IndexBox;
 
-/// Gives each column of a leaf that has no top the one that the samples of the leaf give it. The list
-/// is evaluated once at each of these samples from the nearest on, until one is inside.
+/// Gives each column of a leaf that has no top the one that the samples of the leaf give it. One
+/// evaluation of the list is counted for each of these samples from the nearest on, up to the first
+/// that is inside.
 pub fn draw_leaf(
     places: &Places,
     w: u32,
@@ -34,6 +35,7 @@ pub fn draw_leaf(
     ensures counted { RisesBy tally.old tally.new
         (points_of (sum_in b (leaf_cost places.now.view list.now b tops.old))) }
 {
+    layers_hold();
     let mut columns = columns_of(w, b);
     for k in (b.z0..b.z1).rev() {
         keep_open(&mut columns, tops);

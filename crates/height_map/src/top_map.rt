@@ -37,9 +37,9 @@ impl Model for TopMap {
 }
 
 /// The height map of a list of steps over a view. Each step that is traced over a box is counted, at
-/// most four corners with it, and each step that is evaluated at a sample. No sample behind the
-/// nearest one that is inside is evaluated, and each other one of an undecided leaf is, once. No box
-/// is traced whose samples all lie behind tops, and each other one on the way to a sample is, once.
+/// most four corners with it, and each step that is evaluated at a sample. There are as many
+/// evaluations as those samples take that do not lie behind a top, each in the last box on the way to
+/// it, and as many traced steps as the boxes on the ways to these samples receive.
 /// AllocError: there is no memory for the map, and no more work was done than a map takes.
 pub fn heights(
     alloc: Global,

@@ -60,7 +60,12 @@ fn hulls_hold_every_result_and_no_more(rt: HostRuntime) {
         (Op::Floor, (-ONE, -1), (0, 0), (-ONE, -ONE)),
         (Op::Floor, (-ONE - 1, -ONE), (0, 0), (-2 * ONE, -ONE)),
         (Op::Floor, (-ONE - 1, ONE + 1), (0, 0), (-2 * ONE, ONE)),
-        (Op::Floor, (-GREATEST, -GREATEST + 1), (0, 0), (-GREATEST, -GREATEST)),
+        (
+            Op::Floor,
+            (-GREATEST, -GREATEST + 1),
+            (0, 0),
+            (-GREATEST, -GREATEST),
+        ),
         (Op::Add, (1, 5), (2, 3), (3, 8)),
         (Op::Sub, (1, 5), (2, 3), (-2, 3)),
         (Op::Min, (1, 5), (2, 3), (1, 3)),

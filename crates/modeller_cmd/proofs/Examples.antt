@@ -15,7 +15,7 @@ use Rattle.fixed_ops.specs.Numerals.{cut_magnitude, is_unsigned_numeral, nearest
 use Rattle.fixed_ops.specs.Operations.{op_result}
 use Rattle.fixed_ops.specs.Raw.{greatest, least}
 use Rattle.fixed_ops.specs.declared.operation.Op.TheVariants as op
-use Rattle.height_map.specs.Bound.{points_where}
+use Rattle.box_chains.specs.Tested.{points_where}
 use Rattle.modeller_io.specs.Count.{last_count}
 use Rattle.view_settings.specs.Setting.{setting_of}
 use Rattle.view_settings.specs.Window.{Window, has_room}

@@ -9,7 +9,7 @@ use Rattle.edit_session.specs.Heights.{heights_of}
 use Rattle.edit_session.specs.Images.{image_of}
 use Rattle.edit_session.specs.Meshes.{mesh_text}
 use Rattle.edit_session.specs.Work.{CountsWithin, CountsWork, Work, both, frame_work, height_work, mesh_work, no_work}
-use Rattle.edit_session.specs.WorkLaws.{plain-none, within-none}
+use Rattle.edit_session.specs.Laws.{FramesAddUp}
 use Rattle.fixed_ops.specs.Counts.{Counts}
 use Rattle.modeller_io.specs.Count.{RoseBy}
 use Rattle.modeller_io.specs.Took.{LosesAtMost}
@@ -292,12 +292,12 @@ read_whole rest taken before after most bytes len many few rose all empty = reco
 }
 
 -- a run that does nothing counts no more than some output's work
-pub some-none : (words : List (List ℕ)) (counts : Counts) → CountsForSome words counts counts
-some-none words counts = record {
+pub some-none : (frames : FramesAddUp) (words : List (List ℕ)) (counts : Counts) → CountsForSome words counts counts
+some-none frames words counts = record {
   input = [];
   few = omega arith;
-  work = within-none counts (work_of_parts (output_of words []).parts);
-  plain = plain-none counts (work_of_parts (output_of words []).parts).plain;
+  work = frames.within_none counts (work_of_parts (output_of words []).parts);
+  plain = frames.plain_none counts (work_of_parts (output_of words []).parts).plain;
 }
 
 -- a job that plays no script makes one part at the most

@@ -6,7 +6,7 @@ use Rattle.std.proofs.lemmas.List.{take-append-le}
 use Rattle.edit_script.specs.declared.command.Command.{Command as Given}
 use Rattle.edit_script.specs.declared.command.Command.TheVariants as Command
 use Rattle.edit_session.specs.Work.{CountsWithin, CountsWork, PointsRiseAtMost, both, no_work}
-use Rattle.edit_session.specs.WorkLaws.{plain-none, within-none, work-none}
+use Rattle.edit_session.specs.Laws.{FramesAddUp}
 use Rattle.fixed_ops.specs.Counts.{Counts}
 use Rattle.modeller_io.specs.Count.{RoseBy, Stands}
 use Rattle.modeller_io.specs.Held.{Gains, GainsPrefix}
@@ -22,35 +22,35 @@ use Rattle.modeller_cmd.specs.Replays.{clauses_after, parts_at, refusal}
 use Rattle.modeller_cmd.specs.declared.stop.Stop.{Stop}
 use Rattle.modeller_cmd.specs.declared.stop.Stop.TheVariants.{Refused, ReadFault, WriteFault, NoMemory}
 use Rattle.modeller_cmd.proofs.Gaining.{Extends-none, Gains-then, GainsPrefix-after, Grew-after, Grew-gains, Grew-prefix, RoseBy-after, on-ok}
-use Rattle.modeller_cmd.proofs.WorkSums.{bytes-append, exact-append, exact-left, exact-right, exact-then, least-none, least-part, least-then, plain-more, plain-then, within-more, within-then, work-append}
+use Rattle.modeller_cmd.proofs.WorkSums.{bytes-append, exact-append, exact-left, exact-right, least-none, least-part, least-then, work-append}
 
 -- nothing was played
-pub played-none : {K : Type 0} (held : K → Option (List ℕ)) (faults : K → ℕ) (out : K) (counts : Counts) → Played held faults out out counts counts []
-played-none held faults out counts = record {
+pub played-none : (frames : FramesAddUp) {K : Type 0} (held : K → Option (List ℕ)) (faults : K → ℕ) (out : K) (counts : Counts) → Played held faults out out counts counts []
+played-none frames held faults out counts = record {
   gained = Extends-none (held out);
   no_fault = refl;
-  counted = λ _. work-none counts;
+  counted = λ _. frames.none counts;
   least = least-none counts;
-  at_most = within-none counts no_work;
-  plain = plain-none counts 0;
+  at_most = frames.within_none counts no_work;
+  plain = frames.plain_none counts 0;
 }
 
 -- parts after parts
-pub played-then : {K : Type 0} (held : K → Option (List ℕ)) (faults : K → ℕ) (a b c : K) (s t u : Counts) (ps qs : List Part)
+pub played-then : (frames : FramesAddUp) {K : Type 0} (held : K → Option (List ℕ)) (faults : K → ℕ) (a b c : K) (s t u : Counts) (ps qs : List Part)
     → Played held faults a b s t ps → Played held faults b c t u qs → Played held faults a c s u (ps ++ qs)
-played-then held faults a b c s t u ps qs first next =
+played-then frames held faults a b c s t u ps qs first next =
     let work = sym (work-append ps qs) in
     record {
       gained = subst (Gains held a c) (sym (bytes-append ps qs)) (Gains-then held a b c (bytes_of_parts ps) (bytes_of_parts qs) first.gained next.gained);
       no_fault = next.no_fault ∙ first.no_fault;
       counted = λ exact. subst (CountsWork s u) work
-          (exact-then s t u (work_of_parts ps) (work_of_parts qs) (first.counted (exact-left ps qs exact)) (next.counted (exact-right ps qs exact)));
+          (frames.sum s t u (work_of_parts ps) (work_of_parts qs) (first.counted (exact-left ps qs exact)) (next.counted (exact-right ps qs exact)));
       least = subst (CountsLeast s u) (sym (exact-append ps qs))
           (least-then s t u (exact_work_of ps) (exact_work_of qs) first.least next.least);
       at_most = subst (CountsWithin s u) work
-          (within-then s t u (work_of_parts ps) (work_of_parts qs) first.at_most next.at_most);
+          (frames.within_sum s t u (work_of_parts ps) (work_of_parts qs) first.at_most next.at_most);
       plain = subst (λ w. PointsRiseAtMost s u w.plain) work
-          (plain-then s t u (work_of_parts ps).plain (work_of_parts qs).plain first.plain next.plain);
+          (frames.plain_sum s t u (work_of_parts ps).plain (work_of_parts qs).plain first.plain next.plain);
     }
 
 -- the bytes and the work of three lists of parts
@@ -76,9 +76,9 @@ parts-more held a b c ps qs rs first next =
     }
 
 -- what stops the parts that follow stops them all
-pub stopped-after : {K : Type 0} (held : K → Option (List ℕ)) (faults : K → ℕ) (a b c : K) (s t u : Counts) (ps qs rs : List Part) (stop : Stop)
+pub stopped-after : (frames : FramesAddUp) {K : Type 0} (held : K → Option (List ℕ)) (faults : K → ℕ) (a b c : K) (s t u : Counts) (ps qs rs : List Part) (stop : Stop)
     → Played held faults a b s t ps → Stopped held faults b c t u qs stop → Stopped held faults a c s u (ps ++ (qs ++ rs)) stop
-stopped-after held faults a b c s t u ps qs rs stop first next =
+stopped-after frames held faults a b c s t u ps qs rs stop first next =
     let work = sym (work-three ps qs rs) in
     record {
       front = λ is. subst (GainsPrefix held a c) (sym (bytes-three ps qs rs))
@@ -87,11 +87,11 @@ stopped-after held faults a b c s t u ps qs rs stop first next =
       write_fault = λ is. RoseBy-after faults a b c 1 first.no_fault (next.write_fault is);
       no_write_fault = λ is. next.no_write_fault is ∙ first.no_fault;
       at_most = subst (CountsWithin s u) work
-          (within-then s t u (work_of_parts ps) (both (work_of_parts qs) (work_of_parts rs)) first.at_most
-          (within-more t u (work_of_parts qs) (work_of_parts rs) next.at_most));
+          (frames.within_sum s t u (work_of_parts ps) (both (work_of_parts qs) (work_of_parts rs)) first.at_most
+          (frames.within_more t u (work_of_parts qs) (work_of_parts rs) next.at_most));
       plain = subst (λ w. PointsRiseAtMost s u w.plain) work
-          (plain-then s t u (work_of_parts ps).plain (both (work_of_parts qs) (work_of_parts rs)).plain first.plain
-          (plain-more t u (work_of_parts qs).plain (work_of_parts rs).plain next.plain));
+          (frames.plain_sum s t u (work_of_parts ps).plain (both (work_of_parts qs) (work_of_parts rs)).plain first.plain
+          (frames.plain_more t u (work_of_parts qs).plain (work_of_parts rs).plain next.plain));
       grew = Grew-after held a b c (bytes_of_parts ps) first.gained next.grew;
     }
 
@@ -113,10 +113,10 @@ stopped-before held faults out s t parts stop other few plain = record {
 }
 
 -- nothing was done
-pub stopped-at-once : {K : Type 0} (held : K → Option (List ℕ)) (faults : K → ℕ) (out : K) (counts : Counts) (parts : List Part) (stop : Stop)
+pub stopped-at-once : (frames : FramesAddUp) {K : Type 0} (held : K → Option (List ℕ)) (faults : K → ℕ) (out : K) (counts : Counts) (parts : List Part) (stop : Stop)
     → stop ≢ WriteFault → Stopped held faults out out counts counts parts stop
-stopped-at-once held faults out counts parts stop other =
-    stopped-before held faults out counts counts parts stop other (within-none counts (work_of_parts parts)) (plain-none counts (work_of_parts parts).plain)
+stopped-at-once frames held faults out counts parts stop other =
+    stopped-before held faults out counts counts parts stop other (frames.within_none counts (work_of_parts parts)) (frames.plain_none counts (work_of_parts parts).plain)
 
 -- want of memory is no fault of a sink
 pub memory-other : (stop : Stop) → stop ≡ NoMemory → stop ≢ WriteFault
@@ -184,9 +184,9 @@ stops-with (Ok x) stop P is p = absurd is
 stops-with (Err e) stop P is p = subst P (sym is) p
 
 -- what is written of an edit depends on what the edit gives
-pub edit-played : {K : Type 0} (held : K → Option (List ℕ)) (faults : K → ℕ) (out : K) (counts : Counts) (clauses new : List Clause) (line : ℕ) (edit : Edit)
+pub edit-played : (frames : FramesAddUp) {K : Type 0} (held : K → Option (List ℕ)) (faults : K → ℕ) (out : K) (counts : Counts) (clauses new : List Clause) (line : ℕ) (edit : Edit)
     → edited clauses edit ≡ Ok new → Played held faults out out counts counts (parts_at clauses (Command.Edit line edit))
-edit-played held faults out counts clauses new line edit is = rw is (played-none held faults out counts)
+edit-played frames held faults out counts clauses new line edit is = rw is (played-none frames held faults out counts)
 
 pub edit-refused : (clauses : List Clause) (line : ℕ) (edit : Edit) (fault : Fault) → edited clauses edit ≡ Err fault
     → parts_at clauses (Command.Edit line edit) ≡ refusal line fault ∷ []
@@ -197,7 +197,7 @@ pub edit-stands : (clauses : List Clause) (line : ℕ) (edit : Edit) (fault : Fa
 edit-stands clauses line edit fault is = rw is refl
 
 -- an edit that is refused for a fault other than want of memory
-module _ {K T : Type 0} (held : K → Option (List ℕ)) (faults : K → ℕ) (before after : K) (clauses : List Clause) (line : ℕ) (edit : Edit) (fault : Fault) (r : Result T Stop)
+module _ (frames : FramesAddUp) {K T : Type 0} (held : K → Option (List ℕ)) (faults : K → ℕ) (before after : K) (clauses : List Clause) (line : ℕ) (edit : Edit) (fault : Fault) (r : Result T Stop)
     (refused : fault ≢ EditFault.NoMemory → edited clauses edit ≡ Err fault) (memory : fault ≡ EditFault.NoMemory → (r ≡ Err NoMemory) × (after ≡ before)) where
   pub refused-played : OnOk r ((counts : Counts) → Played held faults before after counts counts (refusal line fault ∷ []))
       → OnOk r ((counts : Counts) → Played held faults before after counts counts (parts_at clauses (Command.Edit line edit)))
@@ -214,7 +214,7 @@ module _ {K T : Type 0} (held : K → Option (List ℕ)) (faults : K → ℕ) (b
     where
       by : (f : Fault) → fault ≡ f → IfErr r (λ stop. (counts : Counts) → Stopped held faults before after counts counts (refusal line fault ∷ []) stop)
           → IfErr r (λ stop. (counts : Counts) → Stopped held faults before after counts counts (parts_at clauses (Command.Edit line edit)) stop)
-      by EditFault.NoMemory is = λ p. rw ((memory is).0, (memory is).1) (λ counts. stopped-at-once held faults before counts (parts_at clauses (Command.Edit line edit)) NoMemory (memory-other NoMemory refl))
+      by EditFault.NoMemory is = λ p. rw ((memory is).0, (memory is).1) (λ counts. stopped-at-once frames held faults before counts (parts_at clauses (Command.Edit line edit)) NoMemory (memory-other NoMemory refl))
       by other is = λ p. subst (λ ps. IfErr r (λ stop. (counts : Counts) → Stopped held faults before after counts counts ps stop)) (sym (edit-refused clauses line edit fault (refused (λ e. cc)))) p
 
   pub refused-stands : (new : List Clause) → new ≡ clauses → OnOk r (new ≡ clauses_after clauses (Command.Edit line edit))

@@ -7,7 +7,7 @@ use Rattle.edit_script.specs.Scripts.{script_read}
 use Rattle.edit_script.specs.declared.command.Command.{Command}
 use Rattle.edit_script.specs.declared.command.Command.TheVariants as commands
 use Rattle.edit_session.specs.Work.{CountsWork}
-use Rattle.edit_session.specs.WorkLaws.{work-none}
+use Rattle.edit_session.specs.Laws.{FramesAddUp}
 use Rattle.fixed_ops.specs.Counts.{Counts}
 use Rattle.solid_model.specs.Edits.{edited}
 use Rattle.solid_model.specs.declared.clause.Clause.{Clause}
@@ -49,9 +49,9 @@ unplayed held faults out s (Err stop) None A = tt
 unplayed held faults out s (Err stop) (Some input) A = λ is clauses script read found. inl (refl, refl)
 
 -- an edit takes no work
-pub edit-work : (clauses : List Clause) (line : ℕ) (edit : Edit) (counts : Counts) → CountsWork counts counts (work_of_parts (parts_at clauses (commands.Edit line edit)))
-edit-work clauses line edit counts = by (edited clauses edit) refl
+pub edit-work : (frames : FramesAddUp) (clauses : List Clause) (line : ℕ) (edit : Edit) (counts : Counts) → CountsWork counts counts (work_of_parts (parts_at clauses (commands.Edit line edit)))
+edit-work frames clauses line edit counts = by (edited clauses edit) refl
   where
     by : (r : Result (List Clause) Fault) → edited clauses edit ≡ r → CountsWork counts counts (work_of_parts (parts_at clauses (commands.Edit line edit)))
-    by (Ok new) is = rw is (work-none counts)
-    by (Err fault) is = rw is (work-none counts)
+    by (Ok new) is = rw is (frames.none counts)
+    by (Err fault) is = rw is (frames.none counts)

@@ -3,7 +3,6 @@ use Rattle.std.proofs.Common.{◌≡◌, ℕ, zero, suc, ◌+◌, ◌≤◌, Lis
 use Rattle.std.specs.Prelude.{All, Bool, IsTrue, true, false, if◌then◌else◌}
 use Rattle.std.proofs.Math.ListN.{get_or-append}
 use Rattle.std.proofs.lemmas.List.{get_or-append-add}
-use Rattle.box_chains.specs.TallyLaws.{exactly-then, most-more, most-then}
 use Rattle.box_chains.specs.Tallied.{work_of}
 use Rattle.edit_session.specs.Work.{CountsWithin, CountsWork, PointsRiseAtMost, Work, both, no_work}
 use Rattle.fixed_ops.specs.CountLaws.{RisesBy-none, RisesBy-then, risen-risen}
@@ -65,17 +64,6 @@ exact-right ps qs all = All-right (λ part. IsTrue part.exact) ps qs all
 pub All-between : {X : Type 0} (P : X → Type 0) (xs : List X) (x : X) (ys : List X) → All P (xs ++ x ∷ ys) → P x
 All-between P xs x ys all = All-right P xs (x ∷ ys) all 0 x (omega arith)
 
--- exact work after exact work, and bounded work after bounded work
-pub exact-then : (before mid after : Counts) (a b : Work) → CountsWork before mid a → CountsWork mid after b → CountsWork before after (both a b)
-unfolding CountsWork
-exact-then before mid after a b first next =
-    exactly-then before mid after a.points a.spans b.points b.spans first next
-
-pub within-then : (before mid after : Counts) (a b : Work) → CountsWithin before mid a → CountsWithin mid after b → CountsWithin before after (both a b)
-unfolding CountsWithin
-within-then before mid after a b first next =
-    most-then before mid after a.points a.spans b.points b.spans (a.points + b.points) (a.spans + b.spans) (omega arith) (omega arith) first next
-
 -- the least work after the least work, no work, and that of a part
 pub least-then : (before mid after : Counts) (a b : Work) → CountsLeast before mid a → CountsLeast mid after b → CountsLeast before after (both a b)
 least-then before mid after a b first next = record {
@@ -119,21 +107,3 @@ least-few before after (part ∷ []) few exact within =
     all is zero d less = is
     all is (suc k) d less = absurd (omega (arith, less))
 least-few before after (part ∷ next ∷ parts) few exact within = absurd (omega (arith, few))
-
--- bounded work is within that and more
-pub within-more : (before after : Counts) (a b : Work) → CountsWithin before after a → CountsWithin before after (both a b)
-unfolding CountsWithin
-within-more before after a b few =
-    most-more before after a.points a.spans (a.points + b.points) (a.spans + b.spans) (omega arith) (omega arith) few
-
--- evaluations after evaluations
-pub plain-then : (before mid after : Counts) (m n : ℕ) → PointsRiseAtMost before mid m → PointsRiseAtMost mid after n → PointsRiseAtMost before after (m + n)
-plain-then before mid after m n first next = record {
-  by = first.by + next.by;
-  few = omega (arith, first.few, next.few);
-  rises = next.rises ∙ ap (λ count. risen count next.by) first.rises ∙ risen-risen before.points first.by next.by;
-}
-
-pub plain-more : (before after : Counts) (m n : ℕ) → PointsRiseAtMost before after m → PointsRiseAtMost before after (m + n)
-plain-more before after m n rise =
-    record { by = rise.by; few = omega (arith, rise.few); rises = rise.rises }

@@ -27,7 +27,7 @@ use crate::note::note_of;
 use crate::replay::replay;
 use crate::stop::Stop;
 use clause_reader::{read_model, write_model};
-use edit_session::{Session, mesh_texts_are_sound};
+use edit_session::{Session, frames_add_up, mesh_texts_are_sound};
 use fixed_ops::Tally;
 use modeller_io::{ReadEnd, Sink, Source, read_all, write_all};
 use std::alloc::Global;
@@ -210,6 +210,7 @@ fn perform<S: Source, K: Sink>(
     ensures script { status_after result ≡ Status.BadScript
         → asked (bytes_of words.now) ≡ Ok Job.Replay }
 {
+    frames_add_up();
     mesh_texts_are_sound();
     let job = read_job(words)?;
     let input = read_input(alloc, &job, source)?;
@@ -338,6 +339,7 @@ fn work(alloc: Global, job: &Job, input: &[u8], tally: &mut Tally) -> Result<Vec
     ensures plain { PointsRiseAtMost tally.old tally.new
         (work_of_parts (output_as (made job.now input.now)).parts).plain }
 {
+    frames_add_up();
     match job {
         Job::Forge(wanted) => Ok(forge(alloc, wanted, tally)?),
         _ => work_on_input(alloc, job, input, tally),
@@ -365,6 +367,7 @@ fn work_on_input(alloc: Global, job: &Job, input: &[u8], tally: &mut Tally) -> R
     ensures plain { PointsRiseAtMost tally.old tally.new
         (work_of_parts (output_as (made job.now input.now)).parts).plain }
 {
+    frames_add_up();
     let model = read_model(alloc, input)?;
     match job {
         Job::Render(view) => Ok(Session::start(alloc, model).render(view, tally)?),

@@ -9,7 +9,7 @@ ghost use Rattle.modeller_cmd.specs.CountTexts.{count_text};
 ghost use Rattle.modeller_cmd.specs.Forging.{forge_text, forged_clauses, inside_of};
 
 use crate::count::plain_points;
-use edit_session::draw_tree;
+use edit_session::{draw_tree, frames_add_up};
 use fixed_ops::Tally;
 use model_forge::forge_model;
 use quad_descent::{QuadTree, image};
@@ -32,6 +32,7 @@ pub fn forge(alloc: Global, wanted: &Forge, tally: &mut Tally) -> Result<Vec<u8>
     ensures plain { PointsRiseAtMost tally.old tally.new
         (plain_points_of wanted.now.view (length (forged_clauses wanted.now))) }
 {
+    frames_add_up();
     let model = forge_model(alloc, wanted.seed, wanted.solids)?;
     draw_lines(alloc, &model, &wanted.view, tally)
 }

@@ -14,7 +14,7 @@ ghost use Rattle.modeller_cmd.specs.Playing.{Played, Stopped};
 use crate::Status;
 use crate::stop::Stop;
 use clause_reader::read_model;
-use edit_session::solid_mesh;
+use edit_session::{frames_add_up, solid_mesh};
 use fixed_ops::Tally;
 use modeller_io::{Failed, Sink, write_all};
 use ply_writer::PlyPieces;
@@ -73,6 +73,7 @@ fn mesh_of_input(alloc: Global, view: &View, input: &[u8], tally: &mut Tally) ->
     ensures plain { PointsRiseAtMost tally.old tally.new
         (work_of_parts (output_as (made (Job.Mesh view.now) input.now)).parts).plain }
 {
+    frames_add_up();
     let model = read_model(alloc, input)?;
     Ok(solid_mesh(alloc, &model, view, tally)?)
 }

@@ -18,7 +18,7 @@ use crate::frame_kind::FrameKind;
 use crate::stop::Stop;
 use clause_reader::read_model;
 use edit_script::{Command, read_script, split_input};
-use edit_session::Session;
+use edit_session::{Session, frames_add_up};
 use fixed_ops::Tally;
 use modeller_io::Sink;
 use solid_model::{Edit, EditFault};
@@ -51,6 +51,7 @@ pub fn replay<K: Sink>(
     ensures stops { IfErr result
         (StopsPlay K.held K.faults out.old out.new tally.old tally.new input.now) }
 {
+    frames_add_up();
     let model = read_model(alloc, model_text(input))?;
     let commands = read_script(alloc, input)?;
     play(Session::start(alloc, model), commands, out, tally)
@@ -82,6 +83,7 @@ fn play<K: Sink>(
     ensures ends { IfErr result (StopsAt K.held K.faults out.old out.new tally.old tally.new
         session commands.items) }
 {
+    frames_add_up();
     for command in commands {
         step(&mut session, command, out, tally)?;
     }
@@ -108,6 +110,7 @@ fn step<K: Sink>(
     ensures counted { result ≡ Err Stop.WriteFault → AreExact (parts_at session.old command)
         → CountsWork tally.old tally.new (work_of_parts (parts_at session.old command)) }
 {
+    frames_add_up();
     match command {
         Command::Edit(line, edit) => change(session, line, edit, out),
         Command::Stray(line) => refuse(out, line, EditFault::UnknownName),
@@ -144,6 +147,7 @@ fn change<K: Sink>(session: &mut Session, line: u32, edit: Edit, out: &mut K) ->
     ensures wants { result ≡ Err Stop.NoMemory → IsOk (edited session.old edit) × MakesClause edit }
     ensures writes { result ≡ Err Stop.WriteFault → IsErr (edited session.old edit) }
 {
+    frames_add_up();
     match session.edit(edit) {
         Ok(()) => Ok(()),
         Err(fault) => refuse(out, line, fault),
@@ -162,6 +166,7 @@ fn refuse<K: Sink>(out: &mut K, line: u32, fault: EditFault) -> Result<(), Stop>
         → Stopped K.held K.faults out.old out.new counts counts (refusal line fault ∷ []) stop) }
     ensures no_memory { result ≡ Err Stop.NoMemory → fault ≡ EditFault.NoMemory }
 {
+    frames_add_up();
     match fault {
         EditFault::NoMemory => Err(Stop::NoMemory),
         _ => Ok(write_refused(out, line, fault)?),

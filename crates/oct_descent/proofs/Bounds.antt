@@ -4,9 +4,9 @@ use Rattle.std.specs.Prelude.{◌&&◌, ◌⊎◌, max, min, nat_le, Contains, A
 use Rattle.std.proofs.lemmas.Bool.{and_from, and_parts, false≢true, le-leb, leb-true}
 use Rattle.std.proofs.lemmas.List.Elements.{All-head, All-nil}
 use Rattle.box_chains.specs.Chains.{Visit}
-use Rattle.box_chains.specs.SumLaws.{size, sum_in-const, sum_in-plus, sum_in-same}
-use Rattle.box_chains.specs.Sums.{LiesIn, Sample, sum_in}
-use Rattle.box_chains.specs.ValueLaws.{IsVisit, Lawful}
+use Rattle.box_chains.specs.Sums.{LiesIn, Sample, size, sum_in}
+use Rattle.box_chains.specs.Visits.{IsVisit}
+use Rattle.box_chains.specs.Laws.{Lawful}
 use Rattle.kuhn_cells.specs.FaceLaws.{all_in_block}
 use Rattle.kuhn_cells.specs.Triangles.{GridPoint, point}
 use Rattle.kuhn_cells.specs.VertexLaws.{head_or_tail, in_block, in_head, not_in_none}
@@ -39,11 +39,11 @@ whole-visit view list window tape = record {
 }
 
 -- sums of lesser numbers are less
-sum_in-most : (b : Indices) (f : Sample → ℕ) (c : ℕ) → ((s : Sample) → f s ≤ c) → sum_in b f ≤ size b * c
-sum_in-most b f c less =
-    let more = sum_in-plus b f (λ s. c - f s) in
-    let all = sum_in-same b (λ s. f s + (c - f s)) (λ s. c) (λ s lies. omega (arith, less s)) in
-    omega (arith, more, all, sum_in-const b c)
+sum_in-most : (laws : Lawful) (b : Indices) (f : Sample → ℕ) (c : ℕ) → ((s : Sample) → f s ≤ c) → sum_in b f ≤ size b * c
+sum_in-most laws b f c less =
+    let more = laws.sums.plus b f (λ s. c - f s) in
+    let all = laws.sums.same b (λ s. f s + (c - f s)) (λ s. c) (λ s lies. omega (arith, less s)) in
+    omega (arith, more, all, laws.sums.const b c)
 
 at-most : (laws : Lawful) (view : Window) (list : List Step) (p cell : GridPoint) → IsWindow view → IsTape list → cell.x < view.n → cell.y < view.n → cell.z < view.n
     → greatest (cond (has_corner cell p) (working_length view list cell ∷ []) []) ≤ length list
@@ -64,7 +64,7 @@ pub points_bounded : Lawful → MeshPointsAreBounded
 unfolding mesh_points
 points_bounded laws view list window tape =
     subst (λ (n : ℕ). mesh_points view list ≤ n * (n * n) * length list) side
-    (sum_in-most (points_of_grid (size_of view)) (λ s. greatest (lengths_at view list (point s.i s.j s.k))) (length list)
+    (sum_in-most laws (points_of_grid (size_of view)) (λ s. greatest (lengths_at view list (point s.i s.j s.k))) (length list)
     (λ s. greatest-block_most view.n view.n view.n (λ cell. cond (has_corner cell (point s.i s.j s.k)) (working_length view list cell ∷ []) []) (length list)
     (λ cell x y z. at-most laws view list (point s.i s.j s.k) cell window tape x y z)))
   where

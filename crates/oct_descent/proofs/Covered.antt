@@ -18,7 +18,8 @@ use Rattle.view_settings.specs.declared.lattice.Axis.TheVariants as axes
 use Rattle.view_settings.specs.declared.lattice.Lattice.TheVariants as lattices
 use Rattle.box_chains.specs.Chains.{Visit, decision, handed_on}
 use Rattle.box_chains.specs.Sums.{LiesIn, Sample}
-use Rattle.box_chains.specs.ValueLaws.{IsVisit, Lawful, region-is}
+use Rattle.box_chains.specs.Visits.{IsVisit}
+use Rattle.box_chains.specs.Laws.{Lawful}
 use Rattle.oct_descent.specs.GridValues.{bordered, grid_value, is_border, value_on}
 use Rattle.oct_descent.specs.Sizes.{size_of}
 use Rattle.oct_descent.specs.Tables.{IsUniform}
@@ -38,9 +39,9 @@ region-holds : (laws : Lawful) (view : Window) (v : Visit) (p : GridPoint) → I
 region-holds laws view v p is covers =
     let b = v.box in
     record {
-      x = (laws.ranges view lattices.Grid axes.X b.x0 b.x1 is.window (omega (arith, is.box.x))).holds p.x covers.x.0 covers.x.1;
-      y = (laws.ranges view lattices.Grid axes.Y b.y0 b.y1 is.window (omega (arith, is.box.y))).holds p.y covers.y.0 covers.y.1;
-      z = (laws.ranges view lattices.Grid axes.Z b.z0 b.z1 is.window (omega (arith, is.box.z))).holds p.z covers.z.0 covers.z.1;
+      x = (laws.layers.ranges view lattices.Grid axes.X b.x0 b.x1 is.window (omega (arith, is.box.x))).holds p.x covers.x.0 covers.x.1;
+      y = (laws.layers.ranges view lattices.Grid axes.Y b.y0 b.y1 is.window (omega (arith, is.box.y))).holds p.y covers.y.0 covers.y.1;
+      z = (laws.layers.ranges view lattices.Grid axes.Z b.z0 b.z1 is.window (omega (arith, is.box.z))).holds p.z covers.z.0 covers.z.1;
     }
 
 -- the list that a box hands on has the value of the one that it receives at each point that it covers
@@ -49,8 +50,8 @@ pub handed-grid_value : (laws : Lawful) (view : Window) (v : Visit) (p : GridPoi
 handed-grid_value laws view v p is covers =
     let region = region_of view lattices.Grid v.box in
     let at = point_of view lattices.Grid p.x p.y p.z in
-    ap (bordered (size_of view) p) (laws.kept at v.list (choices_over region v.list) is.tape (laws.choices region v.list)
-    (laws.right region at v.list (region-is laws (gridded view).boxes v is) (region-holds laws view v p is covers) is.tape))
+    ap (bordered (size_of view) p) (laws.layers.kept at v.list (choices_over region v.list) is.tape (laws.layers.choices region v.list)
+    (laws.layers.right region at v.list (laws.visits.ranges (gridded view).boxes v is) (region-holds laws view v p is covers) is.tape))
 
 decided-right : (s : Interval) (x : ℤ) (inside : Bool) → Holds s x → decided_of s ≡ Some inside → is_inside x ≡ inside
 decided-right s x inside h e = grind (arith, ints, h, e)
@@ -62,7 +63,7 @@ decision-right laws view v p inside is covers e =
     let region = region_of view lattices.Grid v.box in
     let at = point_of view lattices.Grid p.x p.y p.z in
     decided-right (tape_hull region v.list) (tape_value at v.list) inside
-    (laws.held region at v.list (region-is laws (gridded view).boxes v is) (region-holds laws view v p is covers) is.tape) e
+    (laws.layers.held region at v.list (laws.visits.ranges (gridded view).boxes v is) (region-holds laws view v p is covers) is.tape) e
 
 -- no number that is 0 or more is inside
 max-outside : (x : ℤ) → is_inside (int_max x (pos 0)) ≡ false

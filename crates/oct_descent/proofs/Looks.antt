@@ -10,11 +10,11 @@ use Rattle.std.proofs.lemmas.List.Concat.{flat_map-cons}
 use Rattle.std.proofs.lemmas.List.Elements.{All-append, All-cons, All-head, All-tail, All-contains, All-contains_itself, All-get_or, All-nil, All-weaker}
 use Rattle.std.proofs.lemmas.List.Sums.{sum_by-cons, sum_by-take-le, sum_by_more}
 use Rattle.box_chains.specs.Chains.{Visit, decision, half_with, handed_on, is_long, sides, visit}
-use Rattle.box_chains.specs.HalfLaws.{IsPart, half_with-among, halves-are_parts, part-is_box, part-is_shorter, part-lies}
+use Rattle.box_chains.specs.Parts.{IsPart}
 use Rattle.box_chains.specs.Sums.{LiesIn, Sample}
-use Rattle.box_chains.specs.ValueLaws.{IsVisit, Lawful}
+use Rattle.box_chains.specs.Visits.{IsVisit}
+use Rattle.box_chains.specs.Laws.{Lawful}
 use Rattle.box_chains.specs.Tallied.{CountsAtMost}
-use Rattle.box_chains.specs.TallyLaws.{most-hulls, most-none}
 use Rattle.choice_trace.specs.Hulls.{choices_over, tape_hull}
 use Rattle.fixed_ops.specs.CountLaws.{RisesBy-none, RisesBy-then}
 use Rattle.fixed_ops.specs.Counts.{Counts, no_counts, plus}
@@ -28,7 +28,6 @@ use Rattle.live_clauses.specs.Live.{live_of}
 use Rattle.live_clauses.specs.Steps.{IsTape}
 use Rattle.live_clauses.specs.declared.step.Step.{Step}
 use Rattle.view_settings.specs.Boxes.{Indices, IsBox, halves_of}
-use Rattle.view_settings.specs.Laws.{HalvesPart}
 use Rattle.view_settings.specs.Spans.{IsInRoot, region_of}
 use Rattle.box_chains.specs.Outcomes.{AreInRoot}
 use Rattle.box_chains.specs.Placing.{Sampling}
@@ -103,14 +102,14 @@ closed-worked view v t is e s lies works = absurd (false≢true (sym idle ∙ wo
     idle = ap (λ w. is_open d w && not (is_long 1 w.box)) (end-ends d v s is.box uncut) ∙ (rw e refl)
 
 -- a box takes at least its own trace
-pub trace-charged : (d : CellDescent) (v : Visit) (t : PointValues) (told now : Counts) → 0 < d.boxes.leaf → IsBox v.box → HalvesPart → CountsHulls (length v.list) told now → ChargesBox d v t t told now
-trace-charged d v t told now some is law h f enough =
-    charges-more f (length v.list) (spans_in d v) t t told now (spans-some d v some is law) (charges-hulls f (length v.list) t told now h)
+pub trace-charged : (laws : Lawful) (d : CellDescent) (v : Visit) (t : PointValues) (told now : Counts) → 0 < d.boxes.leaf → IsBox v.box → CountsHulls (length v.list) told now → ChargesBox d v t t told now
+trace-charged laws d v t told now some is h f enough =
+    charges-more laws f (length v.list) (spans_in d v) t t told now (spans-some laws d v some is) (charges-hulls laws f (length v.list) t told now h)
 
 -- and no more than that, where it is not looked into
-pub look-charged : (d : CellDescent) (v : Visit) (t : PointValues) (told now : Counts) → 0 < d.boxes.leaf → IsBox v.box → HalvesPart → CountsAtMost 0 (length v.list) told now → ChargesBox d v t t told now
-look-charged d v t told now some is law h f enough =
-    charges-more f (length v.list) (spans_in d v) t t told now (spans-some d v some is law) (charges-most f (length v.list) t told now h)
+pub look-charged : (laws : Lawful) (d : CellDescent) (v : Visit) (t : PointValues) (told now : Counts) → 0 < d.boxes.leaf → IsBox v.box → CountsAtMost 0 (length v.list) told now → ChargesBox d v t t told now
+look-charged laws d v t told now some is h f enough =
+    charges-more laws f (length v.list) (spans_in d v) t t told now (spans-some laws d v some is) (charges-most f (length v.list) t told now h)
 
 -- nothing is due for a box that is not looked into
 pub look-paid : (d : CellDescent) (v : Visit) (t : PointValues) (told now : Counts) → CountsAtMost 0 (length v.list) told now → PaysBox d v t t told now
@@ -214,7 +213,7 @@ pub cell-charged : (laws : Lawful) (view : Window) (v : Visit) (before after : P
     → CountsAtMost 0 (length v.list) told since → ChargesCorners v.box (length v.list) before after since now → ChargesBox (gridded view) v before after told now
 cell-charged laws view v before after told since now is open' short hulls corners f enough =
     let uncut : is_cut (gridded view) v ≡ false = rw (open', short) refl in
-    charges-then f (length v.list) 0 (spans_in (gridded view) v) before before after told since now (omega (arith, spans-end (gridded view) v is.box uncut))
+    charges-then laws f (length v.list) 0 (spans_in (gridded view) v) before before after told since now (omega (arith, spans-end laws (gridded view) v is.box uncut))
     (charges-most f (length v.list) before told since hulls) (corners f (cell-corners view v (λ n p. n ≤ f p) is open' short enough))
 
 -- and what it takes is paid
@@ -231,7 +230,7 @@ known-settled g b t known s lies = inl (λ p covers. known p (corner-covered b s
 pub handed-tape : (laws : Lawful) (view : Window) (v : Visit) (live : List Step) → IsVisit (gridded view).boxes v → live ≡ handed_on (gridded view).boxes v → IsTape live
 handed-tape laws view v live is same =
     let region = region_of view lattices.Grid v.box in
-    subst IsTape (sym same) (laws.tapes v.list (choices_over region v.list) is.tape (laws.choices region v.list)).0
+    subst IsTape (sym same) (laws.layers.tapes v.list (choices_over region v.list) is.tape (laws.layers.choices region v.list)).0
 
 -- what the halves of a box change by the list that it hands on, it changes by the one that it receives
 pub handed-grows : (laws : Lawful) (view : Window) (v : Visit) (live : List Step) (before after : PointValues) → IsVisit (gridded view).boxes v → live ≡ handed_on (gridded view).boxes v
@@ -263,30 +262,30 @@ pub own-among : (laws : Lawful) (d : CellDescent) (v : Visit) → 0 < d.boxes.le
 own-among laws d v some is = by (is_long 1 v.box)
   where
     by : (long : Bool) → cond {A = ℕ} long (length v.list) 0 ≤ spans_in d v
-    by true = spans-some d v some is laws.halves
+    by true = spans-some laws d v some is
     by false = omega arith
 
 -- what a box takes once it is traced, behind its trace
 pub below-charged : (laws : Lawful) (view : Window) (v : Visit) (before after : PointValues) (told since now : Counts) → IsBox v.box → is_long 1 v.box ≡ true
     → CountsHulls (length v.list) told since → ChargesBelow (gridded view) v before after since now → ChargesBox (gridded view) v before after told now
 below-charged laws view v before after told since now is long hulls below f enough =
-    charges-then f (length v.list) (spans_below (gridded view) v) (spans_in (gridded view) v) before before after told since now
-    (omega (arith, own-among laws (gridded view) v (omega arith) is, own-long v long)) (charges-hulls f (length v.list) before told since hulls) (below f enough)
+    charges-then laws f (length v.list) (spans_below (gridded view) v) (spans_in (gridded view) v) before before after told since now
+    (omega (arith, own-among laws (gridded view) v (omega arith) is, own-long v long)) (charges-hulls laws f (length v.list) before told since hulls) (below f enough)
 
-pub below-paid : (d : CellDescent) (v : Visit) (before after : PointValues) (told since now : Counts) → CountsHulls (length v.list) told since → PaysBox d v before after since now → PaysBox d v before after told now
-below-paid d v before after told since now hulls paid f due =
-    pays-then f before before after told since now (pays-most f 0 (length v.list) before told since (most-hulls told since (length v.list) hulls)) (paid f due)
+pub below-paid : (laws : Lawful) (d : CellDescent) (v : Visit) (before after : PointValues) (told since now : Counts) → CountsHulls (length v.list) told since → PaysBox d v before after since now → PaysBox d v before after told now
+below-paid laws d v before after told since now hulls paid f due =
+    pays-then f before before after told since now (pays-most f 0 (length v.list) before told since (laws.bounds.hulls told since (length v.list) hulls)) (paid f due)
 
 -- a cell takes as much
-pub cell-below : (d : CellDescent) (v : Visit) (before after : PointValues) (told now : Counts) → is_long 1 v.box ≡ false → ChargesBox d v before after told now → ChargesBelow d v before after told now
-cell-below d v before after told now short charged f enough =
-    charges-more f (spans_in d v) (spans_below d v) before after told now (omega (arith, own-short v short)) (charged f enough)
+pub cell-below : (laws : Lawful) (d : CellDescent) (v : Visit) (before after : PointValues) (told now : Counts) → is_long 1 v.box ≡ false → ChargesBox d v before after told now → ChargesBelow d v before after told now
+cell-below laws d v before after told now short charged f enough =
+    charges-more laws f (spans_in d v) (spans_below d v) before after told now (omega (arith, own-short v short)) (charged f enough)
 
 -- the way to a cell of a half of a box that is split ends as that from the half on
 half-works : (laws : Lawful) (view : Window) (v : Visit) (live : List Step) (half : Indices) (s : Sample) → IsVisit (gridded view).boxes v → is_cut (gridded view) v ≡ true → live ≡ handed_on (gridded view).boxes v
     → Contains (halves_of 1 v.box) half → LiesIn half s → way_end (gridded view) v s ≡ way_end (gridded view) (visit half live) s
 half-works laws view v live half s is cut same among lies =
-    end-of_half (gridded view) v half s (omega arith) is.box laws.halves cut among lies ∙ ap (λ l. way_end (gridded view) (visit half l) s) (sym same)
+    end-of_half laws (gridded view) v half s (omega arith) is.box cut among lies ∙ ap (λ l. way_end (gridded view) (visit half l) s) (sym same)
 
 -- what is due for a box is due for its halves
 halves-due : (laws : Lawful) (view : Window) (v : Visit) (live : List Step) (f : GridPoint → ℕ) → IsVisit (gridded view).boxes v → is_cut (gridded view) v ≡ true → live ≡ handed_on (gridded view).boxes v
@@ -294,10 +293,10 @@ halves-due : (laws : Lawful) (view : Window) (v : Visit) (live : List Step) (f :
 halves-due laws view v live f is cut same due =
     All-weaker (Contains (halves_of 1 v.box)) (λ half. IsDue f d (visit half live))
     (λ half among s lies works p covers.
-    let part = All-contains (IsPart 1 v.box) (halves_of 1 v.box) half (halves-are_parts 1 v.box (omega arith) is.box) among in
+    let part = All-contains (IsPart 1 v.box) (halves_of 1 v.box) half (laws.parts.all 1 v.box (omega arith) is.box) among in
     let end = half-works laws view v live half s is cut same among lies in
     let worked : is_working d v s ≡ true = ap (λ w. is_open d w && not (is_long 1 w.box)) end ∙ works in
-    subst (λ w. f p ≤ length w.list) end (due s (part-lies 1 v.box half s part lies) worked p covers))
+    subst (λ w. f p ≤ length w.list) end (due s (laws.parts.lies 1 v.box half s part lies) worked p covers))
     (halves_of 1 v.box) (All-contains_itself (halves_of 1 v.box))
   where
     d : CellDescent
@@ -309,10 +308,10 @@ halves-enough : (laws : Lawful) (view : Window) (v : Visit) (live : List Step) (
 halves-enough laws view v live f is cut same enough =
     All-weaker (Contains (halves_of 1 v.box)) (λ half. IsEnough f d (visit half live))
     (λ half among s lies works p covers.
-    let part = All-contains (IsPart 1 v.box) (halves_of 1 v.box) half (halves-are_parts 1 v.box (omega arith) is.box) among in
-    let end : way_end d v s ≡ way_end d (visit half live) s = end-of_half d v half s (omega arith) is.box laws.halves cut among lies ∙ ap (λ l. way_end d (visit half l) s) (sym same) in
+    let part = All-contains (IsPart 1 v.box) (halves_of 1 v.box) half (laws.parts.all 1 v.box (omega arith) is.box) among in
+    let end : way_end d v s ≡ way_end d (visit half live) s = end-of_half laws d v half s (omega arith) is.box cut among lies ∙ ap (λ l. way_end d (visit half l) s) (sym same) in
     let worked : is_working d v s ≡ true = ap (λ w. is_open d w && not (is_long 1 w.box)) end ∙ works in
-    subst (λ w. length w.list ≤ f p) end (enough s (part-lies 1 v.box half s part lies) worked p covers))
+    subst (λ w. length w.list ≤ f p) end (enough s (laws.parts.lies 1 v.box half s part lies) worked p covers))
     (halves_of 1 v.box) (All-contains_itself (halves_of 1 v.box))
   where
     d : CellDescent
@@ -323,8 +322,8 @@ pub halves-charged : (laws : Lawful) (view : Window) (v : Visit) (live : List St
     → is_long 1 v.box ≡ true → live ≡ handed_on (gridded view).boxes v → ChargesHalves (gridded view) live (halves_of 1 v.box) before after told now
     → ChargesBelow (gridded view) v before after told now
 halves-charged laws view v live before after told now is open' long same halves f enough =
-    charges-more f (halves_spans d live (halves_of 1 v.box)) (spans_below d v) before after told now
-    (omega (arith, spans-split d v (omega arith) is.box laws.halves cut, ap (λ l. halves_spans d l (halves_of 1 v.box)) same, own-long v long))
+    charges-more laws f (halves_spans d live (halves_of 1 v.box)) (spans_below d v) before after told now
+    (omega (arith, spans-split laws d v (omega arith) is.box cut, ap (λ l. halves_spans d l (halves_of 1 v.box)) same, own-long v long))
     (halves f (halves-enough laws view v live f is cut same enough))
   where
     d : CellDescent
@@ -346,7 +345,7 @@ halves-paid laws view v live before after told now is open' long same halves f d
 pub halves-worked : (laws : Lawful) (view : Window) (v : Visit) (live : List Step) (t : PointValues) → IsVisit (gridded view).boxes v → is_open (gridded view) v ≡ true
     → is_long 1 v.box ≡ true → live ≡ handed_on (gridded view).boxes v → All (λ half. AreWorked (gridded view) (visit half live) t) (halves_of 1 v.box) → AreWorked (gridded view) v t
 halves-worked laws view v live t is open' long same each s lies works =
-    let half = half_with-among laws.halves 1 v.box s lies in
+    let half = laws.parts.among 1 v.box s lies in
     let end = half-works laws view v live (half_with 1 v.box s) s is cut same half.0 half.1 in
     All-contains (λ h. AreWorked d (visit h live) t) (halves_of 1 v.box) (half_with 1 v.box s) each half.0 s half.1 (ap (λ w. is_open d w && not (is_long 1 w.box)) (sym end) ∙ works)
   where
@@ -359,21 +358,21 @@ halves-worked laws view v live t is open' long same each s lies works =
 -- ---- halves, one after another
 
 -- a half that is read is a part of the box
-pub half-part : (b half : Indices) (halves : List Indices) (i : ℕ) → IsBox b → halves ≡ halves_of 1 b → i < length halves → half ≡ get_or halves i half → IsPart 1 b half
-half-part b half halves i is all within read =
-    subst (λ h. IsPart 1 b h) (sym read) (All-get_or (IsPart 1 b) halves i half within (subst (λ hs. All (IsPart 1 b) hs) (sym all) (halves-are_parts 1 b (omega arith) is)))
+pub half-part : (laws : Lawful) (b half : Indices) (halves : List Indices) (i : ℕ) → IsBox b → halves ≡ halves_of 1 b → i < length halves → half ≡ get_or halves i half → IsPart 1 b half
+half-part laws b half halves i is all within read =
+    subst (λ h. IsPart 1 b h) (sym read) (All-get_or (IsPart 1 b) halves i half within (subst (λ hs. All (IsPart 1 b) hs) (sym all) (laws.parts.all 1 b (omega arith) is)))
 
 -- a half of a box can be visited
-pub half-visit : (view : Window) (list : List Step) (b half : Indices) → IsPart 1 b half → IsVisit (gridded view).boxes (visit b list) → IsVisit (gridded view).boxes (visit half list)
-half-visit view list b half part is = record {
+pub half-visit : (laws : Lawful) (view : Window) (list : List Step) (b half : Indices) → IsPart 1 b half → IsVisit (gridded view).boxes (visit b list) → IsVisit (gridded view).boxes (visit half list)
+half-visit laws view list b half part is = record {
   window = is.window;
-  box = part-is_box 1 b half part;
+  box = laws.parts.box 1 b half part;
   within = record { x = omega (arith, part.x.below, is.within.x); y = omega (arith, part.y.below, is.within.y); z = omega (arith, part.z.below, is.within.z) };
   tape = is.tape;
 }
 
-pub half-shorter : (b half : Indices) → is_long 1 b ≡ true → IsPart 1 b half → sides half < sides b
-half-shorter b half long part = part-is_shorter 1 b half long part
+pub half-shorter : (laws : Lawful) (b half : Indices) → is_long 1 b ≡ true → IsPart 1 b half → sides half < sides b
+half-shorter laws b half long part = laws.parts.shorter 1 b half long part
 
 -- what is traced of halves before they are looked into, and while they are
 abbrev pub owned : List Step → List Indices → ℕ
@@ -439,35 +438,35 @@ longer-in_root places n (h ∷ hs) each =
     by false = All-nil P
 
 -- the halves of a box are boxes
-pub halves-boxes : (b : Indices) (halves : List Indices) → IsBox b → halves ≡ halves_of 1 b → All IsBox halves
-halves-boxes b halves is all =
-    subst (λ hs. All IsBox hs) (sym all) (All-weaker (IsPart 1 b) IsBox (λ h part. part-is_box 1 b h part) (halves_of 1 b) (halves-are_parts 1 b (omega arith) is))
+pub halves-boxes : (laws : Lawful) (b : Indices) (halves : List Indices) → IsBox b → halves ≡ halves_of 1 b → All IsBox halves
+halves-boxes laws b halves is all =
+    subst (λ hs. All IsBox hs) (sym all) (All-weaker (IsPart 1 b) IsBox (λ h part. laws.parts.box 1 b h part) (halves_of 1 b) (laws.parts.all 1 b (omega arith) is))
 
 -- and boxes of the grid
-pub halves-in_root : (view : Window) (lattice : Lattice) (list : List Step) (b : Indices) (halves : List Indices) → lattice ≡ lattices.Grid → IsVisit (gridded view).boxes (visit b list) → halves ≡ halves_of 1 b
+pub halves-in_root : (laws : Lawful) (view : Window) (lattice : Lattice) (list : List Step) (b : Indices) (halves : List Indices) → lattice ≡ lattices.Grid → IsVisit (gridded view).boxes (visit b list) → halves ≡ halves_of 1 b
     → All (IsInRoot view lattice) halves
-halves-in_root view lattice list b halves placed is all =
+halves-in_root laws view lattice list b halves placed is all =
     subst (λ l. All (IsInRoot view l) halves) (sym placed)
     (subst (λ hs. All (IsInRoot view lattices.Grid) hs) (sym all)
-    (All-weaker (IsPart 1 b) (IsInRoot view lattices.Grid) (λ h part. (half-visit view list b h part is).within) (halves_of 1 b) (halves-are_parts 1 b (omega arith) is.box)))
+    (All-weaker (IsPart 1 b) (IsInRoot view lattices.Grid) (λ h part. (half-visit laws view list b h part is).within) (halves_of 1 b) (laws.parts.all 1 b (omega arith) is.box)))
 
 -- the traces of halves, whole or begun, are among what the halves take
 pub begun-charged : (laws : Lawful) (view : Window) (list : List Step) (b : Indices) (halves : List Indices) (n : GridSize) (t : PointValues) (told now : Counts) → IsBox b → halves ≡ halves_of 1 b
     → CountsAtMost 0 (length (longer n halves) * length list) told now → ChargesHalves (gridded view) list (halves_of 1 b) t t told now
 begun-charged laws view list b halves n t told now is all begun f enough =
-    charges-more f (length (longer n halves) * length list) (halves_spans (gridded view) list (halves_of 1 b)) t t told now
-    (omega (arith, longer-owned n list halves, owned-below laws view list halves (halves-boxes b halves is all), ap (halves_spans (gridded view) list) all))
+    charges-more laws f (length (longer n halves) * length list) (halves_spans (gridded view) list (halves_of 1 b)) t t told now
+    (omega (arith, longer-owned n list halves, owned-below laws view list halves (halves-boxes laws b halves is all), ap (halves_spans (gridded view) list) all))
     (charges-most f (length (longer n halves) * length list) t told now begun)
 
 pub begun-paid : (d : CellDescent) (list : List Step) (halves : List Indices) (n : ℕ) (t : PointValues) (told now : Counts) → CountsAtMost 0 n told now → PaysHalves d list halves t t told now
 begun-paid d list halves n t told now begun f due = pays-most f 0 n t told now begun
 
 -- what holds once halves are traced, and before any is looked into
-pub first-charged : (d : CellDescent) (list : List Step) (halves : List Indices) (n : GridSize) (t : PointValues) (told now : Counts) → CountsHulls (length (longer n halves) * length list) told now
+pub first-charged : (laws : Lawful) (d : CellDescent) (list : List Step) (halves : List Indices) (n : GridSize) (t : PointValues) (told now : Counts) → CountsHulls (length (longer n halves) * length list) told now
     → (f : GridPoint → ℕ) → All (λ h. IsEnough f d (visit h list)) halves → Charges f (owned list halves + halves_below d list (take 0 halves)) t t told now
-first-charged d list halves n t told now hulls f enough =
-    charges-more f (length (longer n halves) * length list) (owned list halves + halves_below d list (take 0 halves)) t t told now (omega (arith, longer-owned n list halves))
-    (charges-hulls f (length (longer n halves) * length list) t told now hulls)
+first-charged laws d list halves n t told now hulls f enough =
+    charges-more laws f (length (longer n halves) * length list) (owned list halves + halves_below d list (take 0 halves)) t t told now (omega (arith, longer-owned n list halves))
+    (charges-hulls laws f (length (longer n halves) * length list) t told now hulls)
 
 -- what a half covers the box covers
 pub part-covers : (b half : Indices) (p : GridPoint) → IsPart 1 b half → Covers half p → Covers b p
@@ -520,12 +519,12 @@ next-paid view other list half halves i before mid after told since now same wit
     (subst (λ h. IsDue f (gridded view) (visit h list)) (sym read) (All-get_or (λ h. IsDue f (gridded view) (visit h list)) halves i half within due)))
 
 -- and charged, behind what was traced of all halves before
-pub next-charged : (view other : Window) (list : List Step) (half : Indices) (halves : List Indices) (i own : ℕ) (before mid after : PointValues) (told since now : Counts) → other ≡ view → i < length halves → half ≡ get_or halves i half
+pub next-charged : (laws : Lawful) (view other : Window) (list : List Step) (half : Indices) (halves : List Indices) (i own : ℕ) (before mid after : PointValues) (told since now : Counts) → other ≡ view → i < length halves → half ≡ get_or halves i half
     → ((f : GridPoint → ℕ) → All (λ h. IsEnough f (gridded view) (visit h list)) halves → Charges f (own + halves_below (gridded view) list (take i halves)) before mid told since)
     → ChargesBelow (gridded other) (visit half list) mid after since now
     → (f : GridPoint → ℕ) → All (λ h. IsEnough f (gridded view) (visit h list)) halves → Charges f (own + halves_below (gridded view) list (take (i + 1) halves)) before after told now
-next-charged view other list half halves i own before mid after told since now same within read earlier here f enough =
-    charges-then f (own + halves_below d list (take i halves)) (spans_below d (visit half list)) (own + halves_below d list (take (i + 1) halves)) before mid after told since now
+next-charged laws view other list half halves i own before mid after told since now same within read earlier here f enough =
+    charges-then laws f (own + halves_below d list (take i halves)) (spans_below d (visit half list)) (own + halves_below d list (take (i + 1) halves)) before mid after told since now
     (omega (arith, sum_by_more (λ h. spans_below d (visit h list)) halves i half within, ap (λ h. spans_below d (visit h list)) read))
     (earlier f enough)
     (subst (λ v. ChargesBelow (gridded v) (visit half list) mid after since now) same here f
@@ -540,13 +539,13 @@ pub some-charged : (laws : Lawful) (view : Window) (list : List Step) (halves : 
     → ((f : GridPoint → ℕ) → All (λ h. IsEnough f (gridded view) (visit h list)) halves → Charges f (owned list halves + halves_below (gridded view) list (take i halves)) before after told now)
     → ChargesHalves (gridded view) list halves before after told now
 some-charged laws view list halves i before after told now each h f enough =
-    charges-more f (owned list halves + halves_below (gridded view) list (take i halves)) (halves_spans (gridded view) list halves) before after told now
+    charges-more laws f (owned list halves + halves_below (gridded view) list (take i halves)) (halves_spans (gridded view) list halves) before after told now
     (omega (arith, sum_by-take-le (λ h. spans_below (gridded view) (visit h list)) halves i, owned-below laws view list halves each)) (h f enough)
 
 -- once all halves are settled, the box is
 pub all-settled : (laws : Lawful) (g : GridPoint → ℤ) (b : Indices) (t : PointValues) → All (λ h. AreSettled g h t) (halves_of 1 b) → AreSettled g b t
 all-settled laws g b t each s lies =
-    let half = half_with-among laws.halves 1 b s lies in
+    let half = laws.parts.among 1 b s lies in
     All-contains (λ h. AreSettled g h t) (halves_of 1 b) _ each half.0 s half.1
 
 -- ---- what is traced at least
@@ -578,15 +577,15 @@ corners-untraced b len before after told since now same corners =
     record { points = charged.points; counts = subst (λ c. CountsAtMost charged.points 0 c now) same charged.counts }
 
 -- and so does leaving it as it is
-pub left-untraced : (told now : Counts) → now ≡ told → CountsNoHull told now
-left-untraced told now same = record { points = 0; counts = subst (λ c. CountsAtMost 0 0 told c) (sym same) (most-none told 0 0) }
+pub left-untraced : (laws : Lawful) (told now : Counts) → now ≡ told → CountsNoHull told now
+left-untraced laws told now same = record { points = 0; counts = subst (λ c. CountsAtMost 0 0 told c) (sym same) (laws.bounds.none told 0 0) }
 
 -- a cell need not be traced
-pub cell-traced : (d : CellDescent) (v : Visit) (before after : PointValues) (told now : Counts) → IsBox v.box → is_long d.boxes.leaf v.box ≡ false → PaysBox d v before after told now
+pub cell-traced : (laws : Lawful) (d : CellDescent) (v : Visit) (before after : PointValues) (told now : Counts) → IsBox v.box → is_long d.boxes.leaf v.box ≡ false → PaysBox d v before after told now
     → CountsHullsAtLeast (long_spans_in d v) told now
-cell-traced d v before after told now is short pays =
+cell-traced laws d v before after told now is short pays =
     let paid = pays (λ p. 0) (λ s lies works p covers. omega arith) in
-    let none = long-end d v is uncut ∙ ap (λ t. cond {A = ℕ} t (length v.list) 0) short in
+    let none = long-end laws d v is uncut ∙ ap (λ t. cond {A = ℕ} t (length v.list) 0) short in
     record { by = paid.counts.by; many = omega (arith, none); rises = paid.counts.rises }
   where
     closed : (t : Bool) → (t && false) ≡ false
@@ -607,11 +606,11 @@ pub cell-traced_below : (d : CellDescent) (v : Visit) (told now : Counts) → Co
 cell-traced_below d v told now least = record { by = least.by; many = omega (arith, least.many); rises = least.rises }
 
 -- nor a box of more cells that does not stay open
-pub closed-traced : (view : Window) (v : Visit) (told : Counts) → IsBox v.box → is_open (gridded view) v ≡ false → CountsHullsAtLeast (long_spans_below (gridded view) v) told told
-closed-traced view v told is closed =
+pub closed-traced : (laws : Lawful) (view : Window) (v : Visit) (told : Counts) → IsBox v.box → is_open (gridded view) v ≡ false → CountsHullsAtLeast (long_spans_below (gridded view) v) told told
+closed-traced laws view v told is closed =
     let uncut : is_cut (gridded view) v ≡ false = rw closed refl in
     let none = traced-none told in
-    record { by = none.by; many = omega (arith, long-end (gridded view) v is uncut); rises = none.rises }
+    record { by = none.by; many = omega (arith, long-end laws (gridded view) v is uncut); rises = none.rises }
 
 -- but the halves of one that is split are
 pub halves-traced : (laws : Lawful) (view : Window) (v : Visit) (live : List Step) (told now : Counts) → IsVisit (gridded view).boxes v → is_open (gridded view) v ≡ true → is_long 1 v.box ≡ true
@@ -619,7 +618,7 @@ pub halves-traced : (laws : Lawful) (view : Window) (v : Visit) (live : List Ste
     → CountsHullsAtLeast (long_spans_below (gridded view) v) told now
 halves-traced laws view v live told now is open' long same halves = record {
   by = halves.by;
-  many = omega (arith, halves.many, own-long v long, long-split d v (omega arith) is.box laws.halves cut, ap (λ l. halves_long_spans d l (halves_of 1 v.box)) same);
+  many = omega (arith, halves.many, own-long v long, long-split laws d v (omega arith) is.box cut, ap (λ l. halves_long_spans d l (halves_of 1 v.box)) same);
   rises = halves.rises;
 }
   where

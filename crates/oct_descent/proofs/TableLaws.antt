@@ -2,10 +2,9 @@
 use Rattle.std.proofs.Common.{◌≡◌, ℕ, ◌+◌, ◌-◌, ◌*◌, ◌<◌, ◌≤◌, ℤ, Bool, true, false, cond, refl, sym, ap, ◌∙◌, ◌⊎◌, inl, inr, arith}
 use Rattle.std.specs.Prelude.{Some, None, ◌==◌, ◌&&◌}
 use Rattle.box_chains.specs.Chains.{Visit}
-use Rattle.box_chains.specs.SumLaws.{along-parts, along-same, sum_in-plus, sum_in-same, upto-const}
 use Rattle.box_chains.specs.Sums.{LiesIn, Sample, sum_along, sum_in}
 use Rattle.box_chains.specs.Tallied.{CountsAtMost}
-use Rattle.box_chains.specs.TallyLaws.{most-hulls, most-more, most-none, most-points, most-then}
+use Rattle.box_chains.specs.Laws.{Lawful}
 use Rattle.fixed_ops.specs.Counts.{Counts, RisesBy, plus, points_of}
 use Rattle.fixed_ops.specs.CountLaws.{RisesBy-then}
 use Rattle.fixed_ops.specs.Raw.{is_inside}
@@ -89,43 +88,43 @@ right-none g b t none p covers known = absurd (false≢true (sym (ap is_known (n
 -- ---- what is left
 
 -- a sum of which only one number is not 0
-along-one : (low high at c : ℕ) → low ≤ at → at < high → sum_along low high (λ i. cond (at == i) c 0) ≡ c
-along-one low high at c below above =
-    omega (arith, along-parts low at high f below (omega (arith, above)), along-parts at (at + 1) high f (omega arith) (omega (arith, above)), none, some, rest)
+along-one : (laws : Lawful) (low high at c : ℕ) → low ≤ at → at < high → sum_along low high (λ i. cond (at == i) c 0) ≡ c
+along-one laws low high at c below above =
+    omega (arith, laws.axes.parts low at high f below (omega (arith, above)), laws.axes.parts at (at + 1) high f (omega arith) (omega (arith, above)), none, some, rest)
   where
     f : ℕ → ℕ
     f i = cond (at == i) c 0
 
     none : sum_along low at f ≡ 0
-    none = along-same low at f (λ i. 0) (λ i l h. cond-false (at == i) c 0 (ne_eqb at i (λ same. omega (arith, h, same)))) ∙ omega (arith, upto-const low (at - low) 0)
+    none = laws.axes.same low at f (λ i. 0) (λ i l h. cond-false (at == i) c 0 (ne_eqb at i (λ same. omega (arith, h, same)))) ∙ omega (arith, laws.axes.const low (at - low) 0)
 
     rest : sum_along (at + 1) high f ≡ 0
-    rest = along-same (at + 1) high f (λ i. 0) (λ i l h. cond-false (at == i) c 0 (ne_eqb at i (λ same. omega (arith, l, same)))) ∙ omega (arith, upto-const (at + 1) (high - (at + 1)) 0)
+    rest = laws.axes.same (at + 1) high f (λ i. 0) (λ i l h. cond-false (at == i) c 0 (ne_eqb at i (λ same. omega (arith, l, same)))) ∙ omega (arith, laws.axes.const (at + 1) (high - (at + 1)) 0)
 
     one : (at + 1) - at ≡ 1
     one = omega arith
 
     some : sum_along at (at + 1) f ≡ c
     some =
-        along-same at (at + 1) f (λ i. c) (λ i l h. cond-true (at == i) c 0 (eq-eqb at i (omega (arith, l, h))))
-        ∙ upto-const at ((at + 1) - at) c ∙ ap (λ n. n * c) one ∙ omega arith
+        laws.axes.same at (at + 1) f (λ i. c) (λ i l h. cond-true (at == i) c 0 (eq-eqb at i (omega (arith, l, h))))
+        ∙ laws.axes.const at ((at + 1) - at) c ∙ ap (λ n. n * c) one ∙ omega arith
 
 front : (t u : Bool) (c : ℕ) → cond {A = ℕ} (t && u) c 0 ≡ cond t (cond u c 0) 0
 front true u c = refl
 front false u c = refl
 
-sum_in-one : (b : Indices) (p : GridPoint) (c : ℕ) → LiesIn b (record { i = p.x; j = p.y; k = p.z }) → sum_in b (λ s. cond (same_point p (point s.i s.j s.k)) c 0) ≡ c
-sum_in-one b p c lies =
-    along-same b.z0 b.z1 (λ k. sum_along b.y0 b.y1 (λ j. sum_along b.x0 b.x1 (λ i. cond (p.x == i && (p.y == j && p.z == k)) c 0))) (λ k. cond (p.z == k) c 0)
+sum_in-one : (laws : Lawful) (b : Indices) (p : GridPoint) (c : ℕ) → LiesIn b (record { i = p.x; j = p.y; k = p.z }) → sum_in b (λ s. cond (same_point p (point s.i s.j s.k)) c 0) ≡ c
+sum_in-one laws b p c lies =
+    laws.axes.same b.z0 b.z1 (λ k. sum_along b.y0 b.y1 (λ j. sum_along b.x0 b.x1 (λ i. cond (p.x == i && (p.y == j && p.z == k)) c 0))) (λ k. cond (p.z == k) c 0)
     (λ k zl zh.
-    along-same b.y0 b.y1 (λ j. sum_along b.x0 b.x1 (λ i. cond (p.x == i && (p.y == j && p.z == k)) c 0)) (λ j. cond (p.y == j) (cond (p.z == k) c 0) 0)
+    laws.axes.same b.y0 b.y1 (λ j. sum_along b.x0 b.x1 (λ i. cond (p.x == i && (p.y == j && p.z == k)) c 0)) (λ j. cond (p.y == j) (cond (p.z == k) c 0) 0)
     (λ j yl yh.
-    along-same b.x0 b.x1 (λ i. cond (p.x == i && (p.y == j && p.z == k)) c 0) (λ i. cond (p.x == i) (cond (p.y == j && p.z == k) c 0) 0)
+    laws.axes.same b.x0 b.x1 (λ i. cond (p.x == i && (p.y == j && p.z == k)) c 0) (λ i. cond (p.x == i) (cond (p.y == j && p.z == k) c 0) 0)
     (λ i xl xh. front (p.x == i) (p.y == j && p.z == k) c)
-    ∙ along-one b.x0 b.x1 p.x (cond (p.y == j && p.z == k) c 0) lies.x.0 lies.x.1
+    ∙ along-one laws b.x0 b.x1 p.x (cond (p.y == j && p.z == k) c 0) lies.x.0 lies.x.1
     ∙ front (p.y == j) (p.z == k) c)
-    ∙ along-one b.y0 b.y1 p.y (cond (p.z == k) c 0) lies.y.0 lies.y.1)
-    ∙ along-one b.z0 b.z1 p.z c lies.z.0 lies.z.1
+    ∙ along-one laws b.y0 b.y1 p.y (cond (p.z == k) c 0) lies.y.0 lies.y.1)
+    ∙ along-one laws b.z0 b.z1 p.z c lies.z.0 lies.z.1
 
 pub same-is : (p q : GridPoint) → same_point p q ≡ true → p ≡ q
 same-is p q e =
@@ -137,14 +136,14 @@ pub same-self : (p : GridPoint) → same_point p p ≡ true
 same-self p = rw (eq-eqb p.x p.x refl, eq-eqb p.y p.y refl, eq-eqb p.z p.z refl) refl
 
 -- a point that becomes known is no longer left
-left-set : (f : GridPoint → ℕ) (p : GridPoint) (v : ℤ) (before after : PointValues) → p.x ≤ before.n.x → p.y ≤ before.n.y → p.z ≤ before.n.z → known_at before p ≡ None → Sets p v before after
+left-set : (laws : Lawful) (f : GridPoint → ℕ) (p : GridPoint) (v : ℤ) (before after : PointValues) → p.x ≤ before.n.x → p.y ≤ before.n.y → p.z ≤ before.n.z → known_at before p ≡ None → Sets p v before after
     → f p + left f after ≡ left f before
-left-set f p v before after x y z unknown sets =
+left-set laws f p v before after x y z unknown sets =
     let b = points_of_grid before.n in
     let lies : LiesIn b (record { i = p.x; j = p.y; k = p.z }) = record { x = (omega arith, omega (arith, x)); y = (omega arith, omega (arith, y)); z = (omega arith, omega (arith, z)) } in
     let same : left f after ≡ sum_in b now = ap (λ n. sum_in (points_of_grid n) now) (size-is after.n before.n sets.n) in
-    let split = sum_in-same b then' (λ s. cond (same_point p (spot s)) (f p) 0 + now s) (λ s l. by (spot s) (same_point p (spot s)) refl) in
-    omega (arith, same, split, sum_in-plus b (λ s. cond (same_point p (spot s)) (f p) 0) now, sum_in-one b p (f p) lies)
+    let split = laws.sums.same b then' (λ s. cond (same_point p (spot s)) (f p) 0 + now s) (λ s l. by (spot s) (same_point p (spot s)) refl) in
+    omega (arith, same, split, laws.sums.plus b (λ s. cond (same_point p (spot s)) (f p) 0) now, sum_in-one laws b p (f p) lies)
   where
     spot : Sample → GridPoint
     spot s = point s.i s.j s.k
@@ -172,32 +171,32 @@ left-set f p v before after x y z unknown sets =
 
 -- ---- charges
 
-pub charges-none : (f : GridPoint → ℕ) (spans : ℕ) (t : PointValues) (now : Counts) → Charges f spans t t now now
-charges-none f spans t now = record { points = 0; enough = omega arith; counts = most-none now 0 spans }
+pub charges-none : (laws : Lawful) (f : GridPoint → ℕ) (spans : ℕ) (t : PointValues) (now : Counts) → Charges f spans t t now now
+charges-none laws f spans t now = record { points = 0; enough = omega arith; counts = laws.bounds.none now 0 spans }
 
-pub charges-hulls : (f : GridPoint → ℕ) (n : ℕ) (t : PointValues) (told now : Counts) → CountsHulls n told now → Charges f n t t told now
-charges-hulls f n t told now h = record { points = 0; enough = omega arith; counts = most-hulls told now n h }
+pub charges-hulls : (laws : Lawful) (f : GridPoint → ℕ) (n : ℕ) (t : PointValues) (told now : Counts) → CountsHulls n told now → Charges f n t t told now
+charges-hulls laws f n t told now h = record { points = 0; enough = omega arith; counts = laws.bounds.hulls told now n h }
 
 pub charges-most : (f : GridPoint → ℕ) (n : ℕ) (t : PointValues) (told now : Counts) → CountsAtMost 0 n told now → Charges f n t t told now
 charges-most f n t told now h = record { points = 0; enough = omega arith; counts = h }
 
-pub charges-more : (f : GridPoint → ℕ) (s u : ℕ) (before after : PointValues) (told now : Counts) → s ≤ u → Charges f s before after told now → Charges f u before after told now
-charges-more f s u before after told now less h = record { points = h.points; enough = h.enough; counts = most-more told now h.points s h.points u (omega arith) less h.counts }
+pub charges-more : (laws : Lawful) (f : GridPoint → ℕ) (s u : ℕ) (before after : PointValues) (told now : Counts) → s ≤ u → Charges f s before after told now → Charges f u before after told now
+charges-more laws f s u before after told now less h = record { points = h.points; enough = h.enough; counts = laws.bounds.more told now h.points s h.points u (omega arith) less h.counts }
 
-pub charges-then : (f : GridPoint → ℕ) (s t u : ℕ) (before mid after : PointValues) (told since now : Counts) → s + t ≤ u → Charges f s before mid told since → Charges f t mid after since now
+pub charges-then : (laws : Lawful) (f : GridPoint → ℕ) (s t u : ℕ) (before mid after : PointValues) (told since now : Counts) → s + t ≤ u → Charges f s before mid told since → Charges f t mid after since now
     → Charges f u before after told now
-charges-then f s t u before mid after told since now less first second = record {
+charges-then laws f s t u before mid after told since now less first second = record {
   points = first.points + second.points;
   enough = omega (arith, first.enough, second.enough);
-  counts = most-then told since now first.points s second.points t (first.points + second.points) u (omega arith) less first.counts second.counts;
+  counts = laws.bounds.sum told since now first.points s second.points t (first.points + second.points) u (omega arith) less first.counts second.counts;
 }
 
-pub charges-set : (f : GridPoint → ℕ) (p : GridPoint) (v : ℤ) (len : ℕ) (before after : PointValues) (told now : Counts) → p.x ≤ before.n.x → p.y ≤ before.n.y → p.z ≤ before.n.z
+pub charges-set : (laws : Lawful) (f : GridPoint → ℕ) (p : GridPoint) (v : ℤ) (len : ℕ) (before after : PointValues) (told now : Counts) → p.x ≤ before.n.x → p.y ≤ before.n.y → p.z ≤ before.n.z
     → known_at before p ≡ None → Sets p v before after → len ≤ f p → RisesBy told now (points_of len) → Charges f 0 before after told now
-charges-set f p v len before after told now x y z unknown sets few rises = record {
+charges-set laws f p v len before after told now x y z unknown sets few rises = record {
   points = len;
-  enough = omega (arith, few, left-set f p v before after x y z unknown sets);
-  counts = most-points told now len rises;
+  enough = omega (arith, few, left-set laws f p v before after x y z unknown sets);
+  counts = laws.bounds.points told now len rises;
 }
 
 -- a point that gets its value is new
@@ -231,18 +230,18 @@ same-sets p v before mid after same sets = record {
   each = λ q. sets.each q ∙ ap (λ o. cond (same_point p q) (Some v) o) (same.each q);
 }
 
-same-left : (f : GridPoint → ℕ) (before after : PointValues) → IsSame before after → left f after ≡ left f before
-same-left f before after same =
+same-left : (laws : Lawful) (f : GridPoint → ℕ) (before after : PointValues) → IsSame before after → left f after ≡ left f before
+same-left laws f before after same =
     ap (λ n. sum_in (points_of_grid n) (λ s. cond (is_known (known_at after (point s.i s.j s.k))) 0 (f (point s.i s.j s.k)))) (size-is after.n before.n same.n)
-    ∙ sum_in-same (points_of_grid before.n) (λ s. cond (is_known (known_at after (point s.i s.j s.k))) 0 (f (point s.i s.j s.k)))
+    ∙ laws.sums.same (points_of_grid before.n) (λ s. cond (is_known (known_at after (point s.i s.j s.k))) 0 (f (point s.i s.j s.k)))
     (λ s. cond (is_known (known_at before (point s.i s.j s.k))) 0 (f (point s.i s.j s.k)))
     (λ s lies. ap (λ o. cond (is_known o) 0 (f (point s.i s.j s.k))) (same.each (point s.i s.j s.k)))
 
-pub same-charges : (f : GridPoint → ℕ) (before after : PointValues) (now : Counts) → IsSame before after → Charges f 0 before after now now
-same-charges f before after now same = record {
+pub same-charges : (laws : Lawful) (f : GridPoint → ℕ) (before after : PointValues) (now : Counts) → IsSame before after → Charges f 0 before after now now
+same-charges laws f before after now same = record {
   points = 0;
-  enough = omega (arith, same-left f before after same);
-  counts = most-none now 0 0;
+  enough = omega (arith, same-left laws f before after same);
+  counts = laws.bounds.none now 0 0;
 }
 
 -- ---- what is paid
@@ -251,8 +250,8 @@ same-charges f before after now same = record {
 least-most : (told now : Counts) (p s : ℕ) → CountsAtMost p s told now → CountsAtLeast 0 told now
 least-most told now p s h = record { by = h.by; many = omega arith; rises = h.rises }
 
-pub pays-none : (f : GridPoint → ℕ) (t : PointValues) (now : Counts) → Pays f t t now now
-pays-none f t now = record { points = 0; due = omega arith; counts = least-most now now 0 0 (most-none now 0 0) }
+pub pays-none : (laws : Lawful) (f : GridPoint → ℕ) (t : PointValues) (now : Counts) → Pays f t t now now
+pays-none laws f t now = record { points = 0; due = omega arith; counts = least-most now now 0 0 (laws.bounds.none now 0 0) }
 
 pub pays-most : (f : GridPoint → ℕ) (p s : ℕ) (t : PointValues) (told now : Counts) → CountsAtMost p s told now → Pays f t t told now
 pays-most f p s t told now h = record { points = 0; due = omega arith; counts = least-most told now p s h }
@@ -268,19 +267,19 @@ pays-then f before mid after told since now first second = record {
   };
 }
 
-pub pays-set : (f : GridPoint → ℕ) (p : GridPoint) (v : ℤ) (len : ℕ) (before after : PointValues) (told now : Counts) → p.x ≤ before.n.x → p.y ≤ before.n.y → p.z ≤ before.n.z
+pub pays-set : (laws : Lawful) (f : GridPoint → ℕ) (p : GridPoint) (v : ℤ) (len : ℕ) (before after : PointValues) (told now : Counts) → p.x ≤ before.n.x → p.y ≤ before.n.y → p.z ≤ before.n.z
     → known_at before p ≡ None → Sets p v before after → f p ≤ len → RisesBy told now (points_of len) → Pays f before after told now
-pays-set f p v len before after told now x y z unknown sets few rises = record {
+pays-set laws f p v len before after told now x y z unknown sets few rises = record {
   points = len;
-  due = omega (arith, few, left-set f p v before after x y z unknown sets);
+  due = omega (arith, few, left-set laws f p v before after x y z unknown sets);
   counts = record { by = points_of len; many = omega arith; rises = rises };
 }
 
-pub same-pays : (f : GridPoint → ℕ) (before after : PointValues) (now : Counts) → IsSame before after → Pays f before after now now
-same-pays f before after now same = record {
+pub same-pays : (laws : Lawful) (f : GridPoint → ℕ) (before after : PointValues) (now : Counts) → IsSame before after → Pays f before after now now
+same-pays laws f before after now same = record {
   points = 0;
-  due = omega (arith, same-left f before after same);
-  counts = least-most now now 0 0 (most-none now 0 0);
+  due = omega (arith, same-left laws f before after same);
+  counts = least-most now now 0 0 (laws.bounds.none now 0 0);
 }
 
 -- ---- working cells

@@ -3,10 +3,9 @@ use Rattle.std.proofs.Common.{◌≡◌, ℕ, Bool, true, false, cond, List, ref
 use Rattle.std.specs.Prelude.{Some, None}
 use Rattle.std.proofs.lemmas.Bool.{false≢true}
 use Rattle.box_chains.specs.Chains.{visit}
-use Rattle.box_chains.specs.SumLaws.{sum_in-const, sum_in-same}
 use Rattle.box_chains.specs.Sums.{sum_in}
 use Rattle.box_chains.specs.Tallied.{CountsAtMost}
-use Rattle.box_chains.specs.TallyLaws.{most-more}
+use Rattle.box_chains.specs.Laws.{Lawful}
 use Rattle.fixed_ops.specs.Counts.{Counts}
 use Rattle.kuhn_cells.specs.Triangles.{GridPoint, point}
 use Rattle.live_clauses.specs.declared.step.Step.{Step}
@@ -24,50 +23,50 @@ use Rattle.oct_descent.specs.Ways.{gridded, whole}
 use Rattle.oct_descent.proofs.Bounds.{none_due, points_due, points_suffice}
 
 -- while nothing is known, all points are left
-left-all : (f : GridPoint → ℕ) (t : PointValues) → ((p : GridPoint) → known_at t p ≡ None) → left f t ≡ sum_in (points_of_grid t.n) (λ s. f (point s.i s.j s.k))
-left-all f t none =
-    sum_in-same (points_of_grid t.n) (λ s. cond (is_known (known_at t (point s.i s.j s.k))) 0 (f (point s.i s.j s.k))) (λ s. f (point s.i s.j s.k))
+left-all : (laws : Lawful) (f : GridPoint → ℕ) (t : PointValues) → ((p : GridPoint) → known_at t p ≡ None) → left f t ≡ sum_in (points_of_grid t.n) (λ s. f (point s.i s.j s.k))
+left-all laws f t none =
+    laws.sums.same (points_of_grid t.n) (λ s. cond (is_known (known_at t (point s.i s.j s.k))) 0 (f (point s.i s.j s.k))) (λ s. f (point s.i s.j s.k))
     (λ s lies. ap (λ o. cond (is_known o) 0 (f (point s.i s.j s.k))) (none (point s.i s.j s.k)))
 
-mesh-left : (view : Window) (list : List Step) (t : PointValues) → t.n ≡ size_of view → ((p : GridPoint) → known_at t p ≡ None) → left (λ p. greatest (lengths_at view list p)) t ≡ mesh_points view list
+mesh-left : (laws : Lawful) (view : Window) (list : List Step) (t : PointValues) → t.n ≡ size_of view → ((p : GridPoint) → known_at t p ≡ None) → left (λ p. greatest (lengths_at view list p)) t ≡ mesh_points view list
 unfolding mesh_points
-mesh-left view list t same none =
-    left-all (λ p. greatest (lengths_at view list p)) t none ∙ ap (λ n. sum_in (points_of_grid n) (λ s. greatest (lengths_at view list (point s.i s.j s.k)))) same
+mesh-left laws view list t same none =
+    left-all laws (λ p. greatest (lengths_at view list p)) t none ∙ ap (λ n. sum_in (points_of_grid n) (λ s. greatest (lengths_at view list (point s.i s.j s.k)))) same
 
 -- the work of the box of all cells is within that of the grid
-pub whole-counted : (view other : Window) (list : List Step) (b : Indices) (before after : PointValues) (told now : Counts) → other ≡ view → b ≡ root_of view lattices.Grid → before.n ≡ size_of view
+pub whole-counted : (laws : Lawful) (view other : Window) (list : List Step) (b : Indices) (before after : PointValues) (told now : Counts) → other ≡ view → b ≡ root_of view lattices.Grid → before.n ≡ size_of view
     → ((p : GridPoint) → known_at before p ≡ None) → ChargesBox (gridded other) (visit b list) before after told now → CountsAtMost (mesh_points view list) (mesh_spans view list) told now
-whole-counted view other list b before after told now same root n none charges =
+whole-counted laws view other list b before after told now same root n none charges =
     let f : GridPoint → ℕ = λ p. greatest (lengths_at view list p) in
     let here = subst (λ v. ChargesBox (gridded v) (visit (root_of view lattices.Grid) list) before after told now) same (subst (λ c. ChargesBox (gridded other) (visit c list) before after told now) root charges) in
     let h = here f (points_suffice view list) in
-    most-more told now h.points (mesh_spans view list) (mesh_points view list) (mesh_spans view list) (omega (arith, h.enough, mesh-left view list before n none)) (omega arith) h.counts
+    laws.bounds.more told now h.points (mesh_spans view list) (mesh_points view list) (mesh_spans view list) (omega (arith, h.enough, mesh-left laws view list before n none)) (omega arith) h.counts
 
-mesh-due : (view : Window) (list : List Step) (t : PointValues) → t.n ≡ size_of view → ((p : GridPoint) → known_at t p ≡ None) → left (λ p. least (working_lengths view list p)) t ≡ mesh_least view list
+mesh-due : (laws : Lawful) (view : Window) (list : List Step) (t : PointValues) → t.n ≡ size_of view → ((p : GridPoint) → known_at t p ≡ None) → left (λ p. least (working_lengths view list p)) t ≡ mesh_least view list
 unfolding mesh_least
-mesh-due view list t same none =
-    left-all (λ p. least (working_lengths view list p)) t none ∙ ap (λ n. sum_in (points_of_grid n) (λ s. least (working_lengths view list (point s.i s.j s.k)))) same
+mesh-due laws view list t same none =
+    left-all laws (λ p. least (working_lengths view list p)) t none ∙ ap (λ n. sum_in (points_of_grid n) (λ s. least (working_lengths view list (point s.i s.j s.k)))) same
 
 -- once all working cells are known, nothing is left that is due
-none-left : (view : Window) (list : List Step) (t : PointValues) → AreWorked (gridded view) (whole view list) t → left (λ p. least (working_lengths view list p)) t ≡ 0
-none-left view list t worked =
-    sum_in-same (points_of_grid t.n) (λ s. cond (is_known (known_at t (point s.i s.j s.k))) 0 (least (working_lengths view list (point s.i s.j s.k)))) (λ s. 0)
+none-left : (laws : Lawful) (view : Window) (list : List Step) (t : PointValues) → AreWorked (gridded view) (whole view list) t → left (λ p. least (working_lengths view list p)) t ≡ 0
+none-left laws view list t worked =
+    laws.sums.same (points_of_grid t.n) (λ s. cond (is_known (known_at t (point s.i s.j s.k))) 0 (least (working_lengths view list (point s.i s.j s.k)))) (λ s. 0)
     (λ s lies. by (point s.i s.j s.k) (is_known (known_at t (point s.i s.j s.k))) refl)
-    ∙ sum_in-const (points_of_grid t.n) 0 ∙ omega arith
+    ∙ laws.sums.const (points_of_grid t.n) 0 ∙ omega arith
   where
     by : (p : GridPoint) (b : Bool) → is_known (known_at t p) ≡ b → cond b 0 (least (working_lengths view list p)) ≡ 0
     by p true e = refl
     by p false e = none_due view list t p worked e
 
 -- and no less work is counted than what is due
-pub whole-paid : (view other : Window) (list : List Step) (b : Indices) (before after : PointValues) (told now : Counts) → other ≡ view → b ≡ root_of view lattices.Grid → before.n ≡ size_of view
+pub whole-paid : (laws : Lawful) (view other : Window) (list : List Step) (b : Indices) (before after : PointValues) (told now : Counts) → other ≡ view → b ≡ root_of view lattices.Grid → before.n ≡ size_of view
     → ((p : GridPoint) → known_at before p ≡ None) → AreWorked (gridded other) (visit b list) after → PaysBox (gridded other) (visit b list) before after told now → CountsAtLeast (mesh_least view list) told now
-whole-paid view other list b before after told now same root n none worked pays =
+whole-paid laws view other list b before after told now same root n none worked pays =
     let f : GridPoint → ℕ = λ p. least (working_lengths view list p) in
     let here = subst (λ v. PaysBox (gridded v) (visit (root_of view lattices.Grid) list) before after told now) same (subst (λ c. PaysBox (gridded other) (visit c list) before after told now) root pays) in
     let there = subst (λ v. AreWorked (gridded v) (visit (root_of view lattices.Grid) list) after) same (subst (λ c. AreWorked (gridded other) (visit c list) after) root worked) in
     let h = here f (points_due view list) in
-    record { by = h.counts.by; many = omega (arith, h.due, h.counts.many, mesh-due view list before n none, none-left view list after there); rises = h.counts.rises }
+    record { by = h.counts.by; many = omega (arith, h.due, h.counts.many, mesh-due laws view list before n none, none-left laws view list after there); rises = h.counts.rises }
 
 -- and what it leaves tells the grid
 pub whole-told : (view other : Window) (list : List Step) (b : Indices) (before after : PointValues) → other ≡ view → b ≡ root_of view lattices.Grid → before.n ≡ size_of view → IsSmall (size_of view)

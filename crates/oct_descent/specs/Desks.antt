@@ -7,7 +7,7 @@ use Rattle.box_chains.specs.Placing.{Sampling}
 use Rattle.box_chains.specs.declared.asked_box.AskedBox.{AskedBox}
 use Rattle.box_chains.specs.declared.outcome.Outcome.{Outcome}
 use Rattle.box_chains.specs.declared.outcome.Outcome.TheVariants.{Outside}
-use Rattle.box_chains.specs.ValueLaws.{IsVisit}
+use Rattle.box_chains.specs.Visits.{IsVisit}
 use Rattle.fixed_ops.specs.Counts.{Counts}
 use Rattle.kuhn_cells.specs.Triangles.{GridPoint}
 use Rattle.live_clauses.specs.declared.step.Step.{Step}

@@ -14,6 +14,7 @@ ghost use Rattle.oct_descent.specs.Tables.{AllKnown, Grows, KeepsPlaces, is_know
 use crate::desk::Desk;
 use crate::grid_size::GridSize;
 use crate::grid_values::GridValues;
+use box_chains::layers_hold;
 use choice_trace::{Inputs, evaluate};
 use fixed_ops::{Fx, Tally, border};
 use live_clauses::Tape;
@@ -37,6 +38,7 @@ pub fn fill_cell(
     ensures paid { PaysCorners b (length list.now) values.old values.new tally.old tally.new }
     ensures kept { KeepsDesk desk.old desk.new }
 {
+    layers_hold();
     let (x, y, z) = (b.x0, b.y0, b.z0);
     let first = values.together(x, y, z);
     for c in 0..8 {
@@ -78,6 +80,7 @@ fn fill_corner(
     ensures keeps { OnOk result (KeepsPlaces values.old values.new) }
     ensures kept { KeepsDesk desk.old desk.new }
 {
+    layers_hold();
     if values.corner(first, x, y, z, c).is_some() {
         return Ok(());
     }

@@ -8,6 +8,7 @@ use crate::descent::look_into;
 use crate::desk::Desk;
 use crate::grid_size::mesh_size;
 use crate::grid_values::GridValues;
+use box_chains::layers_hold;
 use fixed_ops::Tally;
 use live_clauses::Tape;
 use std::alloc::{AllocError, Global};
@@ -53,6 +54,7 @@ pub fn cells(
     ensures traced { OnOk result
         (CountsHullsAtLeast (mesh_long_spans view.now list.now) tally.old tally.new) }
 {
+    layers_hold();
     let mut desk = Desk::new(alloc, view, list.len())?;
     let mut values = GridValues::new(alloc, mesh_size(view))?;
     look_into(

@@ -1,8 +1,8 @@
 -- The work of a fresh image is bounded by that of its box of all samples.
 use Rattle.std.proofs.Common.{◌≡◌, ◌+◌, ◌-◌, ◌*◌, ◌≤◌, List, length, subst, arith}
 use Rattle.box_chains.specs.Laws.{PointsAreBounded, SpansAreBounded}
-use Rattle.box_chains.specs.SumLaws.{size}
-use Rattle.box_chains.specs.ValueLaws.{IsVisit}
+use Rattle.box_chains.specs.Sums.{size}
+use Rattle.box_chains.specs.Visits.{IsVisit}
 use Rattle.live_clauses.specs.Steps.{IsTape}
 use Rattle.live_clauses.specs.declared.step.Step.{Step}
 use Rattle.view_settings.specs.Spans.{root_of}

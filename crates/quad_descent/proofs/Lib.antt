@@ -2,6 +2,7 @@ pub mod Bounds
 pub mod Drawn
 mod Examples
 pub mod Leaves
+pub mod NodeLaws
 pub mod PaintLaws
 pub mod Painted
 mod Scans

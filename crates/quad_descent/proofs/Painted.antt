@@ -12,22 +12,20 @@ use Rattle.std.proofs.lemmas.List.Concat.{flat_map-cons}
 use Rattle.std.proofs.lemmas.List.Folds.{list_any-append}
 use Rattle.std.proofs.lemmas.List.FromFn.{fill_by_all}
 use Rattle.std.proofs.lemmas.List.Sums.{sum_by-cons}
-use Rattle.box_chains.specs.Chains.{Descent, Visit, decision, handed_on, is_long}
-use Rattle.box_chains.specs.HalfLaws.{IsPart, has-lies, lies-has, part-is_box, part-lies}
+use Rattle.box_chains.specs.Chains.{Descent, Visit, decision, handed_on, is_long, visit}
+use Rattle.box_chains.specs.Parts.{IsPart}
 use Rattle.box_chains.specs.Sums.{LiesIn, Sample}
-use Rattle.box_chains.specs.ValueLaws.{Lawful, decision-right, handed-is, handed-value}
+use Rattle.box_chains.specs.Laws.{Lawful}
 use Rattle.fixed_ops.specs.Raw.{is_inside}
 use Rattle.live_clauses.specs.Steps.{tape_value}
 use Rattle.live_clauses.specs.declared.step.Step.{Step}
 use Rattle.view_settings.specs.Boxes.{Indices, IsBox, halves_of}
-use Rattle.view_settings.specs.Laws.{HalvesPart}
 use Rattle.view_settings.specs.Places.{point_of}
 use Rattle.view_settings.specs.Spans.{root_of}
 use Rattle.view_settings.specs.Window.{Window}
 use Rattle.view_settings.specs.declared.lattice.Lattice.TheVariants.{Raster}
 use Rattle.quad_descent.specs.Drawn.{AreDrawnAt, HasValues, IsDrawnAt, StandsAt, count_of}
-use Rattle.quad_descent.specs.NodeLaws.{nodes-are}
-use Rattle.box_chains.specs.Chains.{visit}
+use Rattle.quad_descent.proofs.NodeLaws.{nodes-are}
 use Rattle.quad_descent.specs.Nodes.{bits_of, box_nodes, halves_nodes, insides, nodes_of, rows_of}
 use Rattle.quad_descent.specs.Painting.{Paints, byte_at, covers}
 use Rattle.quad_descent.specs.Pixels.{pixel_at, row_at, rows_from}
@@ -62,11 +60,11 @@ pub record HasHead (d : Descent) (v : Visit) : Type 0 where
   pub count : count_of node ≡ length (node ∷ below)
   pub says : Says d v node below
 
-pub head-of : (d : Descent) (v : Visit) → 0 < d.leaf → IsBox v.box → HasHead d v
-head-of d v some is = by (decision d v) refl (is_long d.leaf v.box) refl
+pub head-of : (laws : Lawful) (d : Descent) (v : Visit) → 0 < d.leaf → IsBox v.box → HasHead d v
+head-of laws d v some is = by (decision d v) refl (is_long d.leaf v.box) refl
   where
     nodes : (o : Option Bool) → decision d v ≡ o → nodes_of d v ≡ box_nodes d v (halves_nodes d (handed_on d v) (halves_of d.leaf v.box)) o
-    nodes o e = nodes-are d v some is ∙ ap (box_nodes d v (halves_nodes d (handed_on d v) (halves_of d.leaf v.box))) e
+    nodes o e = nodes-are laws d v some is ∙ ap (box_nodes d v (halves_nodes d (handed_on d v) (halves_of d.leaf v.box))) e
 
     by : (o : Option Bool) → decision d v ≡ o → (t : Bool) → is_long d.leaf v.box ≡ t → HasHead d v
     by (Some true) e t long = record { node = Inside; below = []; is = nodes (Some true) e; count = refl; says = e }
@@ -131,8 +129,8 @@ pub byte-decided : (laws : Lawful) (view : Window) (list : List Step) (row at p 
     → decision (raster view) (visit b drawn.received) ≡ Some inside → covers view.w row b p ≡ true → byte_at view list row p ≡ cond inside 255 0
 byte-decided laws view list row at p b drawn inside e covered_here =
     let s = sample_at view.w row p in
-    let lies = has-lies b s covered_here in
-    ap (λ t. cond t 255 0) (ap is_inside (sym (drawn.values s lies)) ∙ decision-right laws (raster view) (visit b drawn.received) s inside drawn.visit_is lies e)
+    let lies = laws.parts.told b s covered_here in
+    ap (λ t. cond t 255 0) (ap is_inside (sym (drawn.values s lies)) ∙ laws.visits.decided (raster view) (visit b drawn.received) s inside drawn.visit_is lies e)
 
 -- lists that agree at each place
 map-same : {X : Type 0} (f g : ℕ → X) (low n : ℕ) → ((i : ℕ) → low ≤ i → i < low + n → f i ≡ g i) → map f (range_with_len low n) ≡ map g (range_with_len low n)
@@ -161,7 +159,7 @@ rows-same view b list other is values =
 pub handed-values : (laws : Lawful) (view : Window) (list : List Step) (at : ℕ) (b : Indices) (drawn : IsDrawnAt view list at b)
     → HasValues view b (handed_on (raster view) (visit b drawn.received)) list
 handed-values laws view list at b drawn s lies =
-    handed-value laws (raster view) (visit b drawn.received) s drawn.visit_is lies ∙ drawn.values s lies
+    laws.visits.values (raster view) (visit b drawn.received) s drawn.visit_is lies ∙ drawn.values s lies
 
 -- the halves of a box that is split are drawn behind its node
 pub halves-drawn : (laws : Lawful) (view : Window) (list : List Step) (at : ℕ) (b : Indices) (drawn : IsDrawnAt view list at b) (node : Node) (below : List Node)
@@ -173,7 +171,7 @@ halves-drawn laws view list at b drawn node below is halves = record {
     window = drawn.visit_is.window;
     box = drawn.visit_is.box;
     within = drawn.visit_is.within;
-    tape = (handed-is laws (raster view) (visit b drawn.received) drawn.visit_is).0;
+    tape = (laws.visits.handed (raster view) (visit b drawn.received) drawn.visit_is).0;
   };
   values = handed-values laws view list at b drawn;
   stands = subst (λ l. StandsAt (nodes_of (raster view) (whole view list)) l (at + 1)) halves
@@ -181,16 +179,16 @@ halves-drawn laws view list at b drawn node below is halves = record {
 }
 
 -- the first of some halves is drawn where they begin
-pub half-drawn : (view : Window) (list : List Step) (at : ℕ) (b half : Indices) (rest : List Indices) (drawn : AreDrawnAt view list at b (half ∷ rest)) → IsPart 8 b half → IsDrawnAt view list at half
-half-drawn view list at b half rest drawn part = record {
+pub half-drawn : (laws : Lawful) (view : Window) (list : List Step) (at : ℕ) (b half : Indices) (rest : List Indices) (drawn : AreDrawnAt view list at b (half ∷ rest)) → IsPart 8 b half → IsDrawnAt view list at half
+half-drawn laws view list at b half rest drawn part = record {
   received = drawn.live;
   visit_is = record {
     window = drawn.visit_is.window;
-    box = part-is_box 8 b half part;
+    box = laws.parts.box 8 b half part;
     within = half-within view b half part drawn.visit_is.within;
     tape = drawn.visit_is.tape;
   };
-  values = λ s lies. drawn.values s (part-lies 8 b half s part lies);
+  values = λ s lies. drawn.values s (laws.parts.lies 8 b half s part lies);
   stands = stands-first (nodes_of (raster view) (whole view list)) (nodes_of (raster view) (visit half drawn.live)) (halves_nodes (raster view) drawn.live rest) at
       (subst (λ l. StandsAt (nodes_of (raster view) (whole view list)) l at) (flat_map-cons (λ h. nodes_of (raster view) (visit h drawn.live)) half rest) drawn.stands);
 }
@@ -237,40 +235,40 @@ any-count p (x ∷ xs) t e = by (p x) refl t e (λ u h. any-count p xs u h)
         others t (omega (arith, sum_by-cons (λ z. cond (p z) 1 0) x xs, first, e))
 
 -- the halves of a box cover what it covers
-pub covered-all : HalvesPart → (w row p leaf : ℕ) (b : Indices) → covered w row (halves_of leaf b) p ≡ covers w row b p
-covered-all law w row p leaf b = any-count (λ h. covers w row h p) (halves_of leaf b) (covers w row b p) (law leaf b (p % w) (row + p / w) 0)
+pub covered-all : (laws : Lawful) (w row p leaf : ℕ) (b : Indices) → covered w row (halves_of leaf b) p ≡ covers w row b p
+covered-all laws w row p leaf b = any-count (λ h. covers w row h p) (halves_of leaf b) (covers w row b p) (laws.layers.halves leaf b (p % w) (row + p / w) 0)
 
 -- the first node of a box that is drawn
-pub head-drawn : (view : Window) (list : List Step) (at : ℕ) (b : Indices) (drawn : IsDrawnAt view list at b) → HasHead (raster view) (visit b drawn.received)
-head-drawn view list at b drawn = head-of (raster view) (visit b drawn.received) (omega arith) drawn.visit_is.box
+pub head-drawn : (laws : Lawful) (view : Window) (list : List Step) (at : ℕ) (b : Indices) (drawn : IsDrawnAt view list at b) → HasHead (raster view) (visit b drawn.received)
+head-drawn laws view list at b drawn = head-of laws (raster view) (visit b drawn.received) (omega arith) drawn.visit_is.box
 
 -- the node that is read where a box is drawn is its first
-pub box-read : (view : Window) (list : List Step) (nodes : List Node) (at : ℕ) (b : Indices) (drawn : IsDrawnAt view list at b) (r : Node)
-    → nodes ≡ nodes_of (raster view) (whole view list) → r ≡ get_or nodes at r → r ≡ (head-drawn view list at b drawn).node
-box-read view list nodes at b drawn r all read =
-    let head = head-drawn view list at b drawn in
+pub box-read : (laws : Lawful) (view : Window) (list : List Step) (nodes : List Node) (at : ℕ) (b : Indices) (drawn : IsDrawnAt view list at b) (r : Node)
+    → nodes ≡ nodes_of (raster view) (whole view list) → r ≡ get_or nodes at r → r ≡ (head-drawn laws view list at b drawn).node
+box-read laws view list nodes at b drawn r all read =
+    let head = head-drawn laws view list at b drawn in
     stands-read (nodes_of (raster view) (whole view list)) (nodes_of (raster view) (visit b drawn.received)) head.below head.node r at drawn.stands head.is (read ∙ ap (λ l. get_or l at r) all)
 
-pub box-within : (view : Window) (list : List Step) (nodes : List Node) (at : ℕ) (b : Indices) (drawn : IsDrawnAt view list at b) → nodes ≡ nodes_of (raster view) (whole view list)
+pub box-within : (laws : Lawful) (view : Window) (list : List Step) (nodes : List Node) (at : ℕ) (b : Indices) (drawn : IsDrawnAt view list at b) → nodes ≡ nodes_of (raster view) (whole view list)
     → (at < length nodes) × (at + length (nodes_of (raster view) (visit b drawn.received)) ≤ length nodes)
-box-within view list nodes at b drawn all =
-    let head = head-drawn view list at b drawn in
+box-within laws view list nodes at b drawn all =
+    let head = head-drawn laws view list at b drawn in
     let within = stands-within (nodes_of (raster view) (whole view list)) (nodes_of (raster view) (visit b drawn.received)) at drawn.stands in
     (omega (arith, within, ap length all, ap length head.is), omega (arith, within, ap length all))
 
 -- what a node that is read says
-pub box-says : (view : Window) (list : List Step) (nodes : List Node) (at : ℕ) (b : Indices) (drawn : IsDrawnAt view list at b) (r : Node)
+pub box-says : (laws : Lawful) (view : Window) (list : List Step) (nodes : List Node) (at : ℕ) (b : Indices) (drawn : IsDrawnAt view list at b) (r : Node)
     → nodes ≡ nodes_of (raster view) (whole view list) → r ≡ get_or nodes at r
-    → Says (raster view) (visit b drawn.received) r (head-drawn view list at b drawn).below
-box-says view list nodes at b drawn r all read =
-    let head = head-drawn view list at b drawn in
-    subst (λ n. Says (raster view) (visit b drawn.received) n head.below) (sym (box-read view list nodes at b drawn r all read)) head.says
+    → Says (raster view) (visit b drawn.received) r (head-drawn laws view list at b drawn).below
+box-says laws view list nodes at b drawn r all read =
+    let head = head-drawn laws view list at b drawn in
+    subst (λ n. Says (raster view) (visit b drawn.received) n head.below) (sym (box-read laws view list nodes at b drawn r all read)) head.says
 
-pub box-counts : (view : Window) (list : List Step) (nodes : List Node) (at : ℕ) (b : Indices) (drawn : IsDrawnAt view list at b) (r : Node)
+pub box-counts : (laws : Lawful) (view : Window) (list : List Step) (nodes : List Node) (at : ℕ) (b : Indices) (drawn : IsDrawnAt view list at b) (r : Node)
     → nodes ≡ nodes_of (raster view) (whole view list) → r ≡ get_or nodes at r → count_of r ≡ length (nodes_of (raster view) (visit b drawn.received))
-box-counts view list nodes at b drawn r all read =
-    let head = head-drawn view list at b drawn in
-    ap count_of (box-read view list nodes at b drawn r all read) ∙ head.count ∙ ap length (sym head.is)
+box-counts laws view list nodes at b drawn r all read =
+    let head = head-drawn laws view list at b drawn in
+    ap count_of (box-read laws view list nodes at b drawn r all read) ∙ head.count ∙ ap length (sym head.is)
 
 -- a side of a box that is not long
 pub short-side : (b : Indices) → is_long 8 b ≡ false → b.y1 - b.y0 ≤ 8
@@ -286,18 +284,18 @@ halves-next view list at i b half halves within read drawn =
     subst (λ hs. AreDrawnAt view list at b hs) (drop_more halves i half within ∙ ap (λ h. h ∷ drop (i + 1) halves) (sym read)) drawn
 
 -- the next of some halves is drawn where they begin
-pub next-drawn : (view : Window) (list : List Step) (at i : ℕ) (b half : Indices) (halves : List Indices) → halves ≡ halves_of 8 b → i < length halves → half ≡ get_or halves i half
+pub next-drawn : (laws : Lawful) (view : Window) (list : List Step) (at i : ℕ) (b half : Indices) (halves : List Indices) → halves ≡ halves_of 8 b → i < length halves → half ≡ get_or halves i half
     → AreDrawnAt view list at b (drop i halves) → IsDrawnAt view list at half
-next-drawn view list at i b half halves each within read drawn =
-    half-drawn view list at b half (drop (i + 1) halves) (halves-next view list at i b half halves within read drawn) (half-part b half halves i drawn.visit_is.box each within read)
+next-drawn laws view list at i b half halves each within read drawn =
+    half-drawn laws view list at b half (drop (i + 1) halves) (halves-next view list at i b half halves within read drawn) (half-part laws b half halves i drawn.visit_is.box each within read)
 
 -- and the others behind it, where its first node counts
-pub rest-drawn : (view : Window) (list : List Step) (nodes : List Node) (at i count : ℕ) (b half : Indices) (halves : List Indices) (r : Node) → halves ≡ halves_of 8 b → i < length halves → half ≡ get_or halves i half
+pub rest-drawn : (laws : Lawful) (view : Window) (list : List Step) (nodes : List Node) (at i count : ℕ) (b half : Indices) (halves : List Indices) (r : Node) → halves ≡ halves_of 8 b → i < length halves → half ≡ get_or halves i half
     → (drawn : AreDrawnAt view list at b (drop i halves)) → nodes ≡ nodes_of (raster view) (whole view list) → r ≡ get_or nodes at r → count ≡ count_of r → AreDrawnAt view list (at + count) b (drop (i + 1) halves)
 unfolding halves-next next-drawn half-drawn
-rest-drawn view list nodes at i count b half halves r each within read drawn all at_read counted =
+rest-drawn laws view list nodes at i count b half halves r each within read drawn all at_read counted =
     others-drawn view list at (at + count) b half (drop (i + 1) halves) (halves-next view list at i b half halves within read drawn)
-    (ap (λ n. at + n) (counted ∙ box-counts view list nodes at half (next-drawn view list at i b half halves each within read drawn) r all at_read))
+    (ap (λ n. at + n) (counted ∙ box-counts laws view list nodes at half (next-drawn laws view list at i b half halves each within read drawn) r all at_read))
 
 -- numbers from one on, and more behind them
 range-parts : (low m n : ℕ) → range_with_len low (m + n) ≡ range_with_len low m ++ range_with_len (low + m) n
@@ -341,11 +339,11 @@ rows-places view list row (suc n) =
     more = omega arith
 
 -- a band whose places are all painted has the bytes of its rows
-pub band-painted : (view : Window) (list : List Step) (row rows : ℕ) (b : Indices) (xs ys : List ℕ) → b ≡ root_of view Raster → length xs ≡ rows * view.w → row + rows ≤ view.h → 0 < view.w
+pub band-painted : (laws : Lawful) (view : Window) (list : List Step) (row rows : ℕ) (b : Indices) (xs ys : List ℕ) → b ≡ root_of view Raster → length xs ≡ rows * view.w → row + rows ≤ view.h → 0 < view.w
     → Paints (covers view.w row b) (byte_at view list row) xs ys → ys ≡ rows_from view list row rows
-band-painted view list row rows b xs ys is count within some painted =
+band-painted laws view list row rows b xs ys is count within some painted =
     fill_by_all (byte_at view list row) ys (rows * view.w) 0 (painted.same ∙ count)
-    (λ p h. painted.each p (omega (arith, h, count)) ∙ ap (λ t. cond t (byte_at view list row p) (get_or xs p 0)) (ap (λ a. covers view.w row a p) is ∙ lies-has (root_of view Raster) (sample_at view.w row p) (inside p h)))
+    (λ p h. painted.each p (omega (arith, h, count)) ∙ ap (λ t. cond t (byte_at view list row p) (get_or xs p 0)) (ap (λ a. covers view.w row a p) is ∙ laws.parts.has (root_of view Raster) (sample_at view.w row p) (inside p h)))
     ∙ rows-places view list row rows
   where
     inside : (p : ℕ) → p < rows * view.w → LiesIn (root_of view Raster) (sample_at view.w row p)

@@ -1,7 +1,7 @@
 -- Where the nodes of a box stand among those of a whole image.
 use Rattle.std.specs.Prelude.{◌≡◌, ℕ, ◌+◌, List, ◌++◌, length}
 use Rattle.box_chains.specs.Sums.{LiesIn, Sample}
-use Rattle.box_chains.specs.ValueLaws.{IsVisit, sample_point}
+use Rattle.box_chains.specs.Visits.{IsVisit, sample_point}
 use Rattle.live_clauses.specs.Steps.{tape_value}
 use Rattle.live_clauses.specs.declared.step.Step.{Step}
 use Rattle.view_settings.specs.Boxes.{Indices}

@@ -1,7 +1,6 @@
 pub mod Desks
 pub mod Drawn
 pub mod Laws
-pub mod NodeLaws
 pub mod Nodes
 pub mod Opened
 pub mod Painting

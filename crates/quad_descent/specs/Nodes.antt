@@ -1,10 +1,7 @@
 -- What is kept of the boxes that an image was drawn by.
 use Rattle.std.specs.Prelude.{ℕ, zero, suc, ◌+◌, ◌-◌, ◌*◌, nat_lt, Bool, true, false, List, [], ◌∷◌, length, map, fold, Option, Some, None, if◌then◌else◌}
-use Rattle.std.specs.List.{flat_map, range_with_len, sum_by}
-use Rattle.box_chains.specs.ChainLaws.{half_visit}
-use Rattle.box_chains.specs.Counts.{points_in, spans_in}
-use Rattle.box_chains.specs.SumLaws.{size}
-use Rattle.box_chains.specs.Chains.{Descent, Visit, decision, handed_on, is_long, sides, visit}
+use Rattle.std.specs.List.{flat_map, range_with_len}
+use Rattle.box_chains.specs.Chains.{Descent, Visit, decision, half_visit, handed_on, is_long, sides, visit}
 use Rattle.fixed_ops.specs.Raw.{is_inside}
 use Rattle.live_clauses.specs.Steps.{tape_value}
 use Rattle.view_settings.specs.Boxes.{Indices, halves_of}
@@ -57,25 +54,12 @@ nodes_within (suc n) d v =
 abbrev pub nodes_of : Descent → Visit → List Node
 nodes_of d v = nodes_within (sides v.box) d v
 
--- the halves of a box that hands on a list, with the nodes and the work below it
+-- the nodes of the halves of a box that hands on a list
 abbrev pub halves_nodes : Descent → List Step → List Indices → List Node
 halves_nodes d list halves = flat_map (λ half. nodes_of d (visit half list)) halves
 
-abbrev pub halves_points : Descent → List Step → List Indices → ℕ
-halves_points d list halves = sum_by (λ half. points_in d (visit half list)) halves
-
-abbrev pub halves_spans : Descent → List Step → List Indices → ℕ
-halves_spans d list halves = sum_by (λ half. spans_in d (visit half list)) halves
-
--- the nodes and the work of an undecided box that hands on a list, but for its own trace
+-- the nodes of an undecided box that hands on a list
 abbrev pub open_nodes : Descent → Indices → List Step → List Node
 open_nodes d b list =
     if is_long d.leaf b then split_node (halves_nodes d list (halves_of d.leaf b))
     else Leaf (rows_of d.view d.lattice list b) ∷ []
-
-abbrev pub open_points : Descent → Indices → List Step → ℕ
-open_points d b list =
-    if is_long d.leaf b then halves_points d list (halves_of d.leaf b) else size b * length list
-
-abbrev pub open_spans : Descent → Indices → List Step → ℕ
-open_spans d b list = if is_long d.leaf b then halves_spans d list (halves_of d.leaf b) else 0

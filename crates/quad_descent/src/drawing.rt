@@ -1,12 +1,11 @@
 // Boxes that are drawn.
 ghost use Rattle.std.specs.Prelude.{◌≡◌, ◌+◌, ◌-◌, ◌*◌, ◌≤◌, ◌++◌, [], ◌∷◌, length, vec_len, OnOk, OnErr, IsTrue, if◌then◌else◌};
-ghost use Rattle.box_chains.specs.Chains.{is_long as is_long_for};
-ghost use Rattle.box_chains.specs.Counts.{points_in, spans_in};
+ghost use Rattle.box_chains.specs.Chains.{is_long as is_long_for, visit};
+ghost use Rattle.box_chains.specs.Counts.{halves_points, halves_spans, open_points, open_spans, points_in, spans_in};
 ghost use Rattle.view_settings.specs.Boxes.{halves_of};
 ghost use Rattle.live_clauses.specs.Live.{IsWhole};
 ghost use Rattle.quad_descent.specs.Desks.{KeepsDesk, MayDraw, MayOpen};
-ghost use Rattle.box_chains.specs.Chains.{visit};
-ghost use Rattle.quad_descent.specs.Nodes.{halves_nodes, halves_points, halves_spans, nodes_of, open_nodes, open_points, open_spans, split_node};
+ghost use Rattle.quad_descent.specs.Nodes.{halves_nodes, nodes_of, open_nodes, split_node};
 ghost use Rattle.quad_descent.specs.Opened.{outcome_nodes, outcome_points, outcome_spans};
 ghost use Rattle.box_chains.specs.Tallied.{CountsAtMost, CountsExactly};
 ghost use Rattle.quad_descent.specs.Raster.{raster};
@@ -71,6 +70,7 @@ fn draw_outcome(
         (outcome_spans (raster desk.old.places.view) b outcome.now) tally.old tally.new) }
     ensures kept { KeepsDesk desk.old desk.new }
 {
+    layers_hold();
     match outcome {
         Outcome::Inside => Ok(nodes.push(Node::Inside)?),
         Outcome::Outside => Ok(nodes.push(Node::Outside)?),
@@ -100,6 +100,7 @@ fn draw_undecided(
         (open_spans (raster desk.old.places.view) b live.now) tally.old tally.new) }
     ensures kept { KeepsDesk desk.old desk.new }
 {
+    layers_hold();
     if is_long(b, LEAF) {
         draw_split(alloc, desk, b, live, nodes, tally)
     } else {
@@ -132,6 +133,7 @@ fn draw_split(
         (halves_spans (raster desk.old.places.view) live.now (halves_of 8 b)) tally.old tally.new) }
     ensures kept { KeepsDesk desk.old desk.new }
 {
+    layers_hold();
     let at = nodes.len();
     nodes.push(Node::Split(0))?;
     draw_halves(alloc, desk, b, live, nodes, tally)?;

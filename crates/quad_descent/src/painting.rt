@@ -21,6 +21,7 @@ pub fn rows(tree: &QuadTree, row: u32, pixels: &mut [u8])
     ensures { pixels.new ≡ rows_from tree.now.view tree.now.list row
         (length pixels.old / tree.now.view.w) }
 {
+    layers_hold();
     let rows = (pixels.len() / tree.view.w as usize) as u32;
     tree.paint_box(
         0,

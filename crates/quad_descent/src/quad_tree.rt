@@ -6,6 +6,7 @@ ghost use Rattle.quad_descent.specs.Raster.{fresh_points, fresh_spans};
 use crate::desk::Desk;
 use crate::drawing::draw_box;
 use crate::node::Node;
+use box_chains::layers_hold;
 use fixed_ops::Tally;
 use live_clauses::Tape;
 use std::alloc::{AllocError, Global};
@@ -23,7 +24,7 @@ pub struct QuadTree {
 
 impl Model for QuadTree {
     ghost use Rattle.std.specs.Prelude.{◌≡◌};
-    ghost use Rattle.box_chains.specs.ValueLaws.{IsVisit};
+    ghost use Rattle.box_chains.specs.Visits.{IsVisit};
     ghost use Rattle.quad_descent.specs.Nodes.{nodes_of};
     ghost use Rattle.quad_descent.specs.Raster.{Drawing, raster, whole};
 
@@ -52,6 +53,7 @@ pub fn draw(
         (CountsAtMost (fresh_points view.now list.now) (fresh_spans view.now list.now) tally.old
         tally.new) }
 {
+    layers_hold();
     let mut desk = Desk::new(alloc, view, list.len())?;
     let mut nodes = Vec::new(alloc);
     draw_box(

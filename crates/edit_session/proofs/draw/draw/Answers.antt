@@ -1,6 +1,6 @@
 use Rattle.std.proofs.Common.{ap}
 use Rattle.edit_session.specs.Work.{frame_work}
-use Rattle.edit_session.specs.WorkLaws.{within-exactly}
+use Rattle.edit_session.proofs.WorkLaws.{within-exactly}
 use Rattle.edit_session.proofs.Frames.{image-same, on_err}
 use Rattle.edit_session.proofs.draw.draw.Goals as goal
 

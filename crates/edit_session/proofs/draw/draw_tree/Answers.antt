@@ -5,7 +5,7 @@ use Rattle.box_chains.specs.Tallied.{CountsAtMost, CountsExactly}
 use Rattle.quad_descent.specs.Raster.{fresh_points, fresh_spans}
 use Rattle.edit_session.specs.Images.{plain_points}
 use Rattle.edit_session.specs.Work.{frame_work}
-use Rattle.edit_session.specs.WorkLaws.{within-none}
+use Rattle.edit_session.proofs.WorkLaws.{within-none}
 use Rattle.edit_session.proofs.Frames.{drawn_exactly, drawn_few, drawn_fits, drawn_plain, drawn_within, on_err, on_ok}
 use Rattle.edit_session.proofs.draw.draw_tree.Goals as goal
 

@@ -1,7 +1,7 @@
 use Rattle.std.proofs.Common.{subst}
 use Rattle.live_clauses.specs.Steps.{IsTape}
 use Rattle.edit_session.proofs.Depths.{heights_plain, heights_within, map-same}
-use Rattle.edit_session.specs.WorkLaws.{within-none}
+use Rattle.edit_session.proofs.WorkLaws.{within-none}
 use Rattle.edit_session.proofs.height.top_map.Goals as goal
 
 pub returns-in_err-list-clause-at_most : goal.returns-in_err-list-clause-at_most

@@ -6,7 +6,7 @@ use Rattle.solid_model.specs.Values.{solid_value}
 use Rattle.tetra_mesh.specs.Cuts.{mesh_of}
 use Rattle.tetra_mesh.specs.Places.{IsPlaced}
 use Rattle.edit_session.specs.Meshes.{grid_of, mesh_text}
-use Rattle.edit_session.specs.WorkLaws.{within-none}
+use Rattle.edit_session.proofs.WorkLaws.{within-none}
 use Rattle.edit_session.proofs.GridWork.{mesh_plain, mesh_within}
 use Rattle.edit_session.proofs.MeshLaws.{mesh_same, of_mesh, solid_faces, solid_placed, solid_text, solid_vertices}
 use Rattle.edit_session.proofs.mesh.solid_mesh.Goals as goal

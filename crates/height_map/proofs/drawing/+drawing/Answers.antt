@@ -1,13 +1,14 @@
 use Rattle.std.proofs.Common.{◌≡◌, ◌-◌, ◌*◌, ◌<◌, ◌≤◌, ap, arith, length, refl, subst, suc, sym, true, ◌∙◌}
+use Rattle.std.specs.Prelude.{OnOk}
 use Rattle.std.specs.List.{All}
 use Rattle.std.proofs.lemmas.List.{length-drop, length-map, length-take-le}
 use Rattle.std.proofs.lemmas.List.Elements.{All-filter, All-get_or, All-weaker, filter_passes}
 use Rattle.box_chains.specs.Outcomes.{HandsOn}
 use Rattle.box_chains.specs.Tallied.{CountsAtMost}
-use Rattle.box_chains.specs.TallyLaws.{most-none}
 use Rattle.view_settings.specs.Boxes.{IsBox}
 use Rattle.height_map.specs.Beside.{LieBeside, beside_points, beside_top, beside_traced, farther, nearer}
-use Rattle.height_map.specs.Bound.{CountsPoints, CountsSpans, halves_spans, layered}
+use Rattle.height_map.specs.Bound.{CountsPoints, CountsSpans, layered}
+use Rattle.box_chains.specs.Counts.{halves_spans}
 use Rattle.height_map.specs.Columns.{Changes, IsAmong, covers, has_open, leaf_top}
 use Rattle.height_map.specs.Desks.{IsPlaced}
 use Rattle.height_map.specs.Opened.{outcome_points, outcome_spans, outcome_top, outcome_traced}
@@ -21,7 +22,7 @@ use Rattle.height_map.proofs.drawing.+drawing.Goals as goal
 
 pub draw_undecided-returns-else-is_long-clause-at_most : goal.draw_undecided-returns-else-is_long-clause-at_most
 draw_undecided-returns-else-is_long-clause-at_most t c =
-    leaf-counted c.args.desk.now.places.view c.args.live.now c.args.b c.args.tops.now c.args.tally.now c.draw_leaf.new.tally (sym c.is_long.ensures ∙ c.if-is_long.false) c.draw_leaf.ensures.counted
+    leaf-counted c.layers_hold.ensures c.args.desk.now.places.view c.args.live.now c.args.b c.args.tops.now c.args.tally.now c.draw_leaf.new.tally (sym c.is_long.ensures ∙ c.if-is_long.false) c.draw_leaf.ensures.counted
 
 pub draw_undecided-returns-then-is_long-clause-points : goal.draw_undecided-returns-then-is_long-clause-points
 draw_undecided-returns-then-is_long-clause-points t c =
@@ -51,10 +52,15 @@ draw_outcome-draw_undecided-requires t c =
     (omega (arith, c.decreases), (placed-may c.args.desk.now c.args.b c.in-Open.live (length c.args.tops.now) c.requires.placed room, room.whole))
 
 pub draw_outcome-returns-in-Inside-clause-at_most : goal.draw_outcome-returns-in-Inside-clause-at_most
-draw_outcome-returns-in-Inside-clause-at_most t c = most-none c.args.tally.now _ _
+draw_outcome-returns-in-Inside-clause-at_most t c = c.layers_hold.ensures.bounds.none c.args.tally.now _ _
 
 pub draw_outcome-returns-in-Outside-clause-at_most : goal.draw_outcome-returns-in-Outside-clause-at_most
-draw_outcome-returns-in-Outside-clause-at_most t c = most-none c.args.tally.now _ _
+draw_outcome-returns-in-Outside-clause-at_most t c = c.layers_hold.ensures.bounds.none c.args.tally.now _ _
+
+pub draw_outcome-returns-in-Open-clause-tops : goal.draw_outcome-returns-in-Open-clause-tops
+draw_outcome-returns-in-Open-clause-tops t c =
+    subst (λ o. OnOk c.draw_undecided.result (Changes (covers c.args.desk.now.w c.args.b) (outcome_top c.args.desk.now.places.view c.args.b o) c.args.tops.now c.draw_undecided.new.tops))
+    (sym c.in-Open.is) c.draw_undecided.ensures.tops
 
 -- ---- the nearer halves, and then the farther ones
 
@@ -67,11 +73,11 @@ draw_halves-draw_beside-requires t c =
     let len = length c.args.tops.now in
     let may = c.requires.may in
     let near = rest-is halves far ∙ c.farther_count-far.ensures.nearer in
-    let parts = nearer-parts b may.visit_is.box in
-    let shorter = group-shorter b (nearer 8 b) may.visit_is.box c.requires.long parts in (
+    let parts = nearer-parts c.layers_hold.ensures b may.visit_is.box in
+    let shorter = group-shorter c.layers_hold.ensures b (nearer 8 b) may.visit_is.box c.requires.long parts in (
       omega (arith, shorter, ap longest near, c.decreases),
       (
-        subst (All (IsPlaced desk len)) (sym near) (group-placed desk desk b (nearer 8 b) c.args.live.now len len (record { width = refl; places = refl; room = refl; values = refl }) refl may parts),
+        subst (All (IsPlaced desk len)) (sym near) (group-placed c.layers_hold.ensures desk desk b (nearer 8 b) c.args.live.now len len (record { width = refl; places = refl; room = refl; values = refl }) refl may parts),
         (
           record { tape = may.visit_is.tape; whole = c.requires.whole; room = may.room; values = may.values },
           (
@@ -90,8 +96,8 @@ draw_halves-returns-in_err-draw_beside-clause-at_most t c =
     let old = c.args.tops.now in
     let may = c.requires.may in
     let near = rest-is c.as_slice-halves.result.now c.farther_count-far.result ∙ c.farther_count-far.ensures.nearer in
-    nearer-bounded view live b old c.args.tally.now c.draw_beside.new.tally
-    (columns-there view b view.w (length old) may.visit_is.window may.visit_is.within refl may.tops) (nearer-drawn view live b old may.visit_is.box)
+    nearer-bounded c.layers_hold.ensures view live b old c.args.tally.now c.draw_beside.new.tally
+    (columns-there view b view.w (length old) may.visit_is.window may.visit_is.within refl may.tops) (nearer-drawn c.layers_hold.ensures view live b old may.visit_is.box)
     (subst (λ hs. CountsAtMost (beside_points view live old hs) (halves_spans (layered view) live hs) c.args.tally.now c.draw_beside.new.tally) near c.in_err-draw_beside.ensures.at_most)
 
 pub draw_halves-draw_beside-requires-2 : goal.draw_halves-draw_beside-requires-2
@@ -104,13 +110,13 @@ draw_halves-draw_beside-requires-2 t c =
     let may = c.requires.may in
     let kept = c.in_ok-draw_beside.ensures.kept in
     let behind = c.farther_count-far.ensures.farther in
-    let parts = farther-parts b may.visit_is.box in
-    let shorter = group-shorter b (farther 8 b) may.visit_is.box c.requires.long parts in
+    let parts = farther-parts c.layers_hold.ensures b may.visit_is.box in
+    let shorter = group-shorter c.layers_hold.ensures b (farther 8 b) may.visit_is.box c.requires.long parts in
     let next = c.draw_beside.new.desk in (
       omega (arith, shorter, ap longest behind, c.decreases),
       (
         subst (All (IsPlaced next (length c.draw_beside.new.tops))) (sym behind)
-            (group-placed desk next b (farther 8 b) c.args.live.now len (length c.draw_beside.new.tops) kept c.in_ok-draw_beside.ensures.tops.same may parts),
+            (group-placed c.layers_hold.ensures desk next b (farther 8 b) c.args.live.now len (length c.draw_beside.new.tops) kept c.in_ok-draw_beside.ensures.tops.same may parts),
         (
           room-kept desk next c.args.live.now kept (record { tape = may.visit_is.tape; whole = c.requires.whole; room = may.room; values = may.values }),
           (
@@ -154,8 +160,8 @@ draw_halves-returns-clause-at_most t c =
     let start = c.args.tally.now in
     let between = c.draw_beside.new.tally in
     let end = c.draw_beside-2.new.tally in
-    groups-bounded view live b old mid start between end
-    (groups-are desk live b old mid c.requires.may (subst (λ hs. Changes (λ p. true) (beside_top view live hs) old mid) near c.in_ok-draw_beside.ensures.tops))
+    groups-bounded c.layers_hold.ensures view live b old mid start between end
+    (groups-are c.layers_hold.ensures desk live b old mid c.requires.may (subst (λ hs. Changes (λ p. true) (beside_top view live hs) old mid) near c.in_ok-draw_beside.ensures.tops))
     (subst (λ hs. CountsAtMost (beside_points view live old hs) (halves_spans (layered view) live hs) start between) near c.in_ok-draw_beside.ensures.at_most)
     (subst (λ v. CountsAtMost (beside_points v live mid (farther 8 b)) (halves_spans (layered v) live (farther 8 b)) between end) same
     (subst (λ hs. CountsAtMost (beside_points c.draw_beside.new.desk.places.view live mid hs) (halves_spans (layered c.draw_beside.new.desk.places.view) live hs) between end)
@@ -176,8 +182,8 @@ draw_halves-returns-clause-points t c =
     let end = c.draw_beside-2.new.tally in
     on_ok-then c.draw_beside-2.result _ _
     (λ second.
-    groups-points view live b old mid start between end
-    (groups-are desk live b old mid c.requires.may (subst (λ hs. Changes (λ p. true) (beside_top view live hs) old mid) near c.in_ok-draw_beside.ensures.tops))
+    groups-points c.layers_hold.ensures view live b old mid start between end
+    (groups-are c.layers_hold.ensures desk live b old mid c.requires.may (subst (λ hs. Changes (λ p. true) (beside_top view live hs) old mid) near c.in_ok-draw_beside.ensures.tops))
     (subst (λ hs. CountsPoints (beside_points view live old hs) start between) near c.in_ok-draw_beside.ensures.points)
     (subst (λ v. CountsPoints (beside_points v live mid (farther 8 b)) between end) same
     (subst (λ hs. CountsPoints (beside_points c.draw_beside.new.desk.places.view live mid hs) between end) c.farther_count-far.ensures.farther second)))
@@ -198,8 +204,8 @@ draw_halves-returns-clause-hulls t c =
     let end = c.draw_beside-2.new.tally in
     on_ok-then c.draw_beside-2.result _ _
     (λ second.
-    groups-traced view live b old mid start between end c.layers_hold.ensures.halves
-    (groups-are desk live b old mid c.requires.may (subst (λ hs. Changes (λ p. true) (beside_top view live hs) old mid) near c.in_ok-draw_beside.ensures.tops))
+    groups-traced c.layers_hold.ensures view live b old mid start between end
+    (groups-are c.layers_hold.ensures desk live b old mid c.requires.may (subst (λ hs. Changes (λ p. true) (beside_top view live hs) old mid) near c.in_ok-draw_beside.ensures.tops))
     (subst (λ hs. CountsSpans (beside_traced view live old hs) start between) near c.in_ok-draw_beside.ensures.hulls)
     (subst (λ v. CountsSpans (beside_traced v live mid (farther 8 b)) between end) same
     (subst (λ hs. CountsSpans (beside_traced c.draw_beside.new.desk.places.view live mid hs) between end) c.farther_count-far.ensures.farther second)))
@@ -252,7 +258,7 @@ draw_beside-returns-clause-at_most t c =
     let desk = c.args.desk.now in
     let tops = c.args.tops.now in
     let boxes = c.args.boxes.now in
-    kept-bounded desk.places.view c.args.live.now desk.w tops boxes c.as_slice.result.now c.args.tally.now c.draw_open.new.tally
+    kept-bounded c.layers_hold.ensures desk.places.view c.args.live.now desk.w tops boxes c.as_slice.result.now c.args.tally.now c.draw_open.new.tally
     (All-weaker (IsPlaced desk (length tops)) (IsOver desk.places.view desk.w tops) (placed-over desk tops) boxes c.requires.placed)
     (c.as_slice.ensures.value ∙ c.open_among-open.ensures) c.draw_open.ensures.at_most
 
@@ -263,7 +269,7 @@ draw_beside-returns-clause-points t c =
     let boxes = c.args.boxes.now in
     on_ok-then c.draw_open.result _ _
     (points-are c.args.tally.now c.draw_open.new.tally _ _
-    (kept-points desk.places.view c.args.live.now desk.w tops boxes c.as_slice.result.now
+    (kept-points c.layers_hold.ensures desk.places.view c.args.live.now desk.w tops boxes c.as_slice.result.now
     (All-weaker (IsPlaced desk (length tops)) (IsOver desk.places.view desk.w tops) (placed-over desk tops) boxes c.requires.placed)
     (c.as_slice.ensures.value ∙ c.open_among-open.ensures)))
     c.draw_open.ensures.points
@@ -275,7 +281,7 @@ draw_beside-returns-clause-hulls t c =
     let boxes = c.args.boxes.now in
     on_ok-then c.draw_open.result _ _
     (spans-are c.args.tally.now c.draw_open.new.tally _ _
-    (kept-traced desk.places.view c.args.live.now desk.w tops boxes c.as_slice.result.now c.layers_hold.ensures.halves
+    (kept-traced c.layers_hold.ensures desk.places.view c.args.live.now desk.w tops boxes c.as_slice.result.now
     (All-weaker (IsPlaced desk (length tops)) (IsOver desk.places.view desk.w tops) (placed-over desk tops) boxes c.requires.placed)
     (c.as_slice.ensures.value ∙ c.open_among-open.ensures)))
     c.draw_open.ensures.hulls
@@ -299,7 +305,7 @@ draw_open-loop-n-init t c =
     record {
       kept = record { width = refl; places = refl; room = c.in_ok-outcomes.ensures.room; values = refl };
       tops = begun-top view live boxes old n refl;
-      counted = begun-bounded view live boxes old n c.args.tally.now c.trace_boxes.new.tally refl c.in_ok-outcomes.ensures.counted;
+      counted = begun-bounded c.layers_hold.ensures view live boxes old n c.args.tally.now c.trace_boxes.new.tally refl c.in_ok-outcomes.ensures.counted;
       points = begun-points view live boxes old n (length boxes * length live) c.args.tally.now c.trace_boxes.new.tally refl c.in_ok-outcomes.ensures.counted;
       hulls = begun-traced view live boxes old n c.args.tally.now c.trace_boxes.new.tally refl c.in_ok-outcomes.ensures.counted;
     }
@@ -361,7 +367,7 @@ draw_open-loop-n-preserved t c =
           (subst (λ v. CountsAtMost (outcome_points v mid b o) (outcome_spans v b o) c.loop-n.tally c.draw_outcome.new.tally) same after.at_most);
       points = next-points laws view live boxes old mid n i b o c.args.tally.now c.loop-n.tally c.draw_outcome.new.tally left next was.points
           (subst (λ v. CountsPoints (outcome_points v mid b o) c.loop-n.tally c.draw_outcome.new.tally) same after.points);
-      hulls = next-traced laws view live boxes old mid n i b o c.args.tally.now c.loop-n.tally c.draw_outcome.new.tally left next (told-some view live b desk.w old placed.width placed.box open') was.hulls
+      hulls = next-traced laws view live boxes old mid n i b o c.args.tally.now c.loop-n.tally c.draw_outcome.new.tally left next (told-some c.layers_hold.ensures view live b desk.w old placed.width placed.box open') was.hulls
           (subst (λ v. CountsSpans (outcome_traced v mid b o) c.loop-n.tally c.draw_outcome.new.tally) same after.hulls);
     }
 

@@ -2,7 +2,8 @@ use Rattle.std.proofs.Common.{◌+◌, ◌*◌, drop, length, true}
 use Rattle.box_chains.specs.Chains.{sides}
 use Rattle.box_chains.specs.Tallied.{CountsAtMost}
 use Rattle.height_map.specs.Beside.{beside_points, beside_top, beside_traced}
-use Rattle.height_map.specs.Bound.{CountsPoints, CountsSpans, halves_spans, layered}
+use Rattle.height_map.specs.Bound.{CountsPoints, CountsSpans, layered}
+use Rattle.box_chains.specs.Counts.{halves_spans}
 use Rattle.height_map.specs.Columns.{Changes}
 use Rattle.height_map.specs.Desks.{KeepsDesk}
 use Rattle.height_map.proofs.Steps.{longest}

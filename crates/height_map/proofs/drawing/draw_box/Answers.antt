@@ -1,5 +1,4 @@
 use Rattle.std.proofs.Common.{length, refl}
-use Rattle.box_chains.specs.TallyLaws.{most-none}
 use Rattle.height_map.proofs.Drawn.{columns-there, on_ok-then, outcome-drawn}
 use Rattle.height_map.proofs.Evaluated.{points-covered}
 use Rattle.height_map.proofs.Steps.{box-bounded, box-points, box-traced, may-open, told-by, trace-bounded}
@@ -7,20 +6,20 @@ use Rattle.height_map.proofs.Traced.{open-some, traced-covered}
 use Rattle.height_map.proofs.drawing.draw_box.Goals as goal
 
 pub returns-then-is_covered-clause-at_most : goal.returns-then-is_covered-clause-at_most
-returns-then-is_covered-clause-at_most c = most-none c.args.tally.now _ _
+returns-then-is_covered-clause-at_most c = c.layers_hold.ensures.bounds.none c.args.tally.now _ _
 
 pub returns-then-is_covered-clause-points : goal.returns-then-is_covered-clause-points
 returns-then-is_covered-clause-points c =
     let view = c.args.desk.now.places.view in
-    points-covered view c.args.received.now c.args.b c.args.desk.now.w c.args.tops.now c.args.tally.now c.requires.width
+    points-covered c.layers_hold.ensures view c.args.received.now c.args.b c.args.desk.now.w c.args.tops.now c.args.tally.now c.requires.width
     (columns-there view c.args.b view.w (length c.args.tops.now) c.requires.visit_is.window c.requires.visit_is.within refl c.requires.tops)
     (λ p h e. c.is_covered.ensures.covered p c.if-is_covered.true h e)
 
 pub returns-then-is_covered-clause-hulls : goal.returns-then-is_covered-clause-hulls
 returns-then-is_covered-clause-hulls c =
     let view = c.args.desk.now.places.view in
-    traced-covered view c.args.received.now c.args.b c.args.desk.now.w c.args.tops.now c.args.tally.now c.requires.width
-    (columns-there view c.args.b view.w (length c.args.tops.now) c.requires.visit_is.window c.requires.visit_is.within refl c.requires.tops) c.requires.visit_is.box c.layers_hold.ensures.halves
+    traced-covered c.layers_hold.ensures view c.args.received.now c.args.b c.args.desk.now.w c.args.tops.now c.args.tally.now c.requires.width
+    (columns-there view c.args.b view.w (length c.args.tops.now) c.requires.visit_is.window c.requires.visit_is.within refl c.requires.tops) c.requires.visit_is.box
     (λ p h e. c.is_covered.ensures.covered p c.if-is_covered.true h e)
 
 pub returns-in_err-outcome-clause-at_most : goal.returns-in_err-outcome-clause-at_most
@@ -73,6 +72,6 @@ returns-clause-hulls c =
     on_ok-then c.draw_outcome.result _ _
     (box-traced c.layers_hold.ensures desk.places.view c.args.received.now c.args.b c.in_ok-outcome.outcome c.args.tops.now c.args.tally.now c.trace_box.new.tally c.draw_outcome.new.tally
     c.requires.visit_is
-    (open-some desk.places.view c.args.received.now c.args.b desk.w c.args.tops.now c.requires.width c.requires.visit_is.box (c.is_covered.ensures.open c.if-is_covered.false)) told
+    (open-some c.layers_hold.ensures desk.places.view c.args.received.now c.args.b desk.w c.args.tops.now c.requires.width c.requires.visit_is.box (c.is_covered.ensures.open c.if-is_covered.false)) told
     c.in_ok-outcome.ensures.counted)
     c.draw_outcome.ensures.hulls

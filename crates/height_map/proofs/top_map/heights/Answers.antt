@@ -4,9 +4,9 @@ use Rattle.std.proofs.lemmas.List.{with_items_is}
 use Rattle.box_chains.specs.Counts.{spans_in}
 use Rattle.box_chains.specs.Chains.{visit}
 use Rattle.box_chains.specs.Tallied.{CountsAtMost}
-use Rattle.height_map.specs.Bound.{layered, points_where, spans_where}
+use Rattle.height_map.specs.Bound.{layered}
+use Rattle.box_chains.specs.Tested.{points_where, spans_where}
 use Rattle.height_map.specs.Columns.{Changes, covers, is_open, leaf_top}
-use Rattle.box_chains.specs.TallyLaws.{most-none}
 use Rattle.height_map.proofs.Maps.{map-counted, map-drawn, same_maps}
 use Rattle.height_map.specs.Bound.{CountsPoints, CountsSpans}
 use Rattle.height_map.proofs.Evaluated.{map-points}
@@ -14,16 +14,16 @@ use Rattle.height_map.proofs.Traced.{map-traced}
 use Rattle.height_map.proofs.top_map.heights.Goals as goal
 
 pub returns-in_err-desk-clause-at_most : goal.returns-in_err-desk-clause-at_most
-returns-in_err-desk-clause-at_most c = most-none c.args.tally.now _ _
+returns-in_err-desk-clause-at_most c = c.layers_hold.ensures.bounds.none c.args.tally.now _ _
 
 pub returns-in_err-tops-clause-at_most : goal.returns-in_err-tops-clause-at_most
-returns-in_err-tops-clause-at_most c = most-none c.args.tally.now _ _
+returns-in_err-tops-clause-at_most c = c.layers_hold.ensures.bounds.none c.args.tally.now _ _
 
 pub returns-in_err-draw_box-clause-at_most : goal.returns-in_err-draw_box-clause-at_most
 returns-in_err-draw_box-clause-at_most c =
     let view = ap (λ p. p.view) c.in_ok-desk.ensures.places in
     let list = c.args.list.now in
-    map-counted c.args.view.now list c.root.result c.deref_mut.result.now c.args.tally.now c.draw_box.new.tally c.root.ensures
+    map-counted c.layers_hold.ensures c.args.view.now list c.root.result c.deref_mut.result.now c.args.tally.now c.draw_box.new.tally c.root.ensures
     (subst (λ v. CountsAtMost (points_where (is_open v list c.root.result c.deref_mut.result.now) (layered v) (visit c.root.result list)) (spans_in (layered v) (visit c.root.result list)) c.args.tally.now c.draw_box.new.tally)
     view c.in_err-draw_box.ensures.at_most)
 
@@ -31,7 +31,7 @@ pub returns-clause-at_most : goal.returns-clause-at_most
 returns-clause-at_most c =
     let view = ap (λ p. p.view) c.in_ok-desk.ensures.places in
     let list = c.args.list.now in
-    map-counted c.args.view.now list c.root.result c.deref_mut.result.now c.args.tally.now c.draw_box.new.tally c.root.ensures
+    map-counted c.layers_hold.ensures c.args.view.now list c.root.result c.deref_mut.result.now c.args.tally.now c.draw_box.new.tally c.root.ensures
     (subst (λ v. CountsAtMost (points_where (is_open v list c.root.result c.deref_mut.result.now) (layered v) (visit c.root.result list)) (spans_in (layered v) (visit c.root.result list)) c.args.tally.now c.draw_box.new.tally)
     view c.in_ok-draw_box.ensures.at_most)
 
@@ -56,7 +56,7 @@ returns-clause-points c =
     let list = c.args.list.now in
     let same = ap (λ p. p.view) c.in_ok-desk.ensures.places in
     let empty : c.deref_mut.result.now ≡ replicate (c.view.inside.w * c.view.inside.h) 0 = c.deref_mut.ensures.value ∙ c.in_ok-tops.ensures.items_if_clones_equal (λ y h. h) in
-    map-points c.args.view.now list c.root.result (c.view.inside.w * c.view.inside.h) c.deref_mut.result.now c.args.tally.now c.draw_box.new.tally c.root.ensures empty
+    map-points c.layers_hold.ensures c.args.view.now list c.root.result (c.view.inside.w * c.view.inside.h) c.deref_mut.result.now c.args.tally.now c.draw_box.new.tally c.root.ensures empty
     (subst (λ v. CountsPoints (points_where (is_open v list c.root.result c.deref_mut.result.now) (layered v) (visit c.root.result list)) c.args.tally.now c.draw_box.new.tally)
     same c.in_ok-draw_box.ensures.points)
 
@@ -68,7 +68,7 @@ returns-clause-hulls c =
     let h = ap (λ v. v.h) c.view.view_is in
     let d = ap (λ v. v.d) c.view.view_is in
     let empty : c.deref_mut.result.now ≡ replicate (c.view.inside.w * c.view.inside.h) 0 = c.deref_mut.ensures.value ∙ c.in_ok-tops.ensures.items_if_clones_equal (λ y h. h) in
-    map-traced c.args.view.now list c.root.result (c.view.inside.w * c.view.inside.h) c.deref_mut.result.now c.args.tally.now c.draw_box.new.tally c.root.ensures
-    (record { x = omega (arith, w, c.view.invariant.w.some); y = omega (arith, h, c.view.invariant.h.some); z = omega (arith, d, c.view.invariant.d.some) }) c.layers_hold.ensures.halves empty
+    map-traced c.layers_hold.ensures c.args.view.now list c.root.result (c.view.inside.w * c.view.inside.h) c.deref_mut.result.now c.args.tally.now c.draw_box.new.tally c.root.ensures
+    (record { x = omega (arith, w, c.view.invariant.w.some); y = omega (arith, h, c.view.invariant.h.some); z = omega (arith, d, c.view.invariant.d.some) }) empty
     (subst (λ v. CountsSpans (spans_where (is_open v list c.root.result c.deref_mut.result.now) (layered v) (visit c.root.result list)) c.args.tally.now c.draw_box.new.tally)
     same c.in_ok-draw_box.ensures.hulls)

@@ -1,7 +1,6 @@
 use Rattle.std.proofs.Common.{◌≡◌, Ok, Err, refl, ap, ◌∙◌, arith}
 use Rattle.modeller_io.specs.Held.{Gains, GainsPrefix}
 use Rattle.edit_session.specs.Work.{CountsWithin, CountsWork, PointsRiseAtMost}
-use Rattle.edit_session.specs.WorkLaws.{plain-none, within-none}
 use Rattle.view_settings.specs.Words.{bytes_of}
 use Rattle.modeller_cmd.specs.Asking.{asked, asks_nothing, input_told, reads_nothing}
 use Rattle.modeller_cmd.specs.Endings.{Ends, GainsParts}
@@ -20,17 +19,17 @@ use Rattle.modeller_cmd.proofs.command.perform.Goals as goal
 
 pub returns-in_err-job-clause-work : goal.returns-in_err-job-clause-work
 returns-in_err-job-clause-work g c =
-    some_all (input_told g.S.Source.rest c.args.source.now (asks_nothing (bytes_of c.args.words.now))) _ (λ input. within-none c.args.tally.now (work_of_parts (output_of (bytes_of c.args.words.now) input).parts))
+    some_all (input_told g.S.Source.rest c.args.source.now (asks_nothing (bytes_of c.args.words.now))) _ (λ input. c.frames_add_up.ensures.within_none c.args.tally.now (work_of_parts (output_of (bytes_of c.args.words.now) input).parts))
 
 pub returns-in_err-input-clause-work : goal.returns-in_err-input-clause-work
 returns-in_err-input-clause-work g c =
-    some_all (input_told g.S.Source.rest c.args.source.now (asks_nothing (bytes_of c.args.words.now))) _ (λ input. within-none c.args.tally.now (work_of_parts (output_of (bytes_of c.args.words.now) input).parts))
+    some_all (input_told g.S.Source.rest c.args.source.now (asks_nothing (bytes_of c.args.words.now))) _ (λ input. c.frames_add_up.ensures.within_none c.args.tally.now (work_of_parts (output_of (bytes_of c.args.words.now) input).parts))
 
 pub returns-in_err-job-clause-untold : goal.returns-in_err-job-clause-untold
-returns-in_err-job-clause-untold g c = some-none (bytes_of c.args.words.now) c.args.tally.now
+returns-in_err-job-clause-untold g c = some-none c.frames_add_up.ensures (bytes_of c.args.words.now) c.args.tally.now
 
 pub returns-in_err-input-clause-untold : goal.returns-in_err-input-clause-untold
-returns-in_err-input-clause-untold g c = some-none (bytes_of c.args.words.now) c.args.tally.now
+returns-in_err-input-clause-untold g c = some-none c.frames_add_up.ensures (bytes_of c.args.words.now) c.args.tally.now
 
 pub returns-in_err-job-clause-sound : goal.returns-in_err-job-clause-sound
 returns-in_err-job-clause-sound g c =
@@ -153,7 +152,7 @@ returns-in_err-input-clause-ends g c =
 
 pub returns-in_err-input-clause-plain : goal.returns-in_err-input-clause-plain
 returns-in_err-input-clause-plain g c =
-    some_all (input_told g.S.Source.rest c.args.source.now (asks_nothing (bytes_of c.args.words.now))) _ (λ input. plain-none c.args.tally.now (work_of_parts (output_of (bytes_of c.args.words.now) input).parts).plain)
+    some_all (input_told g.S.Source.rest c.args.source.now (asks_nothing (bytes_of c.args.words.now))) _ (λ input. c.frames_add_up.ensures.plain_none c.args.tally.now (work_of_parts (output_of (bytes_of c.args.words.now) input).parts).plain)
 
 pub returns-clause-sound_frames : goal.returns-clause-sound_frames
 returns-clause-sound_frames g c = λ read.

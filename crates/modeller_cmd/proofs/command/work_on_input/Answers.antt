@@ -1,11 +1,10 @@
 use Rattle.std.proofs.Common.{subst, sym}
 use Rattle.edit_session.specs.Work.{CountsWithin, CountsWork, PointsRiseAtMost, frame_work}
-use Rattle.edit_session.specs.WorkLaws.{within-exactly, within-none, work-none}
 use Rattle.modeller_cmd.proofs.Outcomes.{count_work, height_bounded, height_bytes, height_work_of, image_bytes, render_work, text_work}
 use Rattle.modeller_cmd.proofs.command.work_on_input.Goals as goal
 
 pub returns-in_err-model-clause-at_most : goal.returns-in_err-model-clause-at_most
-returns-in_err-model-clause-at_most c = within-none c.args.tally.now _
+returns-in_err-model-clause-at_most c = c.frames_add_up.ensures.within_none c.args.tally.now _
 
 pub returns-in_ok-render-in-Render-clause-bytes : goal.returns-in_ok-render-in-Render-clause-bytes
 returns-in_ok-render-in-Render-clause-bytes c =
@@ -22,7 +21,7 @@ pub returns-in_ok-render-in-Render-clause-at_most : goal.returns-in_ok-render-in
 returns-in_ok-render-in-Render-clause-at_most c =
     subst (CountsWithin c.args.tally.now c.render.new.tally)
     (sym (render_work c.args.job.now c.in-Render.view c.args.input.now c.in_ok-model.model c.start.result c.in-Render.is c.requires.limit c.in_ok-model.ensures c.start.ensures))
-    (within-exactly c.args.tally.now c.render.new.tally (frame_work c.in-Render.view c.start.result) c.in_ok-render-in-Render.ensures.counted)
+    (c.frames_add_up.ensures.within c.args.tally.now c.render.new.tally (frame_work c.in-Render.view c.start.result) c.in_ok-render-in-Render.ensures.counted)
 
 pub returns-in_err-render-in-Render-clause-at_most : goal.returns-in_err-render-in-Render-clause-at_most
 returns-in_err-render-in-Render-clause-at_most c =
@@ -79,7 +78,7 @@ pub returns-in_ok-count-in-Count-clause-at_most : goal.returns-in_ok-count-in-Co
 returns-in_ok-count-in-Count-clause-at_most c =
     subst (CountsWithin c.args.tally.now c.count.new.tally)
     (sym (count_work c.args.job.now c.in-Count.view c.args.input.now c.in_ok-model.model c.in-Count.is c.requires.limit c.in_ok-model.ensures))
-    (within-exactly c.args.tally.now c.count.new.tally (frame_work c.in-Count.view c.in_ok-model.model) c.in_ok-count-in-Count.ensures.counted)
+    (c.frames_add_up.ensures.within c.args.tally.now c.count.new.tally (frame_work c.in-Count.view c.in_ok-model.model) c.in_ok-count-in-Count.ensures.counted)
 
 pub returns-in_ok-count-in-Count-clause-plain : goal.returns-in_ok-count-in-Count-clause-plain
 returns-in_ok-count-in-Count-clause-plain c =
@@ -94,13 +93,13 @@ returns-in_err-count-in-Count-clause-plain c =
     c.in_err-count-in-Count.ensures.plain
 
 pub returns-in_err-write_model-in-Text-clause-at_most : goal.returns-in_err-write_model-in-Text-clause-at_most
-returns-in_err-write_model-in-Text-clause-at_most c = within-none c.args.tally.now _
+returns-in_err-write_model-in-Text-clause-at_most c = c.frames_add_up.ensures.within_none c.args.tally.now _
 
 pub returns-in_ok-write_model-in-Text-clause-at_most : goal.returns-in_ok-write_model-in-Text-clause-at_most
-returns-in_ok-write_model-in-Text-clause-at_most c = within-none c.args.tally.now _
+returns-in_ok-write_model-in-Text-clause-at_most c = c.frames_add_up.ensures.within_none c.args.tally.now _
 
 pub returns-in_ok-write_model-in-Text-clause-counted : goal.returns-in_ok-write_model-in-Text-clause-counted
 returns-in_ok-write_model-in-Text-clause-counted c = λ exact.
     subst (CountsWork c.args.tally.now c.args.tally.now)
     (sym (text_work c.args.job.now c.args.input.now c.in_ok-model.model c.in-Text.is c.requires.limit c.in_ok-model.ensures))
-    (work-none c.args.tally.now)
+    (c.frames_add_up.ensures.none c.args.tally.now)

@@ -1,11 +1,10 @@
 use Rattle.std.proofs.Common.{refl}
-use Rattle.edit_session.specs.WorkLaws.{within-none}
 use Rattle.view_settings.specs.declared.job.Job.TheVariants.{Mesh}
 use Rattle.modeller_cmd.proofs.Outcomes.{mesh_bounded}
 use Rattle.modeller_cmd.proofs.mesh.mesh_of_input.Goals as goal
 
 pub returns-in_err-model-clause-at_most : goal.returns-in_err-model-clause-at_most
-returns-in_err-model-clause-at_most c = within-none c.args.tally.now _
+returns-in_err-model-clause-at_most c = c.frames_add_up.ensures.within_none c.args.tally.now _
 
 pub returns-clause-inexact : goal.returns-clause-inexact
 returns-clause-inexact c =

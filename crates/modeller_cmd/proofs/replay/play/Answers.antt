@@ -11,7 +11,7 @@ pub loop-command-init : goal.loop-command-init
 loop-command-init g c = record {
   stands = sym (standing-none c.args.session);
   played = subst (Played g.K.Sink.held g.K.Sink.faults c.args.out.now c.args.out.now c.args.tally.now c.args.tally.now) (sym (replayed-none c.args.session))
-      (played-none g.K.Sink.held g.K.Sink.faults c.args.out.now c.args.tally.now);
+      (played-none c.frames_add_up.ensures g.K.Sink.held g.K.Sink.faults c.args.out.now c.args.tally.now);
 }
 
 pub loop-command-preserved : goal.loop-command-preserved
@@ -24,7 +24,7 @@ loop-command-preserved g c =
       stands = c.in_ok-step.ensures.model ∙ ap (λ clauses. clauses_after clauses command) so_far.stands ∙ sym (standing-more c.args.session before command);
       played = subst (Played g.K.Sink.held g.K.Sink.faults c.args.out.now c.step.new.out c.args.tally.now c.step.new.tally)
           (sym (replayed-more c.args.session before command))
-          (played-then g.K.Sink.held g.K.Sink.faults c.args.out.now c.loop-command.out c.step.new.out c.args.tally.now c.loop-command.tally c.step.new.tally (replayed c.args.session before) (parts_at shown command)
+          (played-then c.frames_add_up.ensures g.K.Sink.held g.K.Sink.faults c.args.out.now c.loop-command.out c.step.new.out c.args.tally.now c.loop-command.tally c.step.new.tally (replayed c.args.session before) (parts_at shown command)
           so_far.played
           (subst (λ clauses. Played g.K.Sink.held g.K.Sink.faults c.loop-command.out c.step.new.out c.loop-command.tally c.step.new.tally (parts_at clauses command)) so_far.stands
           c.in_ok-step.ensures.played));
@@ -44,7 +44,7 @@ returns-in_err-step-clause-stopped g c =
     c.from_residual.ensures.1
     (subst (λ parts. Stopped g.K.Sink.held g.K.Sink.faults c.args.out.now c.step.new.out c.args.tally.now c.step.new.tally parts c.in_err-step.field-0.0)
     (sym (ap (replayed c.args.session) items ∙ replayed-between c.args.session before command after))
-    (stopped-after g.K.Sink.held g.K.Sink.faults c.args.out.now c.loop-command.out c.step.new.out c.args.tally.now c.loop-command.tally c.step.new.tally (replayed c.args.session before) (parts_at shown command)
+    (stopped-after c.frames_add_up.ensures g.K.Sink.held g.K.Sink.faults c.args.out.now c.loop-command.out c.step.new.out c.args.tally.now c.loop-command.tally c.step.new.tally (replayed c.args.session before) (parts_at shown command)
     (replayed (clauses_after shown command) after) c.in_err-step.field-0.0 so_far.played
     (subst (λ clauses. Stopped g.K.Sink.held g.K.Sink.faults c.loop-command.out c.step.new.out c.loop-command.tally c.step.new.tally (parts_at clauses command) c.in_err-step.field-0.0) so_far.stands
     c.in_err-step.ensures.stopped)))

@@ -1,6 +1,5 @@
 use Rattle.std.proofs.Common.{[], ◌∷◌, refl}
 use Rattle.edit_session.specs.Work.{no_work}
-use Rattle.edit_session.specs.WorkLaws.{plain-none, within-none, work-none}
 use Rattle.fixed_ops.specs.Counts.{Counts}
 use Rattle.modeller_cmd.specs.Frames.{refused_line}
 use Rattle.modeller_cmd.specs.Playing.{Stopped}
@@ -11,7 +10,7 @@ use Rattle.modeller_cmd.proofs.replay.refuse.Goals as goal
 
 pub returns-in-NoMemory-clause-stopped : goal.returns-in-NoMemory-clause-stopped
 returns-in-NoMemory-clause-stopped g c = λ counts.
-    stopped-at-once g.K.Sink.held g.K.Sink.faults c.args.out.now counts _ NoMemory (memory-other NoMemory refl)
+    stopped-at-once c.frames_add_up.ensures g.K.Sink.held g.K.Sink.faults c.args.out.now counts _ NoMemory (memory-other NoMemory refl)
 
 pub returns-in_err-write_refused-in_default-clause-stopped : goal.returns-in_err-write_refused-in_default-clause-stopped
 returns-in_err-write_refused-in_default-clause-stopped g c =
@@ -21,9 +20,9 @@ returns-in_err-write_refused-in_default-clause-stopped g c =
     (λ stop. (counts : Counts) → Stopped g.K.Sink.held g.K.Sink.faults c.args.out.now c.write_refused.new.out counts counts (refusal c.args.line c.args.fault ∷ []) stop)
     c.from_residual.ensures.1
     (λ counts. part-stopped g.K.Sink.held g.K.Sink.faults c.args.out.now c.write_refused.new.out counts counts part line refl
-    c.in_err-write_refused-in_default.ensures.err c.in_err-write_refused-in_default.ensures.cause (within-none counts no_work) (plain-none counts 0))
+    c.in_err-write_refused-in_default.ensures.err c.in_err-write_refused-in_default.ensures.cause (c.frames_add_up.ensures.within_none counts no_work) (c.frames_add_up.ensures.plain_none counts 0))
 
 pub returns-in_ok-write_refused-in_default-clause-played : goal.returns-in_ok-write_refused-in_default-clause-played
 returns-in_ok-write_refused-in_default-clause-played g c = λ counts.
     part-played g.K.Sink.held g.K.Sink.faults c.args.out.now c.write_refused.new.out counts counts (refusal c.args.line c.args.fault) (refused_line c.args.line c.args.fault) refl
-    c.in_ok-write_refused-in_default.ensures.ok c.in_ok-write_refused-in_default.ensures.no_fault (λ exact. work-none counts) (within-none counts no_work) (plain-none counts 0)
+    c.in_ok-write_refused-in_default.ensures.ok c.in_ok-write_refused-in_default.ensures.no_fault (λ exact. c.frames_add_up.ensures.none counts) (c.frames_add_up.ensures.within_none counts no_work) (c.frames_add_up.ensures.plain_none counts 0)

@@ -15,14 +15,14 @@ returns-in_err-model-clause-stopped g c =
     let fault = c.in_err-model.field-0.0 in
     stops-with c.from_residual.result (stop_of_text fault)
     (Stopped g.K.Sink.held g.K.Sink.faults c.args.out.now c.args.out.now c.args.tally.now c.args.tally.now (output_as (made Replay c.args.input.now)).parts) c.from_residual.ensures.1
-    (stopped-at-once g.K.Sink.held g.K.Sink.faults c.args.out.now c.args.tally.now (output_as (made Replay c.args.input.now)).parts (stop_of_text fault) (text-other fault.line fault.reason))
+    (stopped-at-once c.frames_add_up.ensures g.K.Sink.held g.K.Sink.faults c.args.out.now c.args.tally.now (output_as (made Replay c.args.input.now)).parts (stop_of_text fault) (text-other fault.line fault.reason))
 
 pub returns-in_err-commands-clause-stopped : goal.returns-in_err-commands-clause-stopped
 returns-in_err-commands-clause-stopped g c =
     let fault = c.in_err-commands.field-0.0 in
     stops-with c.from_residual-in_err-commands.result (stop_of_script fault)
     (Stopped g.K.Sink.held g.K.Sink.faults c.args.out.now c.args.out.now c.args.tally.now c.args.tally.now (output_as (made Replay c.args.input.now)).parts) c.from_residual-in_err-commands.ensures.1
-    (stopped-at-once g.K.Sink.held g.K.Sink.faults c.args.out.now c.args.tally.now (output_as (made Replay c.args.input.now)).parts (stop_of_script fault) (script-other fault.line fault.reason))
+    (stopped-at-once c.frames_add_up.ensures g.K.Sink.held g.K.Sink.faults c.args.out.now c.args.tally.now (output_as (made Replay c.args.input.now)).parts (stop_of_script fault) (script-other fault.line fault.reason))
 
 pub returns-in_err-model-clause-stops : goal.returns-in_err-model-clause-stops
 returns-in_err-model-clause-stops g c =

@@ -4,7 +4,6 @@ use Rattle.std.specs.Prelude.{IfErr, OnOk}
 use Rattle.std.proofs.lemmas.Bool.{false≢true}
 use Rattle.edit_script.specs.declared.command.Command.TheVariants as Command
 use Rattle.edit_session.specs.Work.{CountsWork, frame_work, no_work}
-use Rattle.edit_session.specs.WorkLaws.{plain-none, within-exactly, within-none, work-none}
 use Rattle.solid_model.specs.declared.edit.EditFault.TheVariants.{UnknownName}
 use Rattle.modeller_cmd.specs.Frames.{frame_of}
 use Rattle.modeller_cmd.specs.Parts.{AreExact, work_of_parts, heights_part, image_part, mesh_part, text_part}
@@ -43,7 +42,7 @@ returns-in_err-write_frame-in-Render-clause-stopped g c =
     c.args.session.now c.args.command (Command.Render c.in-Render.view) c.in-Render.is
     (stops-with c.from_residual-in_err-write_frame-in-Render.result WriteFault (Stopped g.K.Sink.held g.K.Sink.faults c.args.out.now c.write_frame.new.out c.args.tally.now c.render.new.tally (framed kinds.Render (image_part c.in-Render.view c.args.session.now) ∷ [])) c.from_residual-in_err-write_frame-in-Render.ensures.1
     (part-stopped g.K.Sink.held g.K.Sink.faults c.args.out.now c.write_frame.new.out c.args.tally.now c.render.new.tally part (frame_of kinds.Render c.deref.result.now) (ap (frame_of kinds.Render) (c.deref.ensures.value ∙ c.in_ok-image-in-Render.ensures.image))
-    c.in_err-write_frame-in-Render.ensures.err c.in_err-write_frame-in-Render.ensures.cause (within-exactly c.args.tally.now c.render.new.tally (frame_work c.in-Render.view c.args.session.now) c.in_ok-image-in-Render.ensures.counted) c.in_ok-image-in-Render.ensures.plain))
+    c.in_err-write_frame-in-Render.ensures.err c.in_err-write_frame-in-Render.ensures.cause (c.frames_add_up.ensures.within c.args.tally.now c.render.new.tally (frame_work c.in-Render.view c.args.session.now) c.in_ok-image-in-Render.ensures.counted) c.in_ok-image-in-Render.ensures.plain))
 
 pub returns-in_ok-write_frame-in-Render-clause-played : goal.returns-in_ok-write_frame-in-Render-clause-played
 returns-in_ok-write_frame-in-Render-clause-played g c =
@@ -51,7 +50,7 @@ returns-in_ok-write_frame-in-Render-clause-played g c =
     at-command (λ parts. Played g.K.Sink.held g.K.Sink.faults c.args.out.now c.write_frame.new.out c.args.tally.now c.render.new.tally parts)
     c.args.session.now c.args.command (Command.Render c.in-Render.view) c.in-Render.is
     (part-played g.K.Sink.held g.K.Sink.faults c.args.out.now c.write_frame.new.out c.args.tally.now c.render.new.tally part (frame_of kinds.Render c.deref.result.now) (ap (frame_of kinds.Render) (c.deref.ensures.value ∙ c.in_ok-image-in-Render.ensures.image))
-    c.in_ok-write_frame-in-Render.ensures.ok c.in_ok-write_frame-in-Render.ensures.no_fault (λ exact. c.in_ok-image-in-Render.ensures.counted) (within-exactly c.args.tally.now c.render.new.tally (frame_work c.in-Render.view c.args.session.now) c.in_ok-image-in-Render.ensures.counted) c.in_ok-image-in-Render.ensures.plain)
+    c.in_ok-write_frame-in-Render.ensures.ok c.in_ok-write_frame-in-Render.ensures.no_fault (λ exact. c.in_ok-image-in-Render.ensures.counted) (c.frames_add_up.ensures.within c.args.tally.now c.render.new.tally (frame_work c.in-Render.view c.args.session.now) c.in_ok-image-in-Render.ensures.counted) c.in_ok-image-in-Render.ensures.plain)
 
 pub returns-in_err-map-in-Height-clause-stopped : goal.returns-in_err-map-in-Height-clause-stopped
 returns-in_err-map-in-Height-clause-stopped g c =
@@ -108,7 +107,7 @@ returns-in_err-text-in-Text-clause-stopped g c =
     at-command (λ parts. IfErr c.from_residual-in_err-text-in-Text.result (Stopped g.K.Sink.held g.K.Sink.faults c.args.out.now c.args.out.now c.args.tally.now c.args.tally.now parts))
     c.args.session.now c.args.command Command.Text c.in-Text.is
     (stops-with c.from_residual-in_err-text-in-Text.result NoMemory (Stopped g.K.Sink.held g.K.Sink.faults c.args.out.now c.args.out.now c.args.tally.now c.args.tally.now (framed kinds.Text (text_part c.args.session.now) ∷ [])) c.from_residual-in_err-text-in-Text.ensures.1
-    (part-undrawn g.K.Sink.held g.K.Sink.faults c.args.out.now c.args.tally.now c.args.tally.now (framed kinds.Text (text_part c.args.session.now)) (within-none c.args.tally.now no_work) (plain-none c.args.tally.now 0)))
+    (part-undrawn g.K.Sink.held g.K.Sink.faults c.args.out.now c.args.tally.now c.args.tally.now (framed kinds.Text (text_part c.args.session.now)) (c.frames_add_up.ensures.within_none c.args.tally.now no_work) (c.frames_add_up.ensures.plain_none c.args.tally.now 0)))
 
 pub returns-in_err-write_frame-in-Text-clause-stopped : goal.returns-in_err-write_frame-in-Text-clause-stopped
 returns-in_err-write_frame-in-Text-clause-stopped g c =
@@ -117,7 +116,7 @@ returns-in_err-write_frame-in-Text-clause-stopped g c =
     c.args.session.now c.args.command Command.Text c.in-Text.is
     (stops-with c.from_residual-in_err-write_frame-in-Text.result WriteFault (Stopped g.K.Sink.held g.K.Sink.faults c.args.out.now c.write_frame-in-Text.new.out c.args.tally.now c.args.tally.now (framed kinds.Text (text_part c.args.session.now) ∷ [])) c.from_residual-in_err-write_frame-in-Text.ensures.1
     (part-stopped g.K.Sink.held g.K.Sink.faults c.args.out.now c.write_frame-in-Text.new.out c.args.tally.now c.args.tally.now part (frame_of kinds.Text c.deref-in-Text.result.now) (ap (frame_of kinds.Text) (c.deref-in-Text.ensures.value ∙ c.in_ok-text-in-Text.ensures))
-    c.in_err-write_frame-in-Text.ensures.err c.in_err-write_frame-in-Text.ensures.cause (within-none c.args.tally.now no_work) (plain-none c.args.tally.now 0)))
+    c.in_err-write_frame-in-Text.ensures.err c.in_err-write_frame-in-Text.ensures.cause (c.frames_add_up.ensures.within_none c.args.tally.now no_work) (c.frames_add_up.ensures.plain_none c.args.tally.now 0)))
 
 pub returns-in_ok-write_frame-in-Text-clause-played : goal.returns-in_ok-write_frame-in-Text-clause-played
 returns-in_ok-write_frame-in-Text-clause-played g c =
@@ -125,7 +124,7 @@ returns-in_ok-write_frame-in-Text-clause-played g c =
     at-command (λ parts. Played g.K.Sink.held g.K.Sink.faults c.args.out.now c.write_frame-in-Text.new.out c.args.tally.now c.args.tally.now parts)
     c.args.session.now c.args.command Command.Text c.in-Text.is
     (part-played g.K.Sink.held g.K.Sink.faults c.args.out.now c.write_frame-in-Text.new.out c.args.tally.now c.args.tally.now part (frame_of kinds.Text c.deref-in-Text.result.now) (ap (frame_of kinds.Text) (c.deref-in-Text.ensures.value ∙ c.in_ok-text-in-Text.ensures))
-    c.in_ok-write_frame-in-Text.ensures.ok c.in_ok-write_frame-in-Text.ensures.no_fault (λ exact. work-none c.args.tally.now) (within-none c.args.tally.now no_work) (plain-none c.args.tally.now 0))
+    c.in_ok-write_frame-in-Text.ensures.ok c.in_ok-write_frame-in-Text.ensures.no_fault (λ exact. c.frames_add_up.ensures.none c.args.tally.now) (c.frames_add_up.ensures.within_none c.args.tally.now no_work) (c.frames_add_up.ensures.plain_none c.args.tally.now 0))
 
 pub returns-in_err-write_frame-in-Render-clause-counted : goal.returns-in_err-write_frame-in-Render-clause-counted
 returns-in_err-write_frame-in-Render-clause-counted g c =
@@ -153,16 +152,16 @@ returns-in_err-write_frame-in-Text-clause-counted g c =
     let part = framed kinds.Text (text_part c.args.session.now) in
     at-command (λ parts. c.from_residual-in_err-write_frame-in-Text.result ≡ Err WriteFault → AreExact parts → CountsWork c.args.tally.now c.args.tally.now (work_of_parts parts))
     c.args.session.now c.args.command Command.Text c.in-Text.is
-    (λ _. part-counted g.K.Sink.held g.K.Sink.faults c.args.out.now c.args.out.now c.args.tally.now c.args.tally.now part part.bytes refl (λ exact. work-none c.args.tally.now))
+    (λ _. part-counted g.K.Sink.held g.K.Sink.faults c.args.out.now c.args.out.now c.args.tally.now c.args.tally.now part part.bytes refl (λ exact. c.frames_add_up.ensures.none c.args.tally.now))
 
 pub returns-in-Stray-clause-counted : goal.returns-in-Stray-clause-counted
 returns-in-Stray-clause-counted g c =
     at-command (λ parts. c.refuse.result ≡ Err WriteFault → AreExact parts → CountsWork c.args.tally.now c.args.tally.now (work_of_parts parts))
     c.args.session.now c.args.command (Command.Stray c.in-Stray.line) c.in-Stray.is
-    (λ _ exact. work-none c.args.tally.now)
+    (λ _ exact. c.frames_add_up.ensures.none c.args.tally.now)
 
 pub returns-in-Edit-clause-counted : goal.returns-in-Edit-clause-counted
 returns-in-Edit-clause-counted g c =
     at-command (λ parts. c.change.result ≡ Err WriteFault → AreExact parts → CountsWork c.args.tally.now c.args.tally.now (work_of_parts parts))
     c.args.session.now c.args.command (Command.Edit c.in-Edit.line c.in-Edit.edit) c.in-Edit.is
-    (λ _ exact. edit-work c.args.session.now c.in-Edit.line c.in-Edit.edit c.args.tally.now)
+    (λ _ exact. edit-work c.frames_add_up.ensures c.args.session.now c.in-Edit.line c.in-Edit.edit c.args.tally.now)

@@ -4,8 +4,8 @@ use Rattle.std.proofs.lemmas.List.{take_all}
 use Rattle.std.proofs.lemmas.List.Elements.{All-nil}
 use Rattle.box_chains.specs.Chains.{visit}
 use Rattle.box_chains.specs.Outcomes.{HandsOn, asked_outcomes}
-use Rattle.box_chains.specs.TallyLaws.{most-hulls}
-use Rattle.box_chains.specs.ValueLaws.{IsVisit}
+use Rattle.live_clauses.specs.Steps.{IsTape}
+use Rattle.box_chains.specs.Visits.{IsVisit}
 use Rattle.interval_ops.specs.HullCounts.{CountsHulls}
 use Rattle.oct_descent.proofs.Sizes.{size-is, size-then}
 use Rattle.oct_descent.specs.Bound.{CountsHullsAtLeast}
@@ -21,7 +21,7 @@ use Rattle.oct_descent.proofs.descent.+looking.Goals as goal
 
 pub look_into_told-returns-then-not-is_long-clause-counted : goal.look_into_told-returns-then-not-is_long-clause-counted
 look_into_told-returns-then-not-is_long-clause-counted t c =
-    cell-below (gridded c.args.desk.now.places.view) (visit c.args.b c.args.received.now) c.args.values.now c.look_into_cell.new.values c.args.tally.now c.look_into_cell.new.tally (sym c.is_long.ensures ∙ c.if-not-is_long.true) c.look_into_cell.ensures.counted
+    cell-below c.layers_hold.ensures (gridded c.args.desk.now.places.view) (visit c.args.b c.args.received.now) c.args.values.now c.look_into_cell.new.values c.args.tally.now c.look_into_cell.new.tally (sym c.is_long.ensures ∙ c.if-not-is_long.true) c.look_into_cell.ensures.counted
 
 pub look_into_told-returns-then-not-is_long-clause-traced : goal.look_into_told-returns-then-not-is_long-clause-traced
 look_into_told-returns-then-not-is_long-clause-traced t c =
@@ -29,7 +29,7 @@ look_into_told-returns-then-not-is_long-clause-traced t c =
     let v = visit c.args.b c.args.received.now in
     on_ok c.look_into_cell.result _
     (cell-traced_below d v c.args.tally.now c.look_into_cell.new.tally
-    (cell-traced d v c.args.values.now c.look_into_cell.new.values c.args.tally.now c.look_into_cell.new.tally c.requires.may.visit_is.box (sym c.is_long.ensures ∙ c.if-not-is_long.true) c.look_into_cell.ensures.paid))
+    (cell-traced c.layers_hold.ensures d v c.args.values.now c.look_into_cell.new.values c.args.tally.now c.look_into_cell.new.tally c.requires.may.visit_is.box (sym c.is_long.ensures ∙ c.if-not-is_long.true) c.look_into_cell.ensures.paid))
 
 pub look_into_told-look_into_halves-requires : goal.look_into_told-look_into_halves-requires
 look_into_told-look_into_halves-requires t c =
@@ -131,11 +131,11 @@ look_into_told-returns-in-Inside-clause-worked t c =
 
 pub look_into_told-returns-in-Inside-clause-counted : goal.look_into_told-returns-in-Inside-clause-counted
 look_into_told-returns-in-Inside-clause-counted t c =
-    λ f enough. charges-none f _ c.args.values.now c.args.tally.now
+    λ f enough. charges-none c.layers_hold.ensures f _ c.args.values.now c.args.tally.now
 
 pub look_into_told-returns-in-Inside-clause-paid : goal.look_into_told-returns-in-Inside-clause-paid
 look_into_told-returns-in-Inside-clause-paid t c =
-    λ f due. pays-none f c.args.values.now c.args.tally.now
+    λ f due. pays-none c.layers_hold.ensures f c.args.values.now c.args.tally.now
 
 pub look_into_told-returns-in-Inside-clause-traced : goal.look_into_told-returns-in-Inside-clause-traced
 look_into_told-returns-in-Inside-clause-traced t c =
@@ -143,7 +143,7 @@ look_into_told-returns-in-Inside-clause-traced t c =
     let v = visit c.args.b c.args.received.now in
     let looked = at-told c.args.desk.now.places c.args.received.now c.args.b c.args.outcomes.now c.args.at c.index-outcomes-at.result c.requires.may.lattice (c.requires.told (sym c.is_long.ensures ∙ c.if-not-is_long.false)) c.index-outcomes-at.is in
     let closed = closed-told view c.args.b c.args.received.now c.index-outcomes-at.result looked c.in-Inside.is in
-    closed-traced view v c.args.tally.now c.requires.may.visit_is.box closed
+    closed-traced c.layers_hold.ensures view v c.args.tally.now c.requires.may.visit_is.box closed
 
 pub look_into_told-returns-in-Inside-2-clause-settled : goal.look_into_told-returns-in-Inside-2-clause-settled
 look_into_told-returns-in-Inside-2-clause-settled t c =
@@ -163,11 +163,11 @@ look_into_told-returns-in-Inside-2-clause-worked t c =
 
 pub look_into_told-returns-in-Inside-2-clause-counted : goal.look_into_told-returns-in-Inside-2-clause-counted
 look_into_told-returns-in-Inside-2-clause-counted t c =
-    λ f enough. charges-none f _ c.args.values.now c.args.tally.now
+    λ f enough. charges-none c.layers_hold.ensures f _ c.args.values.now c.args.tally.now
 
 pub look_into_told-returns-in-Inside-2-clause-paid : goal.look_into_told-returns-in-Inside-2-clause-paid
 look_into_told-returns-in-Inside-2-clause-paid t c =
-    λ f due. pays-none f c.args.values.now c.args.tally.now
+    λ f due. pays-none c.layers_hold.ensures f c.args.values.now c.args.tally.now
 
 pub look_into_told-returns-in-Inside-2-clause-traced : goal.look_into_told-returns-in-Inside-2-clause-traced
 look_into_told-returns-in-Inside-2-clause-traced t c =
@@ -175,11 +175,11 @@ look_into_told-returns-in-Inside-2-clause-traced t c =
     let v = visit c.args.b c.args.received.now in
     let looked = at-told c.args.desk.now.places c.args.received.now c.args.b c.args.outcomes.now c.args.at c.index-outcomes-at.result c.requires.may.lattice (c.requires.told (sym c.is_long.ensures ∙ c.if-not-is_long.false)) c.index-outcomes-at.is in
     let closed = closed-told view c.args.b c.args.received.now c.index-outcomes-at.result looked c.in-Inside.is in
-    closed-traced view v c.args.tally.now c.requires.may.visit_is.box closed
+    closed-traced c.layers_hold.ensures view v c.args.tally.now c.requires.may.visit_is.box closed
 
 pub look_into_halves-trace_longer-requires-clause-within : goal.look_into_halves-trace_longer-requires-clause-within
 look_into_halves-trace_longer-requires-clause-within t c =
-    halves-in_root c.args.desk.now.places.view c.args.desk.now.places.lattice c.args.live.now c.args.b c.as_slice.result.now c.requires.may.lattice c.requires.may.visit_is (c.as_slice.ensures.value ∙ c.split-halves.ensures)
+    halves-in_root c.layers_hold.ensures c.args.desk.now.places.view c.args.desk.now.places.lattice c.args.live.now c.args.b c.as_slice.result.now c.requires.may.lattice c.requires.may.visit_is (c.as_slice.ensures.value ∙ c.split-halves.ensures)
 
 pub look_into_halves-returns-in_err-outcomes-clause-counted : goal.look_into_halves-returns-in_err-outcomes-clause-counted
 look_into_halves-returns-in_err-outcomes-clause-counted t c =
@@ -204,9 +204,9 @@ look_into_halves-loop-half-init t c =
           ∙ ap (λ n. asked_outcomes c.args.desk.now.places live (longer n halves)) (c.n.ensures ∙ size-is c.args.values.now.n (size_of view) c.requires.may.n);
       settled = All-nil (λ h. AreSettled (grid_value view live) h c.args.values.now);
       grows = grows-none (grid_value view live) c.args.b c.args.values.now;
-      counted = first-charged (gridded view) live halves c.n.result c.args.values.now c.args.tally.now c.trace_longer.new.tally hulls;
+      counted = first-charged c.layers_hold.ensures (gridded view) live halves c.n.result c.args.values.now c.args.tally.now c.trace_longer.new.tally hulls;
       worked = All-nil (λ h. AreWorked (gridded view) (visit h live) c.args.values.now);
-      paid = begun-paid (gridded view) live halves _ c.args.values.now c.args.tally.now c.trace_longer.new.tally (most-hulls c.args.tally.now c.trace_longer.new.tally _ hulls);
+      paid = begun-paid (gridded view) live halves _ c.args.values.now c.args.tally.now c.trace_longer.new.tally (c.layers_hold.ensures.bounds.hulls c.args.tally.now c.trace_longer.new.tally _ hulls);
       traced = first-traced (gridded view) live halves c.n.result c.args.tally.now c.trace_longer.new.tally hulls;
     }
 
@@ -215,18 +215,18 @@ look_into_halves-look_into_told-requires t c =
     let all = c.as_slice-half-items.ensures.value ∙ c.split-halves.ensures in
     let halves = c.as_slice-half-items.result.now in
     let half = c.half-item.result in
-    let part = half-part c.args.b half halves c.loop-half.half-index c.requires.may.visit_is.box all c.loop-half-test.true c.half-item.is in
+    let part = half-part c.layers_hold.ensures c.args.b half halves c.loop-half.half-index c.requires.may.visit_is.box all c.loop-half-test.true c.half-item.is in
     let places = c.args.desk.now.places in
     let live = c.args.live.now in
     let hands = subst (All (HandsOn (length live))) (sym c.as_slice-outcomes.ensures.value) c.in_ok-outcomes.ensures.hand in
     let step = step-told places live halves half c.loop-half.half-index c.as_slice-outcomes.result.now c.loop-half.at _ c.loop-half-test.true c.half-item.is hands c.loop-half.invariant.told refl in
-    let less = half-shorter c.args.b half c.requires.long part in
+    let less = half-shorter c.layers_hold.ensures c.args.b half c.requires.long part in
     let kept = c.loop-half.invariant.kept in (
       omega (arith, less, c.decreases),
       (
         record {
           lattice = ap (λ p. p.lattice) kept.places ∙ c.requires.may.lattice;
-          visit_is = subst (λ p. IsVisit (gridded p.view).boxes (visit half live)) (sym kept.places) (half-visit places.view live c.args.b half part c.requires.may.visit_is);
+          visit_is = subst (λ p. IsVisit (gridded p.view).boxes (visit half live)) (sym kept.places) (half-visit c.layers_hold.ensures places.view live c.args.b half part c.requires.may.visit_is);
           n = subst (λ p. SameSize c.loop-half.values.n (size_of p.view)) (sym kept.places) (size-then c.loop-half.values.n c.args.values.now.n (size_of places.view) c.loop-half.invariant.grows.n c.requires.may.n);
           room = omega (arith, kept.room, c.requires.may.room);
           values = omega (arith, kept.values, c.requires.may.values);
@@ -246,7 +246,7 @@ look_into_halves-returns-in_err-look_into_told-clause-grows t c =
     let view = c.args.desk.now.places.view in
     let all = c.as_slice-half-items.ensures.value ∙ c.split-halves.ensures in
     let half = c.half-item.result in
-    let part = half-part c.args.b half c.as_slice-half-items.result.now c.loop-half.half-index c.requires.may.visit_is.box all c.loop-half-test.true c.half-item.is in
+    let part = half-part c.layers_hold.ensures c.args.b half c.as_slice-half-items.result.now c.loop-half.half-index c.requires.may.visit_is.box all c.loop-half-test.true c.half-item.is in
     let same = ap (λ p. p.view) c.loop-half.invariant.kept.places in
     grows-then (grid_value view c.args.live.now) c.args.b c.args.values.now c.loop-half.values c.look_into_told.new.values c.loop-half.invariant.grows
     (half-grows view c.loop-half.desk.places.view c.args.live.now c.args.b half c.loop-half.values c.look_into_told.new.values same part c.in_err-look_into_told.ensures.grows)
@@ -259,8 +259,8 @@ look_into_halves-returns-in_err-look_into_told-clause-counted t c =
     let half = c.half-item.result in
     let same = ap (λ p. p.view) c.loop-half.invariant.kept.places in
     subst (λ hs. ChargesHalves (gridded view) c.args.live.now hs c.args.values.now c.look_into_told.new.values c.args.tally.now c.look_into_told.new.tally) all
-    (some-charged c.layers_hold.ensures view c.args.live.now halves (c.loop-half.half-index + 1) c.args.values.now c.look_into_told.new.values c.args.tally.now c.look_into_told.new.tally (halves-boxes c.args.b halves c.requires.may.visit_is.box all)
-    (next-charged view c.loop-half.desk.places.view c.args.live.now half halves c.loop-half.half-index _ c.args.values.now c.loop-half.values c.look_into_told.new.values c.args.tally.now c.loop-half.tally c.look_into_told.new.tally
+    (some-charged c.layers_hold.ensures view c.args.live.now halves (c.loop-half.half-index + 1) c.args.values.now c.look_into_told.new.values c.args.tally.now c.look_into_told.new.tally (halves-boxes c.layers_hold.ensures c.args.b halves c.requires.may.visit_is.box all)
+    (next-charged c.layers_hold.ensures view c.loop-half.desk.places.view c.args.live.now half halves c.loop-half.half-index _ c.args.values.now c.loop-half.values c.look_into_told.new.values c.args.tally.now c.loop-half.tally c.look_into_told.new.tally
     same c.loop-half-test.true c.half-item.is c.loop-half.invariant.counted c.in_err-look_into_told.ensures.counted))
 
 pub look_into_halves-returns-in_err-look_into_told-clause-paid : goal.look_into_halves-returns-in_err-look_into_told-clause-paid
@@ -279,7 +279,7 @@ look_into_halves-loop-half-preserved t c =
     let all = c.as_slice-half-items.ensures.value ∙ c.split-halves.ensures in
     let halves = c.as_slice-half-items.result.now in
     let half = c.half-item.result in
-    let part = half-part c.args.b half halves c.loop-half.half-index c.requires.may.visit_is.box all c.loop-half-test.true c.half-item.is in
+    let part = half-part c.layers_hold.ensures c.args.b half halves c.loop-half.half-index c.requires.may.visit_is.box all c.loop-half-test.true c.half-item.is in
     let view = c.args.desk.now.places.view in
     let places = c.args.desk.now.places in
     let live = c.args.live.now in
@@ -296,7 +296,7 @@ look_into_halves-loop-half-preserved t c =
       told = step.rest;
       settled = next-settled view c.loop-half.desk.places.view live c.args.b half halves c.loop-half.half-index c.loop-half.values c.look_into_told.new.values same c.loop-half-test.true c.half-item.is grown after.settled before.settled;
       grows = grows-then g c.args.b c.args.values.now c.loop-half.values c.look_into_told.new.values before.grows grown;
-      counted = next-charged view c.loop-half.desk.places.view live half halves c.loop-half.half-index _ c.args.values.now c.loop-half.values c.look_into_told.new.values c.args.tally.now c.loop-half.tally c.look_into_told.new.tally
+      counted = next-charged c.layers_hold.ensures view c.loop-half.desk.places.view live half halves c.loop-half.half-index _ c.args.values.now c.loop-half.values c.look_into_told.new.values c.args.tally.now c.loop-half.tally c.look_into_told.new.tally
           same c.loop-half-test.true c.half-item.is before.counted after.counted;
       worked = next-worked view c.loop-half.desk.places.view live c.args.b half halves c.loop-half.half-index c.loop-half.values c.look_into_told.new.values same c.loop-half-test.true c.half-item.is grown after.worked before.worked;
       paid = next-paid view c.loop-half.desk.places.view live half halves c.loop-half.half-index c.args.values.now c.loop-half.values c.look_into_told.new.values c.args.tally.now c.loop-half.tally c.look_into_told.new.tally
@@ -325,7 +325,13 @@ look_into_halves-returns-clause-counted t c =
     let all = c.as_slice-half-items.ensures.value ∙ c.split-halves.ensures in
     let halves = c.as_slice-half-items.result.now in
     subst (λ hs. ChargesHalves (gridded view) c.args.live.now hs c.args.values.now c.loop-half.values c.args.tally.now c.loop-half.tally) all
-    (some-charged c.layers_hold.ensures view c.args.live.now halves c.loop-half.half-index c.args.values.now c.loop-half.values c.args.tally.now c.loop-half.tally (halves-boxes c.args.b halves c.requires.may.visit_is.box all) c.loop-half.invariant.counted)
+    (some-charged c.layers_hold.ensures view c.args.live.now halves c.loop-half.half-index c.args.values.now c.loop-half.values c.args.tally.now c.loop-half.tally (halves-boxes c.layers_hold.ensures c.args.b halves c.requires.may.visit_is.box all) c.loop-half.invariant.counted)
+
+pub look_into_halves-returns-clause-paid : goal.look_into_halves-returns-clause-paid
+look_into_halves-returns-clause-paid t c =
+    let view = c.args.desk.now.places.view in
+    let all = c.as_slice-half-items.ensures.value ∙ c.split-halves.ensures in
+    subst (λ hs. PaysHalves (gridded view) c.args.live.now hs c.args.values.now c.loop-half.values c.args.tally.now c.loop-half.tally) all c.loop-half.invariant.paid
 
 pub look_into_halves-returns-clause-traced : goal.look_into_halves-returns-clause-traced
 look_into_halves-returns-clause-traced t c =
@@ -334,8 +340,3 @@ look_into_halves-returns-clause-traced t c =
     let halves = c.as_slice-half-items.result.now in
     subst (λ hs. CountsHullsAtLeast (halves_long_spans d c.args.live.now hs) c.args.tally.now c.loop-half.tally) all
     (all-traced d c.args.live.now halves c.loop-half.half-index c.args.tally.now c.loop-half.tally (omega (arith, c.loop-half-test.false)) c.loop-half.invariant.traced)
-
-pub look_into_halves-returns-clause-paid : goal.look_into_halves-returns-clause-paid
-look_into_halves-returns-clause-paid t c =
-    subst (λ hs. PaysHalves (gridded c.args.desk.now.places.view) c.args.live.now hs c.args.values.now c.loop-half.values c.args.tally.now c.loop-half.tally)
-    (c.as_slice-half-items.ensures.value ∙ c.split-halves.ensures) c.loop-half.invariant.paid

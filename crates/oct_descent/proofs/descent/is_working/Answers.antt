@@ -1,6 +1,5 @@
 use Rattle.std.proofs.Common.{sym}
 use Rattle.box_chains.specs.Chains.{visit}
-use Rattle.box_chains.specs.TallyLaws.{most-none}
 use Rattle.oct_descent.proofs.Looks.{sides-open}
 use Rattle.oct_descent.proofs.descent.is_working.Goals as goal
 
@@ -11,4 +10,4 @@ returns-then-seen-2-clause-open c =
     sym (sides-open c.layers_hold.ensures c.args.desk.now.places.view (visit c.args.b c.args.received.now) c.requires.may.0 may.visit_is c.requires.one may.right (seen.inside c.if-seen.true) (seen.outside c.if-seen-2.true))
 
 pub returns-then-seen-2-clause-counted : goal.returns-then-seen-2-clause-counted
-returns-then-seen-2-clause-counted c = most-none c.args.tally.now 0 _
+returns-then-seen-2-clause-counted c = c.layers_hold.ensures.bounds.none c.args.tally.now 0 _

@@ -1,6 +1,5 @@
 use Rattle.std.proofs.Common.{length, sym, ◌∙◌, arith}
 use Rattle.box_chains.specs.Chains.{visit}
-use Rattle.box_chains.specs.TallyLaws.{most-hulls}
 use Rattle.oct_descent.specs.Ways.{gridded}
 use Rattle.oct_descent.proofs.Looks.{below-charged, below-paid, below-traced, cell-traced, look-paid, on_ok, on_ok-then, trace-charged}
 use Rattle.oct_descent.proofs.descent.look_into.Goals as goal
@@ -8,18 +7,18 @@ use Rattle.oct_descent.proofs.descent.look_into.Goals as goal
 pub returns-then-not-is_long-clause-traced : goal.returns-then-not-is_long-clause-traced
 returns-then-not-is_long-clause-traced c =
     on_ok c.look_into_cell.result _
-    (cell-traced (gridded c.args.desk.now.places.view) (visit c.args.b c.args.received.now) c.args.values.now c.look_into_cell.new.values c.args.tally.now c.look_into_cell.new.tally c.requires.visit_is.box
+    (cell-traced c.layers_hold.ensures (gridded c.args.desk.now.places.view) (visit c.args.b c.args.received.now) c.args.values.now c.look_into_cell.new.values c.args.tally.now c.look_into_cell.new.tally c.requires.visit_is.box
     (sym c.is_long.ensures ∙ c.if-not-is_long.true) c.look_into_cell.ensures.paid)
 
 pub returns-in_err-told-clause-counted : goal.returns-in_err-told-clause-counted
 returns-in_err-told-clause-counted c =
-    trace-charged (gridded c.args.desk.now.places.view) (visit c.args.b c.args.received.now) c.args.values.now c.args.tally.now c.trace_asked_box.new.tally (omega arith) c.requires.visit_is.box c.layers_hold.ensures.halves
+    trace-charged c.layers_hold.ensures (gridded c.args.desk.now.places.view) (visit c.args.b c.args.received.now) c.args.values.now c.args.tally.now c.trace_asked_box.new.tally (omega arith) c.requires.visit_is.box
     c.trace_asked_box.ensures.counted
 
 pub returns-in_err-told-clause-paid : goal.returns-in_err-told-clause-paid
 returns-in_err-told-clause-paid c =
     look-paid (gridded c.args.desk.now.places.view) (visit c.args.b c.args.received.now) c.args.values.now c.args.tally.now c.trace_asked_box.new.tally
-    (most-hulls c.args.tally.now c.trace_asked_box.new.tally (length c.args.received.now) c.trace_asked_box.ensures.counted)
+    (c.layers_hold.ensures.bounds.hulls c.args.tally.now c.trace_asked_box.new.tally (length c.args.received.now) c.trace_asked_box.ensures.counted)
 
 pub returns-clause-counted : goal.returns-clause-counted
 returns-clause-counted c =
@@ -28,7 +27,7 @@ returns-clause-counted c =
 
 pub returns-clause-paid : goal.returns-clause-paid
 returns-clause-paid c =
-    below-paid (gridded c.args.desk.now.places.view) (visit c.args.b c.args.received.now) c.args.values.now c.look_into_told.new.values c.args.tally.now c.trace_asked_box.new.tally c.look_into_told.new.tally
+    below-paid c.layers_hold.ensures (gridded c.args.desk.now.places.view) (visit c.args.b c.args.received.now) c.args.values.now c.look_into_told.new.values c.args.tally.now c.trace_asked_box.new.tally c.look_into_told.new.tally
     c.trace_asked_box.ensures.counted c.look_into_told.ensures.paid
 
 pub returns-clause-traced : goal.returns-clause-traced

@@ -18,7 +18,7 @@ returns-then-seen-clause-settled c =
     (λ k less. ap (λ i. is_known (known_at c.args.values.now (further (point i.x0 i.y0 i.z0) k))) (sym c.b.view_is) ∙ c.seen-seen.ensures.all c.if-seen.true k less))
 
 pub returns-then-seen-clause-counted : goal.returns-then-seen-clause-counted
-returns-then-seen-clause-counted c f enough = charges-none f _ c.args.values.now c.args.tally.now
+returns-then-seen-clause-counted c f enough = charges-none c.layers_hold.ensures f _ c.args.values.now c.args.tally.now
 
 pub returns-then-not-is_working-clause-settled : goal.returns-then-not-is_working-clause-settled
 returns-then-not-is_working-clause-settled c =
@@ -26,7 +26,7 @@ returns-then-not-is_working-clause-settled c =
 
 pub returns-then-not-is_working-clause-counted : goal.returns-then-not-is_working-clause-counted
 returns-then-not-is_working-clause-counted c =
-    look-charged (gridded c.args.desk.now.places.view) (visit c.args.b c.args.received.now) c.args.values.now c.args.tally.now c.is_working.new.tally (omega arith) c.requires.may.visit_is.box c.layers_hold.ensures.halves
+    look-charged c.layers_hold.ensures (gridded c.args.desk.now.places.view) (visit c.args.b c.args.received.now) c.args.values.now c.args.tally.now c.is_working.new.tally (omega arith) c.requires.may.visit_is.box
     c.is_working.ensures.counted
 
 pub returns-clause-counted : goal.returns-clause-counted
@@ -42,7 +42,7 @@ returns-then-seen-clause-worked c =
     (λ k less. ap (λ i. is_known (known_at c.args.values.now (further (point i.x0 i.y0 i.z0) k))) (sym c.b.view_is) ∙ c.seen-seen.ensures.all c.if-seen.true k less))
 
 pub returns-then-seen-clause-paid : goal.returns-then-seen-clause-paid
-returns-then-seen-clause-paid c f due = pays-none f c.args.values.now c.args.tally.now
+returns-then-seen-clause-paid c f due = pays-none c.layers_hold.ensures f c.args.values.now c.args.tally.now
 
 pub returns-then-not-is_working-clause-worked : goal.returns-then-not-is_working-clause-worked
 returns-then-not-is_working-clause-worked c =
@@ -62,12 +62,12 @@ returns-clause-paid c =
     (sym c.is_working.ensures.open ∙ c.if-not-is_working.false) c.requires.one c.is_working.ensures.counted c.fill_cell.ensures.paid
 
 pub returns-then-seen-clause-untraced : goal.returns-then-seen-clause-untraced
-returns-then-seen-clause-untraced c shown = left-untraced c.args.tally.now c.args.tally.now refl
+returns-then-seen-clause-untraced c shown = left-untraced c.layers_hold.ensures c.args.tally.now c.args.tally.now refl
 
 pub returns-then-not-is_working-clause-untraced : goal.returns-then-not-is_working-clause-untraced
 returns-then-not-is_working-clause-untraced c shown =
     let sides = shown-sides c.args.values.now _ c.seen-seen.result c.seen-seen.ensures c.if-seen.false (subst (λ i. IsShown c.args.values.now (point i.x0 i.y0 i.z0)) (sym c.b.view_is) shown) in
-    left-untraced c.args.tally.now c.is_working.new.tally (c.is_working.ensures.untraced sides.0 sides.1)
+    left-untraced c.layers_hold.ensures c.args.tally.now c.is_working.new.tally (c.is_working.ensures.untraced sides.0 sides.1)
 
 pub returns-clause-untraced : goal.returns-clause-untraced
 returns-clause-untraced c shown =

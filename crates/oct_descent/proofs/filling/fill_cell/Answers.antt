@@ -13,8 +13,8 @@ loop-c-init c = record {
   kept = record { places = refl; room = refl; values = refl };
   known = λ k less. absurd (omega (arith, less));
   grows = grows-none (grid_value c.args.desk.now.places.view c.args.list.now) c.args.b c.args.values.now;
-  counted = λ f enough. charges-none f 0 c.args.values.now c.args.tally.now;
-  paid = λ f due. pays-none f c.args.values.now c.args.tally.now;
+  counted = λ f enough. charges-none c.layers_hold.ensures f 0 c.args.values.now c.args.tally.now;
+  paid = λ f due. pays-none c.layers_hold.ensures f c.args.values.now c.args.tally.now;
   together = c.together-first.ensures;
 }
 
@@ -38,7 +38,7 @@ loop-c-preserved c =
       known = one-more_known b c.loop-c.values c.fill_corner.new.values n p at (λ q known. stays-known g b c.loop-c.values c.fill_corner.new.values q filled known) before.known c.in_ok-fill_corner.ensures.known;
       grows = grows-then g b c.args.values.now c.loop-c.values c.fill_corner.new.values before.grows filled;
       counted = λ f enough.
-          charges-then f 0 0 0 c.args.values.now c.loop-c.values c.fill_corner.new.values c.args.tally.now c.loop-c.tally c.fill_corner.new.tally (omega arith) (before.counted f enough)
+          charges-then c.layers_hold.ensures f 0 0 0 c.args.values.now c.loop-c.values c.fill_corner.new.values c.args.tally.now c.loop-c.tally c.fill_corner.new.tally (omega arith) (before.counted f enough)
           (after.counted f (λ q covers. enough q (wider q covers)));
       paid = λ f due.
           pays-then f c.args.values.now c.loop-c.values c.fill_corner.new.values c.args.tally.now c.loop-c.tally c.fill_corner.new.tally (before.paid f due)
@@ -59,7 +59,7 @@ returns-in_err-fill_corner-clause-counted c f enough =
     let p = point (i.x0 + n % 2) (i.y0 + n / 2 % 2) (i.z0 + n / 4 % 2) in
     let at : p ≡ further (point b.x0 b.y0 b.z0) n = ap (λ a. further (point a.x0 a.y0 a.z0) n) c.b.view_is in
     let one = short-one b c.requires.may.visit_is.box c.requires.one in
-    charges-then f 0 0 0 c.args.values.now c.loop-c.values c.fill_corner.new.values c.args.tally.now c.loop-c.tally c.fill_corner.new.tally (omega arith) (c.loop-c.invariant.counted f enough)
+    charges-then c.layers_hold.ensures f 0 0 0 c.args.values.now c.loop-c.values c.fill_corner.new.values c.args.tally.now c.loop-c.tally c.fill_corner.new.tally (omega arith) (c.loop-c.invariant.counted f enough)
     (c.in_err-fill_corner.ensures.counted f (λ q covers. enough q (corner-wider b n p q one at covers)))
 
 pub returns-in_err-fill_corner-clause-paid : goal.returns-in_err-fill_corner-clause-paid

@@ -9,10 +9,10 @@ use Rattle.oct_descent.proofs.TableLaws.{charges-none, charges-set, pays-none, p
 use Rattle.oct_descent.proofs.filling.fill_corner.Goals as goal
 
 pub returns-then-is_some-clause-counted : goal.returns-then-is_some-clause-counted
-returns-then-is_some-clause-counted c f enough = charges-none f 0 c.args.values.now c.args.tally.now
+returns-then-is_some-clause-counted c f enough = charges-none c.layers_hold.ensures f 0 c.args.values.now c.args.tally.now
 
 pub returns-in_err-at-clause-counted : goal.returns-in_err-at-clause-counted
-returns-in_err-at-clause-counted c f enough = same-charges f c.args.values.now c.corner_room.new.self c.args.tally.now c.in_err-at.ensures.same
+returns-in_err-at-clause-counted c f enough = same-charges c.layers_hold.ensures f c.args.values.now c.corner_room.new.self c.args.tally.now c.in_err-at.ensures.same
 
 pub returns-clause-grows : goal.returns-clause-grows
 returns-clause-grows c =
@@ -33,14 +33,14 @@ returns-clause-counted c f enough =
     let same = c.in_ok-at.ensures.same in
     let within = within-from c.corner_room.new.self.n p (omega (arith, same.n.0, c.requires.x)) (omega (arith, same.n.1.0, c.requires.y)) (omega (arith, same.n.1.1, c.requires.z)) in
     let sets = same-sets p c.closed.result c.args.values.now c.corner_room.new.self c.set.new.self same (c.set.ensures.sets p within c.in_ok-at.ensures.room) in
-    charges-set f p c.closed.result _ c.args.values.now c.set.new.self c.args.tally.now c.value_at-value.new.tally (omega (arith, c.requires.x)) (omega (arith, c.requires.y)) (omega (arith, c.requires.z)) unknown sets
+    charges-set c.layers_hold.ensures f p c.closed.result _ c.args.values.now c.set.new.self c.args.tally.now c.value_at-value.new.tally (omega (arith, c.requires.x)) (omega (arith, c.requires.y)) (omega (arith, c.requires.z)) unknown sets
     (enough p (itself p)) c.value_at-value.ensures.counted
 
 pub returns-then-is_some-clause-paid : goal.returns-then-is_some-clause-paid
-returns-then-is_some-clause-paid c f due = pays-none f c.args.values.now c.args.tally.now
+returns-then-is_some-clause-paid c f due = pays-none c.layers_hold.ensures f c.args.values.now c.args.tally.now
 
 pub returns-in_err-at-clause-paid : goal.returns-in_err-at-clause-paid
-returns-in_err-at-clause-paid c f due = same-pays f c.args.values.now c.corner_room.new.self c.args.tally.now c.in_err-at.ensures.same
+returns-in_err-at-clause-paid c f due = same-pays c.layers_hold.ensures f c.args.values.now c.corner_room.new.self c.args.tally.now c.in_err-at.ensures.same
 
 pub returns-clause-paid : goal.returns-clause-paid
 returns-clause-paid c f due =
@@ -49,5 +49,5 @@ returns-clause-paid c f due =
     let same = c.in_ok-at.ensures.same in
     let within = within-from c.corner_room.new.self.n p (omega (arith, same.n.0, c.requires.x)) (omega (arith, same.n.1.0, c.requires.y)) (omega (arith, same.n.1.1, c.requires.z)) in
     let sets = same-sets p c.closed.result c.args.values.now c.corner_room.new.self c.set.new.self same (c.set.ensures.sets p within c.in_ok-at.ensures.room) in
-    pays-set f p c.closed.result _ c.args.values.now c.set.new.self c.args.tally.now c.value_at-value.new.tally (omega (arith, c.requires.x)) (omega (arith, c.requires.y)) (omega (arith, c.requires.z)) unknown sets
+    pays-set c.layers_hold.ensures f p c.closed.result _ c.args.values.now c.set.new.self c.args.tally.now c.value_at-value.new.tally (omega (arith, c.requires.x)) (omega (arith, c.requires.y)) (omega (arith, c.requires.z)) unknown sets
     (due p (itself p)) c.value_at-value.ensures.counted

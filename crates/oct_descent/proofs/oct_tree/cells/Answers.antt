@@ -1,5 +1,4 @@
-use Rattle.std.proofs.Common.{ap, subst, sym, ◌∙◌}
-use Rattle.box_chains.specs.TallyLaws.{most-none}
+use Rattle.std.proofs.Common.{◌≤◌, ap, arith, subst, sym, ◌∙◌}
 use Rattle.box_chains.specs.Chains.{visit}
 use Rattle.view_settings.specs.Spans.{root_of}
 use Rattle.view_settings.specs.declared.lattice.Lattice.TheVariants as lattices
@@ -11,37 +10,37 @@ use Rattle.oct_descent.proofs.Whole.{whole-counted, whole-paid, whole-told}
 use Rattle.oct_descent.proofs.oct_tree.cells.Goals as goal
 
 pub returns-in_err-desk-clause-at_most : goal.returns-in_err-desk-clause-at_most
-returns-in_err-desk-clause-at_most c = most-none c.args.tally.now _ _
+returns-in_err-desk-clause-at_most c = c.layers_hold.ensures.bounds.none c.args.tally.now _ _
 
 pub returns-in_err-values-clause-at_most : goal.returns-in_err-values-clause-at_most
-returns-in_err-values-clause-at_most c = most-none c.args.tally.now _ _
+returns-in_err-values-clause-at_most c = c.layers_hold.ensures.bounds.none c.args.tally.now _ _
 
 pub returns-in_err-look_into-clause-at_most : goal.returns-in_err-look_into-clause-at_most
 returns-in_err-look_into-clause-at_most c =
     let view = ap (λ p. p.view) c.in_ok-desk.ensures.places in
     let n = c.in_ok-values.ensures.n ∙ c.mesh_size.ensures.size in
-    whole-counted c.args.view.now c.in_ok-desk.desk.places.view c.args.list.now c.root.result c.in_ok-values.values c.look_into.new.values c.args.tally.now c.look_into.new.tally view c.root.ensures n c.in_ok-values.ensures.none
+    whole-counted c.layers_hold.ensures c.args.view.now c.in_ok-desk.desk.places.view c.args.list.now c.root.result c.in_ok-values.values c.look_into.new.values c.args.tally.now c.look_into.new.tally view c.root.ensures n c.in_ok-values.ensures.none
     c.in_err-look_into.ensures.counted
 
 pub returns-in_err-share-clause-at_most : goal.returns-in_err-share-clause-at_most
 returns-in_err-share-clause-at_most c =
     let view = ap (λ p. p.view) c.in_ok-desk.ensures.places in
     let n = c.in_ok-values.ensures.n ∙ c.mesh_size.ensures.size in
-    whole-counted c.args.view.now c.in_ok-desk.desk.places.view c.args.list.now c.root.result c.in_ok-values.values c.look_into.new.values c.args.tally.now c.look_into.new.tally view c.root.ensures n c.in_ok-values.ensures.none
+    whole-counted c.layers_hold.ensures c.args.view.now c.in_ok-desk.desk.places.view c.args.list.now c.root.result c.in_ok-values.values c.look_into.new.values c.args.tally.now c.look_into.new.tally view c.root.ensures n c.in_ok-values.ensures.none
     c.in_ok-look_into.ensures.counted
 
 pub returns-clause-at_most : goal.returns-clause-at_most
 returns-clause-at_most c =
     let view = ap (λ p. p.view) c.in_ok-desk.ensures.places in
     let n = c.in_ok-values.ensures.n ∙ c.mesh_size.ensures.size in
-    whole-counted c.args.view.now c.in_ok-desk.desk.places.view c.args.list.now c.root.result c.in_ok-values.values c.look_into.new.values c.args.tally.now c.look_into.new.tally view c.root.ensures n c.in_ok-values.ensures.none
+    whole-counted c.layers_hold.ensures c.args.view.now c.in_ok-desk.desk.places.view c.args.list.now c.root.result c.in_ok-values.values c.look_into.new.values c.args.tally.now c.look_into.new.tally view c.root.ensures n c.in_ok-values.ensures.none
     c.in_ok-look_into.ensures.counted
 
 pub returns-clause-at_least : goal.returns-clause-at_least
 returns-clause-at_least c =
     let view = ap (λ p. p.view) c.in_ok-desk.ensures.places in
     let n = c.in_ok-values.ensures.n ∙ c.mesh_size.ensures.size in
-    whole-paid c.args.view.now c.in_ok-desk.desk.places.view c.args.list.now c.root.result c.in_ok-values.values c.look_into.new.values c.args.tally.now c.look_into.new.tally view c.root.ensures n c.in_ok-values.ensures.none
+    whole-paid c.layers_hold.ensures c.args.view.now c.in_ok-desk.desk.places.view c.args.list.now c.root.result c.in_ok-values.values c.look_into.new.values c.args.tally.now c.look_into.new.tally view c.root.ensures n c.in_ok-values.ensures.none
     c.in_ok-look_into.ensures.worked c.in_ok-look_into.ensures.paid
 
 pub returns-clause-traced : goal.returns-clause-traced

@@ -2,12 +2,11 @@ use Rattle.std.proofs.Common.{◌≡◌, ◌++◌, length, ap, arith, sym, subst
 use Rattle.std.specs.List.{All}
 use Rattle.box_chains.specs.Outcomes.{HandsOn}
 use Rattle.box_chains.specs.Tallied.{CountsAtMost, CountsExactly}
-use Rattle.box_chains.specs.TallyLaws.{most-none}
-use Rattle.box_chains.specs.HalfLaws.{part-is_box}
 use Rattle.view_settings.specs.Boxes.{halves_of}
 use Rattle.view_settings.specs.Spans.{IsInRoot}
 use Rattle.view_settings.specs.declared.lattice.Lattice.TheVariants.{Raster}
-use Rattle.quad_descent.specs.Nodes.{halves_nodes, halves_points, halves_spans}
+use Rattle.quad_descent.specs.Nodes.{halves_nodes}
+use Rattle.box_chains.specs.Counts.{halves_points, halves_spans}
 use Rattle.quad_descent.specs.Opened.{outcome_nodes, outcome_points, outcome_spans}
 use Rattle.quad_descent.specs.Raster.{raster}
 use Rattle.quad_descent.specs.declared.node.Node.TheVariants.{Split}
@@ -15,10 +14,10 @@ use Rattle.quad_descent.proofs.Drawn.{bounded-leaf, bounded-traces, counted-leaf
 use Rattle.quad_descent.proofs.drawing.+drawing.Goals as goal
 
 pub draw_outcome-returns-in_err-push-in-Inside-clause-at_most : goal.draw_outcome-returns-in_err-push-in-Inside-clause-at_most
-draw_outcome-returns-in_err-push-in-Inside-clause-at_most t c = on_err _ _ (most-none c.args.tally.now _ _)
+draw_outcome-returns-in_err-push-in-Inside-clause-at_most t c = on_err _ _ (c.layers_hold.ensures.bounds.none c.args.tally.now _ _)
 
 pub draw_outcome-returns-in_err-push-in-Outside-clause-at_most : goal.draw_outcome-returns-in_err-push-in-Outside-clause-at_most
-draw_outcome-returns-in_err-push-in-Outside-clause-at_most t c = on_err _ _ (most-none c.args.tally.now _ _)
+draw_outcome-returns-in_err-push-in-Outside-clause-at_most t c = on_err _ _ (c.layers_hold.ensures.bounds.none c.args.tally.now _ _)
 
 pub draw_halves-returns-in_err-outcomes-clause-at_most : goal.draw_halves-returns-in_err-outcomes-clause-at_most
 draw_halves-returns-in_err-outcomes-clause-at_most t c =
@@ -26,15 +25,15 @@ draw_halves-returns-in_err-outcomes-clause-at_most t c =
     let d = raster c.args.desk.now.places.view in
     let halves = c.as_slice-halves.result.now in
     on_err _ _ (subst (λ hs. CountsAtMost (halves_points d c.args.live.now hs) (halves_spans d c.args.live.now hs) c.args.tally.now c.trace_boxes.new.tally) all
-    (bounded-traces d c.args.live.now halves c.args.tally.now c.trace_boxes.new.tally (omega arith) c.layers_hold.ensures.halves
-    (halves-boxes c.args.b halves c.requires.may.box all) c.in_err-outcomes.ensures.at_most))
+    (bounded-traces c.layers_hold.ensures d c.args.live.now halves c.args.tally.now c.trace_boxes.new.tally (omega arith)
+    (halves-boxes c.layers_hold.ensures c.args.b halves c.requires.may.box all) c.in_err-outcomes.ensures.at_most))
 
 pub draw_halves-draw_outcome-requires : goal.draw_halves-draw_outcome-requires
 draw_halves-draw_outcome-requires t c =
     let all = c.as_slice-halves.ensures.value ∙ c.split-halves.ensures in
     let half = c.index-halves-at.result in
-    let part = half-part c.args.b half c.as_slice-halves.result.now c.loop-at.at c.requires.may.box all c.loop-at-test.true c.index-halves-at.is in
-    let less = half-shorter c.args.b half c.requires.long part in
+    let part = half-part c.layers_hold.ensures c.args.b half c.as_slice-halves.result.now c.loop-at.at c.requires.may.box all c.loop-at-test.true c.index-halves-at.is in
+    let less = half-shorter c.layers_hold.ensures c.args.b half c.requires.long part in
     let kept = c.loop-at.invariant.kept in
     let told = told-all c.args.desk.now.places c.args.live.now c.as_slice-halves.result.now c.as_slice-outcomes.result.now c.requires.may.raster (c.as_slice-outcomes.ensures.value ∙ c.in_ok-outcomes.ensures.outcomes) in
     let same : length c.as_slice-outcomes.result.now ≡ length c.as_slice-halves.result.now =
@@ -46,7 +45,7 @@ draw_halves-draw_outcome-requires t c =
       omega (arith, less, c.decreases),
       record {
         raster = ap (λ p. p.lattice) kept.places ∙ c.requires.may.raster;
-        box = part-is_box 8 c.args.b half part;
+        box = c.layers_hold.ensures.parts.box 8 c.args.b half part;
         within = subst (λ p. IsInRoot p.view Raster half) (sym kept.places) (half-within c.args.desk.now.places.view c.args.b half part c.requires.may.within);
         room = λ list is. omega (arith, kept.room, c.requires.may.room, (opened (length c.args.live.now) c.index-outcomes-at.result list few is).few);
         whole = λ list is. (opened (length c.args.live.now) c.index-outcomes-at.result list few is).whole;
@@ -63,10 +62,10 @@ draw_halves-returns-in_err-draw_outcome-clause-at_most t c =
     let o = c.index-outcomes-at.result in
     let view = ap (λ p. p.view) c.loop-at.invariant.kept.places in
     let told = told-all c.args.desk.now.places live halves c.as_slice-outcomes.result.now c.requires.may.raster (c.as_slice-outcomes.ensures.value ∙ c.in_ok-outcomes.ensures.outcomes) in
-    let part = half-part c.args.b half halves c.loop-at.at c.requires.may.box all c.loop-at-test.true c.index-halves-at.is in
+    let part = half-part c.layers_hold.ensures c.args.b half halves c.loop-at.at c.requires.may.box all c.loop-at-test.true c.index-halves-at.is in
     on_err _ _ (subst (λ hs. CountsAtMost (halves_points d live hs) (halves_spans d live hs) c.args.tally.now c.draw_outcome.new.tally) all
-    (halves-bounded d live halves c.loop-at.at half o c.args.tally.now c.loop-at.tally c.draw_outcome.new.tally (omega arith) c.layers_hold.ensures.halves
-    (halves-boxes c.args.b halves c.requires.may.box all) (part-is_box 8 c.args.b half part) c.loop-at-test.true c.index-halves-at.is
+    (halves-bounded c.layers_hold.ensures d live halves c.loop-at.at half o c.args.tally.now c.loop-at.tally c.draw_outcome.new.tally (omega arith)
+    (halves-boxes c.layers_hold.ensures c.args.b halves c.requires.may.box all) (c.layers_hold.ensures.parts.box 8 c.args.b half part) c.loop-at-test.true c.index-halves-at.is
     (told-at d live halves c.as_slice-outcomes.result.now c.loop-at.at half o told c.loop-at-test.true c.index-halves-at.is c.index-outcomes-at.is) c.loop-at.invariant.counted
     (subst (λ w. CountsAtMost (outcome_points (raster w) half o) (outcome_spans (raster w) half o) c.loop-at.tally c.draw_outcome.new.tally) view c.in_err-draw_outcome.ensures.at_most)))
 
@@ -83,14 +82,14 @@ draw_halves-loop-at-preserved t c =
     let view = ap (λ p. p.view) before.places in
     let told = told-all c.args.desk.now.places live halves c.as_slice-outcomes.result.now c.requires.may.raster (c.as_slice-outcomes.ensures.value ∙ c.in_ok-outcomes.ensures.outcomes) in
     let is = told-at d live halves c.as_slice-outcomes.result.now c.loop-at.at half o told c.loop-at-test.true c.index-halves-at.is c.index-outcomes-at.is in
-    let part = half-part c.args.b half halves c.loop-at.at c.requires.may.box all c.loop-at-test.true c.index-halves-at.is in
-    let box = part-is_box 8 c.args.b half part in
+    let part = half-part c.layers_hold.ensures c.args.b half halves c.loop-at.at c.requires.may.box all c.loop-at-test.true c.index-halves-at.is in
+    let box = c.layers_hold.ensures.parts.box 8 c.args.b half part in
     record {
       kept = record { places = after.places ∙ before.places; room = after.room ∙ before.room };
       nodes = halves-more d live halves c.loop-at.at half c.args.nodes.now.items c.loop-at.nodes.items c.draw_outcome.new.nodes.items c.loop-at-test.true c.index-halves-at.is c.loop-at.invariant.nodes
           (c.in_ok-draw_outcome.ensures.nodes ∙ ap (λ w. c.loop-at.nodes.items ++ outcome_nodes (raster w) half o) view
-          ∙ ap (λ x. c.loop-at.nodes.items ++ outcome_nodes d half x) is ∙ ap (λ l. c.loop-at.nodes.items ++ l) (sym (nodes-outcome d half live (omega arith) box)));
-      counted = halves-counted d live halves c.loop-at.at half o c.args.tally.now c.loop-at.tally c.draw_outcome.new.tally (omega arith) c.layers_hold.ensures.halves
+          ∙ ap (λ x. c.loop-at.nodes.items ++ outcome_nodes d half x) is ∙ ap (λ l. c.loop-at.nodes.items ++ l) (sym (nodes-outcome c.layers_hold.ensures d half live (omega arith) box)));
+      counted = halves-counted c.layers_hold.ensures d live halves c.loop-at.at half o c.args.tally.now c.loop-at.tally c.draw_outcome.new.tally (omega arith)
           box c.loop-at-test.true c.index-halves-at.is is c.loop-at.invariant.counted
           (subst (λ w. CountsExactly (outcome_points (raster w) half o) (outcome_spans (raster w) half o) c.loop-at.tally c.draw_outcome.new.tally) view c.in_ok-draw_outcome.ensures.counted);
     }
@@ -102,11 +101,11 @@ draw_halves-returns-clause-counted t c =
     let live = c.args.live.now in
     let halves = c.as_slice-halves.result.now in
     subst (λ hs. CountsExactly (halves_points d live hs) (halves_spans d live hs) c.args.tally.now c.loop-at.tally) all
-    (drawn-all d live halves c.loop-at.at c.args.tally.now c.loop-at.tally (omega arith) c.layers_hold.ensures.halves
-    (halves-boxes c.args.b halves c.requires.may.box all) (omega (arith, c.loop-at-test.false)) c.loop-at.invariant.counted)
+    (drawn-all c.layers_hold.ensures d live halves c.loop-at.at c.args.tally.now c.loop-at.tally (omega arith)
+    (halves-boxes c.layers_hold.ensures c.args.b halves c.requires.may.box all) (omega (arith, c.loop-at-test.false)) c.loop-at.invariant.counted)
 
 pub draw_split-returns-in_err-push-clause-at_most : goal.draw_split-returns-in_err-push-clause-at_most
-draw_split-returns-in_err-push-clause-at_most t c = on_err _ _ (most-none c.args.tally.now _ _)
+draw_split-returns-in_err-push-clause-at_most t c = on_err _ _ (c.layers_hold.ensures.bounds.none c.args.tally.now _ _)
 
 pub draw_split-returns-clause-nodes : goal.draw_split-returns-clause-nodes
 draw_split-returns-clause-nodes t c =
@@ -115,12 +114,12 @@ draw_split-returns-clause-nodes t c =
     c.in_ok-push.ensures.items c.in_ok-draw_halves.ensures.nodes (omega (arith, c.len-at.ensures, c.args.nodes.now.ok)) (omega (arith, c.len.ensures, c.draw_halves.new.nodes.ok))
 
 pub draw_undecided-returns-in_err-make_room-clause-at_most : goal.draw_undecided-returns-in_err-make_room-clause-at_most
-draw_undecided-returns-in_err-make_room-clause-at_most t c = on_err _ _ (most-none c.args.tally.now _ _)
+draw_undecided-returns-in_err-make_room-clause-at_most t c = on_err _ _ (c.layers_hold.ensures.bounds.none c.args.tally.now _ _)
 
 pub draw_undecided-returns-in_err-push-clause-at_most : goal.draw_undecided-returns-in_err-push-clause-at_most
 draw_undecided-returns-in_err-push-clause-at_most t c =
-    on_err _ _ (bounded-leaf c.args.desk.now.places.view c.args.b c.args.live.now c.args.tally.now c.leaf_rows-rows.new.tally c.requires.may.box c.requires.may.within (sym c.is_long.ensures ∙ c.if-is_long.false) c.leaf_rows-rows.ensures.counted)
+    on_err _ _ (bounded-leaf c.layers_hold.ensures c.args.desk.now.places.view c.args.b c.args.live.now c.args.tally.now c.leaf_rows-rows.new.tally c.requires.may.box c.requires.may.within (sym c.is_long.ensures ∙ c.if-is_long.false) c.leaf_rows-rows.ensures.counted)
 
 pub draw_undecided-returns-in_ok-push-clause-counted : goal.draw_undecided-returns-in_ok-push-clause-counted
 draw_undecided-returns-in_ok-push-clause-counted t c =
-    counted-leaf c.args.desk.now.places.view c.args.b c.args.live.now c.args.tally.now c.leaf_rows-rows.new.tally c.requires.may.box c.requires.may.within (sym c.is_long.ensures ∙ c.if-is_long.false) c.leaf_rows-rows.ensures.counted
+    counted-leaf c.layers_hold.ensures c.args.desk.now.places.view c.args.b c.args.live.now c.args.tally.now c.leaf_rows-rows.new.tally c.requires.may.box c.requires.may.within (sym c.is_long.ensures ∙ c.if-is_long.false) c.leaf_rows-rows.ensures.counted

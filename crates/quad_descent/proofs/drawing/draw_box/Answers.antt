@@ -6,8 +6,8 @@ use Rattle.quad_descent.proofs.drawing.draw_box.Goals as goal
 
 pub returns-in_err-outcome-clause-at_most : goal.returns-in_err-outcome-clause-at_most
 returns-in_err-outcome-clause-at_most c =
-    on_err _ _ (bounded-trace (raster c.args.desk.now.places.view) c.args.b c.args.received.now c.args.tally.now c.trace_box.new.tally (omega arith) c.requires.box
-    c.layers_hold.ensures.halves c.in_err-outcome.ensures.counted)
+    on_err _ _ (bounded-trace c.layers_hold.ensures (raster c.args.desk.now.places.view) c.args.b c.args.received.now c.args.tally.now c.trace_box.new.tally (omega arith) c.requires.box
+    c.in_err-outcome.ensures.counted)
 
 pub returns-clause-nodes : goal.returns-clause-nodes
 returns-clause-nodes c =
@@ -15,7 +15,7 @@ returns-clause-nodes c =
     let told = told-one c.args.desk.now.places c.args.received.now c.args.b c.in_ok-outcome.outcome c.requires.raster c.in_ok-outcome.ensures.outcome in
     on_ok-then c.draw_outcome.result _ _
     (λ added. added ∙ ap (λ o. c.args.nodes.now.items ++ outcome_nodes d c.args.b o) told
-    ∙ ap (λ l. c.args.nodes.now.items ++ l) (sym (nodes-outcome d c.args.b c.args.received.now (omega arith) c.requires.box)))
+    ∙ ap (λ l. c.args.nodes.now.items ++ l) (sym (nodes-outcome c.layers_hold.ensures d c.args.b c.args.received.now (omega arith) c.requires.box)))
     c.draw_outcome.ensures.nodes
 
 pub returns-clause-counted : goal.returns-clause-counted
@@ -23,7 +23,7 @@ returns-clause-counted c =
     let d = raster c.args.desk.now.places.view in
     let told = told-one c.args.desk.now.places c.args.received.now c.args.b c.in_ok-outcome.outcome c.requires.raster c.in_ok-outcome.ensures.outcome in
     on_ok-then c.draw_outcome.result _ _
-    (counted-box d c.args.b c.args.received.now c.in_ok-outcome.outcome c.args.tally.now c.trace_box.new.tally c.draw_outcome.new.tally (omega arith) c.requires.box c.layers_hold.ensures.halves
+    (counted-box c.layers_hold.ensures d c.args.b c.args.received.now c.in_ok-outcome.outcome c.args.tally.now c.trace_box.new.tally c.draw_outcome.new.tally (omega arith) c.requires.box
     told c.in_ok-outcome.ensures.counted)
     c.draw_outcome.ensures.counted
 
@@ -32,6 +32,6 @@ returns-clause-at_most c =
     let d = raster c.args.desk.now.places.view in
     let told = told-one c.args.desk.now.places c.args.received.now c.args.b c.in_ok-outcome.outcome c.requires.raster c.in_ok-outcome.ensures.outcome in
     on_err-then c.draw_outcome.result _ _
-    (bounded-box d c.args.b c.args.received.now c.in_ok-outcome.outcome c.args.tally.now c.trace_box.new.tally c.draw_outcome.new.tally (omega arith) c.requires.box c.layers_hold.ensures.halves
+    (bounded-box c.layers_hold.ensures d c.args.b c.args.received.now c.in_ok-outcome.outcome c.args.tally.now c.trace_box.new.tally c.draw_outcome.new.tally (omega arith) c.requires.box
     told c.in_ok-outcome.ensures.counted)
     c.draw_outcome.ensures.at_most

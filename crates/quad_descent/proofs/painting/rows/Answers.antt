@@ -1,6 +1,6 @@
 use Rattle.std.proofs.Common.{◌/◌, ◌<◌, [], arith, ap, sym, subst, ◌∙◌, refl, append-nil, length}
 use Rattle.std.proofs.lemmas.Nat.{div-add-mod'}
-use Rattle.box_chains.specs.ValueLaws.{IsVisit}
+use Rattle.box_chains.specs.Visits.{IsVisit}
 use Rattle.view_settings.specs.Spans.{root_of}
 use Rattle.view_settings.specs.declared.lattice.Lattice.TheVariants.{Raster}
 use Rattle.quad_descent.specs.Drawn.{IsDrawnAt}
@@ -27,5 +27,5 @@ returns c =
     let w = ap (λ s. s.view.w) c.tree-inside.view_is ∙ ap (λ s. s.view.w) c.tree.view_is in
     let some : 0 < view.w = omega (arith, w, c.tree-inside.invariant.w.some) in
     let parts = div-add-mod' (length c.args.pixels.now) view.w in
-    band-painted view c.args.tree.now.list c.args.row (length c.args.pixels.now / view.w) c.root.result c.args.pixels.now c.paint_box.new.pixels (c.root.ensures ∙ ap (λ s. root_of s.view Raster) c.tree.view_is)
+    band-painted c.layers_hold.ensures view c.args.tree.now.list c.args.row (length c.args.pixels.now / view.w) c.root.result c.args.pixels.now c.paint_box.new.pixels (c.root.ensures ∙ ap (λ s. root_of s.view Raster) c.tree.view_is)
     (omega (arith, parts, c.requires.whole)) c.requires.within some c.paint_box.ensures

@@ -1,6 +1,5 @@
 use Rattle.std.proofs.Common.{ap, arith, subst}
 use Rattle.box_chains.specs.Counts.{points_in, spans_in}
-use Rattle.box_chains.specs.TallyLaws.{most-exactly, most-none}
 use Rattle.box_chains.specs.Chains.{visit}
 use Rattle.box_chains.specs.Tallied.{CountsAtMost, CountsExactly}
 use Rattle.quad_descent.specs.Raster.{fresh_points, fresh_spans, raster}
@@ -8,7 +7,7 @@ use Rattle.quad_descent.proofs.Drawn.{on_err}
 use Rattle.quad_descent.proofs.quad_tree.draw.Goals as goal
 
 pub returns-in_err-desk-clause-at_most : goal.returns-in_err-desk-clause-at_most
-returns-in_err-desk-clause-at_most c = on_err _ _ (most-none c.args.tally.now _ _)
+returns-in_err-desk-clause-at_most c = on_err _ _ (c.layers_hold.ensures.bounds.none c.args.tally.now _ _)
 
 pub returns-in_err-draw_box-clause-at_most : goal.returns-in_err-draw_box-clause-at_most
 returns-in_err-draw_box-clause-at_most c =
@@ -28,6 +27,6 @@ returns-in_err-share-clause-at_most c =
     let view = ap (λ p. p.view) c.in_ok-desk.ensures.places in
     let p = fresh_points c.args.view.now c.args.list.now in
     let s = fresh_spans c.args.view.now c.args.list.now in
-    on_err _ _ (most-exactly c.args.tally.now c.draw_box.new.tally p s p s (omega arith) (omega arith)
+    on_err _ _ (c.layers_hold.ensures.bounds.exact c.args.tally.now c.draw_box.new.tally p s p s (omega arith) (omega arith)
     (subst (λ b. CountsExactly (points_in (raster c.args.view.now) (visit b c.args.list.now)) (spans_in (raster c.args.view.now) (visit b c.args.list.now)) c.args.tally.now c.draw_box.new.tally) c.root.ensures
     (subst (λ w. CountsExactly (points_in (raster w) (visit c.root.result c.args.list.now)) (spans_in (raster w) (visit c.root.result c.args.list.now)) c.args.tally.now c.draw_box.new.tally) view c.in_ok-draw_box.ensures.counted)))

@@ -5,45 +5,21 @@ use Rattle.std.specs.Prelude.{Some}
 use Rattle.std.proofs.lemmas.Int.{ints}
 use Rattle.choice_trace.specs.Hulls.{IsIn, choices_over, tape_hull}
 use Rattle.choice_trace.specs.Laws.{AreRanges}
-use Rattle.choice_trace.specs.PointLaws.{ChoicesAreOfSteps, ChoicesAreRight, ValuesAreHeld}
-use Rattle.fixed_ops.specs.Points.{Point}
 use Rattle.fixed_ops.specs.Raw.{is_inside}
 use Rattle.interval_ops.specs.Decided.{decided_of}
 use Rattle.interval_ops.specs.Spans.{Holds, Interval}
-use Rattle.live_clauses.specs.Laws.{ChoicesKeepTheValue, LiveListsAreTapes}
 use Rattle.live_clauses.specs.Steps.{IsTape, tape_value}
-use Rattle.view_settings.specs.Boxes.{Indices, IsBox}
-use Rattle.view_settings.specs.Laws.{HalvesPart, RangesAreSpans, RangesHold}
-use Rattle.view_settings.specs.Places.{point_of, steps_of}
+use Rattle.view_settings.specs.Boxes.{Indices}
+use Rattle.view_settings.specs.Places.{steps_of}
 use Rattle.view_settings.specs.Spans.{IsInRoot, last_of, region_of}
-use Rattle.view_settings.specs.Window.{Window, IsWindow}
+use Rattle.view_settings.specs.Window.{Window}
 use Rattle.view_settings.specs.declared.lattice.Axis.TheVariants as axes
 use Rattle.view_settings.specs.declared.lattice.Lattice.{Lattice}
 use Rattle.view_settings.specs.declared.lattice.Lattice.TheVariants.{Raster, Height, Grid}
 use Rattle.box_chains.specs.Chains.{Descent, Visit, decision, handed_on}
+use Rattle.box_chains.specs.Laws.{LayersHold}
 use Rattle.box_chains.specs.Sums.{LiesIn, Sample}
-
--- the laws of the layers below
-pub record Lawful : Type 0 where
-  pub halves : HalvesPart
-  pub ranges : RangesHold
-  pub spans : RangesAreSpans
-  pub tapes : LiveListsAreTapes
-  pub kept : ChoicesKeepTheValue
-  pub held : ValuesAreHeld
-  pub choices : ChoicesAreOfSteps
-  pub right : ChoicesAreRight
-
--- where a sample lies
-abbrev pub sample_point : Descent → Sample → Point
-sample_point d s = point_of d.view d.lattice s.i s.j s.k
-
--- a box of the samples, which receives a list that can be evaluated
-pub record IsVisit (d : Descent) (v : Visit) : Type 0 where
-  pub window : IsWindow d.view
-  pub box : IsBox v.box
-  pub within : IsInRoot d.view d.lattice v.box
-  pub tape : IsTape v.list
+use Rattle.box_chains.specs.Visits.{IsVisit, sample_point}
 
 -- an index of a box is one of the samples from its first to its last
 last-after : (lattice : Lattice) (low high : ℕ) → low < high → low ≤ last_of lattice high
@@ -67,7 +43,7 @@ has-steps v Grid leaf b in' =
     record { x = omega (arith, in'.x); y = omega (arith, in'.y); z = omega (arith, in'.z) }
 
 -- the ranges of a box are spans
-pub region-is : (laws : Lawful) (d : Descent) (v : Visit) → IsVisit d v
+pub region-is : (laws : LayersHold) (d : Descent) (v : Visit) → IsVisit d v
     → AreRanges (region_of d.view d.lattice v.box)
 region-is laws d v is =
     let steps = has-steps d.view d.lattice d.leaf v.box is.within in
@@ -85,7 +61,7 @@ region-is laws d v is =
     }
 
 -- and hold its samples
-pub region-holds : (laws : Lawful) (d : Descent) (v : Visit) (s : Sample) → IsVisit d v
+pub region-holds : (laws : LayersHold) (d : Descent) (v : Visit) (s : Sample) → IsVisit d v
     → LiesIn v.box s → IsIn (region_of d.view d.lattice v.box) (sample_point d s)
 region-holds laws d v s is lies =
     let b = v.box in
@@ -102,14 +78,14 @@ region-holds laws d v s is lies =
     }
 
 -- The list that a box hands on can be evaluated, and is no longer than the one that it receives.
-pub handed-is : (laws : Lawful) (d : Descent) (v : Visit) → IsVisit d v
+pub handed-is : (laws : LayersHold) (d : Descent) (v : Visit) → IsVisit d v
     → IsTape (handed_on d v) × (length (handed_on d v) ≤ length v.list)
 handed-is laws d v is =
     let region = region_of d.view d.lattice v.box in
     laws.tapes v.list (choices_over region v.list) is.tape (laws.choices region v.list)
 
 -- It has the value of the list that the box receives at each sample of the box.
-pub handed-value : (laws : Lawful) (d : Descent) (v : Visit) (s : Sample) → IsVisit d v
+pub handed-value : (laws : LayersHold) (d : Descent) (v : Visit) (s : Sample) → IsVisit d v
     → LiesIn v.box s
     → tape_value (sample_point d s) (handed_on d v) ≡ tape_value (sample_point d s) v.list
 handed-value laws d v s is lies =
@@ -124,7 +100,7 @@ decided-right : (s : Interval) (x : ℤ) (inside : Bool) → Holds s x → decid
 decided-right s x inside h e = grind (arith, ints, h, e)
 
 -- A box that is decided is decided rightly for each of its samples.
-pub decision-right : (laws : Lawful) (d : Descent) (v : Visit) (s : Sample) (inside : Bool)
+pub decision-right : (laws : LayersHold) (d : Descent) (v : Visit) (s : Sample) (inside : Bool)
     → IsVisit d v → LiesIn v.box s
     → decision d v ≡ Some inside → is_inside (tape_value (sample_point d s) v.list) ≡ inside
 decision-right laws d v s inside is lies e =

@@ -7,16 +7,19 @@ use Rattle.std.proofs.lemmas.List.Elements.{All-contains, All-contains_itself, A
 use Rattle.std.proofs.lemmas.List.Sums.{sum_by-cons}
 use Rattle.live_clauses.specs.Steps.{tape_value}
 use Rattle.view_settings.specs.Boxes.{Indices, IsBox, halves_of}
-use Rattle.box_chains.specs.ChainLaws.{box-has_sides, end-ends, end-goes_on, half_visit, points-end, points-split, spans-end, spans-split, split-is_long}
-use Rattle.box_chains.specs.Chains.{Descent, Visit, chain_end, decision, half_with, handed_on, is_split, next_visit, sides}
+use Rattle.box_chains.proofs.ChainLaws.{box-has_sides, end-ends, end-goes_on, points-end, points-split, spans-end, spans-split, split-is_long}
+use Rattle.box_chains.specs.Chains.{Descent, Visit, chain_end, decision, half_visit, half_with, handed_on, is_split, next_visit, sides}
 use Rattle.box_chains.specs.Counts.{end_cost, points_in, spans_in}
-use Rattle.box_chains.specs.HalfLaws.{IsPart, half_with-among, halves-are_parts, part-is_box, part-is_shorter}
-use Rattle.box_chains.specs.SumLaws.{size, sum_in-const, sum_in-halves}
-use Rattle.box_chains.specs.Sums.{LiesIn, Sample, sum_in}
-use Rattle.box_chains.specs.ValueLaws.{IsVisit, Lawful, handed-is, handed-value, sample_point}
+use Rattle.box_chains.specs.Parts.{IsPart}
+use Rattle.box_chains.proofs.HalfLaws.{half_with-among, halves-are_parts, part-is_box, part-is_shorter}
+use Rattle.box_chains.specs.Sums.{LiesIn, Sample, size, sum_in}
+use Rattle.box_chains.proofs.SumLaws.{sum_in-const, sum_in-halves}
+use Rattle.box_chains.specs.Visits.{IsVisit, sample_point}
+use Rattle.box_chains.specs.Laws.{LayersHold}
+use Rattle.box_chains.proofs.ValueLaws.{handed-is, handed-value}
 
 -- a half of a box, with the list that it receives, is such a box again
-pub half-is_visit : (laws : Lawful) (d : Descent) (v : Visit) (half : Indices) → 0 < d.leaf
+pub half-is_visit : (laws : LayersHold) (d : Descent) (v : Visit) (half : Indices) → 0 < d.leaf
     → IsVisit d v → Contains (halves_of d.leaf v.box) half
     → IsVisit d (half_visit d v half)
 half-is_visit laws d v half some is among =
@@ -74,7 +77,7 @@ halves-const d b c =
           sums bs,
         )
 
-end-below : (laws : Lawful) (d : Descent) (v : Visit) → IsVisit d v → end_cost d v ≤ length v.list
+end-below : (laws : LayersHold) (d : Descent) (v : Visit) → IsVisit d v → end_cost d v ≤ length v.list
 end-below laws d v is = by (decision d v) refl
   where
     by : (o : Option Bool) → decision d v ≡ o → end_cost d v ≤ length v.list
@@ -82,7 +85,7 @@ end-below laws d v is = by (decision d v) refl
     by (Some inside) e = rw e (omega arith)
 
 -- The points of a box are at most those of evaluating its list at each of its samples.
-points-below-within : (n : ℕ) (laws : Lawful) (d : Descent) (v : Visit) → 0 < d.leaf → IsVisit d v
+points-below-within : (n : ℕ) (laws : LayersHold) (d : Descent) (v : Visit) → 0 < d.leaf → IsVisit d v
     → sides v.box ≤ n → points_in d v ≤ size v.box * length v.list
 points-below-within zero laws d v some is few =
     absurd (omega (arith, box-has_sides v.box is.box, few))
@@ -117,7 +120,7 @@ points-below-within (suc n) laws d v some is few =
           products,
         )
 
-pub points-below : (laws : Lawful) (d : Descent) (v : Visit) → 0 < d.leaf → IsVisit d v
+pub points-below : (laws : LayersHold) (d : Descent) (v : Visit) → 0 < d.leaf → IsVisit d v
     → points_in d v ≤ size v.box * length v.list
 points-below laws d v some is = points-below-within (sides v.box) laws d v some is (omega arith)
 
@@ -129,7 +132,7 @@ pub record IsEnd (d : Descent) (v : Visit) (s : Sample) (end : Visit) : Type 0 w
   pub last : is_split d end ≡ false
   pub value : tape_value (sample_point d s) end.list ≡ tape_value (sample_point d s) v.list
 
-end-is-within : (n : ℕ) (laws : Lawful) (d : Descent) (v : Visit) (s : Sample) → 0 < d.leaf
+end-is-within : (n : ℕ) (laws : LayersHold) (d : Descent) (v : Visit) (s : Sample) → 0 < d.leaf
     → IsVisit d v → LiesIn v.box s → sides v.box ≤ n → IsEnd d v s (chain_end d v s)
 end-is-within zero laws d v s some is lies few =
     absurd (omega (arith, box-has_sides v.box is.box, few))
@@ -158,7 +161,7 @@ end-is-within (suc n) laws d v s some is lies few =
               ∙ handed-value laws d v s is lies;
         })
 
-pub end-is : (laws : Lawful) (d : Descent) (v : Visit) (s : Sample) → 0 < d.leaf → IsVisit d v
+pub end-is : (laws : LayersHold) (d : Descent) (v : Visit) (s : Sample) → 0 < d.leaf → IsVisit d v
     → LiesIn v.box s → IsEnd d v s (chain_end d v s)
 end-is laws d v s some is lies = end-is-within (sides v.box) laws d v s some is lies (omega arith)
 
@@ -182,7 +185,7 @@ one-more s t u n some is =
 
 -- The steps that are traced over a box and those below it are bounded: each sample lies in fewer
 -- boxes than there are sides.
-spans-below-within : (n : ℕ) (laws : Lawful) (d : Descent) (v : Visit) → 0 < d.leaf → IsVisit d v
+spans-below-within : (n : ℕ) (laws : LayersHold) (d : Descent) (v : Visit) → 0 < d.leaf → IsVisit d v
     → sides v.box ≤ n → spans_in d v ≤ size v.box * (sides v.box * length v.list)
 spans-below-within zero laws d v some is few =
     absurd (omega (arith, box-has_sides v.box is.box, few))
@@ -229,6 +232,6 @@ spans-below-within (suc n) laws d v some is few =
           more,
         )
 
-pub spans-below : (laws : Lawful) (d : Descent) (v : Visit) → 0 < d.leaf → IsVisit d v
+pub spans-below : (laws : LayersHold) (d : Descent) (v : Visit) → 0 < d.leaf → IsVisit d v
     → spans_in d v ≤ size v.box * (sides v.box * length v.list)
 spans-below laws d v some is = spans-below-within (sides v.box) laws d v some is (omega arith)

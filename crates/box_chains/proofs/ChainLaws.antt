@@ -7,11 +7,12 @@ use Rattle.std.proofs.lemmas.List.Elements.{All-contains_itself, All-contains, A
 use Rattle.std.proofs.lemmas.List.Sums.{sum_by-cons}
 use Rattle.view_settings.specs.Boxes.{Indices, IsBox, halves_of}
 use Rattle.view_settings.specs.Laws.{HalvesPart}
-use Rattle.box_chains.specs.Chains.{Descent, Visit, chain, chain_end, chain_within, decision, half_with, handed_on, is_long, is_split, next_visit, sides}
+use Rattle.box_chains.specs.Chains.{Descent, Visit, chain, chain_end, chain_within, decision, half_visit, half_with, handed_on, is_long, is_split, next_visit, sides}
 use Rattle.box_chains.specs.Counts.{cost, end_cost, first_lengths, is_first, points_in, spans_in}
-use Rattle.box_chains.specs.HalfLaws.{IsPart, half_with-is, half_with-part, halves-are_parts, part-is_box, part-is_shorter, part-lies}
-use Rattle.box_chains.specs.SumLaws.{size, sum_by-equal, sum_in-const, sum_in-first, sum_in-halves, sum_in-plus, sum_in-same}
-use Rattle.box_chains.specs.Sums.{LiesIn, Sample, sum_in}
+use Rattle.box_chains.specs.Parts.{IsPart}
+use Rattle.box_chains.proofs.HalfLaws.{half_with-is, half_with-part, halves-are_parts, part-is_box, part-is_shorter, part-lies}
+use Rattle.box_chains.specs.Sums.{LiesIn, Sample, size, sum_in}
+use Rattle.box_chains.proofs.SumLaws.{sum_by-equal, sum_in-const, sum_in-first, sum_in-halves, sum_in-plus, sum_in-same}
 
 -- only a box with a long side is split
 pub split-is_long : (d : Descent) (v : Visit) → is_split d v ≡ true → is_long d.leaf v.box ≡ true
@@ -110,13 +111,9 @@ pub end-ends : (d : Descent) (v : Visit) (s : Sample) → IsBox v.box → is_spl
     → chain_end d v s ≡ v
 end-ends d v s is e = rw (chain-ends d v s is e) refl
 
--- a half of a box that is split, with the list that it receives
-abbrev pub half_visit : Descent → Visit → Indices → Visit
-half_visit d v half = record { box = half; list = handed_on d v }
-
 -- sums over the samples of a box, from those over its halves, where the sums of the halves are
 -- equal to it at their samples
-sum-over_halves : (d : Descent) (v : Visit) (f : Sample → ℕ) (g : Indices → Sample → ℕ) → HalvesPart
+pub sum-over_halves : (d : Descent) (v : Visit) (f : Sample → ℕ) (g : Indices → Sample → ℕ) → HalvesPart
     → ((half : Indices) (s : Sample) → Contains (halves_of d.leaf v.box) half → LiesIn half s
     → f s ≡ g half s)
     → sum_in v.box f ≡ sum_by (λ half. sum_in half (g half)) (halves_of d.leaf v.box)
@@ -128,14 +125,14 @@ sum-over_halves d v f g law same =
     (halves_of d.leaf v.box) (All-contains_itself (halves_of d.leaf v.box)))
 
 -- a sample of a half lies in the box
-half-lies : (d : Descent) (v : Visit) (half : Indices) (s : Sample) → 0 < d.leaf → IsBox v.box
+pub half-lies : (d : Descent) (v : Visit) (half : Indices) (s : Sample) → 0 < d.leaf → IsBox v.box
     → Contains (halves_of d.leaf v.box) half → LiesIn half s → LiesIn v.box s
 half-lies d v half s some is among lies =
     part-lies d.leaf v.box half s (All-contains (IsPart d.leaf v.box) (halves_of d.leaf v.box) half
     (halves-are_parts d.leaf v.box some is) among) lies
 
 -- the next box of a sample of a half is that half
-next-is_half : (d : Descent) (v : Visit) (half : Indices) (s : Sample) → HalvesPart
+pub next-is_half : (d : Descent) (v : Visit) (half : Indices) (s : Sample) → HalvesPart
     → Contains (halves_of d.leaf v.box) half → LiesIn half s
     → next_visit d v s ≡ half_visit d v half
 next-is_half d v half s law among lies =

@@ -8,7 +8,7 @@ use Rattle.std.proofs.lemmas.Bool.Decides.{nat_tests}
 use Rattle.std.proofs.lemmas.List.Concat.{flat_map-cons}
 use Rattle.std.proofs.lemmas.List.Sums.{sum_by-append, sum_by-cons}
 use Rattle.view_settings.specs.Boxes.{Indices, IsBox, halves_of, halves_x, halves_y, halves_z, middle}
-use Rattle.box_chains.specs.Sums.{LiesIn, Sample, sum_along, sum_in}
+use Rattle.box_chains.specs.Sums.{LiesIn, Sample, size, sum_along, sum_in}
 
 -- a sum over so many numbers from low on
 abbrev pub upto : ℕ → ℕ → (ℕ → ℕ) → ℕ
@@ -215,10 +215,6 @@ sum_in-plus b f g =
     ∙ along-plus b.z0 b.z1 (λ k. sum_along b.y0 b.y1 (λ j. sum_along b.x0 b.x1
     (λ i. f (record { i = i; j = j; k = k })))) (λ k. sum_along b.y0 b.y1
     (λ j. sum_along b.x0 b.x1 (λ i. g (record { i = i; j = j; k = k }))))
-
--- how many samples a box has
-abbrev pub size : Indices → ℕ
-size b = (b.z1 - b.z0) * ((b.y1 - b.y0) * (b.x1 - b.x0))
 
 -- a sum of one number
 pub sum_in-const : (b : Indices) (c : ℕ) → sum_in b (λ s. c) ≡ size b * c

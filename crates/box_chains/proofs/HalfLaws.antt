@@ -10,20 +10,8 @@ use Rattle.std.proofs.lemmas.List.Sums.{sum_by-cons}
 use Rattle.view_settings.specs.Laws.{HalvesPart}
 use Rattle.view_settings.specs.Boxes.{Indices, IsBox, halves_of, halves_x, halves_y, halves_z, has_sample, middle}
 use Rattle.box_chains.specs.Chains.{half_with, is_long, sides}
+use Rattle.box_chains.specs.Parts.{IsPart, IsPartAlong}
 use Rattle.box_chains.specs.Sums.{LiesIn, Sample}
-
--- a part of a side, which is shorter where the side is longer than a leaf's
-pub record IsPartAlong (leaf low high from to : ℕ) : Type 0 where
-  pub above : low ≤ from
-  pub some : from < to
-  pub below : to ≤ high
-  pub shorter : leaf < high - low → to - from < high - low
-
--- a part of a box along each axis
-pub record IsPart (leaf : ℕ) (b part : Indices) : Type 0 where
-  pub x : IsPartAlong leaf b.x0 b.x1 part.x0 part.x1
-  pub y : IsPartAlong leaf b.y0 b.y1 part.y0 part.y1
-  pub z : IsPartAlong leaf b.z0 b.z1 part.z0 part.z1
 
 whole-side : (leaf low high : ℕ) → low < high → nat_lt leaf (high - low) ≡ false
     → IsPartAlong leaf low high low high

@@ -4,12 +4,15 @@ use Rattle.std.specs.Prelude.{Option, Some, None}
 use Rattle.std.specs.List.{All, flat_map}
 use Rattle.std.proofs.lemmas.List.Concat.{flat_map-cons}
 use Rattle.std.proofs.lemmas.List.Elements.{All-head, All-tail, All-weaker}
-use Rattle.box_chains.specs.ChainLaws.{box-has_sides, half_visit}
-use Rattle.box_chains.specs.Chains.{Descent, Visit, decision, is_long, sides}
-use Rattle.box_chains.specs.HalfLaws.{IsPart, halves-are_parts, part-is_box, part-is_shorter}
+use Rattle.box_chains.specs.Chains.{Descent, Visit, decision, half_visit, is_long, sides}
+use Rattle.box_chains.specs.Parts.{IsPart}
+use Rattle.box_chains.specs.Laws.{Lawful}
 use Rattle.view_settings.specs.Boxes.{Indices, IsBox, halves_of}
 use Rattle.quad_descent.specs.Nodes.{box_nodes, nodes_of, nodes_within}
 use Rattle.quad_descent.specs.declared.node.Node.{Node}
+
+box-has_sides : (b : Indices) → IsBox b → 0 < sides b
+box-has_sides b is = omega (arith, is.x)
 
 -- parts that are equal one by one are equal when joined
 flat_map-same : {X Y : Type 0} (f g : X → List Y) (xs : List X) → All (λ x. f x ≡ g x) xs
@@ -22,16 +25,16 @@ flat_map-same f g (x ∷ xs) same =
     ∙ sym (flat_map-cons g x xs)
 
 -- more turns than there are sides change nothing
-nodes-enough : (n m : ℕ) (d : Descent) (v : Visit) → 0 < d.leaf → IsBox v.box → sides v.box ≤ n
+nodes-enough : (laws : Lawful) (n m : ℕ) (d : Descent) (v : Visit) → 0 < d.leaf → IsBox v.box → sides v.box ≤ n
     → sides v.box ≤ m → nodes_within n d v ≡ nodes_within m d v
 unfolding nodes_within
-nodes-enough zero m d v some is few more = absurd (omega (arith, box-has_sides v.box is, few))
-nodes-enough (suc n) zero d v some is few more =
+nodes-enough laws zero m d v some is few more = absurd (omega (arith, box-has_sides v.box is, few))
+nodes-enough laws (suc n) zero d v some is few more =
     absurd (omega (arith, box-has_sides v.box is, more))
-nodes-enough (suc n) (suc m) d v some is few more =
+nodes-enough laws (suc n) (suc m) d v some is few more =
     by (is_long d.leaf v.box) refl (decision d v)
-    (λ half part less. nodes-enough n m d (half_visit d v half) some
-    (part-is_box d.leaf v.box half part) (omega (arith, less, few)) (omega (arith, less, more)))
+    (λ half part less. nodes-enough laws n m d (half_visit d v half) some
+    (laws.parts.box d.leaf v.box half part) (omega (arith, less, few)) (omega (arith, less, more)))
   where
     below : ℕ → List Node
     below turns =
@@ -50,18 +53,18 @@ nodes-enough (suc n) (suc m) d v some is few more =
         (λ half. nodes_within m d (half_visit d v half)) (halves_of d.leaf v.box)
         (All-weaker (IsPart d.leaf v.box) (λ half. nodes_within n d
         (half_visit d v half) ≡ nodes_within m d (half_visit d v half))
-        (λ half part. same half part (part-is_shorter d.leaf v.box half e part))
-        (halves_of d.leaf v.box) (halves-are_parts d.leaf v.box some is)))
+        (λ half part. same half part (laws.parts.shorter d.leaf v.box half e part))
+        (halves_of d.leaf v.box) (laws.parts.all d.leaf v.box some is)))
 
 -- the nodes below a box that is split
 abbrev pub nodes_below : Descent → Visit → List Indices → List Node
 nodes_below d v halves = flat_map (λ half. nodes_of d (half_visit d v half)) halves
 
 -- The nodes of a box are what its decision says, from those of its halves.
-pub nodes-are : (d : Descent) (v : Visit) → 0 < d.leaf → IsBox v.box
+pub nodes-are : (laws : Lawful) (d : Descent) (v : Visit) → 0 < d.leaf → IsBox v.box
     → nodes_of d v ≡ box_nodes d v (nodes_below d v (halves_of d.leaf v.box)) (decision d v)
 unfolding nodes_within
-nodes-are d v some is = by (sides v.box) refl (box-has_sides v.box is)
+nodes-are laws d v some is = by (sides v.box) refl (box-has_sides v.box is)
   where
     by : (n : ℕ) → n ≡ sides v.box → 0 < n → nodes_within n d v ≡ box_nodes d v
         (nodes_below d v (halves_of d.leaf v.box)) (decision d v)
@@ -82,7 +85,7 @@ nodes-are d v some is = by (sides v.box) refl (box-has_sides v.box is)
             (All-weaker (IsPart d.leaf v.box) (λ half. nodes_within n d
             (half_visit d v half) ≡ nodes_of d (half_visit d v half))
             (λ half part.
-            let less = part-is_shorter d.leaf v.box half e part in
-            nodes-enough n (sides half) d (half_visit d v half) some
-            (part-is_box d.leaf v.box half part) (omega (arith, less, same)) (omega arith))
-            (halves_of d.leaf v.box) (halves-are_parts d.leaf v.box some is)))
+            let less = laws.parts.shorter d.leaf v.box half e part in
+            nodes-enough laws n (sides half) d (half_visit d v half) some
+            (laws.parts.box d.leaf v.box half part) (omega (arith, less, same)) (omega arith))
+            (halves_of d.leaf v.box) (laws.parts.all d.leaf v.box some is)))

@@ -8,12 +8,13 @@ use Rattle.std.proofs.lemmas.List.Kept.{AllPairs-cons}
 use Rattle.std.proofs.lemmas.List.Sums.{sum_by-append, sum_by-cons}
 use Rattle.view_settings.specs.Boxes.{Indices, IsBox, halves_of, has_sample}
 use Rattle.view_settings.specs.Laws.{HalvesPart}
-use Rattle.box_chains.specs.ChainLaws.{box-has_sides, chain-begins, chain-ends, chain-goes_on, half_visit, spans-end, spans-split, split-is_long}
-use Rattle.box_chains.specs.Chains.{Descent, Visit, chain, half_with, is_split, next_visit, sides}
+use Rattle.box_chains.proofs.ChainLaws.{box-has_sides, chain-begins, chain-ends, chain-goes_on, spans-end, spans-split, split-is_long}
+use Rattle.box_chains.specs.Chains.{Descent, Visit, chain, half_visit, half_with, is_split, next_visit, sides}
 use Rattle.box_chains.specs.Counts.{spans_in}
-use Rattle.box_chains.specs.HalfLaws.{All-flat_map, IsPart, counts, few-halves, lies-has, half_with-among, half_with-is, halves-are_parts, part-is_box, part-is_shorter, part-lies}
+use Rattle.box_chains.proofs.HalfLaws.{All-flat_map, counts, few-halves, half_with-among, half_with-is, halves-are_parts, lies-has, part-is_box, part-is_shorter, part-lies}
+use Rattle.box_chains.specs.Parts.{IsPart}
 use Rattle.box_chains.specs.Laws.{BoxesAreCountedOnce, IsOnWay}
-use Rattle.box_chains.specs.SumLaws.{sum_by-equal}
+use Rattle.box_chains.proofs.SumLaws.{sum_by-equal}
 use Rattle.box_chains.specs.Sums.{LiesIn, Sample}
 
 -- the boxes that are reached from one on
