@@ -29,7 +29,7 @@ pub use numeral::{BadNumeral, read_numeral, read_raw};
 pub use op_names::{op_name, read_op};
 pub use operation::{Op, arity};
 pub use tally::{Tally, count_points, count_span};
-pub use text_before::{NUMBER, byte_before, number_before};
+pub use text_before::{LONGEST_NUMBER, byte_before, number_before};
 
 #[cfg(test)]
 mod tests;

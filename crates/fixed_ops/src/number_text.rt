@@ -6,7 +6,7 @@ ghost use Rattle.fixed_ops.specs.Numerals.{numeral};
 ghost use Rattle.fixed_ops.specs.Raw.{IsRaw};
 
 use crate::Fx;
-use crate::text_before::{NUMBER, number_before};
+use crate::text_before::{LONGEST_NUMBER, number_before};
 use arrayvec::ArrayVec;
 
 /// Appends the text of a number to an empty text, as `write_raw` does.
@@ -42,7 +42,7 @@ fn push_number(v: i64, text: &mut ArrayVec<u8, 24>)
     ensures text { text.new.items ≡ number_text v }
     ensures short { array_vec_len text.new ≤ 22 }
 {
-    let mut line = [0; NUMBER];
-    let start = number_before(v, &mut line, NUMBER);
+    let mut line = [0; LONGEST_NUMBER];
+    let start = number_before(v, &mut line, LONGEST_NUMBER);
     text.try_extend_from_slice(&line[start..]).unwrap();
 }

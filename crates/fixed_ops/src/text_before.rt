@@ -6,7 +6,7 @@ ghost use Rattle.fixed_ops.specs.Raw.{IsRaw};
 use itoa::write_digits;
 
 /// The longest text of a number: a minus, ten digits, a point and ten decimals.
-pub const NUMBER: usize = 22;
+pub const LONGEST_NUMBER: usize = 22;
 
 // The two digits of each number below a hundred.
 static PAIRS: [u8; 200] = *b"\
@@ -20,9 +20,9 @@ static PAIRS: [u8; 200] = *b"\
 #[inline]
 pub fn number_before(v: i64, line: &mut [u8], end: usize) -> usize
     requires raw { IsRaw v }
-    requires room { NUMBER ≤ end }
+    requires room { LONGEST_NUMBER ≤ end }
     requires within { end ≤ length line.old }
-    ensures few { end ≤ result + NUMBER }
+    ensures few { end ≤ result + LONGEST_NUMBER }
     ensures before { result ≤ end }
     ensures written { drop result line.new ≡ number_text v ++ drop end line.old }
 {
