@@ -2,3 +2,4 @@ pub mod ArrangementLaws
 pub mod CellLaws
 mod Examples
 pub mod RingLaws
+pub mod SizeLaws

@@ -11,6 +11,7 @@ pub mod Lists
 pub mod OrderLaws
 pub mod Patterns
 pub mod Rings
+pub mod Sizes
 pub mod Triangles
 pub mod Vectors
 pub mod VertexLaws

@@ -6,11 +6,11 @@ use Rattle.box_chains.specs.Tallied.{CountsAtMost}
 use Rattle.fixed_ops.specs.Counts.{Counts}
 use Rattle.fixed_ops.specs.Raw.{is_inside}
 use Rattle.kuhn_cells.specs.Triangles.{GridPoint, point}
+use Rattle.kuhn_cells.specs.Sizes.{SameSize}
+use Rattle.kuhn_cells.specs.declared.grid_size.GridSize.{GridSize}
 use Rattle.view_settings.specs.Boxes.{Indices}
 use Rattle.oct_descent.specs.Bound.{CountsAtLeast, points_of_grid, spans_in}
-use Rattle.oct_descent.specs.Sizes.{SameSize}
 use Rattle.oct_descent.specs.Ways.{CellDescent, Covers, cell_box, is_working, way_end}
-use Rattle.oct_descent.specs.declared.grid_size.GridSize.{GridSize}
 
 -- the values that are known of some points: a mark and a value for each place, where a value counts
 -- where its mark is true

@@ -4,14 +4,14 @@ use Rattle.std.proofs.lemmas.List.{take_all}
 use Rattle.std.proofs.lemmas.List.Elements.{All-nil}
 use Rattle.box_chains.specs.Chains.{visit}
 use Rattle.box_chains.specs.Outcomes.{HandsOn, asked_outcomes}
-use Rattle.live_clauses.specs.Steps.{IsTape}
 use Rattle.box_chains.specs.Visits.{IsVisit}
 use Rattle.interval_ops.specs.HullCounts.{CountsHulls}
+use Rattle.kuhn_cells.specs.Sizes.{SameSize}
 use Rattle.oct_descent.proofs.Sizes.{size-is, size-then}
 use Rattle.oct_descent.specs.Bound.{CountsHullsAtLeast}
 use Rattle.oct_descent.specs.Desks.{ChargesHalves, IsToldAt, PaysHalves, halves_long_spans, longer}
 use Rattle.oct_descent.specs.GridValues.{grid_value}
-use Rattle.oct_descent.specs.Sizes.{SameSize, size_of}
+use Rattle.oct_descent.specs.Sizes.{size_of}
 use Rattle.oct_descent.specs.Tables.{AreRight, AreSettled, AreWorked}
 use Rattle.oct_descent.specs.Ways.{gridded}
 use Rattle.oct_descent.proofs.Looks.{all-settled, all-traced, begun-charged, begun-paid, cell-below, cell-traced, cell-traced_below, closed-settled, closed-traced, closed-worked, first-charged, first-traced, half-grows, half-part, half-shorter, half-visit, halves-boxes, halves-charged, halves-in_root, halves-paid, halves-traced, halves-worked, handed-grows, handed-right, handed-settled, handed-tape, next-charged, next-paid, next-settled, next-traced, next-worked, on_ok, on_ok-then, part-covers, some-charged}
