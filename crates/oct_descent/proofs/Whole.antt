@@ -71,12 +71,12 @@ whole-paid laws view other list b before after told now same root n none worked 
 
 -- and what it leaves tells the grid
 pub whole-told : (view other : Window) (list : List Step) (b : Indices) (before after : PointValues) → other ≡ view → b ≡ root_of view lattices.Grid → before.n ≡ size_of view → IsBounded (size_of view)
-    → ((p : GridPoint) → known_at before p ≡ None) → Grows (grid_value other list) b before after → AreSettled (grid_value other list) b after → IsTold view list after
+    → ((p : GridPoint) → known_at before p ≡ None) → Grows (grid_value other list) b before after → AreSettled (gridded other) (grid_value other list) b after → IsTold view list after
 whole-told view other list b before after same root n few none grows settled = record {
   n = size-then after.n before.n (size_of view) grows.n all;
   few = subst IsBounded (sym (size-is after.n (size_of view) (size-then after.n before.n (size_of view) grows.n all))) few;
   right = λ p known. by p known (grows.each p);
-  settled = subst (λ v. AreSettled (grid_value v list) (root_of view lattices.Grid) after) same (subst (λ c. AreSettled (grid_value other list) c after) root settled);
+  settled = subst (λ v. AreSettled (gridded v) (grid_value v list) (root_of view lattices.Grid) after) same (subst (λ c. AreSettled (gridded other) (grid_value other list) c after) root settled);
 }
   where
     all : SameSize before.n (size_of view)

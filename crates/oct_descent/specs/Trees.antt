@@ -9,6 +9,7 @@ use Rattle.view_settings.specs.declared.lattice.Lattice.TheVariants as lattices
 use Rattle.oct_descent.specs.GridValues.{grid_value}
 use Rattle.oct_descent.specs.Sizes.{size_of}
 use Rattle.oct_descent.specs.Tables.{AreSettled, PointValues, is_known, known_at}
+use Rattle.oct_descent.specs.Ways.{gridded}
 
 -- a list of steps over a view
 pub record Gridding : Type 0 where
@@ -21,4 +22,4 @@ pub record IsTold (view : Window) (list : List Step) (t : PointValues) : Type 0 
   pub few : IsBounded t.n
   pub right : (p : GridPoint) → is_known (known_at t p) ≡ true
       → known_at t p ≡ Some (grid_value view list p)
-  pub settled : AreSettled (grid_value view list) (root_of view lattices.Grid) t
+  pub settled : AreSettled (gridded view) (grid_value view list) (root_of view lattices.Grid) t

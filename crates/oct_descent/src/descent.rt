@@ -46,7 +46,8 @@ pub fn look_into(
 ) -> Result<(), AllocError>
     requires { MayLook desk.old b received.now values.old }
     ensures settled { OnOk result
-        (AreSettled (grid_value desk.old.places.view received.now) b values.new) }
+        (AreSettled (gridded desk.old.places.view) (grid_value desk.old.places.view received.now) b
+        values.new) }
     ensures worked { OnOk result
         (AreWorked (gridded desk.old.places.view) (visit b received.now) values.new) }
     ensures grows { Grows (grid_value desk.old.places.view received.now) b values.old values.new }
@@ -86,7 +87,8 @@ fn look_into_told(
     requires may { MayLook desk.old b received.now values.old }
     requires told { IsToldAt desk.old.places received.now b outcomes.now at }
     ensures settled { OnOk result
-        (AreSettled (grid_value desk.old.places.view received.now) b values.new) }
+        (AreSettled (gridded desk.old.places.view) (grid_value desk.old.places.view received.now) b
+        values.new) }
     ensures worked { OnOk result
         (AreWorked (gridded desk.old.places.view) (visit b received.now) values.new) }
     ensures grows { Grows (grid_value desk.old.places.view received.now) b values.old values.new }
@@ -124,7 +126,8 @@ fn look_into_halves(
     requires whole { IsWhole live.now }
     requires long { IsTrue (is_long_for 1 b) }
     ensures settled { OnOk result
-        (AreSettled (grid_value desk.old.places.view live.now) b values.new) }
+        (AreSettled (gridded desk.old.places.view) (grid_value desk.old.places.view live.now) b
+        values.new) }
     ensures worked { OnOk result
         (All (λ half. AreWorked (gridded desk.old.places.view) (visit half live.now) values.new)
         (halves_of 1 b)) }
@@ -218,7 +221,8 @@ fn look_into_cell(
     requires may { MayLook desk.old b received.now values.old }
     requires one { is_long_for 1 b ≡ false }
     ensures settled { OnOk result
-        (AreSettled (grid_value desk.old.places.view received.now) b values.new) }
+        (AreSettled (gridded desk.old.places.view) (grid_value desk.old.places.view received.now) b
+        values.new) }
     ensures worked { OnOk result
         (AreWorked (gridded desk.old.places.view) (visit b received.now) values.new) }
     ensures grows { Grows (grid_value desk.old.places.view received.now) b values.old values.new }

@@ -202,7 +202,7 @@ look_into_halves-loop-half-init t c =
       few = omega arith;
       told = c.as_slice-outcomes.ensures.value ∙ c.in_ok-outcomes.ensures.outcomes ∙ ap (λ hs. asked_outcomes c.args.desk.now.places live (longer c.n.result hs)) same
           ∙ ap (λ n. asked_outcomes c.args.desk.now.places live (longer n halves)) (c.n.ensures ∙ size-is c.args.values.now.n (size_of view) c.requires.may.n);
-      settled = All-nil (λ h. AreSettled (grid_value view live) h c.args.values.now);
+      settled = All-nil (λ h. AreSettled (gridded view) (grid_value view live) h c.args.values.now);
       grows = grows-none (grid_value view live) c.args.b c.args.values.now;
       counted = first-charged c.layers_hold.ensures (gridded view) live halves c.n.result c.args.values.now c.args.tally.now c.trace_longer.new.tally hulls;
       worked = All-nil (λ h. AreWorked (gridded view) (visit h live) c.args.values.now);
@@ -307,11 +307,12 @@ look_into_halves-loop-half-preserved t c =
 
 pub look_into_halves-returns-clause-settled : goal.look_into_halves-returns-clause-settled
 look_into_halves-returns-clause-settled t c =
-    let g = grid_value c.args.desk.now.places.view c.args.live.now in
+    let view = c.args.desk.now.places.view in
+    let g = grid_value view c.args.live.now in
     let all = c.as_slice-half-items.ensures.value ∙ c.split-halves.ensures in
     let halves = c.as_slice-half-items.result.now in
-    all-settled c.layers_hold.ensures g c.args.b c.loop-half.values
-    (subst (λ hs. All (λ h. AreSettled g h c.loop-half.values) hs) (take_all c.loop-half.half-index halves (omega (arith, c.loop-half-test.false)) ∙ all) c.loop-half.invariant.settled)
+    all-settled c.layers_hold.ensures (gridded view) g c.args.b c.loop-half.values
+    (subst (λ hs. All (λ h. AreSettled (gridded view) g h c.loop-half.values) hs) (take_all c.loop-half.half-index halves (omega (arith, c.loop-half-test.false)) ∙ all) c.loop-half.invariant.settled)
 
 pub look_into_halves-returns-clause-worked : goal.look_into_halves-returns-clause-worked
 look_into_halves-returns-clause-worked t c =
