@@ -14,6 +14,7 @@ use Rattle.oct_descent.specs.GridValues.{grid_of as list_grid}
 use Rattle.oct_descent.specs.Laws.{MeshPointsAreBounded}
 use Rattle.oct_descent.specs.Trees.{Gridding}
 use Rattle.solid_model.specs.declared.clause.Clause.{Clause}
+use Rattle.tetra_mesh.specs.Sizes.{size_of}
 use Rattle.view_settings.specs.Window.{IsWindow, Window}
 use Rattle.edit_session.specs.Meshes.{grid_of, plain_grid}
 use Rattle.edit_session.specs.Work.{CountsWithin, PointsRiseAtMost, mesh_work}
@@ -47,7 +48,7 @@ mesh_plain before after view clauses list is window tape points h =
 
 -- the cells that a tree of a list lists are those of the list's grid
 pub cells-same : {E : Type 0} (r : Result CellList E) (view : Window) (list : List Step) (tree : Gridding) → tree ≡ record { view = view; list = list }
-    → IfOk r (λ cells. ListsCells tree.view.n cells (list_grid tree.view tree.list)) → IfOk r (λ cells. ListsCells view.n cells (grid_of view (λ p. tape_value p list)))
+    → IfOk r (λ cells. ListsCells (size_of tree.view) cells (list_grid tree.view tree.list)) → IfOk r (λ cells. ListsCells (size_of view) cells (grid_of view (λ p. tape_value p list)))
 cells-same r view list tree is =
-    subst (λ (g : Grid). IfOk r (λ cells. ListsCells tree.view.n cells (list_grid tree.view tree.list)) → IfOk r (λ cells. ListsCells view.n cells g)) (list_grid_is view list)
-    (λ h. subst (λ (t : Gridding). IfOk r (λ cells. ListsCells t.view.n cells (list_grid t.view t.list))) is h)
+    subst (λ (g : Grid). IfOk r (λ cells. ListsCells (size_of tree.view) cells (list_grid tree.view tree.list)) → IfOk r (λ cells. ListsCells (size_of view) cells g)) (list_grid_is view list)
+    (λ h. subst (λ (t : Gridding). IfOk r (λ cells. ListsCells (size_of t.view) cells (list_grid t.view t.list))) is h)

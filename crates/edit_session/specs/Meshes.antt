@@ -1,14 +1,13 @@
 -- The mesh of a solid over a view, as PLY text.
-use Rattle.std.specs.Prelude.{ℕ, ◌+◌, ◌*◌, ℤ, List, [], ◌∷◌}
+use Rattle.std.specs.Prelude.{ℕ, ◌+◌, ◌*◌, ℤ, List}
 use Rattle.fixed_ops.specs.Points.{Point}
-use Rattle.kuhn_cells.specs.Grids.{Grid, over_block}
+use Rattle.kuhn_cells.specs.Grids.{Grid, bordered, grid_over}
 use Rattle.kuhn_cells.specs.Triangles.{GridPoint}
-use Rattle.oct_descent.specs.GridValues.{bordered}
-use Rattle.oct_descent.specs.Sizes.{size_of}
 use Rattle.ply_writer.specs.Ply.{ply_of}
 use Rattle.solid_model.specs.Values.{solid_value}
 use Rattle.solid_model.specs.declared.clause.Clause.{Clause}
 use Rattle.tetra_mesh.specs.Cuts.{mesh_of}
+use Rattle.tetra_mesh.specs.Sizes.{size_of}
 use Rattle.view_settings.specs.Places.{point_of}
 use Rattle.view_settings.specs.Window.{Window}
 use Rattle.view_settings.specs.declared.lattice.Lattice.TheVariants as lattices
@@ -21,12 +20,7 @@ grid_value view value p = bordered (size_of view) p (value (point_of view lattic
 
 -- the grid of a view with the values of its points, by z, then by y, then by x
 unfoldable pub grid_of : Window → (Point → ℤ) → Grid
-grid_of view value = record {
-  x = view.n;
-  y = view.n;
-  z = view.n;
-  values = over_block (view.n + 1) (view.n + 1) (view.n + 1) (λ p. grid_value view value p ∷ []);
-}
+grid_of view value = grid_over (size_of view) (grid_value view value)
 
 -- the whole mesh of a solid over a view, as PLY text
 unfoldable pub mesh_text : Window → List Clause → List ℕ
@@ -36,4 +30,5 @@ mesh_text view clauses =
 
 -- how many evaluations evaluating each of so many clauses once at each point of the grid takes
 abbrev pub plain_grid : Window → ℕ → ℕ
-plain_grid view clauses = (view.n + 1) * ((view.n + 1) * ((view.n + 1) * clauses))
+plain_grid view clauses =
+    let n = size_of view in (n.x + 1) * ((n.y + 1) * ((n.z + 1) * clauses))

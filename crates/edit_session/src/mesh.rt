@@ -8,6 +8,7 @@ ghost use Rattle.ply_writer.specs.Ply.{ply_of};
 ghost use Rattle.solid_model.specs.Values.{solid_value};
 ghost use Rattle.tetra_mesh.specs.Cuts.{mesh_of};
 ghost use Rattle.tetra_mesh.specs.Places.{IsPlaced};
+ghost use Rattle.tetra_mesh.specs.Sizes.{size_of};
 ghost use Rattle.view_settings.specs.Window.{FitsMesh};
 ghost use Rattle.edit_session.specs.Meshes.{grid_of, mesh_text, plain_grid};
 ghost use Rattle.edit_session.specs.SoundTexts.{MeshTextsAreSound};
@@ -80,7 +81,7 @@ fn mixed_cells(
 ) -> Result<CellList, AllocError>
     requires { FitsMesh view.now }
     ensures cells { IfOk result (λ cells.
-        ListsCells view.now.n cells (grid_of view.now (λ p. tape_value p list.now))) }
+        ListsCells (size_of view.now) cells (grid_of view.now (λ p. tape_value p list.now))) }
     ensures at_most { CountsAtMost (mesh_points view.now list.now) (mesh_spans view.now list.now)
         tally.old tally.new }
 {

@@ -7,7 +7,7 @@ use Rattle.std.proofs.lemmas.Bool.Decides.{Decides-int_eq}
 use Rattle.kuhn_cells.specs.Arrangement.{arranged, arrangement, differ, grouped, turned}
 use Rattle.kuhn_cells.specs.Corners.{is_odd, corner_determinant}
 use Rattle.kuhn_cells.specs.Laws.{ArrangementsArePositive}
-use Rattle.kuhn_cells.specs.Checks.{every, every_at}
+use Rattle.kuhn_cells.proofs.Checks.{every, every_at}
 
 turned_twice : (ks : List ℕ) → turned (turned ks) ≡ ks
 turned_twice [] = refl

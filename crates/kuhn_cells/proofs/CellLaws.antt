@@ -17,10 +17,10 @@ use Rattle.kuhn_cells.specs.Faces.{all_triangles, cell_triangles}
 use Rattle.kuhn_cells.specs.Grids.{Grid, is_inside_at, is_mixed, is_point, lower, over_block, upper, vertices}
 use Rattle.kuhn_cells.specs.Laws.{CellsAreFew, CellsAreOfTheGrid, CellsHaveTriangles, CellsHaveVertices, CellsRise, EdgesHaveCells, IsCellBefore, OfEdges}
 use Rattle.kuhn_cells.specs.Triangles.{GridPoint, edge_from, further, point, triangles_by}
-use Rattle.kuhn_cells.specs.EdgeLaws.{IsParting, all_tetrahedra}
-use Rattle.kuhn_cells.specs.OrderLaws.{in_order}
-use Rattle.kuhn_cells.specs.FaceLaws.{all_in_block, vertex_of}
-use Rattle.kuhn_cells.specs.VertexLaws.{all_flat, head_or_tail, in_head, in_tail, in_vertices, not_in_none}
+use Rattle.kuhn_cells.proofs.EdgeLaws.{IsParting, all_tetrahedra}
+use Rattle.kuhn_cells.proofs.OrderLaws.{in_order}
+use Rattle.kuhn_cells.proofs.FaceLaws.{all_in_block, vertex_of}
+use Rattle.kuhn_cells.proofs.VertexLaws.{all_flat, head_or_tail, in_head, in_tail, in_vertices, not_in_none}
 
 -- ---- lists joined end to end
 

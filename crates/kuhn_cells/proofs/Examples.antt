@@ -1,5 +1,5 @@
 -- The mesh of a grid of two cells along each axis of which the middle point alone is inside, worked out by hand.
-use Rattle.std.proofs.Common.{◌≡◌, ℕ, ◌≤◌, pos, negsuc, true, false, [], ◌∷◌, ◌++◌, refl, arith, inl, inr}
+use Rattle.std.proofs.Common.{◌≡◌, ℕ, ◌≤◌, pos, negsuc, true, false, [], ◌∷◌, ◌++◌, refl, ap, arith, inl, inr}
 use Rattle.std.specs.Prelude.{ℤ, List, get_or, map, replicate}
 use Rattle.std.specs.List.{range_with_len}
 use Rattle.std.proofs.lemmas.Bool.{cases_lt}
@@ -7,12 +7,14 @@ use Rattle.std.proofs.lemmas.List.{get_or-replicate, get_or_past, length-replica
 use Rattle.kuhn_cells.specs.declared.cell_list.CellList.{CellList}
 use Rattle.kuhn_cells.specs.declared.cell_list.CellValues.{CellValues}
 use Rattle.kuhn_cells.specs.declared.edge_key.EdgeKey.{EdgeKey}
+use Rattle.kuhn_cells.specs.declared.grid_size.GridSize.{GridSize}
 use Rattle.kuhn_cells.specs.Arrangement.{arranged}
 use Rattle.kuhn_cells.specs.Cells.{IsBordered, cell_at, is_mixed_cell, is_outermost}
 use Rattle.kuhn_cells.specs.Faces.{Face, faces, all_triangles}
 use Rattle.kuhn_cells.specs.Grids.{Grid, is_point, over_block, value_at, vertices}
 use Rattle.kuhn_cells.specs.Lists.{ListsCells}
 use Rattle.kuhn_cells.specs.Rings.{HasEdge, IsRing, corners_off, sides}
+use Rattle.kuhn_cells.specs.Sizes.{cube}
 use Rattle.kuhn_cells.specs.Triangles.{point}
 use Rattle.kuhn_cells.specs.Vectors.{Vector}
 
@@ -124,17 +126,17 @@ zeros_are_bordered : IsBordered (record uneven { values = replicate 24 (pos 0) }
 zeros_are_bordered = record { whole = refl; outside = λ p within outer. rw (zero_everywhere 24 _) refl }
 
 -- cells are listed of grids alone that have as many of them along each axis as is told
-listed_along_x : (list : CellList) → ListsCells 3 list (record wide { z = 3 }) → ⊥
+listed_along_x : (list : CellList) → ListsCells (cube 3) list (record wide { z = 3 }) → ⊥
 listed_along_x list h = let x : 2 ≡ 3 = h.x in omega (arith, x)
 
-listed_along_y : (list : CellList) → ListsCells 2 list (record wide { z = 2 }) → ⊥
+listed_along_y : (list : CellList) → ListsCells (cube 2) list (record wide { z = 2 }) → ⊥
 listed_along_y list h = let y : 3 ≡ 2 = h.y in omega (arith, y)
 
-listed_along_z : (list : CellList) → ListsCells 3 list (record wide { x = 3 }) → ⊥
+listed_along_z : (list : CellList) → ListsCells (cube 3) list (record wide { x = 3 }) → ⊥
 listed_along_z list h = let z : 4 ≡ 3 = h.z in omega (arith, z)
 
-listed_count : (list : CellList) (g : Grid) → list.n ≡ 3 → ListsCells 2 list g → ⊥
-listed_count list g e h = omega (arith, e, h.count)
+listed_count : (list : CellList) (g : Grid) → list.n ≡ 3 → ListsCells (cube 2) list g → ⊥
+listed_count list g e h = let count = ap (λ (s : GridSize). s.x) h.count in omega (arith, e, count)
 
 -- ---- rings
 

@@ -1,4 +1,10 @@
 pub mod ArrangementLaws
 pub mod CellLaws
+pub mod Checks
+pub mod EdgeLaws
 mod Examples
+pub mod FaceLaws
+pub mod OrderLaws
 pub mod RingLaws
+pub mod SizeLaws
+pub mod VertexLaws

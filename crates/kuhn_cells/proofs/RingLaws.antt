@@ -12,7 +12,7 @@ use Rattle.kuhn_cells.specs.Arrangement.{positions}
 use Rattle.kuhn_cells.specs.Corners.{corner}
 use Rattle.kuhn_cells.specs.Rings.{HasEdge, IsRing, in_turn, sides}
 use Rattle.kuhn_cells.specs.Vectors.{Vector}
-use Rattle.kuhn_cells.specs.VertexLaws.{head_or_tail, not_in_none}
+use Rattle.kuhn_cells.proofs.VertexLaws.{head_or_tail, not_in_none}
 
 -- ---- elements of a list
 

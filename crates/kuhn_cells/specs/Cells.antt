@@ -1,12 +1,12 @@
 -- The mixed cells of a grid, and what the mesh has of each of them.
-use Rattle.std.specs.Prelude.{◌≡◌, ℕ, ◌+◌, ◌*◌, ◌<◌, ◌≤◌, ◌==◌, pos, Bool, true, false, not, ◌&&◌, ◌||◌, List, [], ◌∷◌, map, filter, flat_map, get_or, length, Contains}
+use Rattle.std.specs.Prelude.{◌≡◌, ℕ, ◌+◌, ◌*◌, ◌<◌, ◌≤◌, pos, Bool, true, false, not, ◌&&◌, List, [], ◌∷◌, map, filter, flat_map, get_or, length, Contains}
 use Rattle.std.specs.List.{list_any, range_with_len}
 use Rattle.fixed_ops.specs.Raw.{is_inside}
 use Rattle.kuhn_cells.specs.declared.cell_list.CellValues.{CellValues}
 use Rattle.kuhn_cells.specs.declared.edge_key.EdgeKey.{EdgeKey}
 use Rattle.kuhn_cells.specs.declared.triple.Triple.{Triple}
 use Rattle.kuhn_cells.specs.Arrangement.{differ}
-use Rattle.kuhn_cells.specs.Grids.{Grid, is_inside_at, is_point, lower, over_block, value_at}
+use Rattle.kuhn_cells.specs.Grids.{Grid, grid_size, is_border, is_inside_at, is_point, lower, over_block, value_at}
 use Rattle.kuhn_cells.specs.Triangles.{GridPoint, edge_from, further, point, triangles_in}
 
 -- where a cell lies, by its lowest corner
@@ -36,8 +36,7 @@ mixed_cells g = filter is_mixed_cell (over_block g.x g.y g.z (λ p. cell_at g p 
 
 -- a point lies in the outermost layer of a grid
 abbrev pub is_outermost : Grid → GridPoint → Bool
-is_outermost g p =
-    (p.x == 0 || p.x == g.x) || ((p.y == 0 || p.y == g.y) || (p.z == 0 || p.z == g.z))
+is_outermost g p = is_border (grid_size g) p
 
 -- a grid has a value for each of its points, and every point of its outermost layer is outside
 pub record IsBordered (g : Grid) : Type 0 where

@@ -1,8 +1,10 @@
 -- Grids of values, their edges, and the vertices of a mesh.
-use Rattle.std.specs.Prelude.{ℕ, ◌+◌, ◌*◌, ℤ, pos, Bool, ◌&&◌, nat_le, List, map, filter, flat_map, get_or}
+use Rattle.std.specs.Prelude.{ℕ, ◌+◌, ◌*◌, ◌==◌, ℤ, pos, Bool, ◌&&◌, ◌||◌, nat_le, List, [], ◌∷◌, map, filter, flat_map, get_or, if◌then◌else◌}
+use Rattle.std.specs.Int.{int_max}
 use Rattle.std.specs.List.{range_with_len}
 use Rattle.fixed_ops.specs.Raw.{is_inside}
 use Rattle.kuhn_cells.specs.declared.edge_key.EdgeKey.{EdgeKey}
+use Rattle.kuhn_cells.specs.declared.grid_size.GridSize.{GridSize}
 use Rattle.kuhn_cells.specs.Arrangement.{differ}
 use Rattle.kuhn_cells.specs.Triangles.{GridPoint, point, further, edge_from}
 
@@ -12,6 +14,10 @@ pub record Grid : Type 0 where
   pub y : ℕ
   pub z : ℕ
   pub values : List ℤ
+
+-- how many cells a grid has along each axis
+abbrev pub grid_size : Grid → GridSize
+grid_size g = record { x = g.x; y = g.y; z = g.z }
 
 -- the points along each axis are one more than the cells
 abbrev pub is_point : Grid → GridPoint → Bool
@@ -29,6 +35,24 @@ abbrev pub over_block : {A : Type 0} → ℕ → ℕ → ℕ → (GridPoint → 
 over_block nx ny nz at =
     flat_map (λ z. flat_map (λ y. flat_map (λ x. at (point x y z)) (range_with_len 0 nx))
     (range_with_len 0 ny)) (range_with_len 0 nz)
+
+-- a point lies in the outermost layer of a grid
+abbrev pub is_border : GridSize → GridPoint → Bool
+is_border n p =
+    (p.x == 0 || p.x == n.x) || ((p.y == 0 || p.y == n.y) || (p.z == 0 || p.z == n.z))
+
+-- a value as it counts at a point: in the outermost layer no point is inside
+abbrev pub bordered : GridSize → GridPoint → ℤ → ℤ
+bordered n p value = if is_border n p then int_max value (pos 0) else value
+
+-- the grid whose points have some values
+abbrev pub grid_over : GridSize → (GridPoint → ℤ) → Grid
+grid_over n value = record {
+  x = n.x;
+  y = n.y;
+  z = n.z;
+  values = over_block (n.x + 1) (n.y + 1) (n.z + 1) (λ p. value p ∷ []);
+}
 
 -- the ends of an edge
 abbrev pub lower : EdgeKey → GridPoint

@@ -1,16 +1,12 @@
 pub mod Arrangement
 pub mod Cells
-pub mod Checks
 pub mod Corners
-pub mod EdgeLaws
-pub mod FaceLaws
 pub mod Faces
 pub mod Grids
 pub mod Laws
 pub mod Lists
-pub mod OrderLaws
 pub mod Patterns
 pub mod Rings
+pub mod Sizes
 pub mod Triangles
 pub mod Vectors
-pub mod VertexLaws

@@ -10,10 +10,10 @@ use Rattle.kuhn_cells.specs.declared.triple.Triple.{Triple}
 use Rattle.kuhn_cells.specs.Faces.{all_triangles, face_among, faces, number_among}
 use Rattle.kuhn_cells.specs.Grids.{Grid, vertices}
 use Rattle.kuhn_cells.specs.Laws.{IsVertex, NumbersArePlaces, OfEdges, TrianglesHaveVertices}
-use Rattle.kuhn_cells.specs.OrderLaws.{first_before, rest_in_order}
-use Rattle.kuhn_cells.specs.VertexLaws.{head_or_tail, in_map, not_in_none}
 use Rattle.mesh_laws.specs.Closed.{IsTriangle, directed_edges, edges_of, goes, occurrences}
 use Rattle.mesh_laws.specs.Laws.{EdgesArePaired}
+use Rattle.mesh_laws.proofs.Blocks.{first_before, rest_in_order}
+use Rattle.mesh_laws.proofs.Members.{head_or_tail, in_map, not_in_none}
 use Rattle.mesh_laws.proofs.Lists.{Differ, all_of_flat, flat_after_map, flat_of_maps}
 use Rattle.mesh_laws.proofs.Partners.{all_made_back, pair_same}
 use Rattle.mesh_laws.proofs.Single.{all_differ, all_part}

@@ -13,10 +13,10 @@ use Rattle.kuhn_cells.specs.Faces.{all_triangles, cell_triangles, face_among, fa
 use Rattle.kuhn_cells.specs.Grids.{Grid, is_inside_at, lower, upper, vertices}
 use Rattle.kuhn_cells.specs.Laws.{IsDirection, IsVertex, NumbersArePlaces, OfEdges, TrianglesHaveVertices}
 use Rattle.kuhn_cells.specs.Triangles.{GridPoint, further, point, triangles_in}
-use Rattle.kuhn_cells.specs.FaceLaws.{all_in_block, all_within}
-use Rattle.kuhn_cells.specs.VertexLaws.{in_block, in_flat, in_map, in_range}
 use Rattle.mesh_laws.specs.Frames.{IsFramed}
 use Rattle.mesh_laws.specs.Manifold.{arcs, arcs_at}
+use Rattle.mesh_laws.proofs.Blocks.{all_in_block, all_within}
+use Rattle.mesh_laws.proofs.Members.{in_block, in_flat, in_map, in_range}
 use Rattle.mesh_laws.proofs.ClosedLaws.{number, one_vertex}
 use Rattle.mesh_laws.proofs.Fans.{IsBack, both_by, cell_back, key_is, key_near, number_is, number_near, own_key, own_number, pattern_is, same_arcs, same_test, spot}
 use Rattle.mesh_laws.proofs.Lists.{all_of_flat, flat_after_map}

@@ -13,12 +13,12 @@ use Rattle.kuhn_cells.specs.Faces.{Face, all_triangles, faces}
 use Rattle.kuhn_cells.specs.Grids.{Grid, is_inside_at, lower, upper, vertices}
 use Rattle.kuhn_cells.specs.Laws.{IsBefore, IsDirection, IsVertex, NumbersArePlaces, TrianglesHaveVertices, VerticesAreMixedEdges, VerticesRise}
 use Rattle.kuhn_cells.specs.Triangles.{GridPoint, further}
-use Rattle.kuhn_cells.specs.OrderLaws.{first_before, rest_in_order}
-use Rattle.kuhn_cells.specs.VertexLaws.{head_or_tail, in_map, not_in_none}
 use Rattle.mesh_laws.specs.Closed.{directed_edges, edges_of, goes, occurrences}
 use Rattle.mesh_laws.specs.Frames.{IsFramed}
 use Rattle.mesh_laws.specs.Laws.{HaveOneCycle}
 use Rattle.mesh_laws.specs.Manifold.{HasFan, arcs, arcs_at, arcs_on, cycle_arcs}
+use Rattle.mesh_laws.proofs.Blocks.{first_before, rest_in_order}
+use Rattle.mesh_laws.proofs.Members.{head_or_tail, in_map, not_in_none}
 use Rattle.mesh_laws.proofs.ClosedLaws.{differ_mapped, edges_differ, none_goes, number, one_vertex}
 use Rattle.mesh_laws.proofs.FanArcs.{IsNearVertex, arc_found, arcs_are, arcs_are_near, ends_are_points, fan_arcs, near_arcs, near_are_arcs, near_vertices, triangle_arcs, value_of}
 use Rattle.mesh_laws.proofs.Fans.{both_by, cell_back, key_near, number_near, own_spot, sign_is, spot, spot_is}

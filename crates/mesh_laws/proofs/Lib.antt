@@ -1,4 +1,7 @@
+pub mod Blocks
+pub mod Checks
 pub mod ClosedLaws
+pub mod CornerLaws
 pub mod Determinants
 mod Examples
 pub mod Facing
@@ -8,6 +11,7 @@ pub mod Fans
 pub mod Lattice
 pub mod Lines
 pub mod Lists
+pub mod Members
 pub mod Neighbours
 pub mod Owners
 pub mod Partners

@@ -11,10 +11,9 @@ use Rattle.kuhn_cells.specs.Faces.{same_edge}
 use Rattle.kuhn_cells.specs.Grids.{Grid, edges, is_inside_at, is_mixed, lower, upper, vertices}
 use Rattle.kuhn_cells.specs.Laws.{VerticesAreMixedEdges}
 use Rattle.kuhn_cells.specs.Triangles.{GridPoint}
-use Rattle.kuhn_cells.specs.EdgeLaws.{differ_symmetric}
-use Rattle.kuhn_cells.specs.FaceLaws.{same_as_itself, same_is_equal}
-use Rattle.kuhn_cells.specs.VertexLaws.{head_or_tail, in_filter, not_in_none}
 use Rattle.mesh_laws.specs.Separating.{IsParted, IsPath, passed}
+use Rattle.mesh_laws.proofs.CornerLaws.{differ_symmetric, same_as_itself, same_is_equal}
+use Rattle.mesh_laws.proofs.Members.{head_or_tail, in_filter, not_in_none}
 
 -- ---- an edge of a grid holds a vertex where its ends differ
 

@@ -7,9 +7,7 @@ use Rattle.std.proofs.lemmas.List.Elements.{All-nil, All-weaker}
 use Rattle.kuhn_cells.specs.declared.edge_key.EdgeKey.{EdgeKey}
 use Rattle.kuhn_cells.specs.Grids.{Grid, is_inside_at}
 use Rattle.kuhn_cells.specs.Triangles.{GridPoint, point}
-use Rattle.kuhn_cells.specs.FaceLaws.{all_within}
-use Rattle.kuhn_cells.specs.OrderLaws.{in_order}
-use Rattle.kuhn_cells.specs.VertexLaws.{all_block, all_flat}
+use Rattle.mesh_laws.proofs.Blocks.{all_block, all_flat, all_within, in_order}
 use Rattle.mesh_laws.proofs.Lists.{Differ}
 use Rattle.mesh_laws.proofs.Owners.{IsAtHome, all_at_home, home_tetra, home_x, home_y, home_z, one_differ}
 use Rattle.mesh_laws.proofs.Turns.{all_turns, cell_turns, turns_at}

@@ -9,7 +9,7 @@ use Rattle.kuhn_cells.specs.Corners.{corner, is_negative}
 use Rattle.kuhn_cells.specs.Faces.{all_triangles, cell_triangles}
 use Rattle.kuhn_cells.specs.Grids.{Grid, is_inside_at, over_block}
 use Rattle.kuhn_cells.specs.Triangles.{GridPoint, edge_between, further, point, triangles_among, triangles_in}
-use Rattle.kuhn_cells.specs.EdgeLaws.{corner_at}
+use Rattle.mesh_laws.proofs.CornerLaws.{corner_at}
 use Rattle.mesh_laws.proofs.Lists.{flat_after_map, flat_in_flat, flat_of_maps, flat_same}
 
 -- the pairs in which three things follow each other, round and round

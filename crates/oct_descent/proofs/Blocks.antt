@@ -9,13 +9,13 @@ use Rattle.std.proofs.lemmas.List.Concat.{flat_map-cons}
 use Rattle.fixed_ops.specs.Raw.{is_inside}
 use Rattle.kuhn_cells.specs.Grids.{over_block, value_at}
 use Rattle.kuhn_cells.specs.Triangles.{GridPoint, point}
+use Rattle.kuhn_cells.specs.declared.grid_size.GridSize.{GridSize}
 use Rattle.live_clauses.specs.declared.step.Step.{Step}
 use Rattle.view_settings.specs.Window.{Window}
 use Rattle.oct_descent.specs.Bound.{greatest}
 use Rattle.oct_descent.specs.GridValues.{grid_of, grid_value, value_on}
 use Rattle.oct_descent.specs.Laws.{GridsAreBordered}
 use Rattle.oct_descent.specs.Sizes.{size_of}
-use Rattle.oct_descent.specs.declared.grid_size.GridSize.{GridSize}
 use Rattle.oct_descent.proofs.Covered.{bordered-outside}
 
 greatest-append : (xs ys : List ℕ) → greatest (xs ++ ys) ≡ max (greatest xs) (greatest ys)

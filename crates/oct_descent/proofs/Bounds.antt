@@ -7,9 +7,7 @@ use Rattle.box_chains.specs.Chains.{Visit}
 use Rattle.box_chains.specs.Sums.{LiesIn, Sample, size, sum_in}
 use Rattle.box_chains.specs.Visits.{IsVisit}
 use Rattle.box_chains.specs.Laws.{Lawful}
-use Rattle.kuhn_cells.specs.FaceLaws.{all_in_block}
 use Rattle.kuhn_cells.specs.Triangles.{GridPoint, point}
-use Rattle.kuhn_cells.specs.VertexLaws.{head_or_tail, in_block, in_head, not_in_none}
 use Rattle.live_clauses.specs.Steps.{IsTape}
 use Rattle.live_clauses.specs.declared.step.Step.{Step}
 use Rattle.view_settings.specs.Boxes.{Indices}
@@ -19,6 +17,7 @@ use Rattle.oct_descent.specs.Laws.{MeshPointsAreBounded, MeshSpansAreBounded}
 use Rattle.oct_descent.specs.Sizes.{size_of}
 use Rattle.oct_descent.specs.Tables.{AreWorked, IsDue, IsEnough, PointValues, is_known, known_at}
 use Rattle.oct_descent.specs.Ways.{CellDescent, Covers, cell_box, gridded, is_working, way_end, whole}
+use Rattle.oct_descent.proofs.Members.{all_in_block, head_or_tail, in_block, in_head, not_in_none}
 use Rattle.oct_descent.proofs.Blocks.{greatest-block, greatest-block_most}
 use Rattle.oct_descent.proofs.WayLaws.{end-below, spans-below}
 

@@ -5,10 +5,10 @@ use Rattle.std.proofs.lemmas.Bool.{and_parts, cases_lt, false≢true, le-leb, le
 use Rattle.std.proofs.lemmas.List.{get_or-append_right, get_or-set_other, get_or-set_same, get_or-take, get_or_append_left, get_or_past, length-set, length-take, take_all}
 use Rattle.std.proofs.lemmas.Nat.{mul-add-lt, same_from_place}
 use Rattle.kuhn_cells.specs.Triangles.{GridPoint, further, point}
+use Rattle.kuhn_cells.specs.declared.grid_size.GridSize.{GridSize}
 use Rattle.oct_descent.proofs.Sizes.{size-none, size-then}
 use Rattle.oct_descent.specs.Corners.{AreTogether, IsRow, places_to}
 use Rattle.oct_descent.specs.Tables.{AreKept, IsSame, KeepsPlaces, Marks, PointValues, Sets, brick_of, is_known, is_within, known_at, read, read_at, same_point, slot, stand, stand_in}
-use Rattle.oct_descent.specs.declared.grid_size.GridSize.{GridSize}
 use Rattle.oct_descent.proofs.TableLaws.{same-is, same-self}
 
 -- ---- marks

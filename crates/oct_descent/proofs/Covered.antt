@@ -20,11 +20,12 @@ use Rattle.box_chains.specs.Chains.{Visit, decision, handed_on}
 use Rattle.box_chains.specs.Sums.{LiesIn, Sample}
 use Rattle.box_chains.specs.Visits.{IsVisit}
 use Rattle.box_chains.specs.Laws.{Lawful}
-use Rattle.oct_descent.specs.GridValues.{bordered, grid_value, is_border, value_on}
+use Rattle.kuhn_cells.specs.Grids.{bordered, is_border}
+use Rattle.kuhn_cells.specs.declared.grid_size.GridSize.{GridSize}
+use Rattle.oct_descent.specs.GridValues.{grid_value, value_on}
 use Rattle.oct_descent.specs.Sizes.{size_of}
 use Rattle.oct_descent.specs.Tables.{IsUniform}
 use Rattle.oct_descent.specs.Ways.{Covers, cell_box, gridded, meets_border}
-use Rattle.oct_descent.specs.declared.grid_size.GridSize.{GridSize}
 
 -- the corners of a cell of a box are covered
 pub corner-covered : (b : Indices) (s : Sample) (p : GridPoint) → LiesIn b s → Covers (cell_box s) p → Covers b p

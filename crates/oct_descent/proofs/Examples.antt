@@ -5,14 +5,15 @@ use Rattle.fixed_ops.specs.Counts.{Counts, no_counts, risen}
 use Rattle.fixed_ops.specs.declared.operation.Op.{Op}
 use Rattle.fixed_ops.specs.declared.operation.Op.TheVariants.{X, Y, Z, Add, Const, Max, Min, Neg}
 use Rattle.kuhn_cells.specs.Triangles.{point}
+use Rattle.kuhn_cells.specs.Grids.{is_border}
+use Rattle.kuhn_cells.specs.declared.grid_size.GridSize.{GridSize}
 use Rattle.live_clauses.specs.declared.step.Step.{Step}
 use Rattle.view_settings.specs.Boxes.{Indices}
 use Rattle.view_settings.specs.Window.{Window}
 use Rattle.oct_descent.specs.Bound.{CountsAtLeast, CountsHullsAtLeast, greatest, least, long_spans_in, mesh_least, mesh_long_spans, mesh_points, mesh_spans, spans_in}
 use Rattle.oct_descent.specs.Corners.{is_mixed, places_to, side_seen}
 use Rattle.oct_descent.specs.Fills.{point_box}
-use Rattle.oct_descent.specs.GridValues.{grid_of, grid_value, is_border}
-use Rattle.oct_descent.specs.declared.grid_size.GridSize.{GridSize}
+use Rattle.oct_descent.specs.GridValues.{grid_of, grid_value}
 use Rattle.oct_descent.specs.declared.seen.Seen.{Seen}
 use Rattle.oct_descent.specs.Tables.{brick_of, is_within, same_point, slot, stand_in}
 use Rattle.oct_descent.specs.Ways.{is_open_by, meets_border, way_within}

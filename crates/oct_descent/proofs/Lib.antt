@@ -7,6 +7,7 @@ mod Examples
 pub mod Joined
 pub mod Listed
 pub mod Looks
+pub mod Members
 pub mod Reached
 pub mod Sizes
 pub mod TableLaws

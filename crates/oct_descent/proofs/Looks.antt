@@ -24,6 +24,8 @@ use Rattle.interval_ops.specs.declared.choice.Choice.{Choice}
 use Rattle.interval_ops.specs.declared.region.Region.{Region}
 use Rattle.fixed_ops.specs.Raw.{is_inside}
 use Rattle.kuhn_cells.specs.Triangles.{GridPoint, further, point}
+use Rattle.kuhn_cells.specs.Sizes.{SameSize}
+use Rattle.kuhn_cells.specs.declared.grid_size.GridSize.{GridSize}
 use Rattle.live_clauses.specs.Live.{live_of}
 use Rattle.live_clauses.specs.Steps.{IsTape}
 use Rattle.live_clauses.specs.declared.step.Step.{Step}
@@ -39,11 +41,10 @@ use Rattle.oct_descent.specs.Corners.{AllShow, IsSeen, IsShown, ShowsCorner}
 use Rattle.oct_descent.specs.Desks.{ChargesBelow, ChargesHalves, KeepsDesk, MayLook, PaysHalves, asked_of, halves_long_spans, halves_spans, long_spans_below, longer, own_spans, spans_below}
 use Rattle.oct_descent.specs.Fills.{ChargesCorners, PaysCorners}
 use Rattle.oct_descent.specs.GridValues.{grid_value}
-use Rattle.oct_descent.specs.Sizes.{SameSize, size_of}
+use Rattle.oct_descent.specs.Sizes.{size_of}
 use Rattle.oct_descent.specs.Tables.{AllKnown, AreRight, AreSettled, AreWorked, Charges, ChargesBox, Grows, IsDue, IsEnough, IsUniform, PaysBox, PointValues, is_known}
 use Rattle.oct_descent.specs.Ways.{CellDescent, Covers, cell_box, gridded, is_cut, is_open, is_open_by, is_working, meets_border, way_end}
 use Rattle.oct_descent.specs.declared.desk.Desk.{Desk}
-use Rattle.oct_descent.specs.declared.grid_size.GridSize.{GridSize}
 use Rattle.oct_descent.specs.declared.seen.Seen.{Seen}
 use Rattle.oct_descent.proofs.Corners.{IsOne, mask-covered, short-one}
 use Rattle.oct_descent.proofs.Covered.{corner-covered, handed-grid_value, inside-uniform, outside-uniform}
@@ -85,7 +86,7 @@ closed-uniform laws view v s is e lies = by (decision (gridded view).boxes v) re
     by (Some false) h = outside-uniform laws view v s is lies h
     by (Some true) h = inside-uniform laws view v s is lies h (sym (ap (is_open_by (meets_border (size_of view)) v.box) h) ∙ e)
 
-pub closed-settled : (laws : Lawful) (view : Window) (v : Visit) (t : PointValues) → IsVisit (gridded view).boxes v → is_open (gridded view) v ≡ false → AreSettled (grid_value view v.list) v.box t
+pub closed-settled : (laws : Lawful) (view : Window) (v : Visit) (t : PointValues) → IsVisit (gridded view).boxes v → is_open (gridded view) v ≡ false → AreSettled (gridded view) (grid_value view v.list) v.box t
 closed-settled laws view v t is e s lies = inr (closed-uniform laws view v s is e lies)
 
 -- and no working one
@@ -223,8 +224,8 @@ cell-paid view v before after told since now is open' short hulls corners f due 
     pays-then f before before after told since now (pays-most f 0 (length v.list) before told since hulls) (corners f (cell-corners view v (λ n p. f p ≤ n) is open' short due))
 
 -- the corners of a cell of a box are known where all points that the box covers are
-pub known-settled : (g : GridPoint → ℤ) (b : Indices) (t : PointValues) → AllKnown t b → AreSettled g b t
-known-settled g b t known s lies = inl (λ p covers. known p (corner-covered b s p lies covers))
+pub known-settled : (view : Window) (g : GridPoint → ℤ) (b : Indices) (t : PointValues) → AllKnown t b → AreSettled (gridded view) g b t
+known-settled view g b t known s lies = inl (λ p covers. known p (corner-covered b s p lies covers))
 
 -- the list that a box hands on can be evaluated
 pub handed-tape : (laws : Lawful) (view : Window) (v : Visit) (live : List Step) → IsVisit (gridded view).boxes v → live ≡ handed_on (gridded view).boxes v → IsTape live
@@ -245,9 +246,9 @@ handed-right laws view v live t is same right =
     right-same (grid_value view v.list) (grid_value view live) v.box t (λ p covers. sym (ap (λ l. grid_value view l p) same ∙ handed-grid_value laws view v p is covers)) right
 
 pub handed-settled : (laws : Lawful) (view : Window) (v : Visit) (live : List Step) (t : PointValues) → IsVisit (gridded view).boxes v → live ≡ handed_on (gridded view).boxes v
-    → AreSettled (grid_value view live) v.box t → AreSettled (grid_value view v.list) v.box t
+    → AreSettled (gridded view) (grid_value view live) v.box t → AreSettled (gridded view) (grid_value view v.list) v.box t
 handed-settled laws view v live t is same settled =
-    settled-same (grid_value view live) (grid_value view v.list) v.box t
+    settled-same (gridded view) (grid_value view live) (grid_value view v.list) v.box t
     (λ s p lies covers. ap (λ l. grid_value view l p) same ∙ handed-grid_value laws view v p is (corner-covered v.box s p lies covers)) settled
 
 -- a cell has no trace of its own, and a longer box one
@@ -483,19 +484,19 @@ half-grows view other list b half before after same part grows =
 
 -- one more half is settled
 pub next-settled : (view other : Window) (list : List Step) (b half : Indices) (halves : List Indices) (i : ℕ) (before after : PointValues) → other ≡ view → i < length halves → half ≡ get_or halves i half
-    → Grows (grid_value view list) b before after → AreSettled (grid_value other list) half after → All (λ h. AreSettled (grid_value view list) h before) (take i halves)
-    → All (λ h. AreSettled (grid_value view list) h after) (take (i + 1) halves)
+    → Grows (grid_value view list) b before after → AreSettled (gridded other) (grid_value other list) half after → All (λ h. AreSettled (gridded view) (grid_value view list) h before) (take i halves)
+    → All (λ h. AreSettled (gridded view) (grid_value view list) h after) (take (i + 1) halves)
 next-settled view other list b half halves i before after same within read grows here earlier =
     subst (λ hs. All P hs) (sym (take_more halves i half within ∙ ap (λ h. take i halves ++ h ∷ []) (sym read)))
     (All-append P (take i halves) (half ∷ [])
-    (All-weaker (λ h. AreSettled g h before) P (λ h settled. settled-stays g g b h before after grows settled) (take i halves) earlier)
-    (All-cons P half [] (subst (λ v. AreSettled (grid_value v list) half after) same here) (All-nil P)))
+    (All-weaker (λ h. AreSettled (gridded view) g h before) P (λ h settled. settled-stays (gridded view) g g b h before after grows settled) (take i halves) earlier)
+    (All-cons P half [] (subst (λ v. AreSettled (gridded v) (grid_value v list) half after) same here) (All-nil P)))
   where
     g : GridPoint → ℤ
     g = grid_value view list
 
     P : Indices → Type 0
-    P h = AreSettled g h after
+    P h = AreSettled (gridded view) g h after
 
 -- and worked
 pub next-worked : (view other : Window) (list : List Step) (b half : Indices) (halves : List Indices) (i : ℕ) (before after : PointValues) → other ≡ view → i < length halves → half ≡ get_or halves i half
@@ -543,10 +544,10 @@ some-charged laws view list halves i before after told now each h f enough =
     (omega (arith, sum_by-take-le (λ h. spans_below (gridded view) (visit h list)) halves i, owned-below laws view list halves each)) (h f enough)
 
 -- once all halves are settled, the box is
-pub all-settled : (laws : Lawful) (g : GridPoint → ℤ) (b : Indices) (t : PointValues) → All (λ h. AreSettled g h t) (halves_of 1 b) → AreSettled g b t
-all-settled laws g b t each s lies =
+pub all-settled : (laws : Lawful) (d : CellDescent) (g : GridPoint → ℤ) (b : Indices) (t : PointValues) → All (λ h. AreSettled d g h t) (halves_of 1 b) → AreSettled d g b t
+all-settled laws d g b t each s lies =
     let half = laws.parts.among 1 b s lies in
-    All-contains (λ h. AreSettled g h t) (halves_of 1 b) _ each half.0 s half.1
+    All-contains (λ h. AreSettled d g h t) (halves_of 1 b) _ each half.0 s half.1
 
 -- ---- what is traced at least
 

@@ -1,7 +1,7 @@
 -- Grids that have as many cells.
 use Rattle.std.proofs.Common.{◌≡◌, ℕ, ap, refl, ◌∙◌}
-use Rattle.oct_descent.specs.Sizes.{SameSize}
-use Rattle.oct_descent.specs.declared.grid_size.GridSize.{GridSize}
+use Rattle.kuhn_cells.specs.Sizes.{SameSize}
+use Rattle.kuhn_cells.specs.declared.grid_size.GridSize.{GridSize}
 
 abbrev size : ℕ → ℕ → ℕ → GridSize
 size x y z = record { x = x; y = y; z = z }

@@ -17,7 +17,7 @@ use Rattle.oct_descent.proofs.Sizes.{size-is, size-none, size-then}
 use Rattle.oct_descent.specs.Bound.{CountsAtLeast, points_of_grid}
 use Rattle.oct_descent.specs.Fills.{point_box}
 use Rattle.oct_descent.specs.Tables.{AllKnown, AreRight, AreSettled, AreWorked, Charges, Grows, IsNew, IsSame, IsUniform, Pays, PointValues, Sets, is_known, known_at, left, same_point}
-use Rattle.oct_descent.specs.Ways.{CellDescent, Covers, cell_box, gridded}
+use Rattle.oct_descent.specs.Ways.{CellDescent, Covers, gridded}
 use Rattle.oct_descent.proofs.Covered.{corner-covered}
 
 -- ---- growth
@@ -54,18 +54,18 @@ stays-known g b before after p grows e = by (grows.each p)
     by (inl stays) = ap is_known stays ∙ e
     by (inr new) = ap is_known new.value
 
-pub settled-stays : (g h : GridPoint → ℤ) (b part : Indices) (before after : PointValues) → Grows h b before after → AreSettled g part before → AreSettled g part after
-settled-stays g h b part before after grows settled s lies = by (settled s lies)
+pub settled-stays : (d : CellDescent) (g h : GridPoint → ℤ) (b part : Indices) (before after : PointValues) → Grows h b before after → AreSettled d g part before → AreSettled d g part after
+settled-stays d g h b part before after grows settled s lies = by (settled s lies)
   where
-    by : AllKnown before (cell_box s) ⊎ IsUniform g (cell_box s) → AllKnown after (cell_box s) ⊎ IsUniform g (cell_box s)
+    by : AllKnown before (d.cell s) ⊎ IsUniform g (d.cell s) → AllKnown after (d.cell s) ⊎ IsUniform g (d.cell s)
     by (inl known) = inl (λ p covers. stays-known h b before after p grows (known p covers))
     by (inr uniform) = inr uniform
 
 -- cells are settled by values that are the same at their corners
-pub settled-same : (g h : GridPoint → ℤ) (b : Indices) (t : PointValues) → ((s : Sample) (p : GridPoint) → LiesIn b s → Covers (cell_box s) p → g p ≡ h p) → AreSettled g b t → AreSettled h b t
-settled-same g h b t same settled s lies = by (settled s lies)
+pub settled-same : (d : CellDescent) (g h : GridPoint → ℤ) (b : Indices) (t : PointValues) → ((s : Sample) (p : GridPoint) → LiesIn b s → Covers (d.cell s) p → g p ≡ h p) → AreSettled d g b t → AreSettled d h b t
+settled-same d g h b t same settled s lies = by (settled s lies)
   where
-    by : AllKnown t (cell_box s) ⊎ IsUniform g (cell_box s) → AllKnown t (cell_box s) ⊎ IsUniform h (cell_box s)
+    by : AllKnown t (d.cell s) ⊎ IsUniform g (d.cell s) → AllKnown t (d.cell s) ⊎ IsUniform h (d.cell s)
     by (inl known) = inl known
     by (inr uniform) = inr (record { inside = uniform.inside; each = λ p covers. ap is_inside (sym (same s p lies covers)) ∙ uniform.each p covers })
 

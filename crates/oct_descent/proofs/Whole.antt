@@ -8,15 +8,16 @@ use Rattle.box_chains.specs.Tallied.{CountsAtMost}
 use Rattle.box_chains.specs.Laws.{Lawful}
 use Rattle.fixed_ops.specs.Counts.{Counts}
 use Rattle.kuhn_cells.specs.Triangles.{GridPoint, point}
+use Rattle.kuhn_cells.specs.Sizes.{IsBounded, SameSize}
 use Rattle.live_clauses.specs.declared.step.Step.{Step}
 use Rattle.view_settings.specs.Boxes.{Indices}
 use Rattle.view_settings.specs.Spans.{root_of}
 use Rattle.view_settings.specs.Window.{Window}
 use Rattle.view_settings.specs.declared.lattice.Lattice.TheVariants as lattices
-use Rattle.oct_descent.proofs.Sizes.{size-from, size-then}
+use Rattle.oct_descent.proofs.Sizes.{size-from, size-is, size-then}
 use Rattle.oct_descent.specs.Bound.{CountsAtLeast, greatest, least, lengths_at, mesh_least, mesh_points, mesh_spans, points_of_grid, working_lengths}
 use Rattle.oct_descent.specs.GridValues.{grid_value}
-use Rattle.oct_descent.specs.Sizes.{IsSmall, SameSize, size_of}
+use Rattle.oct_descent.specs.Sizes.{size_of}
 use Rattle.oct_descent.specs.Tables.{AreSettled, AreWorked, ChargesBox, Grows, IsNew, PaysBox, PointValues, is_known, known_at, left}
 use Rattle.oct_descent.specs.Trees.{IsTold}
 use Rattle.oct_descent.specs.Ways.{gridded, whole}
@@ -69,13 +70,13 @@ whole-paid laws view other list b before after told now same root n none worked 
     record { by = h.counts.by; many = omega (arith, h.due, h.counts.many, mesh-due laws view list before n none, none-left laws view list after there); rises = h.counts.rises }
 
 -- and what it leaves tells the grid
-pub whole-told : (view other : Window) (list : List Step) (b : Indices) (before after : PointValues) → other ≡ view → b ≡ root_of view lattices.Grid → before.n ≡ size_of view → IsSmall (size_of view)
-    → ((p : GridPoint) → known_at before p ≡ None) → Grows (grid_value other list) b before after → AreSettled (grid_value other list) b after → IsTold view list after
+pub whole-told : (view other : Window) (list : List Step) (b : Indices) (before after : PointValues) → other ≡ view → b ≡ root_of view lattices.Grid → before.n ≡ size_of view → IsBounded (size_of view)
+    → ((p : GridPoint) → known_at before p ≡ None) → Grows (grid_value other list) b before after → AreSettled (gridded other) (grid_value other list) b after → IsTold view list after
 whole-told view other list b before after same root n few none grows settled = record {
   n = size-then after.n before.n (size_of view) grows.n all;
-  few = (omega (arith, grows.n.0, all.0, few.0), (omega (arith, grows.n.1.0, all.1.0, few.1.0), omega (arith, grows.n.1.1, all.1.1, few.1.1)));
+  few = subst IsBounded (sym (size-is after.n (size_of view) (size-then after.n before.n (size_of view) grows.n all))) few;
   right = λ p known. by p known (grows.each p);
-  settled = subst (λ v. AreSettled (grid_value v list) (root_of view lattices.Grid) after) same (subst (λ c. AreSettled (grid_value other list) c after) root settled);
+  settled = subst (λ v. AreSettled (gridded v) (grid_value v list) (root_of view lattices.Grid) after) same (subst (λ c. AreSettled (gridded other) (grid_value other list) c after) root settled);
 }
   where
     all : SameSize before.n (size_of view)

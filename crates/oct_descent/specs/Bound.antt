@@ -8,12 +8,12 @@ use Rattle.box_chains.specs.Tallied.{CountsAtMost}
 use Rattle.fixed_ops.specs.Counts.{Counts, RisesBy}
 use Rattle.kuhn_cells.specs.Grids.{over_block}
 use Rattle.kuhn_cells.specs.Triangles.{GridPoint, point}
+use Rattle.kuhn_cells.specs.declared.grid_size.GridSize.{GridSize}
 use Rattle.live_clauses.specs.declared.step.Step.{Step}
 use Rattle.view_settings.specs.Boxes.{Indices}
 use Rattle.view_settings.specs.Window.{Window}
 use Rattle.oct_descent.specs.Sizes.{size_of}
 use Rattle.oct_descent.specs.Ways.{CellDescent, gridded, is_working, way, way_end, whole}
-use Rattle.oct_descent.specs.declared.grid_size.GridSize.{GridSize}
 
 -- The steps that are traced over a box of cells and the boxes below it: the lengths of the lists
 -- that the boxes on the ways to its cells receive. A box is on the way to each of its cells, and is

@@ -10,17 +10,18 @@ use Rattle.box_chains.specs.declared.outcome.Outcome.TheVariants.{Outside}
 use Rattle.box_chains.specs.Visits.{IsVisit}
 use Rattle.fixed_ops.specs.Counts.{Counts}
 use Rattle.kuhn_cells.specs.Triangles.{GridPoint}
+use Rattle.kuhn_cells.specs.Sizes.{SameSize}
+use Rattle.kuhn_cells.specs.declared.grid_size.GridSize.{GridSize}
 use Rattle.live_clauses.specs.declared.step.Step.{Step}
 use Rattle.view_settings.specs.Boxes.{Indices}
 use Rattle.view_settings.specs.Window.{Window}
 use Rattle.view_settings.specs.declared.lattice.Lattice.TheVariants as lattices
 use Rattle.oct_descent.specs.Bound.{long_spans_in, spans_in}
 use Rattle.oct_descent.specs.GridValues.{grid_value}
-use Rattle.oct_descent.specs.Sizes.{SameSize, size_of}
+use Rattle.oct_descent.specs.Sizes.{size_of}
 use Rattle.oct_descent.specs.Tables.{AreRight, Charges, IsDue, IsEnough, Pays, PointValues}
 use Rattle.oct_descent.specs.Ways.{CellDescent, gridded, meets_border}
 use Rattle.oct_descent.specs.declared.desk.Desk.{Desk}
-use Rattle.oct_descent.specs.declared.grid_size.GridSize.{GridSize}
 
 -- The box is one of the grid's, whose points these are, and there is room for the list. What is
 -- known of the points that the box covers are the list's grid values.

@@ -10,6 +10,7 @@ use Rattle.view_settings.specs.Boxes.{IsBox, halves_of}
 use Rattle.view_settings.specs.Window.{Window, IsWindow}
 use Rattle.oct_descent.specs.Bound.{long_spans_in, mesh_points, mesh_spans, spans_in}
 use Rattle.oct_descent.specs.GridValues.{grid_of}
+use Rattle.oct_descent.specs.Sizes.{size_of}
 use Rattle.oct_descent.specs.Ways.{CellDescent, is_cut, way}
 
 -- every point of the outermost layer of a list's grid is outside
@@ -19,12 +20,14 @@ GridsAreBordered = (view : Window) (list : List Step) → IsBordered (grid_of vi
 -- the points take no more evaluations than the list has steps, at each of them
 abbrev pub MeshPointsAreBounded : Type 0
 MeshPointsAreBounded = (view : Window) (list : List Step) → IsWindow view → IsTape list
-    → mesh_points view list ≤ (view.n + 1) * ((view.n + 1) * (view.n + 1)) * length list
+    → let n = size_of view in
+    mesh_points view list ≤ (n.x + 1) * ((n.y + 1) * (n.z + 1)) * length list
 
 -- and no more steps are traced than the list has, for each cell and each side of the boxes that hold it
 abbrev pub MeshSpansAreBounded : Type 0
 MeshSpansAreBounded = (view : Window) (list : List Step) → IsWindow view → IsTape list
-    → mesh_spans view list ≤ view.n * (view.n * view.n) * ((view.n + view.n + view.n) * length list)
+    → let n = size_of view in
+    mesh_spans view list ≤ n.x * (n.y * n.z) * ((n.x + n.y + n.z) * length list)
 
 -- the way to a cell goes on from a box that is split into the half that holds the cell, and ends
 -- elsewhere

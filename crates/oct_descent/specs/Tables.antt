@@ -6,11 +6,11 @@ use Rattle.box_chains.specs.Tallied.{CountsAtMost}
 use Rattle.fixed_ops.specs.Counts.{Counts}
 use Rattle.fixed_ops.specs.Raw.{is_inside}
 use Rattle.kuhn_cells.specs.Triangles.{GridPoint, point}
+use Rattle.kuhn_cells.specs.Sizes.{SameSize}
+use Rattle.kuhn_cells.specs.declared.grid_size.GridSize.{GridSize}
 use Rattle.view_settings.specs.Boxes.{Indices}
 use Rattle.oct_descent.specs.Bound.{CountsAtLeast, points_of_grid, spans_in}
-use Rattle.oct_descent.specs.Sizes.{SameSize}
-use Rattle.oct_descent.specs.Ways.{CellDescent, Covers, cell_box, is_working, way_end}
-use Rattle.oct_descent.specs.declared.grid_size.GridSize.{GridSize}
+use Rattle.oct_descent.specs.Ways.{CellDescent, Covers, is_working, way_end}
 
 -- the values that are known of some points: a mark and a value for each place, where a value counts
 -- where its mark is true
@@ -118,8 +118,8 @@ pub record IsUniform (g : GridPoint → ℤ) (b : Indices) : Type 0 where
   pub each : (p : GridPoint) → Covers b p → is_inside (g p) ≡ inside
 
 -- all corners of each cell of a box are known, but for cells with all corners on one side
-abbrev pub AreSettled : (GridPoint → ℤ) → Indices → PointValues → Type 0
-AreSettled g b t = (s : Sample) → LiesIn b s → AllKnown t (cell_box s) ⊎ IsUniform g (cell_box s)
+abbrev pub AreSettled : CellDescent → (GridPoint → ℤ) → Indices → PointValues → Type 0
+AreSettled d g b t = (s : Sample) → LiesIn b s → AllKnown t (d.cell s) ⊎ IsUniform g (d.cell s)
 
 -- the sum of a number over the points that are not known
 abbrev pub left : (GridPoint → ℕ) → PointValues → ℕ

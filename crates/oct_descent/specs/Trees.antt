@@ -1,13 +1,15 @@
 -- What is known of a grid once its boxes are looked into.
 use Rattle.std.specs.Prelude.{◌≡◌, List, true, Some}
 use Rattle.kuhn_cells.specs.Triangles.{GridPoint}
+use Rattle.kuhn_cells.specs.Sizes.{IsBounded, SameSize}
 use Rattle.live_clauses.specs.declared.step.Step.{Step}
 use Rattle.view_settings.specs.Spans.{root_of}
 use Rattle.view_settings.specs.Window.{Window}
 use Rattle.view_settings.specs.declared.lattice.Lattice.TheVariants as lattices
 use Rattle.oct_descent.specs.GridValues.{grid_value}
-use Rattle.oct_descent.specs.Sizes.{IsSmall, SameSize, size_of}
+use Rattle.oct_descent.specs.Sizes.{size_of}
 use Rattle.oct_descent.specs.Tables.{AreSettled, PointValues, is_known, known_at}
+use Rattle.oct_descent.specs.Ways.{gridded}
 
 -- a list of steps over a view
 pub record Gridding : Type 0 where
@@ -17,7 +19,7 @@ pub record Gridding : Type 0 where
 -- what is known are grid values, and the corners of each cell are known that has some inside and some outside
 pub record IsTold (view : Window) (list : List Step) (t : PointValues) : Type 0 where
   pub n : SameSize t.n (size_of view)
-  pub few : IsSmall t.n
+  pub few : IsBounded t.n
   pub right : (p : GridPoint) → is_known (known_at t p) ≡ true
       → known_at t p ≡ Some (grid_value view list p)
-  pub settled : AreSettled (grid_value view list) (root_of view lattices.Grid) t
+  pub settled : AreSettled (gridded view) (grid_value view list) (root_of view lattices.Grid) t

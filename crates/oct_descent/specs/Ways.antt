@@ -5,12 +5,12 @@ use Rattle.box_chains.specs.Chains.{Descent, Visit, decision, is_long, next_visi
 use Rattle.box_chains.specs.Counts.{root_visit}
 use Rattle.box_chains.specs.Sums.{Sample}
 use Rattle.kuhn_cells.specs.Triangles.{GridPoint}
+use Rattle.kuhn_cells.specs.declared.grid_size.GridSize.{GridSize}
 use Rattle.live_clauses.specs.declared.step.Step.{Step}
 use Rattle.view_settings.specs.Boxes.{Indices}
 use Rattle.view_settings.specs.Window.{Window}
 use Rattle.view_settings.specs.declared.lattice.Lattice.TheVariants as lattices
 use Rattle.oct_descent.specs.Sizes.{size_of}
-use Rattle.oct_descent.specs.declared.grid_size.GridSize.{GridSize}
 
 -- How the cells of a grid are looked into: how its boxes are, which of these cover a point of the
 -- outermost layer, and the box that covers the corners of a cell.

@@ -1,8 +1,8 @@
 // The values of the corners of a cell.
 ghost use Rattle.std.specs.Prelude.{◌≡◌, ◌<◌, ◌≤◌, None, IfSome};
 ghost use Rattle.kuhn_cells.specs.Triangles.{point};
+ghost use Rattle.kuhn_cells.specs.Sizes.{IsBounded};
 ghost use Rattle.oct_descent.specs.Corners.{AreCorners, IsSeen, LacksCorner, is_mixed as is_mixed_of, side_seen};
-ghost use Rattle.oct_descent.specs.Sizes.{IsSmall};
 
 use crate::grid_values::GridValues;
 use crate::seen::Seen;
@@ -11,7 +11,7 @@ use fixed_ops::{Fx, is_inside};
 /// What the known corners of the cell at a place show.
 #[inline]
 pub fn seen(values: &GridValues, x: u32, y: u32, z: u32) -> Seen
-    requires few { IsSmall values.now.n }
+    requires few { IsBounded values.now.n }
     requires x { x < values.now.n.x }
     requires y { y < values.now.n.y }
     requires z { z < values.now.n.z }
@@ -48,7 +48,7 @@ fn with_corner(seen: Seen, corner: Option<Fx>) -> Seen
 /// them are known.
 #[inline]
 pub fn corners(values: &GridValues, x: u32, y: u32, z: u32) -> Option<[Fx; 8]>
-    requires few { IsSmall values.now.n }
+    requires few { IsBounded values.now.n }
     requires x { x < values.now.n.x }
     requires y { y < values.now.n.y }
     requires z { z < values.now.n.z }

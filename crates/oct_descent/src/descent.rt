@@ -6,6 +6,7 @@ ghost use Rattle.box_chains.specs.Outcomes.{HandsOn, asked_outcomes};
 ghost use Rattle.box_chains.specs.Tallied.{CountsAtMost};
 ghost use Rattle.interval_ops.specs.HullCounts.{CountsHulls};
 ghost use Rattle.kuhn_cells.specs.Triangles.{GridPoint, point};
+ghost use Rattle.kuhn_cells.specs.Sizes.{SameSize};
 ghost use Rattle.live_clauses.specs.Live.{IsWhole};
 ghost use Rattle.view_settings.specs.Boxes.{halves_of};
 ghost use Rattle.view_settings.specs.Spans.{IsInRoot};
@@ -13,19 +14,19 @@ ghost use Rattle.oct_descent.specs.Bound.{CountsHullsAtLeast, CountsNoHull, long
 ghost use Rattle.oct_descent.specs.Corners.{IsSeen, IsShown};
 ghost use Rattle.oct_descent.specs.Desks.{ChargesBelow, ChargesHalves, IsToldAt, KeepsDesk, MayLook, PaysHalves, asked_of, halves_long_spans, long_spans_below, longer};
 ghost use Rattle.oct_descent.specs.GridValues.{grid_value};
-ghost use Rattle.oct_descent.specs.Sizes.{SameSize, size_of};
+ghost use Rattle.oct_descent.specs.Sizes.{size_of};
 ghost use Rattle.oct_descent.specs.Tables.{AreSettled, AreWorked, ChargesBox, Grows, PaysBox, PointValues};
 ghost use Rattle.oct_descent.specs.Ways.{gridded, is_open as is_open_for, is_open_by, meets_border as meets_border_of};
 
 use crate::corner_values::seen;
 use crate::desk::Desk;
 use crate::filling::fill_cell;
-use crate::grid_size::GridSize;
 use crate::grid_values::GridValues;
 use crate::seen::Seen;
 use arrayvec::ArrayVec;
 use box_chains::{AskedBox, Outcome, is_long, layers_hold};
 use fixed_ops::Tally;
+use kuhn_cells::GridSize;
 use live_clauses::Tape;
 use std::alloc::{AllocError, Global};
 use view_settings::{IndexBox, split};
@@ -45,7 +46,8 @@ pub fn look_into(
 ) -> Result<(), AllocError>
     requires { MayLook desk.old b received.now values.old }
     ensures settled { OnOk result
-        (AreSettled (grid_value desk.old.places.view received.now) b values.new) }
+        (AreSettled (gridded desk.old.places.view) (grid_value desk.old.places.view received.now) b
+        values.new) }
     ensures worked { OnOk result
         (AreWorked (gridded desk.old.places.view) (visit b received.now) values.new) }
     ensures grows { Grows (grid_value desk.old.places.view received.now) b values.old values.new }
@@ -85,7 +87,8 @@ fn look_into_told(
     requires may { MayLook desk.old b received.now values.old }
     requires told { IsToldAt desk.old.places received.now b outcomes.now at }
     ensures settled { OnOk result
-        (AreSettled (grid_value desk.old.places.view received.now) b values.new) }
+        (AreSettled (gridded desk.old.places.view) (grid_value desk.old.places.view received.now) b
+        values.new) }
     ensures worked { OnOk result
         (AreWorked (gridded desk.old.places.view) (visit b received.now) values.new) }
     ensures grows { Grows (grid_value desk.old.places.view received.now) b values.old values.new }
@@ -123,7 +126,8 @@ fn look_into_halves(
     requires whole { IsWhole live.now }
     requires long { IsTrue (is_long_for 1 b) }
     ensures settled { OnOk result
-        (AreSettled (grid_value desk.old.places.view live.now) b values.new) }
+        (AreSettled (gridded desk.old.places.view) (grid_value desk.old.places.view live.now) b
+        values.new) }
     ensures worked { OnOk result
         (All (λ half. AreWorked (gridded desk.old.places.view) (visit half live.now) values.new)
         (halves_of 1 b)) }
@@ -217,7 +221,8 @@ fn look_into_cell(
     requires may { MayLook desk.old b received.now values.old }
     requires one { is_long_for 1 b ≡ false }
     ensures settled { OnOk result
-        (AreSettled (grid_value desk.old.places.view received.now) b values.new) }
+        (AreSettled (gridded desk.old.places.view) (grid_value desk.old.places.view received.now) b
+        values.new) }
     ensures worked { OnOk result
         (AreWorked (gridded desk.old.places.view) (visit b received.now) values.new) }
     ensures grows { Grows (grid_value desk.old.places.view received.now) b values.old values.new }

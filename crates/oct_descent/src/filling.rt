@@ -3,20 +3,22 @@ ghost use Rattle.std.specs.Prelude.{◌≡◌, ◌<◌, ◌≤◌, true, false, 
 ghost use Rattle.box_chains.specs.Chains.{is_long as is_long_for};
 ghost use Rattle.fixed_ops.specs.Counts.{RisesBy, points_of};
 ghost use Rattle.kuhn_cells.specs.Triangles.{further, point};
+ghost use Rattle.kuhn_cells.specs.Grids.{bordered};
+ghost use Rattle.kuhn_cells.specs.Sizes.{IsBounded, SameSize};
 ghost use Rattle.view_settings.specs.declared.lattice.Lattice.TheVariants as lattices;
 ghost use Rattle.oct_descent.specs.Corners.{AreTogether};
 ghost use Rattle.oct_descent.specs.Desks.{KeepsDesk, MayLook};
 ghost use Rattle.oct_descent.specs.Fills.{ChargesCorners, PaysCorners, point_box};
-ghost use Rattle.oct_descent.specs.GridValues.{bordered, grid_value, value_on};
-ghost use Rattle.oct_descent.specs.Sizes.{IsSmall, SameSize, size_of};
+ghost use Rattle.oct_descent.specs.GridValues.{grid_value, value_on};
+ghost use Rattle.oct_descent.specs.Sizes.{size_of};
 ghost use Rattle.oct_descent.specs.Tables.{AllKnown, Grows, KeepsPlaces, is_known, known_at};
 
 use crate::desk::Desk;
-use crate::grid_size::GridSize;
 use crate::grid_values::GridValues;
 use box_chains::layers_hold;
 use choice_trace::{Inputs, evaluate};
 use fixed_ops::{Fx, Tally, border};
+use kuhn_cells::GridSize;
 use live_clauses::Tape;
 use std::alloc::AllocError;
 use view_settings::IndexBox;
@@ -64,7 +66,7 @@ fn fill_corner(
     requires first { IfSome first (AreTogether values.old (point x y z)) }
     requires lattice { desk.old.places.lattice ≡ lattices.Grid }
     requires n { SameSize values.old.n (size_of desk.old.places.view) }
-    requires few { IsSmall values.old.n }
+    requires few { IsBounded values.old.n }
     requires room { length list.now ≤ length desk.old.values.items }
     requires x { x < values.old.n.x }
     requires y { y < values.old.n.y }

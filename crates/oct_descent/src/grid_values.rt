@@ -1,12 +1,12 @@
 // The values that are known of the points of a grid.
 ghost use Rattle.std.specs.Prelude.{◌≡◌, ◌+◌, ◌*◌, ◌/◌, ◌%◌, ◌<◌, ◌≤◌, None, Some, IfOk, IfSome, IsTrue, OnOk, length};
 ghost use Rattle.kuhn_cells.specs.Triangles.{GridPoint, further, point};
+ghost use Rattle.kuhn_cells.specs.Sizes.{IsBounded};
 ghost use Rattle.oct_descent.specs.Corners.{AreTogether, IsRow};
-ghost use Rattle.oct_descent.specs.Sizes.{IsSmall};
 ghost use Rattle.oct_descent.specs.Tables.{IsSame, KeepsPlaces, Sets, brick_of as brick_of_point, is_known as is_known_of, is_within, known_at, read as read_of, slot as slot_of, stand as stand_of};
 
-use crate::grid_size::GridSize;
 use fixed_ops::Fx;
+use kuhn_cells::GridSize;
 use std::alloc::{AllocError, Global};
 use std::marker::Model;
 
@@ -26,7 +26,7 @@ pub struct GridValues {
 
 impl Model for GridValues {
     ghost use Rattle.std.specs.Prelude.{◌≡◌, ◌+◌, ◌*◌, ◌/◌, ◌≤◌, length};
-    ghost use Rattle.oct_descent.specs.Sizes.{IsSmall};
+    ghost use Rattle.kuhn_cells.specs.Sizes.{IsBounded};
     ghost use Rattle.oct_descent.specs.Tables.{AreKept, PointValues};
 
     ghost Value = { PointValues };
@@ -37,7 +37,7 @@ impl Model for GridValues {
       kept = record { known = g.known.items; values = g.values.items };
     } };
 
-    ghost invariant = { λ g. IsSmall g.n
+    ghost invariant = { λ g. IsBounded g.n
         × (length g.places.items ≡ (g.n.z / 8 + 1) * ((g.n.y / 8 + 1) * (g.n.x / 8 + 1)))
         × AreKept g.places.items (length g.known.items) (length g.values.items) };
 }
@@ -45,7 +45,7 @@ impl Model for GridValues {
 impl GridValues {
     /// No known value. AllocError: there is no memory for the bricks' places.
     pub fn new(alloc: Global, n: GridSize) -> Result<GridValues, AllocError>
-        requires { IsSmall n }
+        requires { IsBounded n }
         ensures n { IfOk result (λ values. values.n ≡ n) }
         ensures none { IfOk result (λ values. (p : GridPoint) → known_at values p ≡ None) }
     {
@@ -251,7 +251,7 @@ impl GridValues {
 // Which brick has a point.
 #[inline]
 fn brick_of(n: GridSize, x: u32, y: u32, z: u32) -> usize
-    requires few { IsSmall n }
+    requires few { IsBounded n }
     requires x { x ≤ n.x }
     requires y { y ≤ n.y }
     requires z { z ≤ n.z }

@@ -6,10 +6,10 @@ mod corner_values;
 mod descent;
 mod desk;
 mod filling;
-mod grid_size;
 mod grid_values;
 mod laws;
 mod listing;
+mod mesh_size;
 mod oct_tree;
 mod seen;
 

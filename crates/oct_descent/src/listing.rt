@@ -1,23 +1,25 @@
 // The list of the mixed cells of a grid.
 ghost use Rattle.std.specs.Prelude.{◌≡◌, ◌+◌, ◌%◌, ◌<◌, ◌++◌, min, IfOk, OnOk};
 ghost use Rattle.kuhn_cells.specs.Lists.{ListsCells};
+ghost use Rattle.kuhn_cells.specs.Triangles.{point};
 ghost use Rattle.oct_descent.specs.GridValues.{grid_of};
 ghost use Rattle.oct_descent.specs.Rows.{cells_at, cells_between, cells_in_layer, cells_in_row};
-ghost use Rattle.kuhn_cells.specs.Triangles.{point};
+ghost use Rattle.oct_descent.specs.Sizes.{size_of};
 
 use crate::OctTree;
 use crate::corner_values::{corners, is_mixed};
+use crate::mesh_size::mesh_size;
 use kuhn_cells::{CellList, CellValues};
 use std::alloc::{AllocError, Global};
 
 /// The cells of a grid that have both an inside and an outside corner, with the values of their
 /// corners, by z, then by y, then by x. AllocError: there is no memory for them.
 pub fn cell_list(alloc: Global, tree: &OctTree) -> Result<CellList, AllocError>
-    ensures { IfOk result (λ list. ListsCells tree.now.view.n list
+    ensures { IfOk result (λ list. ListsCells (size_of tree.now.view) list
         (grid_of tree.now.view tree.now.list)) }
 {
     let mut cells = Vec::new(alloc);
-    for z in 0..tree.view.n {
+    for z in 0..mesh_size(&tree.view).z {
         tree.push_layer(z, &mut cells)?;
     }
     Ok(CellList {
@@ -29,11 +31,11 @@ pub fn cell_list(alloc: Global, tree: &OctTree) -> Result<CellList, AllocError>
 impl OctTree {
     // Adds the mixed cells of layer z.
     fn push_layer(&self, z: u32, cells: &mut Vec<CellValues>) -> Result<(), AllocError>
-        requires { z < self.now.view.n }
+        requires { z < (size_of self.now.view).z }
         ensures { OnOk result (cells.new.items ≡ cells.old.items ++ cells_in_layer self.now.view
             self.now.list z) }
     {
-        for y in 0..self.view.n {
+        for y in 0..mesh_size(&self.view).y {
             self.push_row(y, z, cells)?;
         }
         Ok(())
@@ -41,12 +43,12 @@ impl OctTree {
 
     // Adds the mixed cells of row y of layer z, eight at once.
     fn push_row(&self, y: u32, z: u32, cells: &mut Vec<CellValues>) -> Result<(), AllocError>
-        requires y { y < self.now.view.n }
-        requires z { z < self.now.view.n }
+        requires y { y < (size_of self.now.view).y }
+        requires z { z < (size_of self.now.view).z }
         ensures { OnOk result (cells.new.items ≡ cells.old.items ++ cells_in_row self.now.view
             self.now.list y z) }
     {
-        for eighth in 0..(self.view.n + 7) / 8 {
+        for eighth in 0..(mesh_size(&self.view).x + 7) / 8 {
             self.push_eight(eighth * 8, y, z, cells)?;
         }
         Ok(())
@@ -62,17 +64,17 @@ impl OctTree {
         z: u32,
         cells: &mut Vec<CellValues>,
     ) -> Result<(), AllocError>
-        requires first { first < self.now.view.n }
+        requires first { first < (size_of self.now.view).x }
         requires eighth { first % 8 ≡ 0 }
-        requires y { y < self.now.view.n }
-        requires z { z < self.now.view.n }
+        requires y { y < (size_of self.now.view).y }
+        requires z { z < (size_of self.now.view).z }
         ensures { OnOk result (cells.new.items ≡ cells.old.items ++ cells_between self.now.view
-            self.now.list first (min self.now.view.n (first + 8)) y z) }
+            self.now.list first (min (size_of self.now.view).x (first + 8)) y z) }
     {
         let Some(start) = self.values.row(first, y, z) else {
             return Ok(());
         };
-        for x in first..self.view.n.min(first + 8) {
+        for x in first..mesh_size(&self.view).x.min(first + 8) {
             if self.values.is_known(start, (x - first) as usize) {
                 self.push_cell(x, y, z, cells)?;
             }
@@ -89,9 +91,9 @@ impl OctTree {
         z: u32,
         cells: &mut Vec<CellValues>,
     ) -> Result<(), AllocError>
-        requires x { x < self.now.view.n }
-        requires y { y < self.now.view.n }
-        requires z { z < self.now.view.n }
+        requires x { x < (size_of self.now.view).x }
+        requires y { y < (size_of self.now.view).y }
+        requires z { z < (size_of self.now.view).z }
         ensures { OnOk result (cells.new.items ≡ cells.old.items ++ cells_at self.now.view
             self.now.list (point x y z)) }
     {

@@ -6,8 +6,8 @@ ghost use Rattle.oct_descent.specs.Bound.{CountsAtLeast, CountsHullsAtLeast, mes
 
 use crate::descent::look_into;
 use crate::desk::Desk;
-use crate::grid_size::mesh_size;
 use crate::grid_values::GridValues;
+use crate::mesh_size::mesh_size;
 use box_chains::layers_hold;
 use fixed_ops::Tally;
 use live_clauses::Tape;

@@ -6,6 +6,7 @@ use Rattle.std.proofs.lemmas.List.Concat.{flat_map-append}
 use Rattle.std.proofs.lemmas.List.Elements.{All-contains, All-head, All-tail, All-weaker}
 use Rattle.kuhn_cells.specs.declared.cell_list.CellValues.{CellValues}
 use Rattle.kuhn_cells.specs.declared.edge_key.EdgeKey.{EdgeKey}
+use Rattle.kuhn_cells.specs.declared.grid_size.GridSize.{GridSize}
 use Rattle.kuhn_cells.specs.Cells.{HasCell, directions_of, edges_of, place_of, triangles_of_cell}
 use Rattle.kuhn_cells.specs.Faces.{Face, face_among, number_among}
 use Rattle.kuhn_cells.specs.Grids.{lower}
@@ -19,12 +20,12 @@ use Rattle.tetra_mesh.proofs.ReachLaws.{not_above}
 
 -- ---- the edges of a cell
 
-edges_at : (cells : List CellValues) (n i : ℕ) (c : CellValues) → AreCells n cells → i < length cells → c ≡ get_or cells i c → All (OfEdges (HasCell cells c)) (triangles_of_cell c)
+edges_at : (cells : List CellValues) (n : GridSize) (i : ℕ) (c : CellValues) → AreCells n cells → i < length cells → c ≡ get_or cells i c → All (OfEdges (HasCell cells c)) (triangles_of_cell c)
 edges_at cells n i c are within here =
     let P : CellValues → Type 0 = λ x. All (OfEdges (HasCell cells x)) (triangles_of_cell x) in
     subst P (sym here) (are.edges i c within)
 
-edge_kept : (cells : List CellValues) (n m : ℕ) (c : CellValues) (e : EdgeKey) → AreCells n cells → m ≡ n → HasCell cells c e → IsKept m e
+edge_kept : (cells : List CellValues) (n m : GridSize) (c : CellValues) (e : EdgeKey) → AreCells n cells → m ≡ n → HasCell cells c e → IsKept m e
 edge_kept cells n m c e are same h =
     let is = All-contains (IsIn n) cells h.cell are.within h.listed in
     let x : h.cell.x ≡ e.x = ap (λ (p : GridPoint). p.x) h.place in
@@ -34,15 +35,16 @@ edge_kept cells n m c e are same h =
     let fy = is.y in
     let z : h.cell.z ≡ e.z = ap (λ (p : GridPoint). p.z) h.place in
     let fz = is.z in
-    record { x = omega (arith, x, fx, same); y = omega (arith, y, fy, same); z = omega (arith, z, fz, same); dir = dir.1 }
+    let P : GridSize → Type 0 = λ s. IsKept s e in
+    subst P (sym same) (record { x = omega (arith, x, fx); y = omega (arith, y, fy); z = omega (arith, z, fz); dir = dir.1 })
 
-pub all_kept : (cells : List CellValues) (n m i : ℕ) (c : CellValues) → AreCells n cells → m ≡ n → i < length cells → c ≡ get_or cells i c → All (OfEdges (IsKept m)) (triangles_of_cell c)
+pub all_kept : (cells : List CellValues) (n m : GridSize) (i : ℕ) (c : CellValues) → AreCells n cells → m ≡ n → i < length cells → c ≡ get_or cells i c → All (OfEdges (IsKept m)) (triangles_of_cell c)
 all_kept cells n m i c are same within here =
     let keep = λ (e : EdgeKey) (h : HasCell cells c e). edge_kept cells n m c e are same h in
     All-weaker (OfEdges (HasCell cells c)) (OfEdges (IsKept m)) (λ t h. record { a = keep t.a h.a; b = keep t.b h.b; c = keep t.c h.c }) (triangles_of_cell c) (edges_at cells n i c are within here)
 
 -- what is looked up is the place of the vertex
-looked_up : (cells : List CellValues) (n : ℕ) (s : Numbering) (c : CellValues) (e : EdgeKey) → AreCells n cells → IsNumbered cells n s → LiesBelow cells s.ahead c.z → ReachesAbove cells s.ahead c.z → HasCell cells c e → number_in n s.slots.items e ≡ number_among (flat_map edges_of cells) e
+looked_up : (cells : List CellValues) (n : GridSize) (s : Numbering) (c : CellValues) (e : EdgeKey) → AreCells n cells → IsNumbered cells n s → LiesBelow cells s.ahead c.z → ReachesAbove cells s.ahead c.z → HasCell cells c e → number_in n s.slots.items e ≡ number_among (flat_map edges_of cells) e
 looked_up cells n s c e are is below reached h =
     let j = h.listed.0 in
     let within = h.listed.1 in
@@ -71,7 +73,7 @@ map_same f g (x ∷ xs) h =
     let rest = map_same f g xs (All-tail (λ x. f x ≡ g x) x xs h) in
     cc
 
-pub faces_here : (cells : List CellValues) (n : ℕ) (s : Numbering) (i : ℕ) (c : CellValues) → AreCells n cells → IsNumbered cells n s → LiesBelow cells s.ahead c.z → ReachesAbove cells s.ahead c.z → i < length cells → c ≡ get_or cells i c → map (face_in n s.slots.items) (triangles_of_cell c) ≡ map (face_among (flat_map edges_of cells)) (triangles_of_cell c)
+pub faces_here : (cells : List CellValues) (n : GridSize) (s : Numbering) (i : ℕ) (c : CellValues) → AreCells n cells → IsNumbered cells n s → LiesBelow cells s.ahead c.z → ReachesAbove cells s.ahead c.z → i < length cells → c ≡ get_or cells i c → map (face_in n s.slots.items) (triangles_of_cell c) ≡ map (face_among (flat_map edges_of cells)) (triangles_of_cell c)
 faces_here cells n s i c are is below reached within here =
     let look = λ (e : EdgeKey) (h : HasCell cells c e). looked_up cells n s c e are is below reached h in
     let all = flat_map edges_of cells in
@@ -99,7 +101,7 @@ below_at cells ahead i c reached within here k d less =
     let near = reached.near k i d less (omega arith) within in
     omega (arith, near, same)
 
-pub reached_more : (cells : List CellValues) (n ahead i : ℕ) (c : CellValues) → AreCells n cells → i < length cells → c ≡ get_or cells i c → LiesBelow cells ahead c.z → ReachesAbove cells ahead c.z → HasReached cells ahead (i + 1)
+pub reached_more : (cells : List CellValues) (n : GridSize) (ahead i : ℕ) (c : CellValues) → AreCells n cells → i < length cells → c ≡ get_or cells i c → LiesBelow cells ahead c.z → ReachesAbove cells ahead c.z → HasReached cells ahead (i + 1)
 reached_more cells n ahead i c are within here below above =
     let own : (get_or cells i c).z ≡ c.z = ap (λ (x : CellValues). x.z) (sym here) in
     let numbered = above i c within (omega (arith, own)) in
@@ -112,22 +114,22 @@ reached_more cells n ahead i c are within here below above =
           omega (arith, low, same, rises);
     }
 
--- ---- the same, where a number of cells is spelled in two ways
+-- ---- the same, where a size is spelled in two ways
 
-pub numbered_as : (cells : List CellValues) (n m : ℕ) (s : Numbering) → n ≡ m → IsNumbered cells n s → IsNumbered cells m s
-numbered_as cells n m s same is = let P : ℕ → Type 0 = λ i. IsNumbered cells i s in subst P same is
+pub numbered_as : (cells : List CellValues) (n m : GridSize) (s : Numbering) → n ≡ m → IsNumbered cells n s → IsNumbered cells m s
+numbered_as cells n m s same is = let P : GridSize → Type 0 = λ i. IsNumbered cells i s in subst P same is
 
-pub slots_of : (cells : List CellValues) (n m : ℕ) (s : Numbering) (slots : List Entry) → AreCells n cells → IsNumbered cells n s → m ≡ n → slots ≡ s.slots.items → AreSlots m slots
+pub slots_of : (cells : List CellValues) (n m : GridSize) (s : Numbering) (slots : List Entry) → AreCells n cells → IsNumbered cells n s → m ≡ n → slots ≡ s.slots.items → AreSlots m slots
 slots_of cells n m s slots are is same equal =
-    let P : ℕ → Type 0 = λ i. AreSlots i slots in
+    let P : GridSize → Type 0 = λ i. AreSlots i slots in
     let Q : List Entry → Type 0 = λ l. AreSlots n l in
-    subst P (sym same) (subst Q (sym equal) (record { narrow = are.narrow; room = is.room; small = is.small }))
+    subst P (sym same) (subst Q (sym equal) (record { bounded = are.bounded; room = is.room; small = is.small }))
 
 -- where nothing is numbered, no list matters
-pub nothing : (cells : List CellValues) (n : ℕ) (s : Numbering) → IsNumbered [] n s → s.ahead ≡ 0
+pub nothing : (cells : List CellValues) (n : GridSize) (s : Numbering) → IsNumbered [] n s → s.ahead ≡ 0
 nothing cells n s is = let some = is.some in omega (arith, some)
 
-pub started : (cells : List CellValues) (n : ℕ) (s : Numbering) → IsNumbered [] n s → IsNumbered cells n s
+pub started : (cells : List CellValues) (n : GridSize) (s : Numbering) → IsNumbered [] n s → IsNumbered cells n s
 started cells n s is =
     let some = is.some in
     let none : s.ahead ≡ 0 = omega (arith, some) in

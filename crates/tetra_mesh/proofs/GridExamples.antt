@@ -1,5 +1,5 @@
 -- Grids with their cells, and a mesh worked out by hand.
-use Rattle.std.proofs.Common.{◌≡◌, ℕ, ◌<◌, Bool, true, false, List, [], ◌∷◌, refl, arith, ◌∙◌}
+use Rattle.std.proofs.Common.{◌≡◌, ℕ, ◌<◌, Bool, true, false, List, [], ◌∷◌, refl, ap, arith, ◌∙◌}
 use Rattle.std.specs.Prelude.{ℤ, pos, negsuc, not, ◌||◌, replicate}
 use Rattle.std.proofs.lemmas.Bool.{agree_below, agree_below_at, and_parts, leb-true}
 use Rattle.kuhn_cells.specs.declared.cell_list.CellList.{CellList}
@@ -9,6 +9,7 @@ use Rattle.kuhn_cells.specs.Cells.{is_outermost, mixed_cells}
 use Rattle.kuhn_cells.specs.Faces.{Face, all_triangles, faces}
 use Rattle.kuhn_cells.specs.Grids.{Grid, is_inside_at, is_point, vertices}
 use Rattle.kuhn_cells.specs.Lists.{ListsCells}
+use Rattle.kuhn_cells.specs.Sizes.{cube}
 use Rattle.kuhn_cells.specs.Triangles.{GridPoint, point}
 use Rattle.tetra_mesh.specs.declared.vertex.Vertex.{Vertex}
 use Rattle.tetra_mesh.specs.Cuts.{mesh_of}
@@ -99,14 +100,14 @@ cells_of_lone_point : cells_round inside axis face_diagonal body_diagonal ≡ mi
 unfolding mixed_cells
 cells_of_lone_point = refl
 
-pub lists_lone_point : (i a f b : ℤ) (list : CellList) → i ≡ inside → a ≡ axis → f ≡ face_diagonal → b ≡ body_diagonal → list.n ≡ 2 → list.cells.items ≡ cells_round i a f b → ListsCells 2 list lone_point
+pub lists_lone_point : (i a f b : ℤ) (list : CellList) → i ≡ inside → a ≡ axis → f ≡ face_diagonal → b ≡ body_diagonal → list.n ≡ 2 → list.cells.items ≡ cells_round i a f b → ListsCells (cube 2) list lone_point
 lists_lone_point i a f b list ei ea ef eb n items =
     record {
       x = refl;
       y = refl;
       z = refl;
       border = record { whole = refl; outside = outside lone_point 3 (omega arith) (omega arith) (omega arith) lone_point_is_safe };
-      count = n;
+      count = ap cube n;
       cells = items ∙ same ∙ cells_of_lone_point;
     }
   where
@@ -124,13 +125,13 @@ none_mixed : [] ≡ mixed_cells lone_cell
 unfolding mixed_cells
 none_mixed = refl
 
-pub lists_lone_cell : (list : CellList) → list.n ≡ 1 → list.cells.items ≡ [] → ListsCells 1 list lone_cell
+pub lists_lone_cell : (list : CellList) → list.n ≡ 1 → list.cells.items ≡ [] → ListsCells (cube 1) list lone_cell
 lists_lone_cell list n items =
     record {
       x = refl;
       y = refl;
       z = refl;
       border = record { whole = refl; outside = outside lone_cell 2 (omega arith) (omega arith) (omega arith) lone_cell_is_safe };
-      count = n;
+      count = ap cube n;
       cells = items ∙ none_mixed;
     }

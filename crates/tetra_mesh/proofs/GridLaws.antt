@@ -2,18 +2,19 @@
 use Rattle.std.proofs.Common.{◌≡◌, ℕ, ◌*◌, ◌<◌, ◌≤◌, List, [], ◌∷◌, ◌++◌, refl, ap, sym, ◌∙◌, add-zero, arith}
 use Rattle.std.specs.Prelude.{pos, map, flat_map, get_or, length, All}
 use Rattle.std.specs.List.{range_with_len}
-use Rattle.std.proofs.Math.Nat.{mul-le-mul_left}
 use Rattle.std.proofs.lemmas.List.{map-append}
 use Rattle.std.proofs.lemmas.List.Elements.{All-filter, All-head, All-tail, All-weaker}
 use Rattle.std.proofs.lemmas.List.FromFn.{get_or-map-range_with_len, get_or-range_with_len}
 use Rattle.kuhn_cells.specs.declared.cell_list.CellList.{CellList}
 use Rattle.kuhn_cells.specs.declared.cell_list.CellValues.{CellValues}
+use Rattle.kuhn_cells.specs.declared.grid_size.GridSize.{GridSize}
 use Rattle.kuhn_cells.specs.Arrangement.{differ}
 use Rattle.kuhn_cells.specs.Cells.{IsBordered, IsCellOf, cell_at, directions_of, edges_of, has_inside, mixed_cells, place_of}
 use Rattle.kuhn_cells.specs.Faces.{Face, all_triangles, face_among, faces}
 use Rattle.kuhn_cells.specs.Grids.{Grid, value_at, vertices}
 use Rattle.kuhn_cells.specs.Laws.{CellsAreFew, CellsAreOfTheGrid, CellsHaveTriangles, CellsHaveVertices, CellsRise, EdgesHaveCells}
 use Rattle.kuhn_cells.specs.Lists.{ListsCells}
+use Rattle.kuhn_cells.specs.Sizes.{IsBounded}
 use Rattle.kuhn_cells.specs.Triangles.{GridPoint, edge_from, further}
 use Rattle.tetra_mesh.specs.declared.sided_cell.SidedCell.{SidedCell}
 use Rattle.tetra_mesh.specs.declared.vertex.Vertex.{Vertex}
@@ -24,31 +25,28 @@ use Rattle.tetra_mesh.specs.Sides.{HasParts, sided_of}
 
 -- ---- the cells
 
-few_cells : (n x y z : ℕ) → n ≤ 256 → x ≡ n → y ≡ n → z ≡ n → x * (y * z) ≤ 16777216
-few_cells n x y z few ex ey ez =
-    let square : n * n ≤ 256 * n = grind arith in
-    let cube : n * (n * n) ≤ n * (256 * n) = mul-le-mul_left n square in
-    let square' : 256 * (n * n) ≤ 256 * (256 * n) = mul-le-mul_left 256 square in
-    let same : x * (y * z) ≡ n * (n * n) = ap (λ i. i * (y * z)) ex ∙ ap (λ i. n * (i * z)) ey ∙ ap (λ i. n * (n * i)) ez in
-    omega (arith, cube, square', same, few)
+few_cells : (n : GridSize) (x y z : ℕ) → IsBounded n → x ≡ n.x → y ≡ n.y → z ≡ n.z → x * (y * z) ≤ 16777216
+few_cells n x y z bounded ex ey ez =
+    let same : x * (y * z) ≡ n.x * (n.y * n.z) = ap (λ i. i * (y * z)) ex ∙ ap (λ i. n.x * (i * z)) ey ∙ ap (λ i. n.x * (n.y * i)) ez in
+    omega (arith, same, bounded.all)
 
-pub are_few : CellsAreFew → (n : ℕ) (list : CellList) (g : Grid) → n ≤ 256 → ListsCells n list g → length list.cells.items ≤ 16777216
-are_few few n list g narrow is =
+pub are_few : CellsAreFew → (n : GridSize) (list : CellList) (g : Grid) → IsBounded n → ListsCells n list g → length list.cells.items ≤ 16777216
+are_few few n list g bounded is =
     let count = few g in
-    let most = few_cells n g.x g.y g.z narrow is.x is.y is.z in
+    let most = few_cells n g.x g.y g.z bounded is.x is.y is.z in
     let same = ap length is.cells in
     omega (arith, count, most, same)
 
-pub are_cells : CellsAreOfTheGrid → CellsRise → CellsAreFew → EdgesHaveCells → (n : ℕ) (g : Grid) (vertices : List Vertex) (sided : List SidedCell) → n ≤ 256 → HasParts n g vertices sided → AreCells n (mixed_cells g)
-are_cells of_grid rise few edges n g vertices sided narrow is =
+pub are_cells : CellsAreOfTheGrid → CellsRise → CellsAreFew → EdgesHaveCells → (n : GridSize) (g : Grid) (vertices : List Vertex) (sided : List SidedCell) → IsBounded n → HasParts n g vertices sided → AreCells n (mixed_cells g)
+are_cells of_grid rise few edges n g vertices sided bounded is =
     let x = is.x in
     let y = is.y in
     let z = is.z in
     let within : All (IsIn n) (mixed_cells g) =
     All-weaker (IsCellOf g) (IsIn n) (λ c h. let fx = h.x in let fy = h.y in let fz = h.z in record { x = omega (arith, fx, x); y = omega (arith, fy, y); z = omega (arith, fz, z) }) (mixed_cells g) (of_grid g) in
     let count = few g in
-    let most = few_cells n g.x g.y g.z narrow x y z in
-    record { narrow = narrow; few = omega (arith, count, most); within = within; rise = rise g; edges = edges g is.border }
+    let most = few_cells n g.x g.y g.z bounded x y z in
+    record { bounded = bounded; few = omega (arith, count, most); within = within; rise = rise g; edges = edges g is.border }
 
 -- ---- the vertices
 
@@ -109,7 +107,7 @@ faces_of_cells have triangles g border =
 -- ---- the mesh
 
 -- the vertices of the cells of a list, and their places and sides, are those of the grid's mixed cells
-pub parts_of_grid : (n : ℕ) (list : CellList) (items : List CellValues) (g : Grid) (vertices : List Vertex) (sided : List SidedCell) → ListsCells n list g → items ≡ list.cells.items → vertices ≡ flat_map vertices_on items → sided ≡ map sided_of items → HasParts n g vertices sided
+pub parts_of_grid : (n : GridSize) (list : CellList) (items : List CellValues) (g : Grid) (vertices : List Vertex) (sided : List SidedCell) → ListsCells n list g → items ≡ list.cells.items → vertices ≡ flat_map vertices_on items → sided ≡ map sided_of items → HasParts n g vertices sided
 parts_of_grid n list items g vertices sided is same have sides = record {
   x = is.x;
   y = is.y;
@@ -119,7 +117,7 @@ parts_of_grid n list items g vertices sided is same have sides = record {
   sides = sides ∙ ap (map sided_of) (same ∙ is.cells);
 }
 
-pub mesh_is : CellsAreOfTheGrid → CellsHaveVertices → CellsHaveTriangles → (n : ℕ) (g : Grid) (vertices : List Vertex) (sided : List SidedCell) (faces : List Face) → HasParts n g vertices sided → faces ≡ all_faces (mixed_cells g) (mixed_cells g) → record { vertices = vertices; faces = faces } ≡ mesh_of g
+pub mesh_is : CellsAreOfTheGrid → CellsHaveVertices → CellsHaveTriangles → (n : GridSize) (g : Grid) (vertices : List Vertex) (sided : List SidedCell) (faces : List Face) → HasParts n g vertices sided → faces ≡ all_faces (mixed_cells g) (mixed_cells g) → record { vertices = vertices; faces = faces } ≡ mesh_of g
 mesh_is of_grid have triangles n g v sided f is made =
     let make : List Vertex → List Face → Triangulation = λ v f. record { vertices = v; faces = f } in
     ap (λ l. make l f) (is.on_edges ∙ all_vertices of_grid have g is.border)

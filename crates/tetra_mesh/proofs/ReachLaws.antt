@@ -8,6 +8,7 @@ use Rattle.std.proofs.lemmas.List.Concat.{flat_map-append}
 use Rattle.std.proofs.lemmas.List.Elements.{All-same, All-set}
 use Rattle.std.proofs.lemmas.Nat.{div-mul-add, mod-mul-add}
 use Rattle.kuhn_cells.specs.declared.cell_list.CellValues.{CellValues}
+use Rattle.kuhn_cells.specs.declared.grid_size.GridSize.{GridSize}
 use Rattle.kuhn_cells.specs.Arrangement.{differ}
 use Rattle.kuhn_cells.specs.Cells.{directions_of, edges_of, has_inside, place_of}
 use Rattle.kuhn_cells.specs.Laws.{IsCellBefore}
@@ -36,7 +37,7 @@ edges_few [] = omega arith
 edges_few (c ∷ cells) =
     omega (arith, length-append (edges_of c) (flat_map edges_of cells), length-map (directions_of c) (edge_from (place_of c)), seven c, edges_few cells)
 
-pub room_left : (cells : List CellValues) (n : ℕ) (s : Numbering) → AreCells n cells → IsNumbered cells n s → s.vertices < 2 ^ 31
+pub room_left : (cells : List CellValues) (n : GridSize) (s : Numbering) → AreCells n cells → IsNumbered cells n s → s.vertices < 2 ^ 31
 room_left cells n s are is =
     let e = is.vertices in
     let few = are.few in
@@ -46,12 +47,12 @@ room_left cells n s are is =
 -- ---- slots
 
 -- different places of two layers have different slots
-pub slots_apart : (n : ℕ) (b c : CellValues) → IsIn n b → IsIn n c → IsCellBefore b c → c.z ≤ b.z + 1 → slot_of n b.x b.y b.z ≡ slot_of n c.x c.y c.z → ⊥
+pub slots_apart : (n : GridSize) (b c : CellValues) → IsIn n b → IsIn n c → IsCellBefore b c → c.z ≤ b.z + 1 → slot_of n b.x b.y b.z ≡ slot_of n c.x c.y c.z → ⊥
 slots_apart n b c is in_c before near same =
-    let x : b.x ≡ c.x = sym (mod-mul-add (b.z % 2 * n + b.y) n b.x is.x) ∙ ap (λ s. s % n) same ∙ mod-mul-add (c.z % 2 * n + c.y) n c.x in_c.x in
-    let row : b.z % 2 * n + b.y ≡ c.z % 2 * n + c.y = sym (div-mul-add (b.z % 2 * n + b.y) n b.x is.x) ∙ ap (λ s. s / n) same ∙ div-mul-add (c.z % 2 * n + c.y) n c.x in_c.x in
-    let y : b.y ≡ c.y = sym (mod-mul-add (b.z % 2) n b.y is.y) ∙ ap (λ s. s % n) row ∙ mod-mul-add (c.z % 2) n c.y in_c.y in
-    let z : b.z % 2 ≡ c.z % 2 = sym (div-mul-add (b.z % 2) n b.y is.y) ∙ ap (λ s. s / n) row ∙ div-mul-add (c.z % 2) n c.y in_c.y in
+    let x : b.x ≡ c.x = sym (mod-mul-add (b.z % 2 * n.y + b.y) n.x b.x is.x) ∙ ap (λ s. s % n.x) same ∙ mod-mul-add (c.z % 2 * n.y + c.y) n.x c.x in_c.x in
+    let row : b.z % 2 * n.y + b.y ≡ c.z % 2 * n.y + c.y = sym (div-mul-add (b.z % 2 * n.y + b.y) n.x b.x is.x) ∙ ap (λ s. s / n.x) same ∙ div-mul-add (c.z % 2 * n.y + c.y) n.x c.x in_c.x in
+    let y : b.y ≡ c.y = sym (mod-mul-add (b.z % 2) n.y b.y is.y) ∙ ap (λ s. s % n.y) row ∙ mod-mul-add (c.z % 2) n.y c.y in_c.y in
+    let z : b.z % 2 ≡ c.z % 2 = sym (div-mul-add (b.z % 2) n.y b.y is.y) ∙ ap (λ s. s / n.y) row ∙ div-mul-add (c.z % 2) n.y c.y in_c.y in
     by x y z before
   where
     last : b.x ≡ c.x → (b.y ≡ c.y) × (b.x < c.x) → ⊥
@@ -69,7 +70,7 @@ pub not_above : (b c : CellValues) → IsCellBefore b c → b.z ≤ c.z
 not_above b c (inl less) = omega (arith, less)
 not_above b c (inr rest) = let e = rest.0 in omega (arith, e)
 
-pub slot_within : (n x y z : ℕ) → x < n → y < n → slot_of n x y z < 2 * n * n
+pub slot_within : (n : GridSize) (x y z : ℕ) → x < n.x → y < n.y → slot_of n x y z < 2 * n.x * n.y
 slot_within n x y z fx fy = grind arith
 
 -- ---- one more cell
@@ -77,7 +78,7 @@ slot_within n x y z fx fy = grind arith
 abbrev entry_kept : Numbering → CellValues → Entry
 entry_kept s c = record { base = s.vertices; mask = mask_of c }
 
-kept_last : (cells : List CellValues) (n : ℕ) (old new : Numbering) (c : CellValues) (e : Entry) → AreCells n cells → IsNumbered cells n old → IsIn n c → NumbersCell c old new → get_or new.slots.items (slot_of n c.x c.y c.z) e ≡ entry_after (take old.ahead cells) c
+kept_last : (cells : List CellValues) (n : GridSize) (old new : Numbering) (c : CellValues) (e : Entry) → AreCells n cells → IsNumbered cells n old → IsIn n c → NumbersCell c old new → get_or new.slots.items (slot_of n c.x c.y c.z) e ≡ entry_after (take old.ahead cells) c
 kept_last cells n old new c e are is in_c step =
     let slot = slot_of old.n c.x c.y c.z in
     let entry = entry_kept old c in
@@ -90,7 +91,7 @@ kept_last cells n old new c e are is in_c step =
     ∙ get_or-set_same old.slots.items slot entry e within
     ∙ ap make is.vertices
 
-kept_on : (cells : List CellValues) (n : ℕ) (old new : Numbering) (c : CellValues) → AreCells n cells → IsNumbered cells n old → old.ahead < length cells → c ≡ get_or cells old.ahead c → NumbersCell c old new → (j : ℕ) (d : CellValues) (e : Entry) → (j < old.ahead) ⊎ (old.ahead ≤ j) → j < new.ahead → ((k : ℕ) → k < new.ahead → (get_or cells k d).z ≤ (get_or cells j d).z + 1) → let b = get_or cells j d in get_or new.slots.items (slot_of n b.x b.y b.z) e ≡ entry_after (take j cells) b
+kept_on : (cells : List CellValues) (n : GridSize) (old new : Numbering) (c : CellValues) → AreCells n cells → IsNumbered cells n old → old.ahead < length cells → c ≡ get_or cells old.ahead c → NumbersCell c old new → (j : ℕ) (d : CellValues) (e : Entry) → (j < old.ahead) ⊎ (old.ahead ≤ j) → j < new.ahead → ((k : ℕ) → k < new.ahead → (get_or cells k d).z ≤ (get_or cells j d).z + 1) → let b = get_or cells j d in get_or new.slots.items (slot_of n b.x b.y b.z) e ≡ entry_after (take j cells) b
 kept_on cells n old new c are is more here step j d e (inl earlier) less near =
     let a = old.ahead in
     let b = get_or cells j d in
@@ -119,7 +120,7 @@ kept_on cells n old new c are is more here step j d e (inr late) less near =
     let R : ℕ → Type 0 = λ i. let b = get_or cells i d in get_or new.slots.items (slot_of n b.x b.y b.z) e ≡ entry_after (take i cells) b in
     subst R same (subst P (sym next) (kept_last cells n old new c e are is in_c step))
 
-pub numbered_more : (cells : List CellValues) (n : ℕ) (old new : Numbering) (c : CellValues) → AreCells n cells → IsNumbered cells n old → old.ahead < length cells → c ≡ get_or cells old.ahead c → NumbersCell c old new → IsNumbered cells n new
+pub numbered_more : (cells : List CellValues) (n : GridSize) (old new : Numbering) (c : CellValues) → AreCells n cells → IsNumbered cells n old → old.ahead < length cells → c ≡ get_or cells old.ahead c → NumbersCell c old new → IsNumbered cells n new
 numbered_more cells n old new c are is more here step =
     let a = old.ahead in
     let first = flat_map edges_of (take a cells) in
@@ -151,7 +152,7 @@ below_more cells a z c below more here low k d less = by (cases_lt k a)
         omega (arith, e, low)
 
 -- where the next cell lies higher than one layer above z, all others that do not are numbered
-pub stopped : (cells : List CellValues) (n a z : ℕ) (c : CellValues) → AreCells n cells → a < length cells → c ≡ get_or cells a c → z + 1 < c.z → ReachesAbove cells a z
+pub stopped : (cells : List CellValues) (n : GridSize) (a z : ℕ) (c : CellValues) → AreCells n cells → a < length cells → c ≡ get_or cells a c → z + 1 < c.z → ReachesAbove cells a z
 stopped cells n a z c are more here high k d within low = by (cases_lt k a)
   where
     by : (k < a) ⊎ (a ≤ k) → k < a
@@ -168,11 +169,11 @@ stopped cells n a z c are more here high k d within low = by (cases_lt k a)
 
 -- ---- what the next cell has
 
-pub in_at : (cells : List CellValues) (n m a : ℕ) (c : CellValues) → AreCells n cells → m ≡ n → a < length cells → c ≡ get_or cells a c → IsIn m c
+pub in_at : (cells : List CellValues) (n m : GridSize) (a : ℕ) (c : CellValues) → AreCells n cells → m ≡ n → a < length cells → c ≡ get_or cells a c → IsIn m c
 in_at cells n m a c are same more here =
-    let P : ℕ → Type 0 = λ i. IsIn i c in
+    let P : GridSize → Type 0 = λ i. IsIn i c in
     let Q : CellValues → Type 0 = λ x. IsIn n x in
     subst P (sym same) (subst Q (sym here) (are.within a c more))
 
-pub room_at : (n m l : ℕ) → m ≡ n → l ≡ 2 * n * n → l ≡ 2 * m * m
-room_at n m l same room = room ∙ ap (λ i. 2 * i * i) (sym same)
+pub room_at : (n m : GridSize) (l : ℕ) → m ≡ n → l ≡ 2 * n.x * n.y → l ≡ 2 * m.x * m.y
+room_at n m l same room = room ∙ ap (λ (i : GridSize). 2 * i.x * i.y) (sym same)

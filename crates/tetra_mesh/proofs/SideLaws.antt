@@ -4,6 +4,7 @@ use Rattle.std.specs.Prelude.{get_or, length, map, set, ◌+◌}
 use Rattle.std.specs.Int.RustNames.{count_ones}
 use Rattle.std.proofs.lemmas.List.{get_or-map, get_or_default, length-map}
 use Rattle.kuhn_cells.specs.declared.cell_list.CellValues.{CellValues}
+use Rattle.kuhn_cells.specs.declared.grid_size.GridSize.{GridSize}
 use Rattle.kuhn_cells.specs.Cells.{directions_of, edges_of, place_of}
 use Rattle.kuhn_cells.specs.Triangles.{edge_from}
 use Rattle.tetra_mesh.specs.declared.entry.Entry.{Entry}
@@ -37,9 +38,9 @@ behind cells sided i same inside =
       sided = ap (λ l. get_or l i no_sides) same ∙ get_or-map sided_of cells i no_cell no_sides within;
     }
 
--- the same, where a number is spelled in two ways
-pub sides_as : (cells : List CellValues) (sided : List SidedCell) (n m : ℕ) → n ≡ m → AreSidesOf n cells sided → AreSidesOf m cells sided
-sides_as cells sided n m same are = let P : ℕ → Type 0 = λ i. AreSidesOf i cells sided in subst P same are
+-- the same, where a size or a number is spelled in two ways
+pub sides_as : (cells : List CellValues) (sided : List SidedCell) (n m : GridSize) → n ≡ m → AreSidesOf n cells sided → AreSidesOf m cells sided
+sides_as cells sided n m same are = let P : GridSize → Type 0 = λ i. AreSidesOf i cells sided in subst P same are
 
 pub lower_z : (cells : List CellValues) (ahead y z : ℕ) → y ≡ z → LiesBelow cells ahead y → LiesBelow cells ahead z
 lower_z cells ahead y z same below = let P : ℕ → Type 0 = λ i. LiesBelow cells ahead i in subst P same below

@@ -4,11 +4,13 @@ use Rattle.std.specs.Int.RustNames.{count_ones}
 use Rattle.std.specs.List.{range_with_len}
 use Rattle.kuhn_cells.specs.declared.cell_list.CellValues.{CellValues}
 use Rattle.kuhn_cells.specs.declared.edge_key.EdgeKey.{EdgeKey}
+use Rattle.kuhn_cells.specs.declared.grid_size.GridSize.{GridSize}
 use Rattle.kuhn_cells.specs.declared.triple.Triple.{Triple}
 use Rattle.kuhn_cells.specs.Arrangement.{differ}
 use Rattle.kuhn_cells.specs.Cells.{HasCell, directions_of, edges_of, has_inside, place_of, triangles_of_cell}
 use Rattle.kuhn_cells.specs.Faces.{Face, face_among}
 use Rattle.kuhn_cells.specs.Laws.{IsCellBefore, OfEdges}
+use Rattle.kuhn_cells.specs.Sizes.{IsBounded}
 use Rattle.kuhn_cells.specs.Triangles.{edge_from}
 use Rattle.tetra_mesh.specs.declared.entry.Entry.{Entry}
 use Rattle.tetra_mesh.specs.declared.numbering.Numbering.{Numbering}
@@ -52,8 +54,8 @@ abbrev pub vertices_on : CellValues → List Vertex
 vertices_on c = map (vertex_on c) (directions_of c)
 
 -- the place in two layers at which what is known of a cell is kept
-abbrev pub slot_of : ℕ → ℕ → ℕ → ℕ → ℕ
-slot_of n x y z = (z % 2 * n + y) * n + x
+abbrev pub slot_of : GridSize → ℕ → ℕ → ℕ → ℕ
+slot_of n x y z = (z % 2 * n.y + y) * n.x + x
 
 -- what is kept of a cell after others: how many vertices stand before its own, and which edges have one
 abbrev pub entry_after : List CellValues → CellValues → Entry
@@ -62,15 +64,15 @@ entry_after cells c = record { base = length (flat_map edges_of cells); mask = m
 abbrev pub no_entry : Entry
 no_entry = record { base = 0; mask = 0 }
 
--- a cell lies in a grid of n cells along each axis
-pub record IsIn (n : ℕ) (c : CellValues) : Type 0 where
-  pub x : c.x < n
-  pub y : c.y < n
-  pub z : c.z < n
+-- a cell lies in a grid of so many cells along each axis
+pub record IsIn (n : GridSize) (c : CellValues) : Type 0 where
+  pub x : c.x < n.x
+  pub y : c.y < n.y
+  pub z : c.z < n.z
 
--- mixed cells, of which each edge of each triangle starts at one
-pub record AreCells (n : ℕ) (cells : List CellValues) : Type 0 where
-  pub narrow : n ≤ 256
+-- mixed cells of a grid, of which each edge of each triangle starts at one
+pub record AreCells (n : GridSize) (cells : List CellValues) : Type 0 where
+  pub bounded : IsBounded n
   pub few : length cells ≤ 16777216
   pub within : All (IsIn n) cells
   pub rise : AllPairs IsCellBefore cells
@@ -81,11 +83,11 @@ abbrev pub IsSmall : Entry → Type 0
 IsSmall e = e.base < 2 ^ 31
 
 -- Of cells, so many are numbered. Those are kept that lie in the highest two layers among them.
-pub record IsNumbered (cells : List CellValues) (n : ℕ) (s : Numbering) : Type 0 where
+pub record IsNumbered (cells : List CellValues) (n : GridSize) (s : Numbering) : Type 0 where
   pub width : s.n ≡ n
   pub some : s.ahead ≤ length cells
   pub vertices : s.vertices ≡ length (flat_map edges_of (take s.ahead cells))
-  pub room : length s.slots.items ≡ 2 * n * n
+  pub room : length s.slots.items ≡ 2 * n.x * n.y
   pub small : All IsSmall s.slots.items
   pub kept : (j : ℕ) (d : CellValues) (e : Entry) → j < s.ahead
       → ((k : ℕ) → k < s.ahead → (get_or cells k d).z ≤ (get_or cells j d).z + 1)
@@ -109,11 +111,11 @@ pub record HasReached (cells : List CellValues) (ahead done : ℕ) : Type 0 wher
       → (get_or cells j d).z ≤ (get_or cells k d).z + 1
 
 -- the number of a vertex by what is kept of its cell
-abbrev pub number_in : ℕ → List Entry → EdgeKey → ℕ
+abbrev pub number_in : GridSize → List Entry → EdgeKey → ℕ
 number_in n slots e = let entry =
     get_or slots (slot_of n e.x e.y e.z) no_entry in entry.base + rank_of entry.mask e.dir
 
-abbrev pub face_in : ℕ → List Entry → Triple → Face
+abbrev pub face_in : GridSize → List Entry → Triple → Face
 face_in n slots t =
     record { a = number_in n slots t.a; b = number_in n slots t.b; c = number_in n slots t.c }
 
@@ -122,14 +124,14 @@ abbrev pub all_faces : List CellValues → List CellValues → List Face
 all_faces all cells = map (face_among (flat_map edges_of all)) (flat_map triangles_of_cell cells)
 
 -- two layers of what is kept
-pub record AreSlots (n : ℕ) (slots : List Entry) : Type 0 where
-  pub narrow : n ≤ 256
-  pub room : length slots ≡ 2 * n * n
+pub record AreSlots (n : GridSize) (slots : List Entry) : Type 0 where
+  pub bounded : IsBounded n
+  pub room : length slots ≡ 2 * n.x * n.y
   pub small : All IsSmall slots
 
 -- an edge whose vertex may be looked up
-pub record IsKept (n : ℕ) (e : EdgeKey) : Type 0 where
-  pub x : e.x < n
-  pub y : e.y < n
-  pub z : e.z < n
+pub record IsKept (n : GridSize) (e : EdgeKey) : Type 0 where
+  pub x : e.x < n.x
+  pub y : e.y < n.y
+  pub z : e.z < n.z
   pub dir : e.dir < 8

@@ -11,6 +11,7 @@ use Rattle.view_settings.specs.declared.lattice.Lattice.TheVariants.{Grid}
 use Rattle.view_settings.specs.Places.{place_of}
 use Rattle.view_settings.specs.Window.{Window}
 use Rattle.tetra_mesh.specs.declared.vertex.Vertex.{Vertex}
+use Rattle.tetra_mesh.specs.Sizes.{size_of}
 
 -- the index of a point along an axis
 abbrev pub index_along : Axis → GridPoint → ℕ
@@ -44,9 +45,9 @@ vertex_place w v axis =
 
 -- a point of the grid of a view: along each axis the points are one more than the cells
 pub record IsGridPoint (w : Window) (p : GridPoint) : Type 0 where
-  pub x : p.x ≤ w.n
-  pub y : p.y ≤ w.n
-  pub z : p.z ≤ w.n
+  pub x : p.x ≤ (size_of w).x
+  pub y : p.y ≤ (size_of w).y
+  pub z : p.z ≤ (size_of w).z
 
 -- a vertex that lies in the grid of a view: between the ends of an edge that are both points of the
 -- grid, where the upper one is so only if the lower one is

@@ -2,6 +2,7 @@
 use Rattle.std.specs.Prelude.{◌≡◌, ℕ, ◌+◌, ◌-◌, ◌%◌, ◌==◌, List, flat_map, map, set, if◌then◌else◌}
 use Rattle.std.specs.Int.RustNames.{count_ones}
 use Rattle.kuhn_cells.specs.declared.cell_list.CellValues.{CellValues}
+use Rattle.kuhn_cells.specs.declared.grid_size.GridSize.{GridSize}
 use Rattle.kuhn_cells.specs.Cells.{IsBordered, mixed_cells}
 use Rattle.kuhn_cells.specs.Grids.{Grid}
 use Rattle.tetra_mesh.specs.declared.numbering.Numbering.{Numbering}
@@ -18,24 +19,24 @@ abbrev pub mask_by : ℕ → ℕ
 mask_by signs = if signs % 2 == 1 then 255 - signs else signs
 
 -- mixed cells, listed by their places and sides
-pub record AreSidesOf (n : ℕ) (cells : List CellValues) (sided : List SidedCell) : Type 0 where
+pub record AreSidesOf (n : GridSize) (cells : List CellValues) (sided : List SidedCell) : Type 0 where
   pub mixed : AreCells n cells
   pub sides : sided ≡ map sided_of cells
 
 -- places and sides are those of some mixed cells
-abbrev pub HaveCells : ℕ → List SidedCell → Type 0
+abbrev pub HaveCells : GridSize → List SidedCell → Type 0
 HaveCells n sided = (cells : List CellValues) × AreSidesOf n cells sided
 
 -- a fact of the mixed cells that have these places and sides
-abbrev pub OfCells : ℕ → List SidedCell → (List CellValues → Type 0) → Type 0
+abbrev pub OfCells : GridSize → List SidedCell → (List CellValues → Type 0) → Type 0
 OfCells n sided P = (cells : List CellValues) → AreSidesOf n cells sided → P cells
 
--- The mixed cells of a grid of n cells along each axis, whose outermost layer is outside, have
+-- The mixed cells of a grid of so many cells along each axis, whose outermost layer is outside, have
 -- these vertices and these places and sides.
-pub record HasParts (n : ℕ) (g : Grid) (vertices : List Vertex) (sided : List SidedCell) : Type 0 where
-  pub x : g.x ≡ n
-  pub y : g.y ≡ n
-  pub z : g.z ≡ n
+pub record HasParts (n : GridSize) (g : Grid) (vertices : List Vertex) (sided : List SidedCell) : Type 0 where
+  pub x : g.x ≡ n.x
+  pub y : g.y ≡ n.y
+  pub z : g.z ≡ n.z
   pub border : IsBordered g
   pub on_edges : vertices ≡ flat_map vertices_on (mixed_cells g)
   pub sides : sided ≡ map sided_of (mixed_cells g)

@@ -4,6 +4,7 @@ use Rattle.kuhn_cells.specs.Cells.{IsBordered}
 use Rattle.kuhn_cells.specs.Grids.{Grid}
 use Rattle.view_settings.specs.Window.{FitsMesh, IsWindow, Window}
 use Rattle.tetra_mesh.specs.Cuts.{mesh_of}
+use Rattle.tetra_mesh.specs.Sizes.{size_of}
 use Rattle.tetra_mesh.specs.Sound.{IsSound, LieApart}
 
 -- the mesh of each grid whose outermost layer is outside is sound
@@ -12,9 +13,9 @@ GridMeshesAreSound = (g : Grid) → IsBordered g → IsSound g (mesh_of g)
 
 -- a grid has as many cells along each axis as a view tells
 pub record IsGridOf (w : Window) (g : Grid) : Type 0 where
-  pub x : g.x ≡ w.n
-  pub y : g.y ≡ w.n
-  pub z : g.z ≡ w.n
+  pub x : g.x ≡ (size_of w).x
+  pub y : g.y ≡ (size_of w).y
+  pub z : g.z ≡ (size_of w).z
 
 -- its vertices lie apart over each view of its size whose cells have 65536 raw units along each axis
 abbrev pub GridMeshesLieApart : Type 0

@@ -4,7 +4,7 @@ use Rattle.fixed_ops.specs.Raw.{IsRaw}
 use Rattle.view_settings.specs.declared.lattice.Axis.{Axis}
 use Rattle.view_settings.specs.declared.lattice.Axis.TheVariants.{X, Y, Z}
 use Rattle.view_settings.specs.declared.lattice.Lattice.TheVariants.{Grid}
-use Rattle.view_settings.specs.Places.{place_of}
+use Rattle.view_settings.specs.Places.{place_of, steps_of}
 use Rattle.view_settings.specs.Window.{Window}
 
 -- a number is the raw place of a point of a grid along an axis
@@ -12,10 +12,10 @@ pub record IsPointPlace (w : Window) (axis : Axis) (i : ℕ) (place : ℤ) : Typ
   pub is : place ≡ place_of w Grid axis i
   pub raw : IsRaw place
 
--- a list has the raw places of a grid's points along an axis, of which there are at most 257
+-- a list has the raw places of a grid's points along an axis, of which there are at most 513
 pub record IsTable (w : Window) (axis : Axis) (table : List ℤ) : Type 0 where
-  pub few : w.n ≤ 256
-  pub holds : (i : ℕ) → i ≤ w.n → IsPointPlace w axis i (slice_index_or table i (pos 0))
+  pub few : steps_of w Grid axis ≤ 512
+  pub holds : (i : ℕ) → i ≤ steps_of w Grid axis → IsPointPlace w axis i (slice_index_or table i (pos 0))
 
 -- and so it is along each axis
 pub record AreTables (w : Window) (x y z : List ℤ) : Type 0 where

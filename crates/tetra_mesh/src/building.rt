@@ -6,6 +6,7 @@ ghost use Rattle.tetra_mesh.specs.Cuts.{mesh_of};
 ghost use Rattle.tetra_mesh.specs.Numbering.{IsNumbered, all_faces, vertices_on};
 ghost use Rattle.tetra_mesh.specs.Shapes.{AreShapes};
 ghost use Rattle.tetra_mesh.specs.Sides.{HasParts, HaveCells, OfCells, sided_of};
+ghost use Rattle.tetra_mesh.specs.Sizes.{size_of};
 ghost use Rattle.tetra_mesh.specs.Sound.{IsSound, LieApart};
 ghost use Rattle.view_settings.specs.Window.{FitsMesh};
 
@@ -16,7 +17,7 @@ use crate::shapes::Shapes;
 use crate::sided_cell::SidedCell;
 use crate::vertices::vertices_of;
 use crate::{Face, Mesh, Vertex};
-use kuhn_cells::{CellList, CellValues, mixed_cells_suffice};
+use kuhn_cells::{CellList, CellValues, GridSize, mixed_cells_suffice};
 use std::alloc::{AllocError, Global};
 use view_settings::View;
 
@@ -25,10 +26,10 @@ use view_settings::View;
 /// and over a view whose cells have 65536 raw units along each axis also as raw places and as lines.
 /// AllocError: there is no memory for it.
 pub fn build(alloc: Global, cells: &CellList, view: &View) -> Result<Mesh, AllocError>
-    requires { (g : Grid) × ListsCells view.now.n cells.now g }
-    ensures mesh { (g : Grid) → ListsCells view.now.n cells.now g → IfOk result
+    requires { (g : Grid) × ListsCells (size_of view.now) cells.now g }
+    ensures mesh { (g : Grid) → ListsCells (size_of view.now) cells.now g → IfOk result
         (λ mesh. mesh ≡ mesh_of g) }
-    ensures sound { (g : Grid) → ListsCells view.now.n cells.now g → IfOk result (IsSound g) }
+    ensures sound { (g : Grid) → ListsCells (size_of view.now) cells.now g → IfOk result (IsSound g) }
     ensures apart { FitsMesh view.now → IfOk result (λ mesh. LieApart view.now mesh.vertices) }
 {
     cells_are_few(cells, view);
@@ -38,10 +39,10 @@ pub fn build(alloc: Global, cells: &CellList, view: &View) -> Result<Mesh, Alloc
 
 /// The mesh that `build` gives. The list of cells is given up before the faces are made.
 pub fn build_from(alloc: Global, cells: CellList, view: &View) -> Result<Mesh, AllocError>
-    requires { (g : Grid) × ListsCells view.now.n cells g }
-    ensures mesh { (g : Grid) → ListsCells view.now.n cells g → IfOk result
+    requires { (g : Grid) × ListsCells (size_of view.now) cells g }
+    ensures mesh { (g : Grid) → ListsCells (size_of view.now) cells g → IfOk result
         (λ mesh. mesh ≡ mesh_of g) }
-    ensures sound { (g : Grid) → ListsCells view.now.n cells g → IfOk result (IsSound g) }
+    ensures sound { (g : Grid) → ListsCells (size_of view.now) cells g → IfOk result (IsSound g) }
     ensures apart { FitsMesh view.now → IfOk result (λ mesh. LieApart view.now mesh.vertices) }
 {
     cells_are_few(&cells, view);
@@ -52,11 +53,11 @@ pub fn build_from(alloc: Global, cells: CellList, view: &View) -> Result<Mesh, A
 // Lets a proof know how many cells of a grid of the view's size are mixed at most.
 #[inline]
 fn cells_are_few(cells: &CellList, view: &View)
-    requires { (g : Grid) × ListsCells view.now.n cells.now g }
+    requires { (g : Grid) × ListsCells (size_of view.now) cells.now g }
     ensures { length cells.now.cells.items ≤ 16777216 }
 {
     mixed_cells_suffice();
-    let _n = view.n;
+    let _size = GridSize::cube(view.n);
 }
 
 // The vertices of the cells of a list that is given up, and the places and sides of the cells.
@@ -101,22 +102,22 @@ fn mesh_of_parts(
     sided: &[SidedCell],
     view: &View,
 ) -> Result<Mesh, AllocError>
-    requires { (g : Grid) × HasParts view.now.n g vertices.items sided.now }
-    ensures mesh { (g : Grid) → HasParts view.now.n g vertices.items sided.now → IfOk result
+    requires { (g : Grid) × HasParts (size_of view.now) g vertices.items sided.now }
+    ensures mesh { (g : Grid) → HasParts (size_of view.now) g vertices.items sided.now → IfOk result
         (λ mesh. mesh ≡ mesh_of g) }
-    ensures sound { (g : Grid) → HasParts view.now.n g vertices.items sided.now → IfOk result
+    ensures sound { (g : Grid) → HasParts (size_of view.now) g vertices.items sided.now → IfOk result
         (IsSound g) }
     ensures apart { FitsMesh view.now → IfOk result (λ mesh. LieApart view.now mesh.vertices) }
 {
     meshes_are_sound();
     mixed_cells_suffice();
-    let faces = faces_of(alloc, sided, view.n)?;
+    let faces = faces_of(alloc, sided, GridSize::cube(view.n))?;
     Ok(Mesh { vertices, faces })
 }
 
-// The faces of mixed cells of a grid of n cells along each axis, by their places and sides alone.
-// AllocError: there is no memory for them.
-fn faces_of(alloc: Global, sided: &[SidedCell], n: u32) -> Result<Vec<Face>, AllocError>
+// The faces of mixed cells of a grid of so many cells along each axis, by their places and sides
+// alone. AllocError: there is no memory for them.
+fn faces_of(alloc: Global, sided: &[SidedCell], n: GridSize) -> Result<Vec<Face>, AllocError>
     requires { HaveCells n sided.now }
     ensures { OfCells n sided.now
         (λ cells. IfOk result (λ faces. faces.items ≡ all_faces cells cells)) }

@@ -2,6 +2,7 @@
 ghost use Rattle.std.specs.Prelude.{◌≡◌, ◌≤◌, IfOk};
 ghost use Rattle.kuhn_cells.specs.Grids.{Grid};
 ghost use Rattle.kuhn_cells.specs.Lists.{ListsCells};
+ghost use Rattle.kuhn_cells.specs.Sizes.{cube};
 
 use super::*;
 use fixed_ops::Fx;
@@ -34,7 +35,7 @@ fn view_of(n: u32) -> View
 // The cells round a middle point that lies a quarter below 0. The others lie 3 quarters above 0 along
 // an axis, 7 along two and 11 along three.
 fn lone_point(alloc: Global) -> Result<CellList, AllocError>
-    ensures { IfOk result (λ list. (g : Grid) × ListsCells 2 list g) }
+    ensures { IfOk result (λ list. (g : Grid) × ListsCells (cube 2) list g) }
 {
     let i = Fx::from_raw(-1_073_741_824);
     let a = Fx::from_raw(3_221_225_472);
@@ -95,7 +96,7 @@ fn lone_point(alloc: Global) -> Result<CellList, AllocError>
 
 // No cell is mixed where there is one cell.
 fn lone_cell(alloc: Global) -> CellList
-    ensures { (g : Grid) × ListsCells 1 result g }
+    ensures { (g : Grid) × ListsCells (cube 1) result g }
 {
     CellList {
         n: 1,

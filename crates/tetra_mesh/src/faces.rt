@@ -10,13 +10,13 @@ use crate::entry::Entry;
 use crate::numbering::slot;
 use crate::shapes::Shapes;
 use crate::sided_cell::SidedCell;
-use kuhn_cells::{EdgeKey, Triple};
+use kuhn_cells::{EdgeKey, GridSize, Triple};
 use std::alloc::AllocError;
 
 // The faces of a cell. AllocError: there is no memory for them.
 #[inline]
 pub(crate) fn push_faces(
-    n: usize,
+    n: GridSize,
     slots: &[Entry],
     shapes: &Shapes,
     cell: &SidedCell,
@@ -36,7 +36,7 @@ pub(crate) fn push_faces(
 // for them.
 #[inline]
 fn push_triangles(
-    n: usize,
+    n: GridSize,
     slots: &[Entry],
     ranks: &[u8],
     cell: &SidedCell,
@@ -61,7 +61,7 @@ fn push_triangles(
 
 // The number of the vertex on an edge of the cell at the origin, in another cell.
 #[inline]
-fn number(n: usize, slots: &[Entry], ranks: &[u8], cell: &SidedCell, edge: EdgeKey) -> u32
+fn number(n: GridSize, slots: &[Entry], ranks: &[u8], cell: &SidedCell, edge: EdgeKey) -> u32
     requires slots { AreSlots n slots.now }
     requires ranks { AreRanks ranks.now }
     requires kept { IsKept n (moved cell.now edge) }

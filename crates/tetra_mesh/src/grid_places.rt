@@ -2,17 +2,17 @@
 ghost use Rattle.std.specs.Prelude.{◌≡◌, ◌≤◌};
 ghost use Rattle.fixed_ops.specs.Raw.{IsRaw};
 ghost use Rattle.view_settings.specs.declared.lattice.Lattice.TheVariants.{Grid};
-ghost use Rattle.view_settings.specs.Places.{place_of};
+ghost use Rattle.view_settings.specs.Places.{place_of, steps_of};
 ghost use Rattle.tetra_mesh.specs.Places.{IsPlaced, vertex_place};
 ghost use Rattle.tetra_mesh.specs.Tables.{IsTable};
 
 use crate::Vertex;
 use crate::place::{between, index_along, leads_along};
 use std::marker::Model;
-use view_settings::{Axis, Lattice, View, raw_place};
+use view_settings::{Axis, Lattice, View, samples_along};
 
 // A grid has at most so many points along an axis.
-const POINTS: usize = 257;
+const POINTS: usize = 513;
 
 /// The raw places of the points of a view's grid along each axis, each worked out once, for the
 /// places of many vertices.
@@ -67,7 +67,7 @@ impl GridPlaces {
     // The raw place of a point of the grid along an axis.
     #[inline]
     fn point(&self, axis: Axis, index: u32) -> i64
-        requires { index ≤ self.now.n }
+        requires { index ≤ steps_of self.now Grid axis }
         ensures place { result ≡ place_of self.now Grid axis index }
         ensures raw { IsRaw result }
     {
@@ -83,9 +83,12 @@ impl GridPlaces {
 fn table(view: &View, axis: Axis) -> [i64; POINTS]
     ensures { IsTable view.now axis result }
 {
+    // No grid has more than 512 cells along an axis.
+    let _n = view.n;
+    let samples = samples_along(view, Lattice::Grid, axis);
     let mut places = [0; POINTS];
-    for i in 0..view.n + 1 {
-        places[i as usize] = raw_place(view, Lattice::Grid, axis, i);
+    for i in 0..samples.steps + 1 {
+        places[i as usize] = samples.place(i);
     }
     places
 }

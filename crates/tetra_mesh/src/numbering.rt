@@ -1,17 +1,19 @@
 // How the vertices of mixed cells are numbered, layer by layer.
 ghost use Rattle.std.specs.Prelude.{◌≡◌, ◌+◌, ◌*◌, ◌<◌, ◌≤◌, ◌^◌, [], length, IfOk};
+ghost use Rattle.kuhn_cells.specs.Sizes.{IsBounded};
 ghost use Rattle.tetra_mesh.specs.Numbering.{IsNumbered, LiesBelow, ReachesAbove, slot_of};
 ghost use Rattle.tetra_mesh.specs.Sides.{HaveCells, Numbers, OfCells};
 
 use crate::entry::Entry;
 use crate::sided_cell::SidedCell;
+use kuhn_cells::GridSize;
 use std::alloc::{AllocError, Global};
 
 // How many vertices the first cells of a list have, and what is kept of those cells that lie in the
 // highest two layers among them.
 #[derive(Debug, Drop)]
 pub(crate) struct Numbering {
-    pub(crate) n: usize,
+    pub(crate) n: GridSize,
     pub(crate) slots: Vec<Entry>,
     pub(crate) vertices: u32,
     pub(crate) ahead: usize,
@@ -19,12 +21,12 @@ pub(crate) struct Numbering {
 
 impl Numbering {
     // No cell is numbered yet. AllocError: there is no memory.
-    pub(crate) fn new(alloc: Global, n: u32) -> Result<Numbering, AllocError>
-        requires { n ≤ 256 }
+    pub(crate) fn new(alloc: Global, n: GridSize) -> Result<Numbering, AllocError>
+        requires { IsBounded n }
         ensures { IfOk result (λ s. IsNumbered [] n s) }
     {
-        let n = n as usize;
-        let slots = vec![in alloc; Entry { base: 0, mask: 0 }; 2 * n * n]?;
+        let places = 2 * n.x as usize * n.y as usize;
+        let slots = vec![in alloc; Entry { base: 0, mask: 0 }; places]?;
         Ok(Numbering {
             n,
             slots,
@@ -39,7 +41,7 @@ impl Numbering {
         requires numbered { OfCells self.old.n sided.now
             (λ cells. IsNumbered cells self.old.n self.old) }
         requires below { OfCells self.old.n sided.now (λ cells. LiesBelow cells self.old.ahead z) }
-        requires layer { z ≤ 256 }
+        requires layer { z ≤ 512 }
         ensures width { self.new.n ≡ self.old.n }
         ensures numbered { OfCells self.old.n sided.now
             (λ cells. IsNumbered cells self.old.n self.new) }
@@ -55,10 +57,10 @@ impl Numbering {
     // Numbers one more cell.
     #[inline]
     fn push_cell(&mut self, cell: &SidedCell)
-        requires narrow { self.old.n ≤ 256 }
-        requires x { cell.now.x < self.old.n }
-        requires y { cell.now.y < self.old.n }
-        requires room { length self.old.slots.items ≡ 2 * self.old.n * self.old.n }
+        requires bounded { IsBounded self.old.n }
+        requires x { cell.now.x < self.old.n.x }
+        requires y { cell.now.y < self.old.n.y }
+        requires room { length self.old.slots.items ≡ 2 * self.old.n.x * self.old.n.y }
         requires few { self.old.vertices < 2 ^ 31 }
         requires ahead { self.old.ahead < 2 ^ 32 }
         ensures { Numbers cell.now self.old self.new }
@@ -76,12 +78,12 @@ impl Numbering {
 
 // The place in two layers at which what is known of a cell is kept.
 #[inline]
-pub(crate) fn slot(n: usize, x: u16, y: u16, z: u16) -> usize
-    requires narrow { n ≤ 256 }
-    requires x { x < n }
-    requires y { y < n }
+pub(crate) fn slot(n: GridSize, x: u16, y: u16, z: u16) -> usize
+    requires bounded { IsBounded n }
+    requires x { x < n.x }
+    requires y { y < n.y }
     ensures place { result ≡ slot_of n x y z }
-    ensures within { result < 2 * n * n }
+    ensures within { result < 2 * n.x * n.y }
 {
-    (usize::from(z % 2) * n + usize::from(y)) * n + usize::from(x)
+    (usize::from(z % 2) * n.y as usize + usize::from(y)) * n.x as usize + usize::from(x)
 }

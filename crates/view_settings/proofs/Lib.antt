@@ -6,3 +6,4 @@ pub mod NameLaws
 pub mod SpanLaws
 mod WordExamples
 pub mod WordLaws
+pub mod WindowLaws

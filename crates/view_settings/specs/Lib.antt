@@ -11,5 +11,4 @@ pub mod Spans
 pub mod Steps
 pub mod Verbs
 pub mod Window
-pub mod WindowLaws
 pub mod Words

@@ -1,5 +1,5 @@
 -- The laws are lemmas.
-use Rattle.kuhn_cells.specs.FaceLaws.{numbers_are_places, triangles_have_vertices}
+use Rattle.kuhn_cells.proofs.FaceLaws.{numbers_are_places, triangles_have_vertices}
 use Rattle.kuhn_cells.proofs.laws.triangles_have_vertices.Goals as goal
 
 pub returns-clause-triangles : goal.returns-clause-triangles

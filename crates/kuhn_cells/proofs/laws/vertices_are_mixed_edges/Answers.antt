@@ -1,6 +1,6 @@
 -- The laws are lemmas.
-use Rattle.kuhn_cells.specs.OrderLaws.{vertices_rise}
-use Rattle.kuhn_cells.specs.VertexLaws.{vertices_are_mixed_edges}
+use Rattle.kuhn_cells.proofs.OrderLaws.{vertices_rise}
+use Rattle.kuhn_cells.proofs.VertexLaws.{vertices_are_mixed_edges}
 use Rattle.kuhn_cells.proofs.laws.vertices_are_mixed_edges.Goals as goal
 
 pub returns-clause-edges : goal.returns-clause-edges

@@ -4,14 +4,14 @@ use Rattle.std.proofs.lemmas.List.{take_all}
 use Rattle.std.proofs.lemmas.List.Elements.{All-nil}
 use Rattle.box_chains.specs.Chains.{visit}
 use Rattle.box_chains.specs.Outcomes.{HandsOn, asked_outcomes}
-use Rattle.live_clauses.specs.Steps.{IsTape}
 use Rattle.box_chains.specs.Visits.{IsVisit}
 use Rattle.interval_ops.specs.HullCounts.{CountsHulls}
+use Rattle.kuhn_cells.specs.Sizes.{SameSize}
 use Rattle.oct_descent.proofs.Sizes.{size-is, size-then}
 use Rattle.oct_descent.specs.Bound.{CountsHullsAtLeast}
 use Rattle.oct_descent.specs.Desks.{ChargesHalves, IsToldAt, PaysHalves, halves_long_spans, longer}
 use Rattle.oct_descent.specs.GridValues.{grid_value}
-use Rattle.oct_descent.specs.Sizes.{SameSize, size_of}
+use Rattle.oct_descent.specs.Sizes.{size_of}
 use Rattle.oct_descent.specs.Tables.{AreRight, AreSettled, AreWorked}
 use Rattle.oct_descent.specs.Ways.{gridded}
 use Rattle.oct_descent.proofs.Looks.{all-settled, all-traced, begun-charged, begun-paid, cell-below, cell-traced, cell-traced_below, closed-settled, closed-traced, closed-worked, first-charged, first-traced, half-grows, half-part, half-shorter, half-visit, halves-boxes, halves-charged, halves-in_root, halves-paid, halves-traced, halves-worked, handed-grows, handed-right, handed-settled, handed-tape, next-charged, next-paid, next-settled, next-traced, next-worked, on_ok, on_ok-then, part-covers, some-charged}
@@ -202,7 +202,7 @@ look_into_halves-loop-half-init t c =
       few = omega arith;
       told = c.as_slice-outcomes.ensures.value ∙ c.in_ok-outcomes.ensures.outcomes ∙ ap (λ hs. asked_outcomes c.args.desk.now.places live (longer c.n.result hs)) same
           ∙ ap (λ n. asked_outcomes c.args.desk.now.places live (longer n halves)) (c.n.ensures ∙ size-is c.args.values.now.n (size_of view) c.requires.may.n);
-      settled = All-nil (λ h. AreSettled (grid_value view live) h c.args.values.now);
+      settled = All-nil (λ h. AreSettled (gridded view) (grid_value view live) h c.args.values.now);
       grows = grows-none (grid_value view live) c.args.b c.args.values.now;
       counted = first-charged c.layers_hold.ensures (gridded view) live halves c.n.result c.args.values.now c.args.tally.now c.trace_longer.new.tally hulls;
       worked = All-nil (λ h. AreWorked (gridded view) (visit h live) c.args.values.now);
@@ -307,11 +307,12 @@ look_into_halves-loop-half-preserved t c =
 
 pub look_into_halves-returns-clause-settled : goal.look_into_halves-returns-clause-settled
 look_into_halves-returns-clause-settled t c =
-    let g = grid_value c.args.desk.now.places.view c.args.live.now in
+    let view = c.args.desk.now.places.view in
+    let g = grid_value view c.args.live.now in
     let all = c.as_slice-half-items.ensures.value ∙ c.split-halves.ensures in
     let halves = c.as_slice-half-items.result.now in
-    all-settled c.layers_hold.ensures g c.args.b c.loop-half.values
-    (subst (λ hs. All (λ h. AreSettled g h c.loop-half.values) hs) (take_all c.loop-half.half-index halves (omega (arith, c.loop-half-test.false)) ∙ all) c.loop-half.invariant.settled)
+    all-settled c.layers_hold.ensures (gridded view) g c.args.b c.loop-half.values
+    (subst (λ hs. All (λ h. AreSettled (gridded view) g h c.loop-half.values) hs) (take_all c.loop-half.half-index halves (omega (arith, c.loop-half-test.false)) ∙ all) c.loop-half.invariant.settled)
 
 pub look_into_halves-returns-clause-worked : goal.look_into_halves-returns-clause-worked
 look_into_halves-returns-clause-worked t c =

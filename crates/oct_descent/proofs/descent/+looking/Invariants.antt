@@ -24,7 +24,7 @@ invariant-look_into_halves-loop-half l = record {
   kept : KeepsDesk l.fn.desk l.desk;
   few : l.at ≤ l.half-index;
   told : drop l.at l.outcomes ≡ asked_outcomes l.fn.desk.places l.live (longer (size_of l.fn.desk.places.view) (drop l.half-index l.half-items));
-  settled : All (λ h. AreSettled (grid_value l.fn.desk.places.view l.live) h l.values) (take l.half-index l.half-items);
+  settled : All (λ h. AreSettled (gridded l.fn.desk.places.view) (grid_value l.fn.desk.places.view l.live) h l.values) (take l.half-index l.half-items);
   grows : Grows (grid_value l.fn.desk.places.view l.live) l.fn.b l.fn.values l.values;
   counted : (f : GridPoint → ℕ) → All (λ h. IsEnough f (gridded l.fn.desk.places.view) (visit h l.live)) l.half-items
       → Charges f (owned l.live l.half-items + halves_below (gridded l.fn.desk.places.view) l.live (take l.half-index l.half-items)) l.fn.values l.values l.fn.tally l.tally;

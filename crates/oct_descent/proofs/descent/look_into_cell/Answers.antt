@@ -13,7 +13,7 @@ use Rattle.oct_descent.proofs.descent.look_into_cell.Goals as goal
 pub returns-then-seen-clause-settled : goal.returns-then-seen-clause-settled
 returns-then-seen-clause-settled c =
     let b = c.args.b in
-    known-settled (grid_value c.args.desk.now.places.view c.args.received.now) b c.args.values.now
+    known-settled c.args.desk.now.places.view (grid_value c.args.desk.now.places.view c.args.received.now) b c.args.values.now
     (all-known b c.args.values.now (short-one b c.requires.may.visit_is.box c.requires.one)
     (λ k less. ap (λ i. is_known (known_at c.args.values.now (further (point i.x0 i.y0 i.z0) k))) (sym c.b.view_is) ∙ c.seen-seen.ensures.all c.if-seen.true k less))
 

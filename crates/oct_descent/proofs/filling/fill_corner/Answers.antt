@@ -1,7 +1,8 @@
 use Rattle.std.proofs.Common.{ap, arith, sym, ◌∙◌}
 use Rattle.kuhn_cells.specs.Triangles.{further, point}
+use Rattle.kuhn_cells.specs.Grids.{bordered}
 use Rattle.oct_descent.proofs.Sizes.{size-is}
-use Rattle.oct_descent.specs.GridValues.{bordered, grid_value}
+use Rattle.oct_descent.specs.GridValues.{grid_value}
 use Rattle.oct_descent.specs.Sizes.{size_of}
 use Rattle.oct_descent.proofs.Bricks.{within-from}
 use Rattle.oct_descent.proofs.Corners.{itself, unknown-is}

@@ -1,6 +1,9 @@
 use Rattle.std.proofs.Common.{◌≡◌, [], ap, arith, ◌∙◌}
 use Rattle.std.specs.List.{flat_map, range_with_len}
+use Rattle.kuhn_cells.specs.declared.grid_size.GridSize.{GridSize}
+use Rattle.kuhn_cells.specs.Sizes.{cube}
 use Rattle.oct_descent.specs.Rows.{cells_in_layer}
+use Rattle.oct_descent.specs.Sizes.{size_of}
 use Rattle.oct_descent.proofs.Blocks.{grids_are_bordered_is}
 use Rattle.oct_descent.proofs.Listed.{grid-x, grid-y, grid-z, layers-mixed, next-front}
 use Rattle.oct_descent.proofs.listing.cell_list.Goals as goal
@@ -14,12 +17,13 @@ pub returns : goal.returns
 returns c =
     let d = c.args.tree.now in
     let n = ap (λ t. t.view.n) c.tree-inside.view_is ∙ ap (λ t. t.view.n) c.tree.view_is in
-    let all : c.loop-z.z ≡ d.view.n = omega (arith, n, c.loop-z-test.false, c.loop-z.auto.z-end) in
+    let size = c.mesh_size-z-end.ensures.size ∙ ap (λ t. size_of t.view) c.tree.view_is in
+    let all : c.loop-z.z ≡ (size_of d.view).z = omega (arith, ap (λ (s : GridSize). s.z) size, c.loop-z-test.false, c.loop-z.auto.z-end) in
     record {
       x = grid-x d.view d.list;
       y = grid-y d.view d.list;
       z = grid-z d.view d.list;
       border = grids_are_bordered_is d.view d.list;
-      count = n;
+      count = ap cube n;
       cells = c.loop-z.invariant ∙ ap (λ k. flat_map (cells_in_layer d.view d.list) (range_with_len 0 k)) all ∙ layers-mixed d.view d.list;
     }

@@ -1,11 +1,15 @@
-use Rattle.std.proofs.Common.{◌≤◌, ap, arith, subst, sym, ◌∙◌}
+use Rattle.std.proofs.Common.{rules, ap, subst, sym, ◌∙◌}
+use Rattle.std.proofs.lemmas.Bool.{false≢true}
 use Rattle.box_chains.specs.Chains.{visit}
+use Rattle.kuhn_cells.specs.Sizes.{IsBounded}
 use Rattle.view_settings.specs.Spans.{root_of}
 use Rattle.view_settings.specs.declared.lattice.Lattice.TheVariants as lattices
 use Rattle.oct_descent.specs.Bound.{CountsHullsAtLeast, long_spans_in}
-use Rattle.oct_descent.specs.Sizes.{IsSmall}
+use Rattle.oct_descent.specs.Sizes.{size_of}
+use Rattle.oct_descent.specs.Tables.{is_known}
 use Rattle.oct_descent.specs.Trees.{IsTold}
 use Rattle.oct_descent.specs.Ways.{gridded}
+use Rattle.oct_descent.proofs.Sizes.{size-from}
 use Rattle.oct_descent.proofs.Whole.{whole-counted, whole-paid, whole-told}
 use Rattle.oct_descent.proofs.oct_tree.cells.Goals as goal
 
@@ -53,7 +57,19 @@ pub invariant_of-result : goal.invariant_of-result
 invariant_of-result c =
     let view = ap (λ p. p.view) c.in_ok-desk.ensures.places in
     let n = c.in_ok-values.ensures.n ∙ c.mesh_size.ensures.size in
-    let few = subst IsSmall c.mesh_size.ensures.size c.mesh_size.ensures.small in
+    let few = subst IsBounded c.mesh_size.ensures.size c.mesh_size.ensures.bounded in
     let told = whole-told c.args.view.now c.in_ok-desk.desk.places.view c.args.list.now c.root.result c.in_ok-values.values c.look_into.new.values view c.root.ensures n few c.in_ok-values.ensures.none
     c.in_ok-look_into.ensures.grows c.in_ok-look_into.ensures.settled in
     subst (λ l. IsTold c.args.view.now l c.look_into.new.values) (sym c.in_ok-share.ensures) told
+
+pub look_into-requires : goal.look_into-requires
+look_into-requires c =
+    let view = ap (λ p. p.view) c.in_ok-desk.ensures.places in
+    record {
+      lattice = ap (λ p. p.lattice) c.in_ok-desk.ensures.places;
+      visit_is = search rules;
+      n = size-from c.in_ok-values.values.n (size_of c.in_ok-desk.desk.places.view) (c.in_ok-values.ensures.n ∙ c.mesh_size.ensures.size ∙ ap size_of (sym view));
+      room = search rules;
+      values = search rules;
+      right = λ p covers known. absurd (false≢true (sym (ap is_known (c.in_ok-values.ensures.none p)) ∙ known));
+    }

@@ -52,8 +52,8 @@ reach-requires-clause-layer c =
     let z = ap (λ (s : SidedCell). s.z) b.sided in
     let within = in_at cells c.args.numbering.now.n c.args.numbering.now.n c.loop-cell.cell-index b.cell are.mixed refl b.within b.here in
     let high = within.z in
-    let narrow = are.mixed.narrow in
-    omega (arith, z, high, narrow)
+    let bounded = are.mixed.bounded.z in
+    omega (arith, z, high, bounded)
 
 pub push_faces-requires-clause-slots : goal.push_faces-requires-clause-slots
 push_faces-requires-clause-slots c =

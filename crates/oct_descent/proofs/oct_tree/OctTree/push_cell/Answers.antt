@@ -5,13 +5,13 @@ use Rattle.oct_descent.proofs.Listed.{listed-mixed, listed-none, listed-not}
 use Rattle.oct_descent.proofs.oct_tree.OctTree.push_cell.Goals as goal
 
 pub overflow_cast-x : goal.overflow_cast-x
-overflow_cast-x c = let told = subst (λ (d : Gridding). IsTold d.view d.list c.self.inside.values) c.self.view_is c.self.invariant in omega (arith, c.requires.x, told.n.0, told.few.0)
+overflow_cast-x c = let told = subst (λ (d : Gridding). IsTold d.view d.list c.self.inside.values) c.self.view_is c.self.invariant in omega (arith, c.requires.x, told.n.0, told.few.x)
 
 pub overflow_cast-y : goal.overflow_cast-y
-overflow_cast-y c = let told = subst (λ (d : Gridding). IsTold d.view d.list c.self.inside.values) c.self.view_is c.self.invariant in omega (arith, c.requires.y, told.n.1.0, told.few.1.0)
+overflow_cast-y c = let told = subst (λ (d : Gridding). IsTold d.view d.list c.self.inside.values) c.self.view_is c.self.invariant in omega (arith, c.requires.y, told.n.1.0, told.few.y)
 
 pub overflow_cast-z : goal.overflow_cast-z
-overflow_cast-z c = let told = subst (λ (d : Gridding). IsTold d.view d.list c.self.inside.values) c.self.view_is c.self.invariant in omega (arith, c.requires.z, told.n.1.1, told.few.1.1)
+overflow_cast-z c = let told = subst (λ (d : Gridding). IsTold d.view d.list c.self.inside.values) c.self.view_is c.self.invariant in omega (arith, c.requires.z, told.n.1.1, told.few.z)
 
 pub returns-in_ok-push : goal.returns-in_ok-push
 returns-in_ok-push c =

@@ -3,6 +3,7 @@ use Rattle.std.proofs.lemmas.List.{length-map}
 use Rattle.std.specs.Prelude.{get_or}
 use Rattle.tetra_mesh.specs.Sides.{sided_of}
 use Rattle.std.proofs.Common.{◌≤◌, ◌<◌, ◌+◌, ℕ, length, ap, arith, refl, subst, sym, ◌∙◌}
+use Rattle.kuhn_cells.specs.Sizes.{IsBounded}
 use Rattle.tetra_mesh.specs.declared.sided_cell.SidedCell.{SidedCell}
 use Rattle.tetra_mesh.specs.Numbering.{LiesBelow}
 use Rattle.tetra_mesh.proofs.ReachLaws.{below_more, in_at, numbered_more, room_at, room_left, stopped}
@@ -12,11 +13,9 @@ use Rattle.tetra_mesh.proofs.numbering.Numbering.reach.Goals as goal
 pub loop-self-init : goal.loop-self-init
 loop-self-init c = record { width = refl; numbered = c.requires.numbered; below = c.requires.below }
 
-pub push_cell-requires-clause-narrow : goal.push_cell-requires-clause-narrow
-push_cell-requires-clause-narrow c =
-    let width = c.loop-self.invariant.width in
-    let narrow = c.requires.cells.1.mixed.narrow in
-    omega (arith, width, narrow)
+pub push_cell-requires-clause-bounded : goal.push_cell-requires-clause-bounded
+push_cell-requires-clause-bounded c =
+    subst IsBounded (sym c.loop-self.invariant.width) c.requires.cells.1.mixed.bounded
 
 pub push_cell-requires-clause-x : goal.push_cell-requires-clause-x
 push_cell-requires-clause-x c =

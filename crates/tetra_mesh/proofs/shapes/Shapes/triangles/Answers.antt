@@ -1,5 +1,5 @@
 -- The list at the place of the signs.
-use Rattle.std.proofs.Common.{◌≡◌, ◌<◌, Vec, Global, length, ap, arith, ◌∙◌}
+use Rattle.std.proofs.Common.{◌<◌, Vec, Global, length, ap, arith, ◌∙◌}
 use Rattle.kuhn_cells.specs.declared.triple.Triple.{Triple}
 use Rattle.tetra_mesh.specs.Shapes.{shape_of}
 use Rattle.tetra_mesh.proofs.TriangleLaws.{few_triangles}

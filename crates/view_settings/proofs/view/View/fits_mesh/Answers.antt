@@ -1,5 +1,5 @@
 use Rattle.std.proofs.Common.{rules}
-use Rattle.view_settings.specs.WindowLaws.{tested}
+use Rattle.view_settings.proofs.WindowLaws.{tested}
 use Rattle.view_settings.proofs.view.View.fits_mesh.Goals as goal
 
 pub returns-then-has_room-2-clause-fits : goal.returns-then-has_room-2-clause-fits

@@ -10,8 +10,8 @@ use Rattle.kuhn_cells.specs.Faces.{all_triangles, cell_triangles, number_among, 
 use Rattle.kuhn_cells.specs.Grids.{Grid, is_inside_at, over_block, upper, vertices}
 use Rattle.kuhn_cells.specs.Laws.{IsVertex, NumbersArePlaces, OfEdges, TrianglesHaveVertices}
 use Rattle.kuhn_cells.specs.Triangles.{GridPoint, point}
-use Rattle.kuhn_cells.specs.EdgeLaws.{IsParting, all_tetrahedra}
-use Rattle.kuhn_cells.specs.VertexLaws.{in_vertices}
+use Rattle.kuhn_cells.proofs.EdgeLaws.{IsParting, all_tetrahedra}
+use Rattle.kuhn_cells.proofs.VertexLaws.{in_vertices}
 
 -- ---- the triangles of a grid
 

@@ -9,7 +9,7 @@ use Rattle.kuhn_cells.specs.declared.edge_key.EdgeKey.{EdgeKey}
 use Rattle.kuhn_cells.specs.Grids.{Grid, edges, is_inside_at, is_mixed, is_point, upper, vertices}
 use Rattle.kuhn_cells.specs.Laws.{IsBefore, VerticesRise}
 use Rattle.kuhn_cells.specs.Triangles.{GridPoint, edge_from, point}
-use Rattle.kuhn_cells.specs.VertexLaws.{all_edges, all_flat}
+use Rattle.kuhn_cells.proofs.VertexLaws.{all_edges, all_flat}
 
 -- ---- lists put behind one another
 

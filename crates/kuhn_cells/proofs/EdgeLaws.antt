@@ -11,7 +11,7 @@ use Rattle.kuhn_cells.specs.Faces.{cell_triangles}
 use Rattle.kuhn_cells.specs.Grids.{is_mixed, upper}
 use Rattle.kuhn_cells.specs.Laws.{EdgesAreMixed, EdgesHaveDirections, IsDirection, OfEdges}
 use Rattle.kuhn_cells.specs.Triangles.{GridPoint, edge_between, further, triangles_among, triangles_in}
-use Rattle.kuhn_cells.specs.Checks.{both_at, every, every_at}
+use Rattle.kuhn_cells.proofs.Checks.{both_at, every, every_at}
 
 implied : (a b : Bool) → (not a || b) ≡ true → a ≡ true → b ≡ true
 implied true b h e = h

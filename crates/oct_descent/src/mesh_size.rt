@@ -1,0 +1,16 @@
+// How many cells the grid of a mesh has.
+ghost use Rattle.std.specs.Prelude.{◌≡◌};
+ghost use Rattle.kuhn_cells.specs.Sizes.{IsBounded};
+ghost use Rattle.oct_descent.specs.Sizes.{size_of};
+
+use kuhn_cells::GridSize;
+use view_settings::View;
+
+/// How many cells the grid of a mesh over a view has.
+#[inline]
+pub fn mesh_size(view: &View) -> GridSize
+    ensures size { result ≡ size_of view.now }
+    ensures bounded { IsBounded result }
+{
+    GridSize::cube(view.n)
+}
