@@ -4,7 +4,6 @@
 
 mod corner_values;
 mod descent;
-mod desk;
 mod filling;
 mod grid_size;
 mod grid_values;

@@ -1,4 +1,4 @@
-use Rattle.std.proofs.Common.{◌≡◌, ◌+◌, ◌/◌, ◌%◌, ap, arith, refl, ◌∙◌}
+use Rattle.std.proofs.Common.{◌≡◌, ◌+◌, ◌/◌, ◌%◌, ap, arith}
 use Rattle.kuhn_cells.specs.Triangles.{GridPoint, further, point}
 use Rattle.oct_descent.specs.Fills.{point_box}
 use Rattle.oct_descent.specs.GridValues.{grid_value}
@@ -8,11 +8,16 @@ use Rattle.oct_descent.proofs.Corners.{all-known, corner-wider, one-more_known, 
 use Rattle.oct_descent.proofs.TableLaws.{charges-none, charges-then, grows-none, grows-then, grows-wider, pays-none, pays-then, stays-known}
 use Rattle.oct_descent.proofs.filling.fill_cell.Goals as goal
 
+pub returns-in_err-make_rows-clause-counted : goal.returns-in_err-make_rows-clause-counted
+returns-in_err-make_rows-clause-counted c = λ f enough. charges-none c.layers_hold.ensures f 0 c.args.values.now c.args.tally.now
+
+pub returns-in_err-make_rows-clause-paid : goal.returns-in_err-make_rows-clause-paid
+returns-in_err-make_rows-clause-paid c = λ f due. pays-none c.layers_hold.ensures f c.args.values.now c.args.tally.now
+
 pub loop-c-init : goal.loop-c-init
 loop-c-init c = record {
-  kept = record { places = refl; room = refl; values = refl };
   known = λ k less. absurd (omega (arith, less));
-  grows = grows-none (grid_value c.args.desk.now.places.view c.args.list.now) c.args.b c.args.values.now;
+  grows = grows-none (grid_value c.args.desk.now.view c.args.list.now) c.args.b c.args.values.now;
   counted = λ f enough. charges-none c.layers_hold.ensures f 0 c.args.values.now c.args.tally.now;
   paid = λ f due. pays-none c.layers_hold.ensures f c.args.values.now c.args.tally.now;
   together = c.together-first.ensures;
@@ -30,11 +35,10 @@ loop-c-preserved c =
     let wider : (q : GridPoint) → Covers (point_box p) q → Covers b q = λ q covers. corner-wider b n p q one at covers in
     let before = c.loop-c.invariant in
     let after = c.fill_corner.ensures in
-    let view = ap (λ a. a.view) before.kept.places in
-    let g = grid_value c.args.desk.now.places.view list in
-    let filled = grows-wider (grid_value c.loop-c.desk.places.view list) g (point_box p) b c.loop-c.values c.fill_corner.new.values wider (λ q covers. ap (λ v. grid_value v list q) view) after.grows in
+    let view = ap (λ d. d.view) c.desk.view_is in
+    let g = grid_value c.args.desk.now.view list in
+    let filled = grows-wider (grid_value c.desk.inside.places.view list) g (point_box p) b c.loop-c.values c.fill_corner.new.values wider (λ q covers. ap (λ v. grid_value v list q) view) after.grows in
     record {
-      kept = record { places = after.kept.places ∙ before.kept.places; room = after.kept.room ∙ before.kept.room; values = after.kept.values ∙ before.kept.values };
       known = one-more_known b c.loop-c.values c.fill_corner.new.values n p at (λ q known. stays-known g b c.loop-c.values c.fill_corner.new.values q filled known) before.known c.in_ok-fill_corner.ensures.known;
       grows = grows-then g b c.args.values.now c.loop-c.values c.fill_corner.new.values before.grows filled;
       counted = λ f enough.
@@ -82,8 +86,8 @@ returns-in_err-fill_corner-clause-grows c =
     let p = point (i.x0 + n % 2) (i.y0 + n / 2 % 2) (i.z0 + n / 4 % 2) in
     let at : p ≡ further (point b.x0 b.y0 b.z0) n = ap (λ a. further (point a.x0 a.y0 a.z0) n) c.b.view_is in
     let one = short-one b c.requires.may.visit_is.box c.requires.one in
-    let view = ap (λ a. a.view) c.loop-c.invariant.kept.places in
-    let g = grid_value c.args.desk.now.places.view list in
+    let view = ap (λ d. d.view) c.desk.view_is in
+    let g = grid_value c.args.desk.now.view list in
     grows-then g b c.args.values.now c.loop-c.values c.fill_corner.new.values c.loop-c.invariant.grows
-    (grows-wider (grid_value c.loop-c.desk.places.view list) g (point_box p) b c.loop-c.values c.fill_corner.new.values (λ q covers. corner-wider b n p q one at covers) (λ q covers. ap (λ v. grid_value v list q) view)
+    (grows-wider (grid_value c.desk.inside.places.view list) g (point_box p) b c.loop-c.values c.fill_corner.new.values (λ q covers. corner-wider b n p q one at covers) (λ q covers. ap (λ v. grid_value v list q) view)
     c.in_err-fill_corner.ensures.grows)

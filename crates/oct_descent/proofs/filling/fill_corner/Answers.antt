@@ -17,7 +17,7 @@ returns-in_err-at-clause-counted c f enough = same-charges c.layers_hold.ensures
 pub returns-clause-grows : goal.returns-clause-grows
 returns-clause-grows c =
     let p = further (point c.args.x c.args.y c.args.z) c.args.c in
-    let view = c.args.desk.now.places.view in
+    let view = c.args.places.now.view in
     let unknown = sym c.corner.ensures ∙ unknown-is c.corner.result (sym c.is_some.ensures ∙ c.if-is_some.false) in
     let same = c.in_ok-at.ensures.same in
     let n = c.n.ensures ∙ size-is c.corner_room.new.self.n c.args.values.now.n same.n ∙ size-is c.args.values.now.n (size_of view) c.requires.n in
