@@ -5,6 +5,8 @@
 mod corner_values;
 mod descent;
 mod filling;
+mod gap;
+mod gaps;
 mod grid_size;
 mod grid_values;
 mod laws;
