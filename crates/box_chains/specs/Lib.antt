@@ -1,5 +1,6 @@
 pub mod Chains
 pub mod Counts
+pub mod Desks
 pub mod Laws
 pub mod Outcomes
 pub mod Parts

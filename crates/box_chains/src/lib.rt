@@ -2,6 +2,7 @@
 #![tactic(auto)]
 
 mod asked_box;
+mod desk;
 mod laws;
 mod leaves;
 mod outcome;
@@ -10,6 +11,7 @@ mod rows;
 mod workspace;
 
 pub use asked_box::AskedBox;
+pub use desk::{Desk, make_rows};
 pub use laws::{
     boxes_are_counted_once, chains_go_on, layers_hold, samples_are_told, tested_work_adds_up,
     work_adds_up,

@@ -52,6 +52,14 @@ impl Places {
         })
     }
 
+    /// The columns of the view.
+    #[inline]
+    pub fn w(&self) -> u32
+        ensures { result ≡ self.now.view.w }
+    {
+        self.view.w
+    }
+
     /// The place of sample i along x.
     #[inline]
     pub fn x(&self, i: u32) -> Fx

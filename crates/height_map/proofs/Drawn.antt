@@ -6,6 +6,7 @@ use Rattle.std.proofs.lemmas.Bool.{le-leb, lt-ltb}
 use Rattle.std.proofs.lemmas.Nat.{div-mul-add, mod-mul-add}
 use Rattle.std.specs.List.{All}
 use Rattle.std.proofs.lemmas.List.Elements.{All-drop, All-take, All-weaker}
+use Rattle.box_chains.specs.Desks.{Tracing}
 use Rattle.box_chains.specs.Chains.{Visit, decision, handed_on, is_long, visit}
 use Rattle.box_chains.specs.Parts.{IsPart}
 use Rattle.box_chains.specs.Sums.{LiesIn, Sample, sum_in}
@@ -28,8 +29,7 @@ use Rattle.height_map.proofs.ChangeLaws.{Changes-numbers, cell-of, covers-place,
 use Rattle.height_map.proofs.Beside.{far-dropped, far-taken, farther-below, halves-top, nearer-ends}
 use Rattle.height_map.specs.Beside.{beside_top, farther, nearer}
 use Rattle.height_map.specs.Opened.{outcome_top, sampling}
-use Rattle.height_map.specs.Desks.{HasRoom, IsPlaced, KeepsDesk, MayDraw}
-use Rattle.height_map.specs.declared.desk.Desk.{Desk}
+use Rattle.height_map.specs.Desks.{IsPlaced, MayDraw, MayReceive}
 use Rattle.box_chains.specs.Outcomes.{outcome_by, outcome_of}
 use Rattle.box_chains.specs.declared.outcome.Outcome.{Outcome}
 use Rattle.box_chains.specs.declared.outcome.Outcome.TheVariants.{Outside as AllOutside}
@@ -198,54 +198,37 @@ columns-there view b w len window within width all =
     record { columns = omega (arith, width, within.x); rows = omega (arith, rows, same, all); few = omega (arith, width, window.w.few) }
 
 -- a half of a box of the map is one
-pub half-placed : (laws : Lawful) (desk : Desk) (b half : Indices) (list : List Step) (len : ℕ) → IsPart 8 b half → MayDraw desk b list len → IsPlaced desk len half
+pub half-placed : (laws : Lawful) (desk : Tracing) (b half : Indices) (list : List Step) (len : ℕ) → IsPart 8 b half → MayDraw desk b list len → IsPlaced desk len half
 half-placed laws desk b half list len part may = record {
   lattice = may.lattice;
   window = may.visit_is.window;
   box = laws.parts.box 8 b half part;
   within = record { x = omega (arith, part.x.below, may.visit_is.within.x); y = omega (arith, part.y.below, may.visit_is.within.y); z = omega (arith, part.z.below, may.visit_is.within.z) };
-  width = may.width;
   tops = may.tops;
 }
 
 -- a box of the map is on the way with any list that can be evaluated, and drawing may be called of it where there is
 -- room for the list
-pub placed-visit : (desk : Desk) (b : Indices) (list : List Step) (len : ℕ) → IsPlaced desk len b → IsTape list → IsVisit (layered desk.places.view) (visit b list)
+pub placed-visit : (desk : Tracing) (b : Indices) (list : List Step) (len : ℕ) → IsPlaced desk len b → IsTape list → IsVisit (layered desk.view) (visit b list)
 placed-visit desk b list len placed tape = record { window = placed.window; box = placed.box; within = placed.within; tape = tape }
 
-pub placed-may : (desk : Desk) (b : Indices) (list : List Step) (len : ℕ) → IsPlaced desk len b → HasRoom desk list → MayDraw desk b list len
+pub placed-may : (desk : Tracing) (b : Indices) (list : List Step) (len : ℕ) → IsPlaced desk len b → MayReceive desk list → MayDraw desk b list len
 placed-may desk b list len placed room = record {
   lattice = placed.lattice;
   visit_is = placed-visit desk b list len placed room.tape;
-  width = placed.width;
   tops = placed.tops;
-  room = room.room;
-  values = room.values;
+  room = room.room.room;
 }
 
 -- what is so of a desk stays so
-pub placed-kept : (before after : Desk) (len other : ℕ) (b : Indices) → KeepsDesk before after → other ≡ len → IsPlaced before len b → IsPlaced after other b
+pub placed-kept : (before after : Tracing) (len other : ℕ) (b : Indices) → after ≡ before → other ≡ len → IsPlaced before len b → IsPlaced after other b
 placed-kept before after len other b kept same placed = record {
-  lattice = ap (λ p. p.lattice) kept.places ∙ placed.lattice;
-  window = subst (λ p. IsWindow p.view) (sym kept.places) placed.window;
+  lattice = ap (λ d. d.lattice) kept ∙ placed.lattice;
+  window = subst (λ d. IsWindow d.view) (sym kept) placed.window;
   box = placed.box;
-  within = subst (λ p. IsInRoot p.view Height b) (sym kept.places) placed.within;
-  width = kept.width ∙ placed.width ∙ ap (λ p. p.view.w) (sym kept.places);
-  tops = same ∙ placed.tops ∙ ap (λ p. p.view.h * p.view.w) (sym kept.places);
+  within = subst (λ d. IsInRoot d.view Height b) (sym kept) placed.within;
+  tops = same ∙ placed.tops ∙ ap (λ d. d.view.h * d.view.w) (sym kept);
 }
 
-pub room-kept : (before after : Desk) (list : List Step) → KeepsDesk before after → HasRoom before list → HasRoom after list
-room-kept before after list kept room = record {
-  tape = room.tape;
-  whole = room.whole;
-  room = omega (arith, kept.room, room.room);
-  values = omega (arith, kept.values, room.values);
-}
-
-pub kept-then : (before mid after : Desk) → KeepsDesk before mid → KeepsDesk mid after → KeepsDesk before after
-kept-then before mid after first second = record {
-  width = second.width ∙ first.width;
-  places = second.places ∙ first.places;
-  room = second.room ∙ first.room;
-  values = second.values ∙ first.values;
-}
+pub room-kept : (before after : Tracing) (list : List Step) → after ≡ before → MayReceive before list → MayReceive after list
+room-kept before after list kept may = subst (λ d. MayReceive d list) (sym kept) may

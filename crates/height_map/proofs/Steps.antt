@@ -5,6 +5,7 @@ use Rattle.std.specs.List.{All, filter, sum_by}
 use Rattle.std.proofs.lemmas.List.{drop_all, drop_more, get_or-map, length-drop, take_all}
 use Rattle.std.proofs.lemmas.List.Elements.{All-get_or, All-head, All-tail, All-weaker}
 use Rattle.std.proofs.lemmas.List.Sums.{sum_by-append, sum_by-cons}
+use Rattle.box_chains.specs.Desks.{Tracing, samples}
 use Rattle.box_chains.specs.Chains.{Descent, Visit, decision, handed_on, is_long, sides, visit}
 use Rattle.box_chains.specs.Counts.{halves_spans, spans_in}
 use Rattle.box_chains.specs.Parts.{IsPart}
@@ -12,8 +13,7 @@ use Rattle.box_chains.specs.Placing.{Sampling}
 use Rattle.box_chains.specs.declared.outcome.Outcome.TheVariants.{Inside as AllInside, Outside as AllOutside, Open}
 use Rattle.live_clauses.specs.Steps.{IsTape}
 use Rattle.view_settings.specs.declared.lattice.Lattice.TheVariants.{Height}
-use Rattle.height_map.specs.Desks.{IsPlaced, KeepsDesk, MayDraw, MayOpen}
-use Rattle.height_map.specs.declared.desk.Desk.{Desk}
+use Rattle.height_map.specs.Desks.{IsPlaced, MayDraw, MayOpen}
 use Rattle.box_chains.specs.Outcomes.{HandsOn, IsHandedOn, outcome_by, outcome_of, outcomes_of}
 use Rattle.box_chains.specs.Sums.{LiesIn, Sample}
 use Rattle.box_chains.specs.Tallied.{CountsAtMost}
@@ -118,17 +118,15 @@ other-out : (live : List Step) → AllOutside ≡ Open live → ⊥
 other-out live e = absurd (omega (arith, ap is_opened e))
 
 -- what a box hands on can be drawn
-pub may-open : (laws : Lawful) (before desk : Desk) (list : List Step) (b : Indices) (o : Outcome) (len other : ℕ) → KeepsDesk before desk → other ≡ len → IsPlaced before len b → IsTape list
-    → length list ≤ length before.room → length list ≤ length before.values.items → o ≡ outcome_of (sampling before.places.view) list b → HandsOn (length list) o → MayOpen desk b o other
-may-open laws before desk list b o len other kept same placed tape room values told hands = record {
+pub may-open : (laws : Lawful) (before desk : Tracing) (list : List Step) (b : Indices) (o : Outcome) (len other : ℕ) → desk ≡ before → other ≡ len → IsPlaced before len b → IsTape list
+    → length list ≤ before.room → o ≡ outcome_of (sampling before.view) list b → HandsOn (length list) o → MayOpen desk b o other
+may-open laws before desk list b o len other kept same placed tape room told hands = record {
   placed = placed-kept before desk len other b kept same placed;
-  room = λ live is.
+  hands = λ live is.
       let on : IsHandedOn (length list) live = subst (HandsOn (length list)) is hands in
       record {
         tape = handed live (sym told ∙ is);
-        whole = on.whole;
-        room = omega (arith, on.few, room, kept.room);
-        values = omega (arith, on.few, values, kept.values);
+        room = record { room = omega (arith, on.few, room, ap (λ d. d.room) kept); whole = on.whole };
       };
 }
   where
@@ -136,9 +134,9 @@ may-open laws before desk list b o len other kept same placed tape room values t
     v = visit b list
 
     d : Descent
-    d = layered before.places.view
+    d = layered before.view
 
-    handed : (live : List Step) → outcome_of (sampling before.places.view) list b ≡ Open live → IsTape live
+    handed : (live : List Step) → outcome_of (sampling before.view) list b ≡ Open live → IsTape live
     handed live = by (decision d v)
       where
         by : (t : Option Bool) → outcome_by t (handed_on d v) ≡ Open live → IsTape live
@@ -310,17 +308,17 @@ traces-bounded laws view list boxes old start end are h =
     (omega (arith, rest-below laws view list boxes (length boxes) are (omega arith))) h
 
 -- the next box of some of the map, of a list that there is room for
-pub next-of : (desk : Desk) (list : List Step) (boxes : List Indices) (outcomes : List Outcome) (old mid : List ℕ) (n : ℕ) (b : Indices) (o : Outcome) → 0 < n → n ≤ length boxes
-    → b ≡ get_or boxes (n - 1) b → o ≡ get_or outcomes (n - 1) o → outcomes ≡ outcomes_of desk.places list boxes → LieBeside desk.places.view.w boxes
-    → All (IsPlaced desk (length old)) boxes → IsTape list → Changes (λ p. true) (beside_top desk.places.view list (drop n boxes)) old mid
-    → IsNext desk.places.view list boxes old mid (n - 1) b o
+pub next-of : (desk : Tracing) (list : List Step) (boxes : List Indices) (outcomes : List Outcome) (old mid : List ℕ) (n : ℕ) (b : Indices) (o : Outcome) → 0 < n → n ≤ length boxes
+    → b ≡ get_or boxes (n - 1) b → o ≡ get_or outcomes (n - 1) o → outcomes ≡ outcomes_of (samples desk) list boxes → LieBeside desk.view.w boxes
+    → All (IsPlaced desk (length old)) boxes → IsTape list → Changes (λ p. true) (beside_top desk.view list (drop n boxes)) old mid
+    → IsNext desk.view list boxes old mid (n - 1) b o
 next-of desk list boxes outcomes old mid n b o some few read there are apart placed tape changed =
     next-is view list boxes outcomes old mid n (n - 1) b o (omega (arith, some)) within read there
     (are ∙ ap (λ lattice. outcomes_of (record { view = view; lattice = lattice }) list boxes) here.lattice) apart
     (placed-visit desk b list (length old) here tape) (columns-there view b view.w (length old) here.window here.within refl here.tops) changed
   where
     view : Window
-    view = desk.places.view
+    view = desk.view
 
     within : n - 1 < length boxes
     within = omega (arith, some, few)
@@ -366,11 +364,11 @@ left-closed : (view : Window) (list : List Step) (w : ℕ) (tops : List ℕ) (b 
     → (s : Sample) → LiesIn b s → is_open view list b tops s ≡ false
 left-closed view list w tops b over e = covered-closed view list b w tops over.width over.among (told-covered w b tops e)
 
-pub placed-over : (desk : Desk) (tops : List ℕ) (b : Indices) → IsPlaced desk (length tops) b → IsOver desk.places.view desk.w tops b
+pub placed-over : (desk : Tracing) (tops : List ℕ) (b : Indices) → IsPlaced desk (length tops) b → IsOver desk.view desk.view.w tops b
 placed-over desk tops b placed = record {
-  width = placed.width;
+  width = refl;
   box = placed.box;
-  among = columns-there desk.places.view b desk.places.view.w (length tops) placed.window placed.within refl placed.tops;
+  among = columns-there desk.view b desk.view.w (length tops) placed.window placed.within refl placed.tops;
 }
 
 -- what those leave that have one is what all leave
@@ -480,7 +478,7 @@ pub group-shorter : (laws : Lawful) (b : Indices) (hs : List Indices) → IsBox 
 group-shorter laws b hs is long parts =
     longest-below (sides b) hs (box-has_sides b is) (All-weaker (IsPart 8 b) (λ h. sides h < sides b) (λ h part. laws.parts.shorter 8 b h long part) hs parts)
 
-pub group-placed : (laws : Lawful) (before after : Desk) (b : Indices) (hs : List Indices) (list : List Step) (len other : ℕ) → KeepsDesk before after → other ≡ len → MayDraw before b list len
+pub group-placed : (laws : Lawful) (before after : Tracing) (b : Indices) (hs : List Indices) (list : List Step) (len other : ℕ) → after ≡ before → other ≡ len → MayDraw before b list len
     → All (IsPart 8 b) hs → All (IsPlaced after other) hs
 group-placed laws before after b hs list len other kept same may parts =
     All-weaker (IsPart 8 b) (IsPlaced after other) (λ h part. placed-kept before after len other h kept same (half-placed laws before b h list len part may)) hs parts
@@ -491,12 +489,12 @@ pub record AreGroups (view : Window) (list : List Step) (b : Indices) (old mid :
   pub near : All (IsDrawnTo view list b old old) (nearer 8 b)
   pub far : All (IsDrawnTo view list b old mid) (farther 8 b)
 
-pub groups-are : (laws : Lawful) (desk : Desk) (list : List Step) (b : Indices) (old mid : List ℕ) → MayDraw desk b list (length old) → Changes (λ p. true) (beside_top desk.places.view list (nearer 8 b)) old mid
-    → AreGroups desk.places.view list b old mid
+pub groups-are : (laws : Lawful) (desk : Tracing) (list : List Step) (b : Indices) (old mid : List ℕ) → MayDraw desk b list (length old) → Changes (λ p. true) (beside_top desk.view list (nearer 8 b)) old mid
+    → AreGroups desk.view list b old mid
 groups-are laws desk list b old mid may first = record {
-  among = columns-there desk.places.view b desk.places.view.w (length old) may.visit_is.window may.visit_is.within refl may.tops;
-  near = nearer-drawn laws desk.places.view list b old may.visit_is.box;
-  far = farther-drawn laws desk.places.view list b old mid may.visit_is.box first;
+  among = columns-there desk.view b desk.view.w (length old) may.visit_is.window may.visit_is.within refl may.tops;
+  near = nearer-drawn laws desk.view list b old may.visit_is.box;
+  far = farther-drawn laws desk.view list b old mid may.visit_is.box first;
 }
 
 pub groups-points : (laws : Lawful) (view : Window) (list : List Step) (b : Indices) (old mid : List ℕ) (start between end : Counts) → AreGroups view list b old mid

@@ -10,14 +10,13 @@ ghost use Rattle.height_map.specs.Beside.{LieBeside, beside_points, beside_top, 
 ghost use Rattle.height_map.specs.Bound.{CountsPoints, CountsSpans, layered};
 ghost use Rattle.box_chains.specs.Tested.{halves_points_where, halves_spans_where, open_points_where, open_spans_where, points_where, spans_where};
 ghost use Rattle.height_map.specs.Columns.{Changes, covers, has_open, is_open, leaf_top};
-ghost use Rattle.height_map.specs.Desks.{HasRoom, IsPlaced, KeepsDesk, MayDraw, MayOpen};
+ghost use Rattle.height_map.specs.Desks.{IsPlaced, MayDraw, MayOpen, MayReceive};
 ghost use Rattle.height_map.specs.Opened.{outcome_points, outcome_spans, outcome_top, outcome_traced};
 
 use crate::columns::{is_covered, lift};
-use crate::desk::Desk;
 use crate::halves::{farther_count, open_among};
 use crate::leaf::draw_leaf;
-use box_chains::{Outcome, is_long, layers_hold};
+use box_chains::{Desk, Outcome, is_long, layers_hold, make_rows};
 use fixed_ops::Tally;
 use live_clauses::Tape;
 use std::alloc::{AllocError, Global};
@@ -37,29 +36,27 @@ pub fn draw_box(
     tally: &mut Tally,
 ) -> Result<(), AllocError>
     requires { MayDraw desk.old b received.now (length tops.old) }
-    ensures tops { OnOk result (Changes (covers desk.old.w b)
-        (leaf_top desk.old.places.view received.now b) tops.old tops.new) }
+    ensures tops { OnOk result (Changes (covers desk.old.view.w b)
+        (leaf_top desk.old.view received.now b) tops.old tops.new) }
     ensures at_most { CountsAtMost
-        (points_where (is_open desk.old.places.view received.now b tops.old)
-        (layered desk.old.places.view) (visit b received.now))
-        (spans_in (layered desk.old.places.view) (visit b received.now)) tally.old tally.new }
+        (points_where (is_open desk.old.view received.now b tops.old)
+        (layered desk.old.view) (visit b received.now))
+        (spans_in (layered desk.old.view) (visit b received.now)) tally.old tally.new }
     ensures points { OnOk result
-        (CountsPoints (points_where (is_open desk.old.places.view received.now b tops.old)
-        (layered desk.old.places.view) (visit b received.now))
+        (CountsPoints (points_where (is_open desk.old.view received.now b tops.old)
+        (layered desk.old.view) (visit b received.now))
         tally.old tally.new) }
     ensures hulls { OnOk result
-        (CountsSpans (spans_where (is_open desk.old.places.view received.now b tops.old)
-        (layered desk.old.places.view) (visit b received.now))
+        (CountsSpans (spans_where (is_open desk.old.view received.now b tops.old)
+        (layered desk.old.view) (visit b received.now))
         tally.old tally.new) }
-    ensures kept { KeepsDesk desk.old desk.new }
+    ensures kept { desk.new ≡ desk.old }
 {
     layers_hold();
-    if is_covered(desk.w, b, tops) {
+    if is_covered(desk.w(), b, tops) {
         return Ok(());
     }
-    let outcome = desk
-        .room
-        .trace_box(alloc, received, &desk.places, b, tally)?;
+    let outcome = desk.trace_box(alloc, received, b, tally)?;
     draw_outcome(alloc, desk, b, &outcome, tops, tally)
 }
 
@@ -74,22 +71,22 @@ fn draw_outcome(
     tally: &mut Tally,
 ) -> Result<(), AllocError>
     requires { MayOpen desk.old b outcome.now (length tops.old) }
-    ensures tops { OnOk result (Changes (covers desk.old.w b)
-        (outcome_top desk.old.places.view b outcome.now) tops.old tops.new) }
-    ensures at_most { CountsAtMost (outcome_points desk.old.places.view tops.old b outcome.now)
-        (outcome_spans desk.old.places.view b outcome.now) tally.old tally.new }
+    ensures tops { OnOk result (Changes (covers desk.old.view.w b)
+        (outcome_top desk.old.view b outcome.now) tops.old tops.new) }
+    ensures at_most { CountsAtMost (outcome_points desk.old.view tops.old b outcome.now)
+        (outcome_spans desk.old.view b outcome.now) tally.old tally.new }
     ensures points { OnOk result
-        (CountsPoints (outcome_points desk.old.places.view tops.old b outcome.now)
+        (CountsPoints (outcome_points desk.old.view tops.old b outcome.now)
         tally.old tally.new) }
     ensures hulls { OnOk result
-        (CountsSpans (outcome_traced desk.old.places.view tops.old b outcome.now)
+        (CountsSpans (outcome_traced desk.old.view tops.old b outcome.now)
         tally.old tally.new) }
-    ensures kept { KeepsDesk desk.old desk.new }
+    ensures kept { desk.new ≡ desk.old }
 {
     layers_hold();
     match outcome {
         Outcome::Inside => {
-            lift(desk.w, b, tops);
+            lift(desk.w(), b, tops);
             Ok(())
         }
         Outcome::Outside => Ok(()),
@@ -109,27 +106,29 @@ fn draw_undecided(
 ) -> Result<(), AllocError>
     requires may { MayDraw desk.old b live.now (length tops.old) }
     requires whole { IsWhole live.now }
-    ensures tops { OnOk result (Changes (covers desk.old.w b)
-        (leaf_top desk.old.places.view live.now b) tops.old tops.new) }
+    ensures tops { OnOk result (Changes (covers desk.old.view.w b)
+        (leaf_top desk.old.view live.now b) tops.old tops.new) }
     ensures at_most { CountsAtMost
-        (open_points_where (is_open desk.old.places.view live.now b tops.old)
-        (layered desk.old.places.view) b live.now)
-        (open_spans (layered desk.old.places.view) b live.now) tally.old tally.new }
+        (open_points_where (is_open desk.old.view live.now b tops.old)
+        (layered desk.old.view) b live.now)
+        (open_spans (layered desk.old.view) b live.now) tally.old tally.new }
     ensures points { OnOk result
-        (CountsPoints (open_points_where (is_open desk.old.places.view live.now b tops.old)
-        (layered desk.old.places.view) b live.now)
+        (CountsPoints (open_points_where (is_open desk.old.view live.now b tops.old)
+        (layered desk.old.view) b live.now)
         tally.old tally.new) }
     ensures hulls { OnOk result
-        (CountsSpans (open_spans_where (is_open desk.old.places.view live.now b tops.old)
-        (layered desk.old.places.view) b live.now)
+        (CountsSpans (open_spans_where (is_open desk.old.view live.now b tops.old)
+        (layered desk.old.view) b live.now)
         tally.old tally.new) }
-    ensures kept { KeepsDesk desk.old desk.new }
+    ensures kept { desk.new ≡ desk.old }
 {
     layers_hold();
     if is_long(b, LEAF) {
         draw_halves(alloc, desk, b, live, tops, tally)
     } else {
-        draw_leaf(&desk.places, desk.w, b, live, &mut desk.values, tops, tally);
+        make_rows(&mut desk.rows, live.len())?;
+        let w = desk.places.w();
+        draw_leaf(&desk.places, w, b, live, &mut desk.rows, tops, tally);
         Ok(())
     }
 }
@@ -147,21 +146,21 @@ fn draw_halves(
     requires may { MayDraw desk.old b live.now (length tops.old) }
     requires whole { IsWhole live.now }
     requires long { IsTrue (is_long_for 8 b) }
-    ensures tops { OnOk result (Changes (covers desk.old.w b)
-        (leaf_top desk.old.places.view live.now b) tops.old tops.new) }
+    ensures tops { OnOk result (Changes (covers desk.old.view.w b)
+        (leaf_top desk.old.view live.now b) tops.old tops.new) }
     ensures at_most { CountsAtMost
-        (halves_points_where (is_open desk.old.places.view live.now b tops.old)
-        (layered desk.old.places.view) live.now (halves_of 8 b))
-        (halves_spans (layered desk.old.places.view) live.now (halves_of 8 b)) tally.old tally.new }
+        (halves_points_where (is_open desk.old.view live.now b tops.old)
+        (layered desk.old.view) live.now (halves_of 8 b))
+        (halves_spans (layered desk.old.view) live.now (halves_of 8 b)) tally.old tally.new }
     ensures points { OnOk result
-        (CountsPoints (halves_points_where (is_open desk.old.places.view live.now b tops.old)
-        (layered desk.old.places.view) live.now (halves_of 8 b))
+        (CountsPoints (halves_points_where (is_open desk.old.view live.now b tops.old)
+        (layered desk.old.view) live.now (halves_of 8 b))
         tally.old tally.new) }
     ensures hulls { OnOk result
-        (CountsSpans (halves_spans_where (is_open desk.old.places.view live.now b tops.old)
-        (layered desk.old.places.view) live.now (halves_of 8 b))
+        (CountsSpans (halves_spans_where (is_open desk.old.view live.now b tops.old)
+        (layered desk.old.view) live.now (halves_of 8 b))
         tally.old tally.new) }
-    ensures kept { KeepsDesk desk.old desk.new }
+    ensures kept { desk.new ≡ desk.old }
 {
     layers_hold();
     let halves = split(b, LEAF);
@@ -184,24 +183,24 @@ fn draw_beside(
     tally: &mut Tally,
 ) -> Result<(), AllocError>
     requires placed { All (IsPlaced desk.old (length tops.old)) boxes.now }
-    requires room { HasRoom desk.old live.now }
+    requires room { MayReceive desk.old live.now }
     requires few { length boxes.now ≤ 8 }
-    requires beside { LieBeside desk.old.places.view.w boxes.now }
+    requires beside { LieBeside desk.old.view.w boxes.now }
     ensures tops { OnOk result (Changes (λ p. true)
-        (beside_top desk.old.places.view live.now boxes.now) tops.old tops.new) }
+        (beside_top desk.old.view live.now boxes.now) tops.old tops.new) }
     ensures at_most { CountsAtMost
-        (beside_points desk.old.places.view live.now tops.old boxes.now)
-        (halves_spans (layered desk.old.places.view) live.now boxes.now) tally.old tally.new }
+        (beside_points desk.old.view live.now tops.old boxes.now)
+        (halves_spans (layered desk.old.view) live.now boxes.now) tally.old tally.new }
     ensures points { OnOk result
-        (CountsPoints (beside_points desk.old.places.view live.now tops.old boxes.now)
+        (CountsPoints (beside_points desk.old.view live.now tops.old boxes.now)
         tally.old tally.new) }
     ensures hulls { OnOk result
-        (CountsSpans (beside_traced desk.old.places.view live.now tops.old boxes.now)
+        (CountsSpans (beside_traced desk.old.view live.now tops.old boxes.now)
         tally.old tally.new) }
-    ensures kept { KeepsDesk desk.old desk.new }
+    ensures kept { desk.new ≡ desk.old }
 {
     layers_hold();
-    let open = open_among(desk.w, boxes, tops);
+    let open = open_among(desk.w(), boxes, tops);
     draw_open(alloc, desk, open.as_slice(), live, tops, tally)
 }
 
@@ -217,27 +216,25 @@ fn draw_open(
     tally: &mut Tally,
 ) -> Result<(), AllocError>
     requires placed { All (IsPlaced desk.old (length tops.old)) boxes.now }
-    requires room { HasRoom desk.old live.now }
+    requires room { MayReceive desk.old live.now }
     requires few { length boxes.now ≤ 8 }
-    requires beside { LieBeside desk.old.places.view.w boxes.now }
-    requires some { All (λ b. IsTrue (has_open desk.old.w tops.old b)) boxes.now }
+    requires beside { LieBeside desk.old.view.w boxes.now }
+    requires some { All (λ b. IsTrue (has_open desk.old.view.w tops.old b)) boxes.now }
     ensures tops { OnOk result (Changes (λ p. true)
-        (beside_top desk.old.places.view live.now boxes.now) tops.old tops.new) }
+        (beside_top desk.old.view live.now boxes.now) tops.old tops.new) }
     ensures at_most { CountsAtMost
-        (beside_points desk.old.places.view live.now tops.old boxes.now)
-        (halves_spans (layered desk.old.places.view) live.now boxes.now) tally.old tally.new }
+        (beside_points desk.old.view live.now tops.old boxes.now)
+        (halves_spans (layered desk.old.view) live.now boxes.now) tally.old tally.new }
     ensures points { OnOk result
-        (CountsPoints (beside_points desk.old.places.view live.now tops.old boxes.now)
+        (CountsPoints (beside_points desk.old.view live.now tops.old boxes.now)
         tally.old tally.new) }
     ensures hulls { OnOk result
-        (CountsSpans (beside_traced desk.old.places.view live.now tops.old boxes.now)
+        (CountsSpans (beside_traced desk.old.view live.now tops.old boxes.now)
         tally.old tally.new) }
-    ensures kept { KeepsDesk desk.old desk.new }
+    ensures kept { desk.new ≡ desk.old }
 {
     layers_hold();
-    let outcomes = desk
-        .room
-        .trace_boxes(alloc, live, &desk.places, boxes, tally)?;
+    let outcomes = desk.trace_boxes(alloc, live, boxes, tally)?;
     let outcomes = outcomes.as_slice();
     for n in (0..boxes.len()).rev() {
         draw_outcome(alloc, desk, boxes[n], &outcomes[n], tops, tally)?;

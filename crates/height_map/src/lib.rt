@@ -4,7 +4,6 @@
 
 mod column;
 mod columns;
-mod desk;
 mod drawing;
 mod halves;
 mod laws;

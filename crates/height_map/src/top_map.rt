@@ -5,9 +5,8 @@ ghost use Rattle.box_chains.specs.Tallied.{CountsAtMost};
 ghost use Rattle.height_map.specs.Bound.{CountsPoints, CountsSpans, height_points, height_spans, near_spans};
 ghost use Rattle.height_map.specs.Tops.{tops_of};
 
-use crate::desk::Desk;
 use crate::drawing::draw_box;
-use box_chains::layers_hold;
+use box_chains::{Desk, layers_hold};
 use fixed_ops::Tally;
 use live_clauses::Tape;
 use std::alloc::{AllocError, Global};
@@ -58,7 +57,7 @@ pub fn heights(
         (CountsSpans (near_spans view.now list.now) tally.old tally.new) }
 {
     layers_hold();
-    let mut desk = Desk::new(alloc, view, list.len())?;
+    let mut desk = Desk::new(alloc, view, Lattice::Height, list.len())?;
     let mut tops = vec![in alloc; 0u16; view.w as usize * view.h as usize]?;
     draw_box(
         alloc,

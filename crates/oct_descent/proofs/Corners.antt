@@ -8,19 +8,18 @@ use Rattle.view_settings.specs.Boxes.{Indices, IsBox}
 use Rattle.box_chains.specs.Chains.{is_long}
 use Rattle.fixed_ops.specs.Raw.{is_inside}
 use Rattle.oct_descent.specs.Corners.{AllShow, IsSeen, LacksCorner, ShowsCorner, side_seen}
-use Rattle.oct_descent.specs.Fills.{point_box}
 use Rattle.oct_descent.specs.Tables.{AllKnown, PointValues, is_known, known_at}
 use Rattle.oct_descent.specs.Ways.{Covers}
 use Rattle.oct_descent.specs.declared.seen.Seen.{Seen}
 use Rattle.oct_descent.proofs.Covered.{or-false}
 
-pub unknown-is : (o : Option ℤ) → is_some o ≡ false → o ≡ None
-unknown-is None e = refl
-unknown-is (Some v) e = absurd (false≢true (sym e))
+pub none-is : (o : Option ℤ) (t : Bool) → is_some o ≡ not t → t ≡ true → o ≡ None
+none-is None t told e = refl
+none-is (Some v) t told e = absurd (false≢true (sym (told ∙ ap not e)))
 
--- a point is covered by its own box
-pub itself : (p : GridPoint) → Covers (point_box p) p
-itself p = record { x = (omega arith, omega arith); y = (omega arith, omega arith); z = (omega arith, omega arith) }
+pub known-is : (o : Option ℤ) (t : Bool) → is_some o ≡ not t → t ≡ false → is_known o ≡ true
+known-is None t told e = absurd (false≢true (told ∙ ap not e))
+known-is (Some v) t told e = refl
 
 -- a box of one cell
 pub record IsOne (b : Indices) : Type 0 where
@@ -84,31 +83,6 @@ pub all-known : (b : Indices) (t : PointValues) → IsOne b → ((c : ℕ) → c
 all-known b t one known p covers =
     let corner = corner-mask b p one covers in
     subst (λ q. is_known (known_at t q) ≡ true) corner.at (known corner.mask corner.few)
-
--- the box of a corner covers only what the cell does
-pub corner-wider : (b : Indices) (c : ℕ) (p q : GridPoint) → IsOne b → p ≡ further (point b.x0 b.y0 b.z0) c → Covers (point_box p) q → Covers b q
-corner-wider b c p q one at covers =
-    let x = ap (λ r. r.x) at in
-    let y = ap (λ r. r.y) at in
-    let z = ap (λ r. r.z) at in
-    record {
-      x = (omega (arith, covers.x, x), omega (arith, covers.x, x, one.x));
-      y = (omega (arith, covers.y, y), omega (arith, covers.y, y, one.y));
-      z = (omega (arith, covers.z, z), omega (arith, covers.z, z, one.z));
-    }
-
--- one more corner is known
-pub one-more_known : (b : Indices) (before after : PointValues) (c : ℕ) (p : GridPoint) → p ≡ further (point b.x0 b.y0 b.z0) c
-    → ((q : GridPoint) → is_known (known_at before q) ≡ true → is_known (known_at after q) ≡ true)
-    → ((k : ℕ) → k < c → is_known (known_at before (further (point b.x0 b.y0 b.z0) k)) ≡ true) → is_known (known_at after p) ≡ true
-    → (k : ℕ) → k < c + 1 → is_known (known_at after (further (point b.x0 b.y0 b.z0) k)) ≡ true
-one-more_known b before after c p at stays known here k less = by (cases_lt k c)
-  where
-    by : (k < c) ⊎ (c ≤ k) → is_known (known_at after (further (point b.x0 b.y0 b.z0) k)) ≡ true
-    by (inl below) = stays (further (point b.x0 b.y0 b.z0) k) (known k below)
-    by (inr above) =
-        let same : c ≡ k = omega (arith, above, less) in
-        ap (λ q. is_known (known_at after q)) (ap (further (point b.x0 b.y0 b.z0)) (sym same) ∙ sym at) ∙ here
 
 -- what the first known corners of a cell show
 pub record IsSeenTo (t : PointValues) (p : GridPoint) (n : ℕ) (seen : Seen) : Type 0 where

@@ -12,7 +12,6 @@ use Rattle.view_settings.specs.Boxes.{Indices}
 use Rattle.view_settings.specs.Window.{Window}
 use Rattle.oct_descent.specs.Bound.{CountsAtLeast, CountsHullsAtLeast, greatest, least, long_spans_in, mesh_least, mesh_long_spans, mesh_points, mesh_spans, spans_in}
 use Rattle.oct_descent.specs.Corners.{is_mixed, places_to, side_seen}
-use Rattle.oct_descent.specs.Fills.{point_box}
 use Rattle.oct_descent.specs.GridValues.{grid_of, grid_value}
 use Rattle.oct_descent.specs.declared.seen.Seen.{Seen}
 use Rattle.oct_descent.specs.Tables.{brick_of, is_within, same_point, slot, stand_in}
@@ -303,9 +302,6 @@ same_along_each_axis : map (λ p. same_point p (point 1 2 3))
     (point 1 2 3 ∷ point 0 2 3 ∷ point 1 0 3 ∷ point 1 2 0 ∷ [])
     ≡ true ∷ false ∷ false ∷ false ∷ []
 same_along_each_axis = refl
-
-box_of_one_point : point_box (point 1 2 3) ≡ record { x0 = 1; x1 = 1; y0 = 2; y1 = 2; z0 = 3; z1 = 3 }
-box_of_one_point = refl
 
 -- sides that are seen: 0 is outside, and a corner that is not known shows none
 abbrev seen : Bool → Bool → Bool → Seen

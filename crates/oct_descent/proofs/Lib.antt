@@ -4,6 +4,7 @@ pub mod Bricks
 pub mod Corners
 pub mod Covered
 mod Examples
+pub mod GapLaws
 pub mod Joined
 pub mod Listed
 pub mod Looks

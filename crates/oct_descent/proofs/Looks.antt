@@ -38,13 +38,12 @@ use Rattle.view_settings.specs.declared.lattice.Lattice.{Lattice}
 use Rattle.view_settings.specs.declared.lattice.Lattice.TheVariants as lattices
 use Rattle.oct_descent.specs.Bound.{CountsHullsAtLeast, CountsNoHull, long_spans_in, spans_in}
 use Rattle.oct_descent.specs.Corners.{AllShow, IsSeen, IsShown, ShowsCorner}
-use Rattle.oct_descent.specs.Desks.{ChargesBelow, ChargesHalves, KeepsDesk, MayLook, PaysHalves, asked_of, halves_long_spans, halves_spans, long_spans_below, longer, own_spans, spans_below}
+use Rattle.oct_descent.specs.Desks.{ChargesBelow, ChargesHalves, PaysHalves, asked_of, halves_long_spans, halves_spans, long_spans_below, longer, own_spans, spans_below}
 use Rattle.oct_descent.specs.Fills.{ChargesCorners, PaysCorners}
 use Rattle.oct_descent.specs.GridValues.{grid_value}
 use Rattle.oct_descent.specs.Sizes.{size_of}
 use Rattle.oct_descent.specs.Tables.{AllKnown, AreRight, AreSettled, AreWorked, Charges, ChargesBox, Grows, IsDue, IsEnough, IsUniform, PaysBox, PointValues, is_known}
 use Rattle.oct_descent.specs.Ways.{CellDescent, Covers, cell_box, gridded, is_cut, is_open, is_open_by, is_working, meets_border, way_end}
-use Rattle.oct_descent.specs.declared.desk.Desk.{Desk}
 use Rattle.oct_descent.specs.declared.seen.Seen.{Seen}
 use Rattle.oct_descent.proofs.Corners.{IsOne, mask-covered, short-one}
 use Rattle.oct_descent.proofs.Covered.{corner-covered, handed-grid_value, inside-uniform, outside-uniform}
@@ -115,17 +114,6 @@ look-charged laws d v t told now some is h f enough =
 -- nothing is due for a box that is not looked into
 pub look-paid : (d : CellDescent) (v : Visit) (t : PointValues) (told now : Counts) → CountsAtMost 0 (length v.list) told now → PaysBox d v t t told now
 look-paid d v t told now h f due = pays-most f 0 (length v.list) t told now h
-
--- what is kept may be looked at again
-pub may-kept : (before after : Desk) (b : Indices) (list : List Step) (t : PointValues) → KeepsDesk before after → MayLook before b list t → MayLook after b list t
-may-kept before after b list t kept may = record {
-  lattice = ap (λ p. p.lattice) kept.places ∙ may.lattice;
-  visit_is = subst (λ p. IsVisit (gridded p.view).boxes (visit b list)) (sym kept.places) may.visit_is;
-  n = subst (λ p. SameSize t.n (size_of p.view)) (sym kept.places) may.n;
-  room = omega (arith, kept.room, may.room);
-  values = omega (arith, kept.values, may.values);
-  right = subst (λ p. AreRight (grid_value p.view list) b t) (sym kept.places) may.right;
-}
 
 -- two known corners on either side show that a cell stays open
 pub sides-open : (laws : Lawful) (view : Window) (v : Visit) (t : PointValues) → IsVisit (gridded view).boxes v → is_long 1 v.box ≡ false

@@ -1,11 +1,11 @@
 -- How known values become more, and what that takes.
 use Rattle.std.proofs.Common.{◌≡◌, ℕ, ◌+◌, ◌-◌, ◌*◌, ◌<◌, ◌≤◌, ℤ, Bool, true, false, cond, refl, sym, ap, ◌∙◌, ◌⊎◌, inl, inr, arith}
-use Rattle.std.specs.Prelude.{Some, None, ◌==◌, ◌&&◌}
+use Rattle.std.specs.Prelude.{Some, None, ◌==◌, ◌&&◌, ◌||◌}
 use Rattle.box_chains.specs.Chains.{Visit}
 use Rattle.box_chains.specs.Sums.{LiesIn, Sample, sum_along, sum_in}
 use Rattle.box_chains.specs.Tallied.{CountsAtMost}
 use Rattle.box_chains.specs.Laws.{Lawful}
-use Rattle.fixed_ops.specs.Counts.{Counts, RisesBy, plus, points_of}
+use Rattle.fixed_ops.specs.Counts.{Counts, plus}
 use Rattle.fixed_ops.specs.CountLaws.{RisesBy-then}
 use Rattle.fixed_ops.specs.Raw.{is_inside}
 use Rattle.interval_ops.specs.HullCounts.{CountsHulls}
@@ -15,8 +15,7 @@ use Rattle.view_settings.specs.Boxes.{Indices}
 use Rattle.view_settings.specs.Window.{Window}
 use Rattle.oct_descent.proofs.Sizes.{size-is, size-none, size-then}
 use Rattle.oct_descent.specs.Bound.{CountsAtLeast, points_of_grid}
-use Rattle.oct_descent.specs.Fills.{point_box}
-use Rattle.oct_descent.specs.Tables.{AllKnown, AreRight, AreSettled, AreWorked, Charges, Grows, IsNew, IsSame, IsUniform, Pays, PointValues, Sets, is_known, known_at, left, same_point}
+use Rattle.oct_descent.specs.Tables.{AllKnown, AreRight, AreSettled, AreWorked, Charges, Grows, IsNew, IsSame, IsUniform, Pays, PointValues, is_known, known_at, left, same_point}
 use Rattle.oct_descent.specs.Ways.{CellDescent, Covers, gridded}
 use Rattle.oct_descent.proofs.Covered.{corner-covered}
 
@@ -135,37 +134,40 @@ same-is p q e =
 pub same-self : (p : GridPoint) → same_point p p ≡ true
 same-self p = rw (eq-eqb p.x p.x refl, eq-eqb p.y p.y refl, eq-eqb p.z p.z refl) refl
 
--- a point that becomes known is no longer left
-left-set : (laws : Lawful) (f : GridPoint → ℕ) (p : GridPoint) (v : ℤ) (before after : PointValues) → p.x ≤ before.n.x → p.y ≤ before.n.y → p.z ≤ before.n.z → known_at before p ≡ None → Sets p v before after
-    → f p + left f after ≡ left f before
-left-set laws f p v before after x y z unknown sets =
-    let b = points_of_grid before.n in
+-- what is left where a test tells which points are known
+abbrev pub unmet : (GridPoint → ℕ) → GridSize → (GridPoint → Bool) → ℕ
+unmet f n known = sum_in (points_of_grid n) (λ s. cond (known (point s.i s.j s.k)) 0 (f (point s.i s.j s.k)))
+
+-- one more point that becomes known is no longer left
+pub unmet-one : (laws : Lawful) (f : GridPoint → ℕ) (p : GridPoint) (n : GridSize) (was now : GridPoint → Bool) → p.x ≤ n.x → p.y ≤ n.y → p.z ≤ n.z → was p ≡ false
+    → ((q : GridPoint) → now q ≡ (same_point p q || was q)) → f p + unmet f n now ≡ unmet f n was
+unmet-one laws f p n was now x y z unknown one =
+    let b = points_of_grid n in
     let lies : LiesIn b (record { i = p.x; j = p.y; k = p.z }) = record { x = (omega arith, omega (arith, x)); y = (omega arith, omega (arith, y)); z = (omega arith, omega (arith, z)) } in
-    let same : left f after ≡ sum_in b now = ap (λ n. sum_in (points_of_grid n) now) (size-is after.n before.n sets.n) in
-    let split = laws.sums.same b then' (λ s. cond (same_point p (spot s)) (f p) 0 + now s) (λ s l. by (spot s) (same_point p (spot s)) refl) in
-    omega (arith, same, split, laws.sums.plus b (λ s. cond (same_point p (spot s)) (f p) 0) now, sum_in-one laws b p (f p) lies)
+    let split = laws.sums.same b before (λ s. cond (same_point p (spot s)) (f p) 0 + after s) (λ s l. by (spot s) (same_point p (spot s)) refl) in
+    omega (arith, split, laws.sums.plus b (λ s. cond (same_point p (spot s)) (f p) 0) after, sum_in-one laws b p (f p) lies)
   where
     spot : Sample → GridPoint
     spot s = point s.i s.j s.k
 
-    now : Sample → ℕ
-    now s = cond (is_known (known_at after (spot s))) 0 (f (spot s))
+    after : Sample → ℕ
+    after s = cond (now (spot s)) 0 (f (spot s))
 
-    then' : Sample → ℕ
-    then' s = cond (is_known (known_at before (spot s))) 0 (f (spot s))
+    before : Sample → ℕ
+    before s = cond (was (spot s)) 0 (f (spot s))
 
-    by : (q : GridPoint) (t : Bool) → same_point p q ≡ t → cond {A = ℕ} (is_known (known_at before q)) 0 (f q) ≡ cond (same_point p q) (f p) 0 + cond (is_known (known_at after q)) 0 (f q)
+    by : (q : GridPoint) (t : Bool) → same_point p q ≡ t → cond {A = ℕ} (was q) 0 (f q) ≡ cond (same_point p q) (f p) 0 + cond (now q) 0 (f q)
     by q true e =
         let is = same-is p q e in
-        let known : is_known (known_at after q) ≡ true = ap is_known (sets.each q) ∙ ap (λ t. is_known (cond t (Some v) (known_at before q))) e in
-        let not_yet : is_known (known_at before q) ≡ false = ap is_known (ap (known_at before) (sym is) ∙ unknown) in
-        let a : cond {A = ℕ} (is_known (known_at before q)) 0 (f q) ≡ f q = cond-false (is_known (known_at before q)) 0 (f q) not_yet in
-        let c : cond {A = ℕ} (is_known (known_at after q)) 0 (f q) ≡ 0 = cond-true (is_known (known_at after q)) 0 (f q) known in
+        let known : now q ≡ true = one q ∙ ap (λ t. t || was q) e in
+        let not_yet : was q ≡ false = ap was (sym is) ∙ unknown in
+        let a : cond {A = ℕ} (was q) 0 (f q) ≡ f q = cond-false (was q) 0 (f q) not_yet in
+        let c : cond {A = ℕ} (now q) 0 (f q) ≡ 0 = cond-true (now q) 0 (f q) known in
         let d : cond {A = ℕ} (same_point p q) (f p) 0 ≡ f p = cond-true (same_point p q) (f p) 0 e in
         omega (arith, a, c, d, ap f is)
     by q false e =
-        let stays : known_at after q ≡ known_at before q = sets.each q ∙ ap (λ t. cond t (Some v) (known_at before q)) e in
-        let a : cond {A = ℕ} (is_known (known_at after q)) 0 (f q) ≡ cond (is_known (known_at before q)) 0 (f q) = ap (λ o. cond {A = ℕ} (is_known o) 0 (f q)) stays in
+        let stays : now q ≡ was q = one q ∙ ap (λ t. t || was q) e in
+        let a : cond {A = ℕ} (now q) 0 (f q) ≡ cond (was q) 0 (f q) = ap (λ t. cond {A = ℕ} t 0 (f q)) stays in
         let d : cond {A = ℕ} (same_point p q) (f p) 0 ≡ 0 = cond-false (same_point p q) (f p) 0 e in
         omega (arith, a, d)
 
@@ -191,46 +193,12 @@ charges-then laws f s t u before mid after told since now less first second = re
   counts = laws.bounds.sum told since now first.points s second.points t (first.points + second.points) u (omega arith) less first.counts second.counts;
 }
 
-pub charges-set : (laws : Lawful) (f : GridPoint → ℕ) (p : GridPoint) (v : ℤ) (len : ℕ) (before after : PointValues) (told now : Counts) → p.x ≤ before.n.x → p.y ≤ before.n.y → p.z ≤ before.n.z
-    → known_at before p ≡ None → Sets p v before after → len ≤ f p → RisesBy told now (points_of len) → Charges f 0 before after told now
-charges-set laws f p v len before after told now x y z unknown sets few rises = record {
-  points = len;
-  enough = omega (arith, few, left-set laws f p v before after x y z unknown sets);
-  counts = laws.bounds.points told now len rises;
-}
-
--- a point that gets its value is new
-pub set-grows : (g : GridPoint → ℤ) (p : GridPoint) (v : ℤ) (before after : PointValues) → known_at before p ≡ None → v ≡ g p → Sets p v before after → Grows g (point_box p) before after
-set-grows g p v before after unknown right sets = record { n = sets.n; each = λ q. by q (same_point p q) refl }
-  where
-    by : (q : GridPoint) (t : Bool) → same_point p q ≡ t → (known_at after q ≡ known_at before q) ⊎ IsNew g (point_box p) before after q
-    by q true e =
-        let is = same-is p q e in
-        let x = ap (λ r. r.x) is in
-        let y = ap (λ r. r.y) is in
-        let z = ap (λ r. r.z) is in
-        inr (record {
-          unknown = ap (known_at before) (sym is) ∙ unknown;
-          covered = record { x = (omega (arith, x), omega (arith, x)); y = (omega (arith, y), omega (arith, y)); z = (omega (arith, z), omega (arith, z)) };
-          value = sets.each q ∙ ap (λ t. cond t (Some v) (known_at before q)) e ∙ ap Some right ∙ ap (λ r. Some (g r)) is;
-        })
-    by q false e = inl (sets.each q ∙ ap (λ t. cond t (Some v) (known_at before q)) e)
-
-pub set-known : (p : GridPoint) (v : ℤ) (before after : PointValues) → Sets p v before after → is_known (known_at after p) ≡ true
-set-known p v before after sets = ap is_known (sets.each p ∙ ap (λ t. cond t (Some v) (known_at before p)) (same-self p))
-
 -- ---- tables with the same values
 
 pub same-grows : (g : GridPoint → ℤ) (b : Indices) (before after : PointValues) → IsSame before after → Grows g b before after
 same-grows g b before after same = record { n = same.n; each = λ p. inl (same.each p) }
 
-pub same-sets : (p : GridPoint) (v : ℤ) (before mid after : PointValues) → IsSame before mid → Sets p v mid after → Sets p v before after
-same-sets p v before mid after same sets = record {
-  n = size-then after.n mid.n before.n sets.n same.n;
-  each = λ q. sets.each q ∙ ap (λ o. cond (same_point p q) (Some v) o) (same.each q);
-}
-
-same-left : (laws : Lawful) (f : GridPoint → ℕ) (before after : PointValues) → IsSame before after → left f after ≡ left f before
+pub same-left : (laws : Lawful) (f : GridPoint → ℕ) (before after : PointValues) → IsSame before after → left f after ≡ left f before
 same-left laws f before after same =
     ap (λ n. sum_in (points_of_grid n) (λ s. cond (is_known (known_at after (point s.i s.j s.k))) 0 (f (point s.i s.j s.k)))) (size-is after.n before.n same.n)
     ∙ laws.sums.same (points_of_grid before.n) (λ s. cond (is_known (known_at after (point s.i s.j s.k))) 0 (f (point s.i s.j s.k)))
@@ -265,14 +233,6 @@ pays-then f before mid after told since now first second = record {
     many = omega (arith, first.counts.many, second.counts.many);
     rises = RisesBy-then told since now first.counts.by second.counts.by first.counts.rises second.counts.rises;
   };
-}
-
-pub pays-set : (laws : Lawful) (f : GridPoint → ℕ) (p : GridPoint) (v : ℤ) (len : ℕ) (before after : PointValues) (told now : Counts) → p.x ≤ before.n.x → p.y ≤ before.n.y → p.z ≤ before.n.z
-    → known_at before p ≡ None → Sets p v before after → f p ≤ len → RisesBy told now (points_of len) → Pays f before after told now
-pays-set laws f p v len before after told now x y z unknown sets few rises = record {
-  points = len;
-  due = omega (arith, few, left-set laws f p v before after x y z unknown sets);
-  counts = record { by = points_of len; many = omega arith; rises = rises };
 }
 
 pub same-pays : (laws : Lawful) (f : GridPoint → ℕ) (before after : PointValues) (now : Counts) → IsSame before after → Pays f before after now now

@@ -1,7 +1,8 @@
--- What looking into a box needs, and what it leaves.
+-- What looking into a box needs, and the work that it takes.
 use Rattle.std.specs.Prelude.{◌≡◌, ℕ, ◌-◌, ◌<◌, ◌≤◌, true, List, [], ◌∷◌, length, get_or, if◌then◌else◌}
 use Rattle.std.specs.List.{All, flat_map, sum_by}
 use Rattle.box_chains.specs.Chains.{Visit, is_long, visit}
+use Rattle.box_chains.specs.Desks.{Tracing}
 use Rattle.box_chains.specs.Outcomes.{HandsOn, asked_outcome}
 use Rattle.box_chains.specs.Placing.{Sampling}
 use Rattle.box_chains.specs.declared.asked_box.AskedBox.{AskedBox}
@@ -14,36 +15,21 @@ use Rattle.kuhn_cells.specs.Sizes.{SameSize}
 use Rattle.kuhn_cells.specs.declared.grid_size.GridSize.{GridSize}
 use Rattle.live_clauses.specs.declared.step.Step.{Step}
 use Rattle.view_settings.specs.Boxes.{Indices}
-use Rattle.view_settings.specs.Window.{Window}
 use Rattle.view_settings.specs.declared.lattice.Lattice.TheVariants as lattices
 use Rattle.oct_descent.specs.Bound.{long_spans_in, spans_in}
 use Rattle.oct_descent.specs.GridValues.{grid_value}
 use Rattle.oct_descent.specs.Sizes.{size_of}
 use Rattle.oct_descent.specs.Tables.{AreRight, Charges, IsDue, IsEnough, Pays, PointValues}
 use Rattle.oct_descent.specs.Ways.{CellDescent, gridded, meets_border}
-use Rattle.oct_descent.specs.declared.desk.Desk.{Desk}
 
 -- The box is one of the grid's, whose points these are, and there is room for the list. What is
 -- known of the points that the box covers are the list's grid values.
-pub record MayLook (desk : Desk) (b : Indices) (list : List Step) (t : PointValues) : Type 0 where
-  pub lattice : desk.places.lattice ≡ lattices.Grid
-  pub visit_is : IsVisit (gridded desk.places.view).boxes (visit b list)
-  pub n : SameSize t.n (size_of desk.places.view)
-  pub room : length list ≤ length desk.room
-  pub values : length list ≤ length desk.values.items
-  pub right : AreRight (grid_value desk.places.view list) b t
-
--- the places stay, and so does the room
-pub record KeepsDesk (before after : Desk) : Type 0 where
-  pub places : after.places ≡ before.places
-  pub room : length after.room ≡ length before.room
-  pub values : length after.values.items ≡ length before.values.items
-
--- the places of a grid, and room for lists of at most so many steps
-pub record IsDesk (view : Window) (len : ℕ) (desk : Desk) : Type 0 where
-  pub places : desk.places ≡ record { view = view; lattice = lattices.Grid }
-  pub room : length desk.room ≡ len
-  pub values : length desk.values.items ≡ len
+pub record MayLook (desk : Tracing) (b : Indices) (list : List Step) (t : PointValues) : Type 0 where
+  pub lattice : desk.lattice ≡ lattices.Grid
+  pub visit_is : IsVisit (gridded desk.view).boxes (visit b list)
+  pub n : SameSize t.n (size_of desk.view)
+  pub room : length list ≤ desk.room
+  pub right : AreRight (grid_value desk.view list) b t
 
 -- the steps that are traced over some halves of a box, which receive a list
 abbrev pub halves_spans : CellDescent → List Step → List Indices → ℕ

@@ -6,10 +6,6 @@ use Rattle.view_settings.specs.Boxes.{Indices}
 use Rattle.oct_descent.specs.Tables.{Charges, Pays, PointValues}
 use Rattle.oct_descent.specs.Ways.{Covers}
 
--- the box that covers a point alone
-abbrev pub point_box : GridPoint → Indices
-point_box p = record { x0 = p.x; x1 = p.x; y0 = p.y; y1 = p.y; z0 = p.z; z1 = p.z }
-
 -- where each point that a box covers takes at least so many evaluations, no more are counted
 abbrev pub ChargesCorners : Indices → ℕ → PointValues → PointValues → Counts → Counts → Type 0
 ChargesCorners b len before after told now = (f : GridPoint → ℕ)

@@ -2,6 +2,7 @@ pub mod Bound
 pub mod Corners
 pub mod Desks
 pub mod Fills
+pub mod Gaps
 pub mod GridValues
 pub mod Laws
 pub mod Rows

@@ -2,6 +2,7 @@
 ghost use Rattle.std.specs.Prelude.{◌≡◌, ◌*◌, ◌+◌, ◌≤◌, ℕ, IfOk, OnErr, OnOk, IsTrue, false, length, true};
 ghost use Rattle.std.specs.List.{All};
 ghost use Rattle.box_chains.specs.Chains.{is_long as is_long_for, visit};
+ghost use Rattle.box_chains.specs.Desks.{samples};
 ghost use Rattle.box_chains.specs.Outcomes.{HandsOn, asked_outcomes};
 ghost use Rattle.box_chains.specs.Tallied.{CountsAtMost};
 ghost use Rattle.interval_ops.specs.HullCounts.{CountsHulls};
@@ -12,19 +13,18 @@ ghost use Rattle.view_settings.specs.Boxes.{halves_of};
 ghost use Rattle.view_settings.specs.Spans.{IsInRoot};
 ghost use Rattle.oct_descent.specs.Bound.{CountsHullsAtLeast, CountsNoHull, long_spans_in};
 ghost use Rattle.oct_descent.specs.Corners.{IsSeen, IsShown};
-ghost use Rattle.oct_descent.specs.Desks.{ChargesBelow, ChargesHalves, IsToldAt, KeepsDesk, MayLook, PaysHalves, asked_of, halves_long_spans, long_spans_below, longer};
+ghost use Rattle.oct_descent.specs.Desks.{ChargesBelow, ChargesHalves, IsToldAt, MayLook, PaysHalves, asked_of, halves_long_spans, long_spans_below, longer};
 ghost use Rattle.oct_descent.specs.GridValues.{grid_value};
 ghost use Rattle.oct_descent.specs.Sizes.{size_of};
 ghost use Rattle.oct_descent.specs.Tables.{AreSettled, AreWorked, ChargesBox, Grows, PaysBox, PointValues};
 ghost use Rattle.oct_descent.specs.Ways.{gridded, is_open as is_open_for, is_open_by, meets_border as meets_border_of};
 
 use crate::corner_values::seen;
-use crate::desk::Desk;
 use crate::filling::fill_cell;
 use crate::grid_values::GridValues;
 use crate::seen::Seen;
 use arrayvec::ArrayVec;
-use box_chains::{AskedBox, Outcome, is_long, layers_hold};
+use box_chains::{AskedBox, Desk, Outcome, is_long, layers_hold};
 use fixed_ops::Tally;
 use kuhn_cells::GridSize;
 use live_clauses::Tape;
@@ -46,28 +46,25 @@ pub fn look_into(
 ) -> Result<(), AllocError>
     requires { MayLook desk.old b received.now values.old }
     ensures settled { OnOk result
-        (AreSettled (gridded desk.old.places.view) (grid_value desk.old.places.view received.now) b
-        values.new) }
+        (AreSettled (gridded desk.old.view) (grid_value desk.old.view received.now) b values.new) }
     ensures worked { OnOk result
-        (AreWorked (gridded desk.old.places.view) (visit b received.now) values.new) }
-    ensures grows { Grows (grid_value desk.old.places.view received.now) b values.old values.new }
-    ensures counted { ChargesBox (gridded desk.old.places.view) (visit b received.now) values.old
+        (AreWorked (gridded desk.old.view) (visit b received.now) values.new) }
+    ensures grows { Grows (grid_value desk.old.view received.now) b values.old values.new }
+    ensures counted { ChargesBox (gridded desk.old.view) (visit b received.now) values.old
         values.new tally.old tally.new }
-    ensures paid { PaysBox (gridded desk.old.places.view) (visit b received.now) values.old
+    ensures paid { PaysBox (gridded desk.old.view) (visit b received.now) values.old
         values.new tally.old tally.new }
     ensures traced { OnOk result
-        (CountsHullsAtLeast (long_spans_in (gridded desk.old.places.view) (visit b received.now))
+        (CountsHullsAtLeast (long_spans_in (gridded desk.old.view) (visit b received.now))
         tally.old tally.new) }
-    ensures kept { KeepsDesk desk.old desk.new }
+    ensures kept { desk.new ≡ desk.old }
 {
     layers_hold();
     if !is_long(b, LEAF) {
         return look_into_cell(desk, b, received, values, tally);
     }
     let asked = asked_box(values.n(), b);
-    let told = desk
-        .room
-        .trace_asked_box(alloc, received, &desk.places, asked, tally)?;
+    let told = desk.trace_asked_box(alloc, received, asked, tally)?;
     look_into_told(alloc, desk, b, received, &[told], 0, values, tally)
 }
 
@@ -85,21 +82,20 @@ fn look_into_told(
     tally: &mut Tally,
 ) -> Result<(), AllocError>
     requires may { MayLook desk.old b received.now values.old }
-    requires told { IsToldAt desk.old.places received.now b outcomes.now at }
+    requires told { IsToldAt (samples desk.old) received.now b outcomes.now at }
     ensures settled { OnOk result
-        (AreSettled (gridded desk.old.places.view) (grid_value desk.old.places.view received.now) b
-        values.new) }
+        (AreSettled (gridded desk.old.view) (grid_value desk.old.view received.now) b values.new) }
     ensures worked { OnOk result
-        (AreWorked (gridded desk.old.places.view) (visit b received.now) values.new) }
-    ensures grows { Grows (grid_value desk.old.places.view received.now) b values.old values.new }
-    ensures counted { ChargesBelow (gridded desk.old.places.view) (visit b received.now) values.old
+        (AreWorked (gridded desk.old.view) (visit b received.now) values.new) }
+    ensures grows { Grows (grid_value desk.old.view received.now) b values.old values.new }
+    ensures counted { ChargesBelow (gridded desk.old.view) (visit b received.now) values.old
         values.new tally.old tally.new }
-    ensures paid { PaysBox (gridded desk.old.places.view) (visit b received.now) values.old
+    ensures paid { PaysBox (gridded desk.old.view) (visit b received.now) values.old
         values.new tally.old tally.new }
     ensures traced { OnOk result
-        (CountsHullsAtLeast (long_spans_below (gridded desk.old.places.view)
+        (CountsHullsAtLeast (long_spans_below (gridded desk.old.view)
         (visit b received.now)) tally.old tally.new) }
-    ensures kept { KeepsDesk desk.old desk.new }
+    ensures kept { desk.new ≡ desk.old }
 {
     layers_hold();
     if !is_long(b, LEAF) {
@@ -126,20 +122,19 @@ fn look_into_halves(
     requires whole { IsWhole live.now }
     requires long { IsTrue (is_long_for 1 b) }
     ensures settled { OnOk result
-        (AreSettled (gridded desk.old.places.view) (grid_value desk.old.places.view live.now) b
-        values.new) }
+        (AreSettled (gridded desk.old.view) (grid_value desk.old.view live.now) b values.new) }
     ensures worked { OnOk result
-        (All (λ half. AreWorked (gridded desk.old.places.view) (visit half live.now) values.new)
+        (All (λ half. AreWorked (gridded desk.old.view) (visit half live.now) values.new)
         (halves_of 1 b)) }
-    ensures grows { Grows (grid_value desk.old.places.view live.now) b values.old values.new }
-    ensures counted { ChargesHalves (gridded desk.old.places.view) live.now (halves_of 1 b)
+    ensures grows { Grows (grid_value desk.old.view live.now) b values.old values.new }
+    ensures counted { ChargesHalves (gridded desk.old.view) live.now (halves_of 1 b)
         values.old values.new tally.old tally.new }
-    ensures paid { PaysHalves (gridded desk.old.places.view) live.now (halves_of 1 b) values.old
+    ensures paid { PaysHalves (gridded desk.old.view) live.now (halves_of 1 b) values.old
         values.new tally.old tally.new }
     ensures traced { OnOk result
-        (CountsHullsAtLeast (halves_long_spans (gridded desk.old.places.view) live.now
+        (CountsHullsAtLeast (halves_long_spans (gridded desk.old.view) live.now
         (halves_of 1 b)) tally.old tally.new) }
-    ensures kept { KeepsDesk desk.old desk.new }
+    ensures kept { desk.new ≡ desk.old }
 {
     layers_hold();
     let halves = split(b, LEAF);
@@ -165,22 +160,21 @@ fn trace_longer(
     tally: &mut Tally,
 ) -> Result<ArrayVec<Outcome, 8>, AllocError>
     requires whole { IsWhole received.now }
-    requires room { length received.now ≤ length desk.old.room }
+    requires room { length received.now ≤ desk.old.room }
     requires few { length boxes.now ≤ 8 }
-    requires within { All (IsInRoot desk.old.places.view desk.old.places.lattice) boxes.now }
+    requires within { All (IsInRoot desk.old.view desk.old.lattice) boxes.now }
     ensures outcomes { IfOk result (λ outcomes. outcomes.items
-        ≡ asked_outcomes desk.old.places received.now (longer n boxes.now)) }
+        ≡ asked_outcomes (samples desk.old) received.now (longer n boxes.now)) }
     ensures hand { IfOk result
         (λ outcomes. All (HandsOn (length received.now)) outcomes.items) }
     ensures counted { OnOk result
         (CountsHulls (length (longer n boxes.now) * length received.now) tally.old tally.new) }
     ensures at_most { OnErr result
         (CountsAtMost 0 (length (longer n boxes.now) * length received.now) tally.old tally.new) }
-    ensures kept { KeepsDesk desk.old desk.new }
+    ensures kept { desk.new ≡ desk.old }
 {
     let asked = longer_boxes(n, boxes);
-    desk.room
-        .trace_asked_boxes(alloc, received, &desk.places, asked.as_slice(), tally)
+    desk.trace_asked_boxes(alloc, received, asked.as_slice(), tally)
 }
 
 // Those of some boxes that are longer than a cell.
@@ -221,18 +215,17 @@ fn look_into_cell(
     requires may { MayLook desk.old b received.now values.old }
     requires one { is_long_for 1 b ≡ false }
     ensures settled { OnOk result
-        (AreSettled (gridded desk.old.places.view) (grid_value desk.old.places.view received.now) b
-        values.new) }
+        (AreSettled (gridded desk.old.view) (grid_value desk.old.view received.now) b values.new) }
     ensures worked { OnOk result
-        (AreWorked (gridded desk.old.places.view) (visit b received.now) values.new) }
-    ensures grows { Grows (grid_value desk.old.places.view received.now) b values.old values.new }
-    ensures counted { ChargesBox (gridded desk.old.places.view) (visit b received.now) values.old
+        (AreWorked (gridded desk.old.view) (visit b received.now) values.new) }
+    ensures grows { Grows (grid_value desk.old.view received.now) b values.old values.new }
+    ensures counted { ChargesBox (gridded desk.old.view) (visit b received.now) values.old
         values.new tally.old tally.new }
-    ensures paid { PaysBox (gridded desk.old.places.view) (visit b received.now) values.old
+    ensures paid { PaysBox (gridded desk.old.view) (visit b received.now) values.old
         values.new tally.old tally.new }
     ensures untraced { IsShown values.old (point b.x0 b.y0 b.z0)
         → CountsNoHull tally.old tally.new }
-    ensures kept { KeepsDesk desk.old desk.new }
+    ensures kept { desk.new ≡ desk.old }
 {
     layers_hold();
     let seen = seen(values, b.x0, b.y0, b.z0);
@@ -259,17 +252,17 @@ fn is_working(
     requires may { (t : PointValues) × MayLook desk.old b received.now t × IsSeen t
         (point b.x0 b.y0 b.z0) seen }
     requires one { is_long_for 1 b ≡ false }
-    requires n { SameSize n (size_of desk.old.places.view) }
-    ensures open { result ≡ is_open_for (gridded desk.old.places.view) (visit b received.now) }
+    requires n { SameSize n (size_of desk.old.view) }
+    ensures open { result ≡ is_open_for (gridded desk.old.view) (visit b received.now) }
     ensures counted { CountsAtMost 0 (length received.now) tally.old tally.new }
     ensures untraced { IsTrue seen.inside → IsTrue seen.outside → tally.new ≡ tally.old }
-    ensures kept { KeepsDesk desk.old desk.new }
+    ensures kept { desk.new ≡ desk.old }
 {
     layers_hold();
     if seen.inside && seen.outside {
         return true;
     }
-    let told = desk.room.look_apart(received, desk.places.region(b), tally);
+    let told = desk.look_apart(received, b, tally);
     is_open(told, n, b)
 }
 

@@ -4,8 +4,9 @@
 
 mod corner_values;
 mod descent;
-mod desk;
 mod filling;
+mod gap;
+mod gaps;
 mod grid_values;
 mod laws;
 mod listing;

@@ -5,10 +5,9 @@ ghost use Rattle.box_chains.specs.Tallied.{CountsAtMost};
 ghost use Rattle.oct_descent.specs.Bound.{CountsAtLeast, CountsHullsAtLeast, mesh_least, mesh_long_spans, mesh_points, mesh_spans};
 
 use crate::descent::look_into;
-use crate::desk::Desk;
 use crate::grid_values::GridValues;
 use crate::mesh_size::mesh_size;
-use box_chains::layers_hold;
+use box_chains::{Desk, layers_hold};
 use fixed_ops::Tally;
 use live_clauses::Tape;
 use std::alloc::{AllocError, Global};
@@ -55,7 +54,7 @@ pub fn cells(
         (CountsHullsAtLeast (mesh_long_spans view.now list.now) tally.old tally.new) }
 {
     layers_hold();
-    let mut desk = Desk::new(alloc, view, list.len())?;
+    let mut desk = Desk::new(alloc, view, Lattice::Grid, list.len())?;
     let mut values = GridValues::new(alloc, mesh_size(view))?;
     look_into(
         alloc,

@@ -1,4 +1,3 @@
-pub mod Desks
 pub mod Drawn
 pub mod Laws
 pub mod Nodes

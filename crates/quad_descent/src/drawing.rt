@@ -1,19 +1,19 @@
 // Boxes that are drawn.
 ghost use Rattle.std.specs.Prelude.{◌≡◌, ◌+◌, ◌-◌, ◌*◌, ◌≤◌, ◌++◌, [], ◌∷◌, length, vec_len, OnOk, OnErr, IsTrue, if◌then◌else◌};
 ghost use Rattle.box_chains.specs.Chains.{is_long as is_long_for, visit};
+ghost use Rattle.box_chains.specs.Desks.{MayOpen, MayTrace};
 ghost use Rattle.box_chains.specs.Counts.{halves_points, halves_spans, open_points, open_spans, points_in, spans_in};
 ghost use Rattle.view_settings.specs.Boxes.{halves_of};
+ghost use Rattle.view_settings.specs.declared.lattice.Lattice.TheVariants.{Raster};
 ghost use Rattle.live_clauses.specs.Live.{IsWhole};
-ghost use Rattle.quad_descent.specs.Desks.{KeepsDesk, MayDraw, MayOpen};
 ghost use Rattle.quad_descent.specs.Nodes.{halves_nodes, nodes_of, open_nodes, split_node};
 ghost use Rattle.quad_descent.specs.Opened.{outcome_nodes, outcome_points, outcome_spans};
 ghost use Rattle.box_chains.specs.Tallied.{CountsAtMost, CountsExactly};
 ghost use Rattle.quad_descent.specs.Raster.{raster};
 
-use crate::desk::Desk;
 use crate::leaf::leaf_rows;
 use crate::node::Node;
-use box_chains::{Outcome, is_long, layers_hold};
+use box_chains::{Desk, Outcome, is_long, layers_hold, make_rows};
 use fixed_ops::Tally;
 use live_clauses::Tape;
 use std::alloc::{AllocError, Global};
@@ -31,21 +31,19 @@ pub fn draw_box(
     nodes: &mut Vec<Node>,
     tally: &mut Tally,
 ) -> Result<(), AllocError>
-    requires { MayDraw desk.old b received.now }
+    requires { MayTrace Raster desk.old b received.now }
     ensures nodes { OnOk result (nodes.new.items ≡ nodes.old.items ++ nodes_of
-        (raster desk.old.places.view) (visit b received.now)) }
+        (raster desk.old.view) (visit b received.now)) }
     ensures counted { OnOk result
-        (CountsExactly (points_in (raster desk.old.places.view) (visit b received.now))
-        (spans_in (raster desk.old.places.view) (visit b received.now)) tally.old tally.new) }
+        (CountsExactly (points_in (raster desk.old.view) (visit b received.now))
+        (spans_in (raster desk.old.view) (visit b received.now)) tally.old tally.new) }
     ensures at_most { OnErr result
-        (CountsAtMost (points_in (raster desk.old.places.view) (visit b received.now))
-        (spans_in (raster desk.old.places.view) (visit b received.now)) tally.old tally.new) }
-    ensures kept { KeepsDesk desk.old desk.new }
+        (CountsAtMost (points_in (raster desk.old.view) (visit b received.now))
+        (spans_in (raster desk.old.view) (visit b received.now)) tally.old tally.new) }
+    ensures kept { desk.new ≡ desk.old }
 {
     layers_hold();
-    let outcome = desk
-        .room
-        .trace_box(alloc, received, &desk.places, b, tally)?;
+    let outcome = desk.trace_box(alloc, received, b, tally)?;
     draw_outcome(alloc, desk, b, &outcome, nodes, tally)
 }
 
@@ -59,16 +57,16 @@ fn draw_outcome(
     nodes: &mut Vec<Node>,
     tally: &mut Tally,
 ) -> Result<(), AllocError>
-    requires { MayOpen desk.old b outcome.now }
+    requires { MayOpen Raster desk.old b outcome.now }
     ensures nodes { OnOk result (nodes.new.items ≡ nodes.old.items ++ outcome_nodes
-        (raster desk.old.places.view) b outcome.now) }
+        (raster desk.old.view) b outcome.now) }
     ensures counted { OnOk result
-        (CountsExactly (outcome_points (raster desk.old.places.view) b outcome.now)
-        (outcome_spans (raster desk.old.places.view) b outcome.now) tally.old tally.new) }
+        (CountsExactly (outcome_points (raster desk.old.view) b outcome.now)
+        (outcome_spans (raster desk.old.view) b outcome.now) tally.old tally.new) }
     ensures at_most { OnErr result
-        (CountsAtMost (outcome_points (raster desk.old.places.view) b outcome.now)
-        (outcome_spans (raster desk.old.places.view) b outcome.now) tally.old tally.new) }
-    ensures kept { KeepsDesk desk.old desk.new }
+        (CountsAtMost (outcome_points (raster desk.old.view) b outcome.now)
+        (outcome_spans (raster desk.old.view) b outcome.now) tally.old tally.new) }
+    ensures kept { desk.new ≡ desk.old }
 {
     layers_hold();
     match outcome {
@@ -88,24 +86,24 @@ fn draw_undecided(
     nodes: &mut Vec<Node>,
     tally: &mut Tally,
 ) -> Result<(), AllocError>
-    requires may { MayDraw desk.old b live.now }
+    requires may { MayTrace Raster desk.old b live.now }
     requires whole { IsWhole live.now }
     ensures nodes { OnOk result (nodes.new.items ≡ nodes.old.items ++ open_nodes
-        (raster desk.old.places.view) b live.now) }
+        (raster desk.old.view) b live.now) }
     ensures counted { OnOk result
-        (CountsExactly (open_points (raster desk.old.places.view) b live.now)
-        (open_spans (raster desk.old.places.view) b live.now) tally.old tally.new) }
+        (CountsExactly (open_points (raster desk.old.view) b live.now)
+        (open_spans (raster desk.old.view) b live.now) tally.old tally.new) }
     ensures at_most { OnErr result
-        (CountsAtMost (open_points (raster desk.old.places.view) b live.now)
-        (open_spans (raster desk.old.places.view) b live.now) tally.old tally.new) }
-    ensures kept { KeepsDesk desk.old desk.new }
+        (CountsAtMost (open_points (raster desk.old.view) b live.now)
+        (open_spans (raster desk.old.view) b live.now) tally.old tally.new) }
+    ensures kept { desk.new ≡ desk.old }
 {
     layers_hold();
     if is_long(b, LEAF) {
         draw_split(alloc, desk, b, live, nodes, tally)
     } else {
-        desk.make_room(live.len())?;
-        let rows = leaf_rows(&desk.places, b, live, &mut desk.values, tally);
+        make_rows(&mut desk.rows, live.len())?;
+        let rows = leaf_rows(&desk.places, b, live, &mut desk.rows, tally);
         Ok(nodes.push(Node::Leaf(rows))?)
     }
 }
@@ -120,18 +118,18 @@ fn draw_split(
     nodes: &mut Vec<Node>,
     tally: &mut Tally,
 ) -> Result<(), AllocError>
-    requires may { MayDraw desk.old b live.now }
+    requires may { MayTrace Raster desk.old b live.now }
     requires whole { IsWhole live.now }
     requires long { IsTrue (is_long_for 8 b) }
     ensures nodes { OnOk result (nodes.new.items
-        ≡ nodes.old.items ++ split_node (halves_nodes (raster desk.old.places.view) live.now (halves_of 8 b))) }
+        ≡ nodes.old.items ++ split_node (halves_nodes (raster desk.old.view) live.now (halves_of 8 b))) }
     ensures counted { OnOk result
-        (CountsExactly (halves_points (raster desk.old.places.view) live.now (halves_of 8 b))
-        (halves_spans (raster desk.old.places.view) live.now (halves_of 8 b)) tally.old tally.new) }
+        (CountsExactly (halves_points (raster desk.old.view) live.now (halves_of 8 b))
+        (halves_spans (raster desk.old.view) live.now (halves_of 8 b)) tally.old tally.new) }
     ensures at_most { OnErr result
-        (CountsAtMost (halves_points (raster desk.old.places.view) live.now (halves_of 8 b))
-        (halves_spans (raster desk.old.places.view) live.now (halves_of 8 b)) tally.old tally.new) }
-    ensures kept { KeepsDesk desk.old desk.new }
+        (CountsAtMost (halves_points (raster desk.old.view) live.now (halves_of 8 b))
+        (halves_spans (raster desk.old.view) live.now (halves_of 8 b)) tally.old tally.new) }
+    ensures kept { desk.new ≡ desk.old }
 {
     layers_hold();
     let at = nodes.len();
@@ -151,25 +149,23 @@ fn draw_halves(
     nodes: &mut Vec<Node>,
     tally: &mut Tally,
 ) -> Result<(), AllocError>
-    requires may { MayDraw desk.old b live.now }
+    requires may { MayTrace Raster desk.old b live.now }
     requires whole { IsWhole live.now }
     requires long { IsTrue (is_long_for 8 b) }
     ensures nodes { OnOk result (nodes.new.items
-        ≡ nodes.old.items ++ halves_nodes (raster desk.old.places.view) live.now (halves_of 8 b)) }
+        ≡ nodes.old.items ++ halves_nodes (raster desk.old.view) live.now (halves_of 8 b)) }
     ensures counted { OnOk result
-        (CountsExactly (halves_points (raster desk.old.places.view) live.now (halves_of 8 b))
-        (halves_spans (raster desk.old.places.view) live.now (halves_of 8 b)) tally.old tally.new) }
+        (CountsExactly (halves_points (raster desk.old.view) live.now (halves_of 8 b))
+        (halves_spans (raster desk.old.view) live.now (halves_of 8 b)) tally.old tally.new) }
     ensures at_most { OnErr result
-        (CountsAtMost (halves_points (raster desk.old.places.view) live.now (halves_of 8 b))
-        (halves_spans (raster desk.old.places.view) live.now (halves_of 8 b)) tally.old tally.new) }
-    ensures kept { KeepsDesk desk.old desk.new }
+        (CountsAtMost (halves_points (raster desk.old.view) live.now (halves_of 8 b))
+        (halves_spans (raster desk.old.view) live.now (halves_of 8 b)) tally.old tally.new) }
+    ensures kept { desk.new ≡ desk.old }
 {
     layers_hold();
     let halves = split(b, LEAF);
     let halves = halves.as_slice();
-    let outcomes = desk
-        .room
-        .trace_boxes(alloc, live, &desk.places, halves, tally)?;
+    let outcomes = desk.trace_boxes(alloc, live, halves, tally)?;
     let outcomes = outcomes.as_slice();
     for at in 0..halves.len() {
         draw_outcome(alloc, desk, halves[at], &outcomes[at], nodes, tally)?;

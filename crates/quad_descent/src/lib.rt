@@ -3,7 +3,6 @@
 #![tactic(auto)]
 
 mod band;
-mod desk;
 mod drawing;
 mod filling;
 mod laws;

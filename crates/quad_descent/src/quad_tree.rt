@@ -3,10 +3,9 @@ ghost use Rattle.std.specs.Prelude.{◌≡◌, IfOk, OnOk, OnErr};
 ghost use Rattle.box_chains.specs.Tallied.{CountsAtMost, CountsExactly};
 ghost use Rattle.quad_descent.specs.Raster.{fresh_points, fresh_spans};
 
-use crate::desk::Desk;
 use crate::drawing::draw_box;
 use crate::node::Node;
-use box_chains::layers_hold;
+use box_chains::{Desk, layers_hold};
 use fixed_ops::Tally;
 use live_clauses::Tape;
 use std::alloc::{AllocError, Global};
@@ -54,7 +53,7 @@ pub fn draw(
         tally.new) }
 {
     layers_hold();
-    let mut desk = Desk::new(alloc, view, list.len())?;
+    let mut desk = Desk::new(alloc, view, Lattice::Raster, list.len())?;
     let mut nodes = Vec::new(alloc);
     draw_box(
         alloc,

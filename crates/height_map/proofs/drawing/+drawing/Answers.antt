@@ -1,55 +1,64 @@
-use Rattle.std.proofs.Common.{◌≡◌, ◌-◌, ◌*◌, ◌<◌, ◌≤◌, ap, arith, length, refl, subst, suc, sym, true, ◌∙◌}
+use Rattle.std.proofs.Common.{◌≡◌, ◌-◌, ◌*◌, ◌<◌, ◌≤◌, ℕ, List, ap, arith, length, refl, subst, suc, sym, true, ◌∙◌}
 use Rattle.std.specs.Prelude.{OnOk}
-use Rattle.std.specs.List.{All}
+use Rattle.std.specs.List.{All, filter}
 use Rattle.std.proofs.lemmas.List.{length-drop, length-map, length-take-le}
 use Rattle.std.proofs.lemmas.List.Elements.{All-filter, All-get_or, All-weaker, filter_passes}
 use Rattle.box_chains.specs.Outcomes.{HandsOn}
 use Rattle.box_chains.specs.Tallied.{CountsAtMost}
-use Rattle.view_settings.specs.Boxes.{IsBox}
+use Rattle.box_chains.specs.Sums.{sum_in}
+use Rattle.fixed_ops.specs.Counts.{Counts, RisesBy, points_of}
+use Rattle.live_clauses.specs.declared.step.Step.{Step}
+use Rattle.view_settings.specs.Boxes.{Indices, IsBox}
+use Rattle.view_settings.specs.Window.{Window}
 use Rattle.height_map.specs.Beside.{LieBeside, beside_points, beside_top, beside_traced, farther, nearer}
 use Rattle.height_map.specs.Bound.{CountsPoints, CountsSpans, layered}
 use Rattle.box_chains.specs.Counts.{halves_spans}
-use Rattle.height_map.specs.Columns.{Changes, IsAmong, covers, has_open, leaf_top}
+use Rattle.height_map.specs.Columns.{Changes, IsAmong, covers, has_open, leaf_cost, leaf_top}
 use Rattle.height_map.specs.Desks.{IsPlaced}
 use Rattle.height_map.specs.Opened.{outcome_points, outcome_spans, outcome_top, outcome_traced}
 use Rattle.height_map.proofs.Beside.{farther-beside, nearer-beside}
-use Rattle.height_map.proofs.Drawn.{columns-there, farther-parts, halves-drawn, kept-then, leaf-counted, nearer-drawn, nearer-parts, on_ok-then, placed-may, room-kept}
+use Rattle.height_map.proofs.Drawn.{columns-there, farther-parts, halves-drawn, leaf-counted, nearer-drawn, nearer-parts, on_ok-then, placed-may, room-kept}
 use Rattle.height_map.proofs.Evaluated.{points-are, points-halves, points-leaf}
 use Rattle.height_map.proofs.Opens.{few-kept, kept-beside}
 use Rattle.height_map.proofs.Steps.{IsOver, begun-bounded, begun-points, begun-top, begun-traced, group-placed, group-shorter, groups-are, groups-bounded, groups-points, groups-traced, kept-bounded, kept-drawn, kept-points, kept-traced, longest, longest-at, longest-kept, may-open, nearer-bounded, next-bounded, next-of, next-points, next-top, next-traced, placed-over, rest-bounded, rest-is, told-some, traces-bounded}
 use Rattle.height_map.proofs.Traced.{spans-are, traced-halves, traced-leaf}
 use Rattle.height_map.proofs.drawing.+drawing.Goals as goal
 
-pub draw_undecided-returns-else-is_long-clause-at_most : goal.draw_undecided-returns-else-is_long-clause-at_most
-draw_undecided-returns-else-is_long-clause-at_most t c =
-    leaf-counted c.layers_hold.ensures c.args.desk.now.places.view c.args.live.now c.args.b c.args.tops.now c.args.tally.now c.draw_leaf.new.tally (sym c.is_long.ensures ∙ c.if-is_long.false) c.draw_leaf.ensures.counted
+-- the samples of a leaf are those of the desk's view
+leaf-rise : (is view : Window) (list : List Step) (b : Indices) (tops : List ℕ) (before after : Counts) → is ≡ view → RisesBy before after (points_of (sum_in b (leaf_cost is list b tops)))
+    → RisesBy before after (points_of (sum_in b (leaf_cost view list b tops)))
+leaf-rise is view list b tops before after same h = subst (λ v. RisesBy before after (points_of (sum_in b (leaf_cost v list b tops)))) same h
+
+pub draw_undecided-returns-in_ok-make_rows-clause-at_most : goal.draw_undecided-returns-in_ok-make_rows-clause-at_most
+draw_undecided-returns-in_ok-make_rows-clause-at_most t c =
+    leaf-counted c.layers_hold.ensures c.args.desk.now.view c.args.live.now c.args.b c.args.tops.now c.args.tally.now c.draw_leaf.new.tally (sym c.is_long.ensures ∙ c.if-is_long.false) (leaf-rise c.desk.inside.places.view c.args.desk.now.view c.args.live.now c.args.b c.args.tops.now c.args.tally.now c.draw_leaf.new.tally (ap (λ d. d.view) c.desk.view_is) c.draw_leaf.ensures.counted)
 
 pub draw_undecided-returns-then-is_long-clause-points : goal.draw_undecided-returns-then-is_long-clause-points
 draw_undecided-returns-then-is_long-clause-points t c =
     on_ok-then c.draw_halves.result _ _
-    (λ h. points-halves c.args.desk.now.places.view c.args.live.now c.args.b c.args.tops.now c.args.tally.now c.draw_halves.new.tally (sym c.is_long.ensures ∙ c.if-is_long.true) h)
+    (λ h. points-halves c.args.desk.now.view c.args.live.now c.args.b c.args.tops.now c.args.tally.now c.draw_halves.new.tally (sym c.is_long.ensures ∙ c.if-is_long.true) h)
     c.draw_halves.ensures.points
 
-pub draw_undecided-returns-else-is_long-clause-points : goal.draw_undecided-returns-else-is_long-clause-points
-draw_undecided-returns-else-is_long-clause-points t c =
-    points-leaf c.args.desk.now.places.view c.args.live.now c.args.b c.args.tops.now c.args.tally.now c.draw_leaf.new.tally (sym c.is_long.ensures ∙ c.if-is_long.false) c.draw_leaf.ensures.counted
+pub draw_undecided-returns-in_ok-make_rows-clause-points : goal.draw_undecided-returns-in_ok-make_rows-clause-points
+draw_undecided-returns-in_ok-make_rows-clause-points t c =
+    points-leaf c.args.desk.now.view c.args.live.now c.args.b c.args.tops.now c.args.tally.now c.draw_leaf.new.tally (sym c.is_long.ensures ∙ c.if-is_long.false) (leaf-rise c.desk.inside.places.view c.args.desk.now.view c.args.live.now c.args.b c.args.tops.now c.args.tally.now c.draw_leaf.new.tally (ap (λ d. d.view) c.desk.view_is) c.draw_leaf.ensures.counted)
 
 pub draw_undecided-returns-then-is_long-clause-hulls : goal.draw_undecided-returns-then-is_long-clause-hulls
 draw_undecided-returns-then-is_long-clause-hulls t c =
     on_ok-then c.draw_halves.result _ _
-    (λ h. traced-halves c.args.desk.now.places.view c.args.live.now c.args.b c.args.tops.now c.args.tally.now c.draw_halves.new.tally (sym c.is_long.ensures ∙ c.if-is_long.true) h)
+    (λ h. traced-halves c.args.desk.now.view c.args.live.now c.args.b c.args.tops.now c.args.tally.now c.draw_halves.new.tally (sym c.is_long.ensures ∙ c.if-is_long.true) h)
     c.draw_halves.ensures.hulls
 
-pub draw_undecided-returns-else-is_long-clause-hulls : goal.draw_undecided-returns-else-is_long-clause-hulls
-draw_undecided-returns-else-is_long-clause-hulls t c =
-    traced-leaf c.args.desk.now.places.view c.args.live.now c.args.b c.args.tops.now _ c.args.tally.now c.draw_leaf.new.tally (sym c.is_long.ensures ∙ c.if-is_long.false) c.draw_leaf.ensures.counted
+pub draw_undecided-returns-in_ok-make_rows-clause-hulls : goal.draw_undecided-returns-in_ok-make_rows-clause-hulls
+draw_undecided-returns-in_ok-make_rows-clause-hulls t c =
+    traced-leaf c.args.desk.now.view c.args.live.now c.args.b c.args.tops.now _ c.args.tally.now c.draw_leaf.new.tally (sym c.is_long.ensures ∙ c.if-is_long.false) (leaf-rise c.desk.inside.places.view c.args.desk.now.view c.args.live.now c.args.b c.args.tops.now c.args.tally.now c.draw_leaf.new.tally (ap (λ d. d.view) c.desk.view_is) c.draw_leaf.ensures.counted)
 
 -- ---- a box that was traced
 
 pub draw_outcome-draw_undecided-requires : goal.draw_outcome-draw_undecided-requires
 draw_outcome-draw_undecided-requires t c =
-    let room = c.requires.room c.in-Open.live c.in-Open.is in
-    (omega (arith, c.decreases), (placed-may c.args.desk.now c.args.b c.in-Open.live (length c.args.tops.now) c.requires.placed room, room.whole))
+    let may = c.requires.hands c.in-Open.live c.in-Open.is in
+    (omega (arith, c.decreases), (placed-may c.args.desk.now c.args.b c.in-Open.live (length c.args.tops.now) c.requires.placed may, may.room.whole))
 
 pub draw_outcome-returns-in-Inside-clause-at_most : goal.draw_outcome-returns-in-Inside-clause-at_most
 draw_outcome-returns-in-Inside-clause-at_most t c = c.layers_hold.ensures.bounds.none c.args.tally.now _ _
@@ -59,7 +68,7 @@ draw_outcome-returns-in-Outside-clause-at_most t c = c.layers_hold.ensures.bound
 
 pub draw_outcome-returns-in-Open-clause-tops : goal.draw_outcome-returns-in-Open-clause-tops
 draw_outcome-returns-in-Open-clause-tops t c =
-    subst (λ o. OnOk c.draw_undecided.result (Changes (covers c.args.desk.now.w c.args.b) (outcome_top c.args.desk.now.places.view c.args.b o) c.args.tops.now c.draw_undecided.new.tops))
+    subst (λ o. OnOk c.draw_undecided.result (Changes (covers c.args.desk.now.view.w c.args.b) (outcome_top c.args.desk.now.view c.args.b o) c.args.tops.now c.draw_undecided.new.tops))
     (sym c.in-Open.is) c.draw_undecided.ensures.tops
 
 -- ---- the nearer halves, and then the farther ones
@@ -77,12 +86,12 @@ draw_halves-draw_beside-requires t c =
     let shorter = group-shorter c.layers_hold.ensures b (nearer 8 b) may.visit_is.box c.requires.long parts in (
       omega (arith, shorter, ap longest near, c.decreases),
       (
-        subst (All (IsPlaced desk len)) (sym near) (group-placed c.layers_hold.ensures desk desk b (nearer 8 b) c.args.live.now len len (record { width = refl; places = refl; room = refl; values = refl }) refl may parts),
+        subst (All (IsPlaced desk len)) (sym near) (group-placed c.layers_hold.ensures desk desk b (nearer 8 b) c.args.live.now len len refl refl may parts),
         (
-          record { tape = may.visit_is.tape; whole = c.requires.whole; room = may.room; values = may.values },
+          record { tape = may.visit_is.tape; room = record { room = may.room; whole = c.requires.whole } },
           (
             omega (arith, ap length (rest-is halves far), length-drop far halves, c.as_slice-halves.ensures.fits),
-            subst (LieBeside desk.places.view.w) (sym near) (nearer-beside desk.places.view.w 8 b),
+            subst (LieBeside desk.view.w) (sym near) (nearer-beside desk.view.w 8 b),
           ),
         ),
       ),
@@ -90,7 +99,7 @@ draw_halves-draw_beside-requires t c =
 
 pub draw_halves-returns-in_err-draw_beside-clause-at_most : goal.draw_halves-returns-in_err-draw_beside-clause-at_most
 draw_halves-returns-in_err-draw_beside-clause-at_most t c =
-    let view = c.args.desk.now.places.view in
+    let view = c.args.desk.now.view in
     let live = c.args.live.now in
     let b = c.args.b in
     let old = c.args.tops.now in
@@ -118,10 +127,10 @@ draw_halves-draw_beside-requires-2 t c =
         subst (All (IsPlaced next (length c.draw_beside.new.tops))) (sym behind)
             (group-placed c.layers_hold.ensures desk next b (farther 8 b) c.args.live.now len (length c.draw_beside.new.tops) kept c.in_ok-draw_beside.ensures.tops.same may parts),
         (
-          room-kept desk next c.args.live.now kept (record { tape = may.visit_is.tape; whole = c.requires.whole; room = may.room; values = may.values }),
+          room-kept desk next c.args.live.now kept (record { tape = may.visit_is.tape; room = record { room = may.room; whole = c.requires.whole } }),
           (
             omega (arith, length-take-le far halves c.farther_count-far.ensures.few, c.farther_count-far.ensures.few, c.as_slice-halves.ensures.fits),
-            subst (LieBeside next.places.view.w) (sym behind) (farther-beside next.places.view.w 8 b),
+            subst (LieBeside next.view.w) (sym behind) (farther-beside next.view.w 8 b),
           ),
         ),
       ),
@@ -130,33 +139,32 @@ draw_halves-draw_beside-requires-2 t c =
 pub draw_halves-returns-clause-tops : goal.draw_halves-returns-clause-tops
 draw_halves-returns-clause-tops t c =
     let desk = c.args.desk.now in
-    let view = desk.places.view in
+    let view = desk.view in
     let live = c.args.live.now in
     let b = c.args.b in
     let old = c.args.tops.now in
     let mid = c.draw_beside.new.tops in
     let new = c.draw_beside-2.new.tops in
     let near = rest-is c.as_slice-halves.result.now c.farther_count-far.result ∙ c.farther_count-far.ensures.nearer in
-    let same = ap (λ p. p.view) c.in_ok-draw_beside.ensures.kept.places in
+    let same = ap (λ d. d.view) c.in_ok-draw_beside.ensures.kept in
     on_ok-then c.draw_beside-2.result _ _
     (λ second.
-    subst (λ w. Changes (covers w b) (leaf_top view live b) old new) (sym c.requires.may.width)
-    (halves-drawn view live b old mid new c.requires.may.visit_is.box
+    halves-drawn view live b old mid new c.requires.may.visit_is.box
     (subst (λ hs. Changes (λ p. true) (beside_top view live hs) old mid) near c.in_ok-draw_beside.ensures.tops)
     (subst (λ v. Changes (λ p. true) (beside_top v live (farther 8 b)) mid new) same
-    (subst (λ hs. Changes (λ p. true) (beside_top c.draw_beside.new.desk.places.view live hs) mid new) c.farther_count-far.ensures.farther second))))
+    (subst (λ hs. Changes (λ p. true) (beside_top c.draw_beside.new.desk.view live hs) mid new) c.farther_count-far.ensures.farther second)))
     c.draw_beside-2.ensures.tops
 
 pub draw_halves-returns-clause-at_most : goal.draw_halves-returns-clause-at_most
 draw_halves-returns-clause-at_most t c =
     let desk = c.args.desk.now in
-    let view = desk.places.view in
+    let view = desk.view in
     let live = c.args.live.now in
     let b = c.args.b in
     let old = c.args.tops.now in
     let mid = c.draw_beside.new.tops in
     let near = rest-is c.as_slice-halves.result.now c.farther_count-far.result ∙ c.farther_count-far.ensures.nearer in
-    let same = ap (λ p. p.view) c.in_ok-draw_beside.ensures.kept.places in
+    let same = ap (λ d. d.view) c.in_ok-draw_beside.ensures.kept in
     let start = c.args.tally.now in
     let between = c.draw_beside.new.tally in
     let end = c.draw_beside-2.new.tally in
@@ -164,19 +172,19 @@ draw_halves-returns-clause-at_most t c =
     (groups-are c.layers_hold.ensures desk live b old mid c.requires.may (subst (λ hs. Changes (λ p. true) (beside_top view live hs) old mid) near c.in_ok-draw_beside.ensures.tops))
     (subst (λ hs. CountsAtMost (beside_points view live old hs) (halves_spans (layered view) live hs) start between) near c.in_ok-draw_beside.ensures.at_most)
     (subst (λ v. CountsAtMost (beside_points v live mid (farther 8 b)) (halves_spans (layered v) live (farther 8 b)) between end) same
-    (subst (λ hs. CountsAtMost (beside_points c.draw_beside.new.desk.places.view live mid hs) (halves_spans (layered c.draw_beside.new.desk.places.view) live hs) between end)
+    (subst (λ hs. CountsAtMost (beside_points c.draw_beside.new.desk.view live mid hs) (halves_spans (layered c.draw_beside.new.desk.view) live hs) between end)
     c.farther_count-far.ensures.farther c.draw_beside-2.ensures.at_most))
 
 pub draw_halves-returns-clause-points : goal.draw_halves-returns-clause-points
 draw_halves-returns-clause-points t c =
     let desk = c.args.desk.now in
-    let view = desk.places.view in
+    let view = desk.view in
     let live = c.args.live.now in
     let b = c.args.b in
     let old = c.args.tops.now in
     let mid = c.draw_beside.new.tops in
     let near = rest-is c.as_slice-halves.result.now c.farther_count-far.result ∙ c.farther_count-far.ensures.nearer in
-    let same = ap (λ p. p.view) c.in_ok-draw_beside.ensures.kept.places in
+    let same = ap (λ d. d.view) c.in_ok-draw_beside.ensures.kept in
     let start = c.args.tally.now in
     let between = c.draw_beside.new.tally in
     let end = c.draw_beside-2.new.tally in
@@ -186,19 +194,19 @@ draw_halves-returns-clause-points t c =
     (groups-are c.layers_hold.ensures desk live b old mid c.requires.may (subst (λ hs. Changes (λ p. true) (beside_top view live hs) old mid) near c.in_ok-draw_beside.ensures.tops))
     (subst (λ hs. CountsPoints (beside_points view live old hs) start between) near c.in_ok-draw_beside.ensures.points)
     (subst (λ v. CountsPoints (beside_points v live mid (farther 8 b)) between end) same
-    (subst (λ hs. CountsPoints (beside_points c.draw_beside.new.desk.places.view live mid hs) between end) c.farther_count-far.ensures.farther second)))
+    (subst (λ hs. CountsPoints (beside_points c.draw_beside.new.desk.view live mid hs) between end) c.farther_count-far.ensures.farther second)))
     c.draw_beside-2.ensures.points
 
 pub draw_halves-returns-clause-hulls : goal.draw_halves-returns-clause-hulls
 draw_halves-returns-clause-hulls t c =
     let desk = c.args.desk.now in
-    let view = desk.places.view in
+    let view = desk.view in
     let live = c.args.live.now in
     let b = c.args.b in
     let old = c.args.tops.now in
     let mid = c.draw_beside.new.tops in
     let near = rest-is c.as_slice-halves.result.now c.farther_count-far.result ∙ c.farther_count-far.ensures.nearer in
-    let same = ap (λ p. p.view) c.in_ok-draw_beside.ensures.kept.places in
+    let same = ap (λ d. d.view) c.in_ok-draw_beside.ensures.kept in
     let start = c.args.tally.now in
     let between = c.draw_beside.new.tally in
     let end = c.draw_beside-2.new.tally in
@@ -208,7 +216,7 @@ draw_halves-returns-clause-hulls t c =
     (groups-are c.layers_hold.ensures desk live b old mid c.requires.may (subst (λ hs. Changes (λ p. true) (beside_top view live hs) old mid) near c.in_ok-draw_beside.ensures.tops))
     (subst (λ hs. CountsSpans (beside_traced view live old hs) start between) near c.in_ok-draw_beside.ensures.hulls)
     (subst (λ v. CountsSpans (beside_traced v live mid (farther 8 b)) between end) same
-    (subst (λ hs. CountsSpans (beside_traced c.draw_beside.new.desk.places.view live mid hs) between end) c.farther_count-far.ensures.farther second)))
+    (subst (λ hs. CountsSpans (beside_traced c.draw_beside.new.desk.view live mid hs) between end) c.farther_count-far.ensures.farther second)))
     c.draw_beside-2.ensures.hulls
 
 -- ---- those of some boxes that have a column with no top
@@ -217,15 +225,15 @@ pub draw_beside-open_among-open-requires-clause-among : goal.draw_beside-open_am
 draw_beside-open_among-open-requires-clause-among t c =
     let desk = c.args.desk.now in
     let len = length c.args.tops.now in
-    All-weaker (IsPlaced desk len) (IsAmong desk.w len) (λ b is. columns-there desk.places.view b desk.w len is.window is.within is.width is.tops) c.args.boxes.now c.requires.placed
+    All-weaker (IsPlaced desk len) (IsAmong c.w.result len) (λ b is. columns-there desk.view b c.w.result len is.window is.within c.w.ensures is.tops) c.args.boxes.now c.requires.placed
 
 pub draw_beside-draw_open-requires : goal.draw_beside-draw_open-requires
 draw_beside-draw_open-requires t c =
     let desk = c.args.desk.now in
     let len = length c.args.tops.now in
     let boxes = c.args.boxes.now in
-    let test = has_open desk.w c.args.tops.now in
-    let kept = c.as_slice.ensures.value ∙ c.open_among-open.ensures in (
+    let test = has_open desk.view.w c.args.tops.now in
+    let kept = c.as_slice.ensures.value ∙ c.open_among-open.ensures ∙ ap (λ w. filter (has_open w c.args.tops.now) boxes) c.w.ensures in (
       omega (arith, longest-kept test boxes, ap longest kept, c.decreases),
       (
         subst (All (IsPlaced desk len)) (sym kept) (All-filter test (IsPlaced desk len) boxes c.requires.placed),
@@ -234,7 +242,7 @@ draw_beside-draw_open-requires t c =
           (
             omega (arith, few-kept test boxes, ap length kept, c.requires.few),
             (
-              subst (LieBeside desk.places.view.w) (sym kept) (kept-beside desk.places.view.w test boxes c.requires.beside),
+              subst (LieBeside desk.view.w) (sym kept) (kept-beside desk.view.w test boxes c.requires.beside),
               subst (All (λ b. test b ≡ true)) (sym kept) (filter_passes test boxes),
             ),
           ),
@@ -248,9 +256,9 @@ draw_beside-returns-clause-tops t c =
     let tops = c.args.tops.now in
     let boxes = c.args.boxes.now in
     on_ok-then c.draw_open.result _ _
-    (kept-drawn desk.places.view c.args.live.now desk.w tops c.draw_open.new.tops boxes c.as_slice.result.now
-    (All-weaker (IsPlaced desk (length tops)) (IsOver desk.places.view desk.w tops) (placed-over desk tops) boxes c.requires.placed) c.requires.beside
-    (c.as_slice.ensures.value ∙ c.open_among-open.ensures))
+    (kept-drawn desk.view c.args.live.now desk.view.w tops c.draw_open.new.tops boxes c.as_slice.result.now
+    (All-weaker (IsPlaced desk (length tops)) (IsOver desk.view desk.view.w tops) (placed-over desk tops) boxes c.requires.placed) c.requires.beside
+    (c.as_slice.ensures.value ∙ c.open_among-open.ensures ∙ ap (λ w. filter (has_open w tops) boxes) c.w.ensures))
     c.draw_open.ensures.tops
 
 pub draw_beside-returns-clause-at_most : goal.draw_beside-returns-clause-at_most
@@ -258,9 +266,9 @@ draw_beside-returns-clause-at_most t c =
     let desk = c.args.desk.now in
     let tops = c.args.tops.now in
     let boxes = c.args.boxes.now in
-    kept-bounded c.layers_hold.ensures desk.places.view c.args.live.now desk.w tops boxes c.as_slice.result.now c.args.tally.now c.draw_open.new.tally
-    (All-weaker (IsPlaced desk (length tops)) (IsOver desk.places.view desk.w tops) (placed-over desk tops) boxes c.requires.placed)
-    (c.as_slice.ensures.value ∙ c.open_among-open.ensures) c.draw_open.ensures.at_most
+    kept-bounded c.layers_hold.ensures desk.view c.args.live.now desk.view.w tops boxes c.as_slice.result.now c.args.tally.now c.draw_open.new.tally
+    (All-weaker (IsPlaced desk (length tops)) (IsOver desk.view desk.view.w tops) (placed-over desk tops) boxes c.requires.placed)
+    (c.as_slice.ensures.value ∙ c.open_among-open.ensures ∙ ap (λ w. filter (has_open w tops) boxes) c.w.ensures) c.draw_open.ensures.at_most
 
 pub draw_beside-returns-clause-points : goal.draw_beside-returns-clause-points
 draw_beside-returns-clause-points t c =
@@ -269,9 +277,9 @@ draw_beside-returns-clause-points t c =
     let boxes = c.args.boxes.now in
     on_ok-then c.draw_open.result _ _
     (points-are c.args.tally.now c.draw_open.new.tally _ _
-    (kept-points c.layers_hold.ensures desk.places.view c.args.live.now desk.w tops boxes c.as_slice.result.now
-    (All-weaker (IsPlaced desk (length tops)) (IsOver desk.places.view desk.w tops) (placed-over desk tops) boxes c.requires.placed)
-    (c.as_slice.ensures.value ∙ c.open_among-open.ensures)))
+    (kept-points c.layers_hold.ensures desk.view c.args.live.now desk.view.w tops boxes c.as_slice.result.now
+    (All-weaker (IsPlaced desk (length tops)) (IsOver desk.view desk.view.w tops) (placed-over desk tops) boxes c.requires.placed)
+    (c.as_slice.ensures.value ∙ c.open_among-open.ensures ∙ ap (λ w. filter (has_open w tops) boxes) c.w.ensures)))
     c.draw_open.ensures.points
 
 pub draw_beside-returns-clause-hulls : goal.draw_beside-returns-clause-hulls
@@ -281,9 +289,9 @@ draw_beside-returns-clause-hulls t c =
     let boxes = c.args.boxes.now in
     on_ok-then c.draw_open.result _ _
     (spans-are c.args.tally.now c.draw_open.new.tally _ _
-    (kept-traced c.layers_hold.ensures desk.places.view c.args.live.now desk.w tops boxes c.as_slice.result.now
-    (All-weaker (IsPlaced desk (length tops)) (IsOver desk.places.view desk.w tops) (placed-over desk tops) boxes c.requires.placed)
-    (c.as_slice.ensures.value ∙ c.open_among-open.ensures)))
+    (kept-traced c.layers_hold.ensures desk.view c.args.live.now desk.view.w tops boxes c.as_slice.result.now
+    (All-weaker (IsPlaced desk (length tops)) (IsOver desk.view desk.view.w tops) (placed-over desk tops) boxes c.requires.placed)
+    (c.as_slice.ensures.value ∙ c.open_among-open.ensures ∙ ap (λ w. filter (has_open w tops) boxes) c.w.ensures)))
     c.draw_open.ensures.hulls
 
 -- ---- boxes that are traced together
@@ -292,18 +300,18 @@ pub draw_open-returns-in_err-outcomes-clause-at_most : goal.draw_open-returns-in
 draw_open-returns-in_err-outcomes-clause-at_most t c =
     let desk = c.args.desk.now in
     let boxes = c.args.boxes.now in
-    traces-bounded c.layers_hold.ensures desk.places.view c.args.live.now boxes c.args.tops.now c.args.tally.now c.trace_boxes.new.tally
+    traces-bounded c.layers_hold.ensures desk.view c.args.live.now boxes c.args.tops.now c.args.tally.now c.trace_boxes.new.tally
     (All-weaker (IsPlaced desk (length c.args.tops.now)) IsBox (λ b is. is.box) boxes c.requires.placed) c.in_err-outcomes.ensures.at_most
 
 pub draw_open-loop-n-init : goal.draw_open-loop-n-init
 draw_open-loop-n-init t c =
-    let view = c.args.desk.now.places.view in
+    let view = c.args.desk.now.view in
     let live = c.args.live.now in
     let boxes = c.args.boxes.now in
     let old = c.args.tops.now in
     let n = length boxes in
     record {
-      kept = record { width = refl; places = refl; room = c.in_ok-outcomes.ensures.room; values = refl };
+      kept = c.in_ok-outcomes.ensures.kept;
       tops = begun-top view live boxes old n refl;
       counted = begun-bounded c.layers_hold.ensures view live boxes old n c.args.tally.now c.trace_boxes.new.tally refl c.in_ok-outcomes.ensures.counted;
       points = begun-points view live boxes old n (length boxes * length live) c.args.tally.now c.trace_boxes.new.tally refl c.in_ok-outcomes.ensures.counted;
@@ -331,14 +339,14 @@ draw_open-draw_outcome-requires t c =
     subst (HandsOn (length live)) (sym c.index-outcomes-n.is)
     (All-get_or (HandsOn (length live)) outcomes (n - 1) o (omega (arith, many, within)) (subst (All (HandsOn (length live))) (sym c.as_slice-outcomes.ensures.value) c.in_ok-outcomes.ensures.shorter)) in (
       omega (arith, longest-at boxes (n - 1) b within c.index-boxes-n.is, c.decreases),
-      may-open c.layers_hold.ensures desk c.loop-n.desk live b o (length old) (length c.loop-n.tops) c.loop-n.invariant.kept c.loop-n.invariant.tops.same placed c.requires.room.tape c.requires.room.room
-          c.requires.room.values next.told hands,
+      may-open c.layers_hold.ensures desk c.loop-n.desk live b o (length old) (length c.loop-n.tops) c.loop-n.invariant.kept c.loop-n.invariant.tops.same placed c.requires.room.tape c.requires.room.room.room
+          next.told hands,
     )
 
 pub draw_open-loop-n-preserved : goal.draw_open-loop-n-preserved
 draw_open-loop-n-preserved t c =
     let desk = c.args.desk.now in
-    let view = desk.places.view in
+    let view = desk.view in
     let laws = c.layers_hold.ensures in
     let live = c.args.live.now in
     let boxes = c.args.boxes.now in
@@ -356,25 +364,25 @@ draw_open-loop-n-preserved t c =
     let told = c.as_slice-outcomes.ensures.value ∙ c.in_ok-outcomes.ensures.outcomes in
     let placed : IsPlaced desk (length old) b = subst (IsPlaced desk (length old)) (sym c.index-boxes-n.is) (All-get_or (IsPlaced desk (length old)) boxes (n - 1) b within c.requires.placed) in
     let next = next-of desk live boxes c.as_slice-outcomes.result.now old mid n b o some few c.index-boxes-n.is c.index-outcomes-n.is told c.requires.beside c.requires.placed c.requires.room.tape was.tops in
-    let open' : has_open desk.w old b ≡ true = subst (λ h. has_open desk.w old h ≡ true) (sym c.index-boxes-n.is) (All-get_or (λ h. has_open desk.w old h ≡ true) boxes (n - 1) b within c.requires.some) in
-    let same = ap (λ p. p.view) was.kept.places in
+    let open' : has_open desk.view.w old b ≡ true = subst (λ h. has_open desk.view.w old h ≡ true) (sym c.index-boxes-n.is) (All-get_or (λ h. has_open desk.view.w old h ≡ true) boxes (n - 1) b within c.requires.some) in
+    let same = ap (λ d. d.view) was.kept in
     let after = c.in_ok-draw_outcome.ensures in
     record {
-      kept = kept-then desk c.loop-n.desk c.draw_outcome.new.desk was.kept after.kept;
-      tops = next-top laws view live boxes old mid c.draw_outcome.new.tops n i c.loop-n.desk.w b o left (was.kept.width ∙ placed.width) next was.tops
-          (subst (λ v. Changes (covers c.loop-n.desk.w b) (outcome_top v b o) mid c.draw_outcome.new.tops) same after.tops);
+      kept = after.kept ∙ was.kept;
+      tops = next-top laws view live boxes old mid c.draw_outcome.new.tops n i c.loop-n.desk.view.w b o left (ap (λ d. d.view.w) was.kept) next was.tops
+          (subst (λ v. Changes (covers c.loop-n.desk.view.w b) (outcome_top v b o) mid c.draw_outcome.new.tops) same after.tops);
       counted = next-bounded laws view live boxes old mid n i b o c.args.tally.now c.loop-n.tally c.draw_outcome.new.tally left next was.counted
           (subst (λ v. CountsAtMost (outcome_points v mid b o) (outcome_spans v b o) c.loop-n.tally c.draw_outcome.new.tally) same after.at_most);
       points = next-points laws view live boxes old mid n i b o c.args.tally.now c.loop-n.tally c.draw_outcome.new.tally left next was.points
           (subst (λ v. CountsPoints (outcome_points v mid b o) c.loop-n.tally c.draw_outcome.new.tally) same after.points);
-      hulls = next-traced laws view live boxes old mid n i b o c.args.tally.now c.loop-n.tally c.draw_outcome.new.tally left next (told-some c.layers_hold.ensures view live b desk.w old placed.width placed.box open') was.hulls
+      hulls = next-traced laws view live boxes old mid n i b o c.args.tally.now c.loop-n.tally c.draw_outcome.new.tally left next (told-some c.layers_hold.ensures view live b desk.view.w old refl placed.box open') was.hulls
           (subst (λ v. CountsSpans (outcome_traced v mid b o) c.loop-n.tally c.draw_outcome.new.tally) same after.hulls);
     }
 
 pub draw_open-returns-in_err-draw_outcome-clause-at_most : goal.draw_open-returns-in_err-draw_outcome-clause-at_most
 draw_open-returns-in_err-draw_outcome-clause-at_most t c =
     let desk = c.args.desk.now in
-    let view = desk.places.view in
+    let view = desk.view in
     let laws = c.layers_hold.ensures in
     let live = c.args.live.now in
     let boxes = c.args.boxes.now in
@@ -393,4 +401,4 @@ draw_open-returns-in_err-draw_outcome-clause-at_most t c =
     rest-bounded laws view live boxes old i c.args.tally.now c.draw_outcome.new.tally
     (All-weaker (IsPlaced desk (length old)) IsBox (λ h is. is.box) boxes c.requires.placed) (omega (arith, some, few))
     (next-bounded laws view live boxes old mid n i b o c.args.tally.now c.loop-n.tally c.draw_outcome.new.tally left next was.counted
-    (subst (λ v. CountsAtMost (outcome_points v mid b o) (outcome_spans v b o) c.loop-n.tally c.draw_outcome.new.tally) (ap (λ p. p.view) was.kept.places) c.in_err-draw_outcome.ensures.at_most))
+    (subst (λ v. CountsAtMost (outcome_points v mid b o) (outcome_spans v b o) c.loop-n.tally c.draw_outcome.new.tally) (ap (λ d. d.view) was.kept) c.in_err-draw_outcome.ensures.at_most))

@@ -1,11 +1,10 @@
-use Rattle.std.proofs.Common.{◌+◌, ◌*◌, drop, length, true}
+use Rattle.std.proofs.Common.{◌≡◌, ◌+◌, ◌*◌, drop, length, true}
 use Rattle.box_chains.specs.Chains.{sides}
 use Rattle.box_chains.specs.Tallied.{CountsAtMost}
 use Rattle.height_map.specs.Beside.{beside_points, beside_top, beside_traced}
 use Rattle.height_map.specs.Bound.{CountsPoints, CountsSpans, layered}
 use Rattle.box_chains.specs.Counts.{halves_spans}
 use Rattle.height_map.specs.Columns.{Changes}
-use Rattle.height_map.specs.Desks.{KeepsDesk}
 use Rattle.height_map.proofs.Steps.{longest}
 use Rattle.height_map.proofs.drawing.+drawing.Given as goal
 
@@ -27,10 +26,10 @@ decreases-draw_halves l = 5 * sides l.b
 
 abbrev pub invariant-draw_open-loop-n : goal.invariant-draw_open-loop-n
 invariant-draw_open-loop-n l = record {
-  kept : KeepsDesk l.fn.desk l.desk;
-  tops : Changes (λ p. true) (beside_top l.fn.desk.places.view l.fn.live (drop l.n l.fn.boxes)) l.fn.tops l.tops;
-  counted : CountsAtMost (beside_points l.fn.desk.places.view l.fn.live l.fn.tops (drop l.n l.fn.boxes))
-      (l.n * length l.fn.live + halves_spans (layered l.fn.desk.places.view) l.fn.live (drop l.n l.fn.boxes)) l.fn.tally l.tally;
-  points : CountsPoints (beside_points l.fn.desk.places.view l.fn.live l.fn.tops (drop l.n l.fn.boxes)) l.fn.tally l.tally;
-  hulls : CountsSpans (l.n * length l.fn.live + beside_traced l.fn.desk.places.view l.fn.live l.fn.tops (drop l.n l.fn.boxes)) l.fn.tally l.tally;
+  kept : l.desk ≡ l.fn.desk;
+  tops : Changes (λ p. true) (beside_top l.fn.desk.view l.fn.live (drop l.n l.fn.boxes)) l.fn.tops l.tops;
+  counted : CountsAtMost (beside_points l.fn.desk.view l.fn.live l.fn.tops (drop l.n l.fn.boxes))
+      (l.n * length l.fn.live + halves_spans (layered l.fn.desk.view) l.fn.live (drop l.n l.fn.boxes)) l.fn.tally l.tally;
+  points : CountsPoints (beside_points l.fn.desk.view l.fn.live l.fn.tops (drop l.n l.fn.boxes)) l.fn.tally l.tally;
+  hulls : CountsSpans (l.n * length l.fn.live + beside_traced l.fn.desk.view l.fn.live l.fn.tops (drop l.n l.fn.boxes)) l.fn.tally l.tally;
 }

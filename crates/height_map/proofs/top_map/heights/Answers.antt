@@ -21,7 +21,7 @@ returns-in_err-tops-clause-at_most c = c.layers_hold.ensures.bounds.none c.args.
 
 pub returns-in_err-draw_box-clause-at_most : goal.returns-in_err-draw_box-clause-at_most
 returns-in_err-draw_box-clause-at_most c =
-    let view = ap (λ p. p.view) c.in_ok-desk.ensures.places in
+    let view = ap (λ d. d.view) c.in_ok-desk.ensures in
     let list = c.args.list.now in
     map-counted c.layers_hold.ensures c.args.view.now list c.root.result c.deref_mut.result.now c.args.tally.now c.draw_box.new.tally c.root.ensures
     (subst (λ v. CountsAtMost (points_where (is_open v list c.root.result c.deref_mut.result.now) (layered v) (visit c.root.result list)) (spans_in (layered v) (visit c.root.result list)) c.args.tally.now c.draw_box.new.tally)
@@ -29,7 +29,7 @@ returns-in_err-draw_box-clause-at_most c =
 
 pub returns-clause-at_most : goal.returns-clause-at_most
 returns-clause-at_most c =
-    let view = ap (λ p. p.view) c.in_ok-desk.ensures.places in
+    let view = ap (λ d. d.view) c.in_ok-desk.ensures in
     let list = c.args.list.now in
     map-counted c.layers_hold.ensures c.args.view.now list c.root.result c.deref_mut.result.now c.args.tally.now c.draw_box.new.tally c.root.ensures
     (subst (λ v. CountsAtMost (points_where (is_open v list c.root.result c.deref_mut.result.now) (layered v) (visit c.root.result list)) (spans_in (layered v) (visit c.root.result list)) c.args.tally.now c.draw_box.new.tally)
@@ -42,19 +42,19 @@ returns-clause-map c =
     let w = ap (λ v. v.w) c.view.view_is in
     let h = ap (λ v. v.h) c.view.view_is in
     let d = ap (λ v. v.d) c.view.view_is in
-    let same = ap (λ p. p.view) c.in_ok-desk.ensures.places in
+    let same = ap (λ d. d.view) c.in_ok-desk.ensures in
     let count : c.view.inside.w * c.view.inside.h ≡ view.h * view.w = ap (λ n. n * c.view.inside.h) w ∙ ap (λ n. view.w * n) h ∙ mul_comm view.w view.h in
     let empty : c.deref_mut.result.now ≡ replicate (view.h * view.w) 0 = c.deref_mut.ensures.value ∙ c.in_ok-tops.ensures.items_if_clones_equal (λ y h. h) ∙ ap (λ n. replicate n 0) count in
-    let changed : Changes (covers c.in_ok-desk.desk.w c.root.result) (leaf_top view list c.root.result) c.deref_mut.result.now c.draw_box.new.tops =
-    subst (λ v. Changes (covers c.in_ok-desk.desk.w c.root.result) (leaf_top v list c.root.result) c.deref_mut.result.now c.draw_box.new.tops) same c.in_ok-draw_box.ensures.tops in
+    let changed : Changes (covers c.in_ok-desk.desk.view.w c.root.result) (leaf_top view list c.root.result) c.deref_mut.result.now c.draw_box.new.tops =
+    subst (λ v. Changes (covers c.in_ok-desk.desk.view.w c.root.result) (leaf_top v list c.root.result) c.deref_mut.result.now c.draw_box.new.tops) same c.in_ok-draw_box.ensures.tops in
     let some : 0 < view.w = omega (arith, w, c.view.invariant.w.some) in
-    let tops = map-drawn view list c.root.result c.in_ok-desk.desk.w c.deref_mut.result.now c.draw_box.new.tops c.root.ensures c.in_ok-desk.ensures.width some empty changed in
+    let tops = map-drawn view list c.root.result c.in_ok-desk.desk.view.w c.deref_mut.result.now c.draw_box.new.tops c.root.ensures (ap (λ d. d.view.w) c.in_ok-desk.ensures) some empty changed in
     same_maps _ _ w h d (with_items_is c.in_ok-tops.tops c.draw_box.new.tops (changed.same ∙ ap length c.deref_mut.ensures.value ∙ sym (c.in_ok-tops.tops.ok.0)) ∙ tops)
 
 pub returns-clause-points : goal.returns-clause-points
 returns-clause-points c =
     let list = c.args.list.now in
-    let same = ap (λ p. p.view) c.in_ok-desk.ensures.places in
+    let same = ap (λ d. d.view) c.in_ok-desk.ensures in
     let empty : c.deref_mut.result.now ≡ replicate (c.view.inside.w * c.view.inside.h) 0 = c.deref_mut.ensures.value ∙ c.in_ok-tops.ensures.items_if_clones_equal (λ y h. h) in
     map-points c.layers_hold.ensures c.args.view.now list c.root.result (c.view.inside.w * c.view.inside.h) c.deref_mut.result.now c.args.tally.now c.draw_box.new.tally c.root.ensures empty
     (subst (λ v. CountsPoints (points_where (is_open v list c.root.result c.deref_mut.result.now) (layered v) (visit c.root.result list)) c.args.tally.now c.draw_box.new.tally)
@@ -63,7 +63,7 @@ returns-clause-points c =
 pub returns-clause-hulls : goal.returns-clause-hulls
 returns-clause-hulls c =
     let list = c.args.list.now in
-    let same = ap (λ p. p.view) c.in_ok-desk.ensures.places in
+    let same = ap (λ d. d.view) c.in_ok-desk.ensures in
     let w = ap (λ v. v.w) c.view.view_is in
     let h = ap (λ v. v.h) c.view.view_is in
     let d = ap (λ v. v.d) c.view.view_is in

@@ -2,6 +2,7 @@ use Rattle.std.proofs.Common.{◌+◌, ◌*◌, ℕ, Bool, cond, ap, arith, leng
 use Rattle.std.specs.List.{All}
 use Rattle.std.proofs.lemmas.List.{take_all}
 use Rattle.std.proofs.lemmas.List.Elements.{All-nil}
+use Rattle.box_chains.specs.Desks.{samples}
 use Rattle.box_chains.specs.Chains.{visit}
 use Rattle.box_chains.specs.Outcomes.{HandsOn, asked_outcomes}
 use Rattle.box_chains.specs.Visits.{IsVisit}
@@ -21,11 +22,11 @@ use Rattle.oct_descent.proofs.descent.+looking.Goals as goal
 
 pub look_into_told-returns-then-not-is_long-clause-counted : goal.look_into_told-returns-then-not-is_long-clause-counted
 look_into_told-returns-then-not-is_long-clause-counted t c =
-    cell-below c.layers_hold.ensures (gridded c.args.desk.now.places.view) (visit c.args.b c.args.received.now) c.args.values.now c.look_into_cell.new.values c.args.tally.now c.look_into_cell.new.tally (sym c.is_long.ensures ∙ c.if-not-is_long.true) c.look_into_cell.ensures.counted
+    cell-below c.layers_hold.ensures (gridded c.args.desk.now.view) (visit c.args.b c.args.received.now) c.args.values.now c.look_into_cell.new.values c.args.tally.now c.look_into_cell.new.tally (sym c.is_long.ensures ∙ c.if-not-is_long.true) c.look_into_cell.ensures.counted
 
 pub look_into_told-returns-then-not-is_long-clause-traced : goal.look_into_told-returns-then-not-is_long-clause-traced
 look_into_told-returns-then-not-is_long-clause-traced t c =
-    let d = gridded c.args.desk.now.places.view in
+    let d = gridded c.args.desk.now.view in
     let v = visit c.args.b c.args.received.now in
     on_ok c.look_into_cell.result _
     (cell-traced_below d v c.args.tally.now c.look_into_cell.new.tally
@@ -33,11 +34,11 @@ look_into_told-returns-then-not-is_long-clause-traced t c =
 
 pub look_into_told-look_into_halves-requires : goal.look_into_told-look_into_halves-requires
 look_into_told-look_into_halves-requires t c =
-    let view = c.args.desk.now.places.view in
+    let view = c.args.desk.now.view in
     let v = visit c.args.b c.args.received.now in
     let live = c.in-Open.live in
     let long = sym c.is_long.ensures ∙ c.if-not-is_long.false in
-    let looked = at-told c.args.desk.now.places c.args.received.now c.args.b c.args.outcomes.now c.args.at c.index-outcomes-at.result c.requires.may.lattice (c.requires.told long) c.index-outcomes-at.is in
+    let looked = at-told (samples c.args.desk.now) c.args.received.now c.args.b c.args.outcomes.now c.args.at c.index-outcomes-at.result c.requires.may.lattice (c.requires.told long) c.index-outcomes-at.is in
     let opened = opened-told view c.args.b c.args.received.now live c.index-outcomes-at.result looked c.in-Open.is in (
       omega (arith, c.decreases),
       (
@@ -46,7 +47,6 @@ look_into_told-look_into_halves-requires t c =
           visit_is = record { window = c.requires.may.visit_is.window; box = c.requires.may.visit_is.box; within = c.requires.may.visit_is.within; tape = handed-tape c.layers_hold.ensures view v live c.requires.may.visit_is opened.same };
           n = c.requires.may.n;
           room = omega (arith, opened.hands.few, c.requires.may.room);
-          values = omega (arith, opened.hands.few, c.requires.may.values);
           right = handed-right c.layers_hold.ensures view v live c.args.values.now c.requires.may.visit_is opened.same c.requires.may.right;
         },
         (opened.hands.whole, long),
@@ -55,77 +55,77 @@ look_into_told-look_into_halves-requires t c =
 
 pub look_into_told-returns-in-Open-clause-settled : goal.look_into_told-returns-in-Open-clause-settled
 look_into_told-returns-in-Open-clause-settled t c =
-    let view = c.args.desk.now.places.view in
+    let view = c.args.desk.now.view in
     let v = visit c.args.b c.args.received.now in
     let live = c.in-Open.live in
     let long = sym c.is_long.ensures ∙ c.if-not-is_long.false in
-    let looked = at-told c.args.desk.now.places c.args.received.now c.args.b c.args.outcomes.now c.args.at c.index-outcomes-at.result c.requires.may.lattice (c.requires.told long) c.index-outcomes-at.is in
+    let looked = at-told (samples c.args.desk.now) c.args.received.now c.args.b c.args.outcomes.now c.args.at c.index-outcomes-at.result c.requires.may.lattice (c.requires.told long) c.index-outcomes-at.is in
     let opened = opened-told view c.args.b c.args.received.now live c.index-outcomes-at.result looked c.in-Open.is in
     on_ok-then c.look_into_halves.result _ _ (handed-settled c.layers_hold.ensures view v live c.look_into_halves.new.values c.requires.may.visit_is opened.same) c.look_into_halves.ensures.settled
 
 pub look_into_told-returns-in-Open-clause-worked : goal.look_into_told-returns-in-Open-clause-worked
 look_into_told-returns-in-Open-clause-worked t c =
-    let view = c.args.desk.now.places.view in
+    let view = c.args.desk.now.view in
     let v = visit c.args.b c.args.received.now in
     let live = c.in-Open.live in
     let long = sym c.is_long.ensures ∙ c.if-not-is_long.false in
-    let looked = at-told c.args.desk.now.places c.args.received.now c.args.b c.args.outcomes.now c.args.at c.index-outcomes-at.result c.requires.may.lattice (c.requires.told long) c.index-outcomes-at.is in
+    let looked = at-told (samples c.args.desk.now) c.args.received.now c.args.b c.args.outcomes.now c.args.at c.index-outcomes-at.result c.requires.may.lattice (c.requires.told long) c.index-outcomes-at.is in
     let opened = opened-told view c.args.b c.args.received.now live c.index-outcomes-at.result looked c.in-Open.is in
     on_ok-then c.look_into_halves.result _ _ (halves-worked c.layers_hold.ensures view v live c.look_into_halves.new.values c.requires.may.visit_is opened.open' long opened.same) c.look_into_halves.ensures.worked
 
 pub look_into_told-returns-in-Open-clause-grows : goal.look_into_told-returns-in-Open-clause-grows
 look_into_told-returns-in-Open-clause-grows t c =
-    let view = c.args.desk.now.places.view in
+    let view = c.args.desk.now.view in
     let v = visit c.args.b c.args.received.now in
     let live = c.in-Open.live in
     let long = sym c.is_long.ensures ∙ c.if-not-is_long.false in
-    let looked = at-told c.args.desk.now.places c.args.received.now c.args.b c.args.outcomes.now c.args.at c.index-outcomes-at.result c.requires.may.lattice (c.requires.told long) c.index-outcomes-at.is in
+    let looked = at-told (samples c.args.desk.now) c.args.received.now c.args.b c.args.outcomes.now c.args.at c.index-outcomes-at.result c.requires.may.lattice (c.requires.told long) c.index-outcomes-at.is in
     let opened = opened-told view c.args.b c.args.received.now live c.index-outcomes-at.result looked c.in-Open.is in
     handed-grows c.layers_hold.ensures view v live c.args.values.now c.look_into_halves.new.values c.requires.may.visit_is opened.same c.look_into_halves.ensures.grows
 
 pub look_into_told-returns-in-Open-clause-counted : goal.look_into_told-returns-in-Open-clause-counted
 look_into_told-returns-in-Open-clause-counted t c =
-    let view = c.args.desk.now.places.view in
+    let view = c.args.desk.now.view in
     let v = visit c.args.b c.args.received.now in
     let live = c.in-Open.live in
     let long = sym c.is_long.ensures ∙ c.if-not-is_long.false in
-    let looked = at-told c.args.desk.now.places c.args.received.now c.args.b c.args.outcomes.now c.args.at c.index-outcomes-at.result c.requires.may.lattice (c.requires.told long) c.index-outcomes-at.is in
+    let looked = at-told (samples c.args.desk.now) c.args.received.now c.args.b c.args.outcomes.now c.args.at c.index-outcomes-at.result c.requires.may.lattice (c.requires.told long) c.index-outcomes-at.is in
     let opened = opened-told view c.args.b c.args.received.now live c.index-outcomes-at.result looked c.in-Open.is in
     halves-charged c.layers_hold.ensures view v live c.args.values.now c.look_into_halves.new.values c.args.tally.now c.look_into_halves.new.tally c.requires.may.visit_is opened.open' long opened.same c.look_into_halves.ensures.counted
 
 pub look_into_told-returns-in-Open-clause-paid : goal.look_into_told-returns-in-Open-clause-paid
 look_into_told-returns-in-Open-clause-paid t c =
-    let view = c.args.desk.now.places.view in
+    let view = c.args.desk.now.view in
     let v = visit c.args.b c.args.received.now in
     let live = c.in-Open.live in
     let long = sym c.is_long.ensures ∙ c.if-not-is_long.false in
-    let looked = at-told c.args.desk.now.places c.args.received.now c.args.b c.args.outcomes.now c.args.at c.index-outcomes-at.result c.requires.may.lattice (c.requires.told long) c.index-outcomes-at.is in
+    let looked = at-told (samples c.args.desk.now) c.args.received.now c.args.b c.args.outcomes.now c.args.at c.index-outcomes-at.result c.requires.may.lattice (c.requires.told long) c.index-outcomes-at.is in
     let opened = opened-told view c.args.b c.args.received.now live c.index-outcomes-at.result looked c.in-Open.is in
     halves-paid c.layers_hold.ensures view v live c.args.values.now c.look_into_halves.new.values c.args.tally.now c.look_into_halves.new.tally c.requires.may.visit_is opened.open' long opened.same c.look_into_halves.ensures.paid
 
 pub look_into_told-returns-in-Open-clause-traced : goal.look_into_told-returns-in-Open-clause-traced
 look_into_told-returns-in-Open-clause-traced t c =
-    let view = c.args.desk.now.places.view in
+    let view = c.args.desk.now.view in
     let v = visit c.args.b c.args.received.now in
     let live = c.in-Open.live in
     let long = sym c.is_long.ensures ∙ c.if-not-is_long.false in
-    let looked = at-told c.args.desk.now.places c.args.received.now c.args.b c.args.outcomes.now c.args.at c.index-outcomes-at.result c.requires.may.lattice (c.requires.told long) c.index-outcomes-at.is in
+    let looked = at-told (samples c.args.desk.now) c.args.received.now c.args.b c.args.outcomes.now c.args.at c.index-outcomes-at.result c.requires.may.lattice (c.requires.told long) c.index-outcomes-at.is in
     let opened = opened-told view c.args.b c.args.received.now live c.index-outcomes-at.result looked c.in-Open.is in
     on_ok-then c.look_into_halves.result _ _ (halves-traced c.layers_hold.ensures view v live c.args.tally.now c.look_into_halves.new.tally c.requires.may.visit_is opened.open' long opened.same) c.look_into_halves.ensures.traced
 
 pub look_into_told-returns-in-Inside-clause-settled : goal.look_into_told-returns-in-Inside-clause-settled
 look_into_told-returns-in-Inside-clause-settled t c =
-    let view = c.args.desk.now.places.view in
+    let view = c.args.desk.now.view in
     let v = visit c.args.b c.args.received.now in
-    let looked = at-told c.args.desk.now.places c.args.received.now c.args.b c.args.outcomes.now c.args.at c.index-outcomes-at.result c.requires.may.lattice (c.requires.told (sym c.is_long.ensures ∙ c.if-not-is_long.false)) c.index-outcomes-at.is in
+    let looked = at-told (samples c.args.desk.now) c.args.received.now c.args.b c.args.outcomes.now c.args.at c.index-outcomes-at.result c.requires.may.lattice (c.requires.told (sym c.is_long.ensures ∙ c.if-not-is_long.false)) c.index-outcomes-at.is in
     let closed = closed-told view c.args.b c.args.received.now c.index-outcomes-at.result looked c.in-Inside.is in
     closed-settled c.layers_hold.ensures view v c.args.values.now c.requires.may.visit_is closed
 
 pub look_into_told-returns-in-Inside-clause-worked : goal.look_into_told-returns-in-Inside-clause-worked
 look_into_told-returns-in-Inside-clause-worked t c =
-    let view = c.args.desk.now.places.view in
+    let view = c.args.desk.now.view in
     let v = visit c.args.b c.args.received.now in
-    let looked = at-told c.args.desk.now.places c.args.received.now c.args.b c.args.outcomes.now c.args.at c.index-outcomes-at.result c.requires.may.lattice (c.requires.told (sym c.is_long.ensures ∙ c.if-not-is_long.false)) c.index-outcomes-at.is in
+    let looked = at-told (samples c.args.desk.now) c.args.received.now c.args.b c.args.outcomes.now c.args.at c.index-outcomes-at.result c.requires.may.lattice (c.requires.told (sym c.is_long.ensures ∙ c.if-not-is_long.false)) c.index-outcomes-at.is in
     let closed = closed-told view c.args.b c.args.received.now c.index-outcomes-at.result looked c.in-Inside.is in
     closed-worked view v c.args.values.now c.requires.may.visit_is closed
 
@@ -139,25 +139,25 @@ look_into_told-returns-in-Inside-clause-paid t c =
 
 pub look_into_told-returns-in-Inside-clause-traced : goal.look_into_told-returns-in-Inside-clause-traced
 look_into_told-returns-in-Inside-clause-traced t c =
-    let view = c.args.desk.now.places.view in
+    let view = c.args.desk.now.view in
     let v = visit c.args.b c.args.received.now in
-    let looked = at-told c.args.desk.now.places c.args.received.now c.args.b c.args.outcomes.now c.args.at c.index-outcomes-at.result c.requires.may.lattice (c.requires.told (sym c.is_long.ensures ∙ c.if-not-is_long.false)) c.index-outcomes-at.is in
+    let looked = at-told (samples c.args.desk.now) c.args.received.now c.args.b c.args.outcomes.now c.args.at c.index-outcomes-at.result c.requires.may.lattice (c.requires.told (sym c.is_long.ensures ∙ c.if-not-is_long.false)) c.index-outcomes-at.is in
     let closed = closed-told view c.args.b c.args.received.now c.index-outcomes-at.result looked c.in-Inside.is in
     closed-traced c.layers_hold.ensures view v c.args.tally.now c.requires.may.visit_is.box closed
 
 pub look_into_told-returns-in-Inside-2-clause-settled : goal.look_into_told-returns-in-Inside-2-clause-settled
 look_into_told-returns-in-Inside-2-clause-settled t c =
-    let view = c.args.desk.now.places.view in
+    let view = c.args.desk.now.view in
     let v = visit c.args.b c.args.received.now in
-    let looked = at-told c.args.desk.now.places c.args.received.now c.args.b c.args.outcomes.now c.args.at c.index-outcomes-at.result c.requires.may.lattice (c.requires.told (sym c.is_long.ensures ∙ c.if-not-is_long.false)) c.index-outcomes-at.is in
+    let looked = at-told (samples c.args.desk.now) c.args.received.now c.args.b c.args.outcomes.now c.args.at c.index-outcomes-at.result c.requires.may.lattice (c.requires.told (sym c.is_long.ensures ∙ c.if-not-is_long.false)) c.index-outcomes-at.is in
     let closed = closed-told view c.args.b c.args.received.now c.index-outcomes-at.result looked c.in-Inside.is in
     closed-settled c.layers_hold.ensures view v c.args.values.now c.requires.may.visit_is closed
 
 pub look_into_told-returns-in-Inside-2-clause-worked : goal.look_into_told-returns-in-Inside-2-clause-worked
 look_into_told-returns-in-Inside-2-clause-worked t c =
-    let view = c.args.desk.now.places.view in
+    let view = c.args.desk.now.view in
     let v = visit c.args.b c.args.received.now in
-    let looked = at-told c.args.desk.now.places c.args.received.now c.args.b c.args.outcomes.now c.args.at c.index-outcomes-at.result c.requires.may.lattice (c.requires.told (sym c.is_long.ensures ∙ c.if-not-is_long.false)) c.index-outcomes-at.is in
+    let looked = at-told (samples c.args.desk.now) c.args.received.now c.args.b c.args.outcomes.now c.args.at c.index-outcomes-at.result c.requires.may.lattice (c.requires.told (sym c.is_long.ensures ∙ c.if-not-is_long.false)) c.index-outcomes-at.is in
     let closed = closed-told view c.args.b c.args.received.now c.index-outcomes-at.result looked c.in-Inside.is in
     closed-worked view v c.args.values.now c.requires.may.visit_is closed
 
@@ -171,28 +171,28 @@ look_into_told-returns-in-Inside-2-clause-paid t c =
 
 pub look_into_told-returns-in-Inside-2-clause-traced : goal.look_into_told-returns-in-Inside-2-clause-traced
 look_into_told-returns-in-Inside-2-clause-traced t c =
-    let view = c.args.desk.now.places.view in
+    let view = c.args.desk.now.view in
     let v = visit c.args.b c.args.received.now in
-    let looked = at-told c.args.desk.now.places c.args.received.now c.args.b c.args.outcomes.now c.args.at c.index-outcomes-at.result c.requires.may.lattice (c.requires.told (sym c.is_long.ensures ∙ c.if-not-is_long.false)) c.index-outcomes-at.is in
+    let looked = at-told (samples c.args.desk.now) c.args.received.now c.args.b c.args.outcomes.now c.args.at c.index-outcomes-at.result c.requires.may.lattice (c.requires.told (sym c.is_long.ensures ∙ c.if-not-is_long.false)) c.index-outcomes-at.is in
     let closed = closed-told view c.args.b c.args.received.now c.index-outcomes-at.result looked c.in-Inside.is in
     closed-traced c.layers_hold.ensures view v c.args.tally.now c.requires.may.visit_is.box closed
 
 pub look_into_halves-trace_longer-requires-clause-within : goal.look_into_halves-trace_longer-requires-clause-within
 look_into_halves-trace_longer-requires-clause-within t c =
-    halves-in_root c.layers_hold.ensures c.args.desk.now.places.view c.args.desk.now.places.lattice c.args.live.now c.args.b c.as_slice.result.now c.requires.may.lattice c.requires.may.visit_is (c.as_slice.ensures.value ∙ c.split-halves.ensures)
+    halves-in_root c.layers_hold.ensures c.args.desk.now.view c.args.desk.now.lattice c.args.live.now c.args.b c.as_slice.result.now c.requires.may.lattice c.requires.may.visit_is (c.as_slice.ensures.value ∙ c.split-halves.ensures)
 
 pub look_into_halves-returns-in_err-outcomes-clause-counted : goal.look_into_halves-returns-in_err-outcomes-clause-counted
 look_into_halves-returns-in_err-outcomes-clause-counted t c =
-    begun-charged c.layers_hold.ensures c.args.desk.now.places.view c.args.live.now c.args.b c.as_slice.result.now c.n.result c.args.values.now c.args.tally.now c.trace_longer.new.tally c.requires.may.visit_is.box
+    begun-charged c.layers_hold.ensures c.args.desk.now.view c.args.live.now c.args.b c.as_slice.result.now c.n.result c.args.values.now c.args.tally.now c.trace_longer.new.tally c.requires.may.visit_is.box
     (c.as_slice.ensures.value ∙ c.split-halves.ensures) c.in_err-outcomes.ensures.at_most
 
 pub look_into_halves-returns-in_err-outcomes-clause-paid : goal.look_into_halves-returns-in_err-outcomes-clause-paid
 look_into_halves-returns-in_err-outcomes-clause-paid t c =
-    begun-paid (gridded c.args.desk.now.places.view) c.args.live.now _ _ c.args.values.now c.args.tally.now c.trace_longer.new.tally c.in_err-outcomes.ensures.at_most
+    begun-paid (gridded c.args.desk.now.view) c.args.live.now _ _ c.args.values.now c.args.tally.now c.trace_longer.new.tally c.in_err-outcomes.ensures.at_most
 
 pub look_into_halves-loop-half-init : goal.look_into_halves-loop-half-init
 look_into_halves-loop-half-init t c =
-    let view = c.args.desk.now.places.view in
+    let view = c.args.desk.now.view in
     let live = c.args.live.now in
     let halves = c.as_slice-half-items.result.now in
     let same = c.as_slice.ensures.value ∙ sym c.as_slice-half-items.ensures.value in
@@ -200,8 +200,8 @@ look_into_halves-loop-half-init t c =
     record {
       kept = c.in_ok-outcomes.ensures.kept;
       few = omega arith;
-      told = c.as_slice-outcomes.ensures.value ∙ c.in_ok-outcomes.ensures.outcomes ∙ ap (λ hs. asked_outcomes c.args.desk.now.places live (longer c.n.result hs)) same
-          ∙ ap (λ n. asked_outcomes c.args.desk.now.places live (longer n halves)) (c.n.ensures ∙ size-is c.args.values.now.n (size_of view) c.requires.may.n);
+      told = c.as_slice-outcomes.ensures.value ∙ c.in_ok-outcomes.ensures.outcomes ∙ ap (λ hs. asked_outcomes (samples c.args.desk.now) live (longer c.n.result hs)) same
+          ∙ ap (λ n. asked_outcomes (samples c.args.desk.now) live (longer n halves)) (c.n.ensures ∙ size-is c.args.values.now.n (size_of view) c.requires.may.n);
       settled = All-nil (λ h. AreSettled (gridded view) (grid_value view live) h c.args.values.now);
       grows = grows-none (grid_value view live) c.args.b c.args.values.now;
       counted = first-charged c.layers_hold.ensures (gridded view) live halves c.n.result c.args.values.now c.args.tally.now c.trace_longer.new.tally hulls;
@@ -216,7 +216,7 @@ look_into_halves-look_into_told-requires t c =
     let halves = c.as_slice-half-items.result.now in
     let half = c.half-item.result in
     let part = half-part c.layers_hold.ensures c.args.b half halves c.loop-half.half-index c.requires.may.visit_is.box all c.loop-half-test.true c.half-item.is in
-    let places = c.args.desk.now.places in
+    let places = samples c.args.desk.now in
     let live = c.args.live.now in
     let hands = subst (All (HandsOn (length live))) (sym c.as_slice-outcomes.ensures.value) c.in_ok-outcomes.ensures.hand in
     let step = step-told places live halves half c.loop-half.half-index c.as_slice-outcomes.result.now c.loop-half.at _ c.loop-half-test.true c.half-item.is hands c.loop-half.invariant.told refl in
@@ -225,15 +225,14 @@ look_into_halves-look_into_told-requires t c =
       omega (arith, less, c.decreases),
       (
         record {
-          lattice = ap (λ p. p.lattice) kept.places ∙ c.requires.may.lattice;
-          visit_is = subst (λ p. IsVisit (gridded p.view).boxes (visit half live)) (sym kept.places) (half-visit c.layers_hold.ensures places.view live c.args.b half part c.requires.may.visit_is);
-          n = subst (λ p. SameSize c.loop-half.values.n (size_of p.view)) (sym kept.places) (size-then c.loop-half.values.n c.args.values.now.n (size_of places.view) c.loop-half.invariant.grows.n c.requires.may.n);
-          room = omega (arith, kept.room, c.requires.may.room);
-          values = omega (arith, kept.values, c.requires.may.values);
-          right = subst (λ p. AreRight (grid_value p.view live) half c.loop-half.values) (sym kept.places)
+          lattice = ap (λ d. d.lattice) kept ∙ c.requires.may.lattice;
+          visit_is = subst (λ d. IsVisit (gridded d.view).boxes (visit half live)) (sym kept) (half-visit c.layers_hold.ensures places.view live c.args.b half part c.requires.may.visit_is);
+          n = subst (λ d. SameSize c.loop-half.values.n (size_of d.view)) (sym kept) (size-then c.loop-half.values.n c.args.values.now.n (size_of places.view) c.loop-half.invariant.grows.n c.requires.may.n);
+          room = omega (arith, ap (λ d. d.room) kept, c.requires.may.room);
+          right = subst (λ d. AreRight (grid_value d.view live) half c.loop-half.values) (sym kept)
               (right-grows (grid_value places.view live) half c.args.b c.args.values.now c.loop-half.values (λ p covers. part-covers c.args.b half p part covers) c.loop-half.invariant.grows c.requires.may.right);
         },
-        subst (λ p. IsToldAt p live half c.as_slice-outcomes.result.now c.loop-half.at) (sym kept.places) step.told,
+        subst (λ d. IsToldAt (samples d) live half c.as_slice-outcomes.result.now c.loop-half.at) (sym kept) step.told,
       ),
     )
 
@@ -243,35 +242,35 @@ look_into_halves-overflow_add-at t c =
 
 pub look_into_halves-returns-in_err-look_into_told-clause-grows : goal.look_into_halves-returns-in_err-look_into_told-clause-grows
 look_into_halves-returns-in_err-look_into_told-clause-grows t c =
-    let view = c.args.desk.now.places.view in
+    let view = c.args.desk.now.view in
     let all = c.as_slice-half-items.ensures.value ∙ c.split-halves.ensures in
     let half = c.half-item.result in
     let part = half-part c.layers_hold.ensures c.args.b half c.as_slice-half-items.result.now c.loop-half.half-index c.requires.may.visit_is.box all c.loop-half-test.true c.half-item.is in
-    let same = ap (λ p. p.view) c.loop-half.invariant.kept.places in
+    let same = ap (λ d. d.view) c.loop-half.invariant.kept in
     grows-then (grid_value view c.args.live.now) c.args.b c.args.values.now c.loop-half.values c.look_into_told.new.values c.loop-half.invariant.grows
-    (half-grows view c.loop-half.desk.places.view c.args.live.now c.args.b half c.loop-half.values c.look_into_told.new.values same part c.in_err-look_into_told.ensures.grows)
+    (half-grows view c.loop-half.desk.view c.args.live.now c.args.b half c.loop-half.values c.look_into_told.new.values same part c.in_err-look_into_told.ensures.grows)
 
 pub look_into_halves-returns-in_err-look_into_told-clause-counted : goal.look_into_halves-returns-in_err-look_into_told-clause-counted
 look_into_halves-returns-in_err-look_into_told-clause-counted t c =
-    let view = c.args.desk.now.places.view in
+    let view = c.args.desk.now.view in
     let all = c.as_slice-half-items.ensures.value ∙ c.split-halves.ensures in
     let halves = c.as_slice-half-items.result.now in
     let half = c.half-item.result in
-    let same = ap (λ p. p.view) c.loop-half.invariant.kept.places in
+    let same = ap (λ d. d.view) c.loop-half.invariant.kept in
     subst (λ hs. ChargesHalves (gridded view) c.args.live.now hs c.args.values.now c.look_into_told.new.values c.args.tally.now c.look_into_told.new.tally) all
     (some-charged c.layers_hold.ensures view c.args.live.now halves (c.loop-half.half-index + 1) c.args.values.now c.look_into_told.new.values c.args.tally.now c.look_into_told.new.tally (halves-boxes c.layers_hold.ensures c.args.b halves c.requires.may.visit_is.box all)
-    (next-charged c.layers_hold.ensures view c.loop-half.desk.places.view c.args.live.now half halves c.loop-half.half-index _ c.args.values.now c.loop-half.values c.look_into_told.new.values c.args.tally.now c.loop-half.tally c.look_into_told.new.tally
+    (next-charged c.layers_hold.ensures view c.loop-half.desk.view c.args.live.now half halves c.loop-half.half-index _ c.args.values.now c.loop-half.values c.look_into_told.new.values c.args.tally.now c.loop-half.tally c.look_into_told.new.tally
     same c.loop-half-test.true c.half-item.is c.loop-half.invariant.counted c.in_err-look_into_told.ensures.counted))
 
 pub look_into_halves-returns-in_err-look_into_told-clause-paid : goal.look_into_halves-returns-in_err-look_into_told-clause-paid
 look_into_halves-returns-in_err-look_into_told-clause-paid t c =
-    let view = c.args.desk.now.places.view in
+    let view = c.args.desk.now.view in
     let all = c.as_slice-half-items.ensures.value ∙ c.split-halves.ensures in
     let halves = c.as_slice-half-items.result.now in
     let half = c.half-item.result in
-    let same = ap (λ p. p.view) c.loop-half.invariant.kept.places in
+    let same = ap (λ d. d.view) c.loop-half.invariant.kept in
     subst (λ hs. PaysHalves (gridded view) c.args.live.now hs c.args.values.now c.look_into_told.new.values c.args.tally.now c.look_into_told.new.tally) all
-    (next-paid view c.loop-half.desk.places.view c.args.live.now half halves c.loop-half.half-index c.args.values.now c.loop-half.values c.look_into_told.new.values c.args.tally.now c.loop-half.tally c.look_into_told.new.tally
+    (next-paid view c.loop-half.desk.view c.args.live.now half halves c.loop-half.half-index c.args.values.now c.loop-half.values c.look_into_told.new.values c.args.tally.now c.loop-half.tally c.look_into_told.new.tally
     same c.loop-half-test.true c.half-item.is c.loop-half.invariant.paid c.in_err-look_into_told.ensures.paid)
 
 pub look_into_halves-loop-half-preserved : goal.look_into_halves-loop-half-preserved
@@ -280,34 +279,34 @@ look_into_halves-loop-half-preserved t c =
     let halves = c.as_slice-half-items.result.now in
     let half = c.half-item.result in
     let part = half-part c.layers_hold.ensures c.args.b half halves c.loop-half.half-index c.requires.may.visit_is.box all c.loop-half-test.true c.half-item.is in
-    let view = c.args.desk.now.places.view in
-    let places = c.args.desk.now.places in
+    let view = c.args.desk.now.view in
+    let places = samples c.args.desk.now in
     let live = c.args.live.now in
     let hands = subst (All (HandsOn (length live))) (sym c.as_slice-outcomes.ensures.value) c.in_ok-outcomes.ensures.hand in
     let step = step-told places live halves half c.loop-half.half-index c.as_slice-outcomes.result.now c.loop-half.at _ c.loop-half-test.true c.half-item.is hands c.loop-half.invariant.told (ap (λ k. c.loop-half.at + k) (c.from-at.ensures ∙ byte-is c.is_long.result ∙ ap (λ (t : Bool). cond {A = ℕ} t 1 0) c.is_long.ensures)) in
     let g = grid_value view live in
     let before = c.loop-half.invariant in
     let after = c.in_ok-look_into_told.ensures in
-    let same = ap (λ p. p.view) before.kept.places in
-    let grown = half-grows view c.loop-half.desk.places.view live c.args.b half c.loop-half.values c.look_into_told.new.values same part after.grows in
+    let same = ap (λ d. d.view) before.kept in
+    let grown = half-grows view c.loop-half.desk.view live c.args.b half c.loop-half.values c.look_into_told.new.values same part after.grows in
     record {
-      kept = record { places = after.kept.places ∙ before.kept.places; room = after.kept.room ∙ before.kept.room; values = after.kept.values ∙ before.kept.values };
+      kept = after.kept ∙ before.kept;
       few = omega (arith, c.loop-half.invariant.few, c.from-at.ensures, byte-most c.is_long.result);
       told = step.rest;
-      settled = next-settled view c.loop-half.desk.places.view live c.args.b half halves c.loop-half.half-index c.loop-half.values c.look_into_told.new.values same c.loop-half-test.true c.half-item.is grown after.settled before.settled;
+      settled = next-settled view c.loop-half.desk.view live c.args.b half halves c.loop-half.half-index c.loop-half.values c.look_into_told.new.values same c.loop-half-test.true c.half-item.is grown after.settled before.settled;
       grows = grows-then g c.args.b c.args.values.now c.loop-half.values c.look_into_told.new.values before.grows grown;
-      counted = next-charged c.layers_hold.ensures view c.loop-half.desk.places.view live half halves c.loop-half.half-index _ c.args.values.now c.loop-half.values c.look_into_told.new.values c.args.tally.now c.loop-half.tally c.look_into_told.new.tally
+      counted = next-charged c.layers_hold.ensures view c.loop-half.desk.view live half halves c.loop-half.half-index _ c.args.values.now c.loop-half.values c.look_into_told.new.values c.args.tally.now c.loop-half.tally c.look_into_told.new.tally
           same c.loop-half-test.true c.half-item.is before.counted after.counted;
-      worked = next-worked view c.loop-half.desk.places.view live c.args.b half halves c.loop-half.half-index c.loop-half.values c.look_into_told.new.values same c.loop-half-test.true c.half-item.is grown after.worked before.worked;
-      paid = next-paid view c.loop-half.desk.places.view live half halves c.loop-half.half-index c.args.values.now c.loop-half.values c.look_into_told.new.values c.args.tally.now c.loop-half.tally c.look_into_told.new.tally
+      worked = next-worked view c.loop-half.desk.view live c.args.b half halves c.loop-half.half-index c.loop-half.values c.look_into_told.new.values same c.loop-half-test.true c.half-item.is grown after.worked before.worked;
+      paid = next-paid view c.loop-half.desk.view live half halves c.loop-half.half-index c.args.values.now c.loop-half.values c.look_into_told.new.values c.args.tally.now c.loop-half.tally c.look_into_told.new.tally
           same c.loop-half-test.true c.half-item.is before.paid after.paid;
-      traced = next-traced view c.loop-half.desk.places.view live half halves c.loop-half.half-index _ c.args.tally.now c.loop-half.tally c.look_into_told.new.tally same c.loop-half-test.true c.half-item.is
+      traced = next-traced view c.loop-half.desk.view live half halves c.loop-half.half-index _ c.args.tally.now c.loop-half.tally c.look_into_told.new.tally same c.loop-half-test.true c.half-item.is
           before.traced after.traced;
     }
 
 pub look_into_halves-returns-clause-settled : goal.look_into_halves-returns-clause-settled
 look_into_halves-returns-clause-settled t c =
-    let view = c.args.desk.now.places.view in
+    let view = c.args.desk.now.view in
     let g = grid_value view c.args.live.now in
     let all = c.as_slice-half-items.ensures.value ∙ c.split-halves.ensures in
     let halves = c.as_slice-half-items.result.now in
@@ -318,11 +317,11 @@ pub look_into_halves-returns-clause-worked : goal.look_into_halves-returns-claus
 look_into_halves-returns-clause-worked t c =
     let all = c.as_slice-half-items.ensures.value ∙ c.split-halves.ensures in
     let halves = c.as_slice-half-items.result.now in
-    subst (λ hs. All (λ h. AreWorked (gridded c.args.desk.now.places.view) (visit h c.args.live.now) c.loop-half.values) hs) (take_all c.loop-half.half-index halves (omega (arith, c.loop-half-test.false)) ∙ all) c.loop-half.invariant.worked
+    subst (λ hs. All (λ h. AreWorked (gridded c.args.desk.now.view) (visit h c.args.live.now) c.loop-half.values) hs) (take_all c.loop-half.half-index halves (omega (arith, c.loop-half-test.false)) ∙ all) c.loop-half.invariant.worked
 
 pub look_into_halves-returns-clause-counted : goal.look_into_halves-returns-clause-counted
 look_into_halves-returns-clause-counted t c =
-    let view = c.args.desk.now.places.view in
+    let view = c.args.desk.now.view in
     let all = c.as_slice-half-items.ensures.value ∙ c.split-halves.ensures in
     let halves = c.as_slice-half-items.result.now in
     subst (λ hs. ChargesHalves (gridded view) c.args.live.now hs c.args.values.now c.loop-half.values c.args.tally.now c.loop-half.tally) all
@@ -330,13 +329,13 @@ look_into_halves-returns-clause-counted t c =
 
 pub look_into_halves-returns-clause-paid : goal.look_into_halves-returns-clause-paid
 look_into_halves-returns-clause-paid t c =
-    let view = c.args.desk.now.places.view in
+    let view = c.args.desk.now.view in
     let all = c.as_slice-half-items.ensures.value ∙ c.split-halves.ensures in
     subst (λ hs. PaysHalves (gridded view) c.args.live.now hs c.args.values.now c.loop-half.values c.args.tally.now c.loop-half.tally) all c.loop-half.invariant.paid
 
 pub look_into_halves-returns-clause-traced : goal.look_into_halves-returns-clause-traced
 look_into_halves-returns-clause-traced t c =
-    let d = gridded c.args.desk.now.places.view in
+    let d = gridded c.args.desk.now.view in
     let all = c.as_slice-half-items.ensures.value ∙ c.split-halves.ensures in
     let halves = c.as_slice-half-items.result.now in
     subst (λ hs. CountsHullsAtLeast (halves_long_spans d c.args.live.now hs) c.args.tally.now c.loop-half.tally) all

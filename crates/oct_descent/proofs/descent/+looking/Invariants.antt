@@ -1,10 +1,11 @@
 use Rattle.std.proofs.Common.{◌≡◌, ◌≤◌, ◌+◌, ◌*◌, ℕ, drop, take}
 use Rattle.std.specs.List.{All}
+use Rattle.box_chains.specs.Desks.{samples}
 use Rattle.box_chains.specs.Chains.{sides, visit}
 use Rattle.box_chains.specs.Outcomes.{asked_outcomes}
 use Rattle.kuhn_cells.specs.Triangles.{GridPoint}
 use Rattle.oct_descent.specs.Bound.{CountsHullsAtLeast}
-use Rattle.oct_descent.specs.Desks.{KeepsDesk, PaysHalves, longer}
+use Rattle.oct_descent.specs.Desks.{PaysHalves, longer}
 use Rattle.oct_descent.specs.GridValues.{grid_value}
 use Rattle.oct_descent.specs.Sizes.{size_of}
 use Rattle.oct_descent.specs.Tables.{AreSettled, AreWorked, Charges, Grows, IsEnough}
@@ -21,14 +22,14 @@ decreases-look_into_halves l = 2 * sides l.b
 
 abbrev pub invariant-look_into_halves-loop-half : goal.invariant-look_into_halves-loop-half
 invariant-look_into_halves-loop-half l = record {
-  kept : KeepsDesk l.fn.desk l.desk;
+  kept : l.desk ≡ l.fn.desk;
   few : l.at ≤ l.half-index;
-  told : drop l.at l.outcomes ≡ asked_outcomes l.fn.desk.places l.live (longer (size_of l.fn.desk.places.view) (drop l.half-index l.half-items));
-  settled : All (λ h. AreSettled (gridded l.fn.desk.places.view) (grid_value l.fn.desk.places.view l.live) h l.values) (take l.half-index l.half-items);
-  grows : Grows (grid_value l.fn.desk.places.view l.live) l.fn.b l.fn.values l.values;
-  counted : (f : GridPoint → ℕ) → All (λ h. IsEnough f (gridded l.fn.desk.places.view) (visit h l.live)) l.half-items
-      → Charges f (owned l.live l.half-items + halves_below (gridded l.fn.desk.places.view) l.live (take l.half-index l.half-items)) l.fn.values l.values l.fn.tally l.tally;
-  worked : All (λ h. AreWorked (gridded l.fn.desk.places.view) (visit h l.live) l.values) (take l.half-index l.half-items);
-  paid : PaysHalves (gridded l.fn.desk.places.view) l.live l.half-items l.fn.values l.values l.fn.tally l.tally;
-  traced : CountsHullsAtLeast (owned l.live l.half-items + halves_long_below (gridded l.fn.desk.places.view) l.live (take l.half-index l.half-items)) l.fn.tally l.tally;
+  told : drop l.at l.outcomes ≡ asked_outcomes (samples l.fn.desk) l.live (longer (size_of l.fn.desk.view) (drop l.half-index l.half-items));
+  settled : All (λ h. AreSettled (gridded l.fn.desk.view) (grid_value l.fn.desk.view l.live) h l.values) (take l.half-index l.half-items);
+  grows : Grows (grid_value l.fn.desk.view l.live) l.fn.b l.fn.values l.values;
+  counted : (f : GridPoint → ℕ) → All (λ h. IsEnough f (gridded l.fn.desk.view) (visit h l.live)) l.half-items
+      → Charges f (owned l.live l.half-items + halves_below (gridded l.fn.desk.view) l.live (take l.half-index l.half-items)) l.fn.values l.values l.fn.tally l.tally;
+  worked : All (λ h. AreWorked (gridded l.fn.desk.view) (visit h l.live) l.values) (take l.half-index l.half-items);
+  paid : PaysHalves (gridded l.fn.desk.view) l.live l.half-items l.fn.values l.values l.fn.tally l.tally;
+  traced : CountsHullsAtLeast (owned l.live l.half-items + halves_long_below (gridded l.fn.desk.view) l.live (take l.half-index l.half-items)) l.fn.tally l.tally;
 }

@@ -7,7 +7,7 @@ pub returns-then-seen-2-clause-open : goal.returns-then-seen-2-clause-open
 returns-then-seen-2-clause-open c =
     let may = c.requires.may.1 in
     let seen = c.requires.may.2 in
-    sym (sides-open c.layers_hold.ensures c.args.desk.now.places.view (visit c.args.b c.args.received.now) c.requires.may.0 may.visit_is c.requires.one may.right (seen.inside c.if-seen.true) (seen.outside c.if-seen-2.true))
+    sym (sides-open c.layers_hold.ensures c.args.desk.now.view (visit c.args.b c.args.received.now) c.requires.may.0 may.visit_is c.requires.one may.right (seen.inside c.if-seen.true) (seen.outside c.if-seen-2.true))
 
 pub returns-then-seen-2-clause-counted : goal.returns-then-seen-2-clause-counted
 returns-then-seen-2-clause-counted c = c.layers_hold.ensures.bounds.none c.args.tally.now 0 _

@@ -1,89 +1,51 @@
-use Rattle.std.proofs.Common.{◌≡◌, ◌+◌, ◌/◌, ◌%◌, ap, arith, refl, ◌∙◌}
-use Rattle.kuhn_cells.specs.Triangles.{GridPoint, further, point}
-use Rattle.oct_descent.specs.Fills.{point_box}
+use Rattle.std.proofs.Common.{ap, length, subst, sym}
+use Rattle.std.specs.List.{All}
+use Rattle.kuhn_cells.specs.Triangles.{point}
+use Rattle.oct_descent.specs.Gaps.{StandsIn}
 use Rattle.oct_descent.specs.GridValues.{grid_value}
-use Rattle.oct_descent.specs.Ways.{Covers}
-use Rattle.oct_descent.proofs.Bricks.{together-stays}
-use Rattle.oct_descent.proofs.Corners.{all-known, corner-wider, one-more_known, short-one}
-use Rattle.oct_descent.proofs.TableLaws.{charges-none, charges-then, grows-none, grows-then, grows-wider, pays-none, pays-then, stays-known}
+use Rattle.oct_descent.proofs.Corners.{short-one}
+use Rattle.oct_descent.proofs.GapLaws.{are-filled, gaps-charged, gaps-grow, gaps-known_then, gaps-paid}
+use Rattle.oct_descent.proofs.TableLaws.{charges-none, pays-none, same-charges, same-grows, same-pays}
 use Rattle.oct_descent.proofs.filling.fill_cell.Goals as goal
 
-pub loop-c-init : goal.loop-c-init
-loop-c-init c = record {
-  kept = record { places = refl; room = refl; values = refl };
-  known = λ k less. absurd (omega (arith, less));
-  grows = grows-none (grid_value c.args.desk.now.places.view c.args.list.now) c.args.b c.args.values.now;
-  counted = λ f enough. charges-none c.layers_hold.ensures f 0 c.args.values.now c.args.tally.now;
-  paid = λ f due. pays-none c.layers_hold.ensures f c.args.values.now c.args.tally.now;
-  together = c.together-first.ensures;
-}
+pub returns-in_err-make_rows-clause-counted : goal.returns-in_err-make_rows-clause-counted
+returns-in_err-make_rows-clause-counted c = λ f enough. charges-none c.layers_hold.ensures f 0 c.args.values.now c.args.tally.now
 
-pub loop-c-preserved : goal.loop-c-preserved
-loop-c-preserved c =
-    let b = c.args.b in
-    let n = c.loop-c.c in
-    let list = c.args.list.now in
-    let i = c.b.inside in
-    let p = point (i.x0 + n % 2) (i.y0 + n / 2 % 2) (i.z0 + n / 4 % 2) in
-    let at : p ≡ further (point b.x0 b.y0 b.z0) n = ap (λ a. further (point a.x0 a.y0 a.z0) n) c.b.view_is in
-    let one = short-one b c.requires.may.visit_is.box c.requires.one in
-    let wider : (q : GridPoint) → Covers (point_box p) q → Covers b q = λ q covers. corner-wider b n p q one at covers in
-    let before = c.loop-c.invariant in
-    let after = c.fill_corner.ensures in
-    let view = ap (λ a. a.view) before.kept.places in
-    let g = grid_value c.args.desk.now.places.view list in
-    let filled = grows-wider (grid_value c.loop-c.desk.places.view list) g (point_box p) b c.loop-c.values c.fill_corner.new.values wider (λ q covers. ap (λ v. grid_value v list q) view) after.grows in
-    record {
-      kept = record { places = after.kept.places ∙ before.kept.places; room = after.kept.room ∙ before.kept.room; values = after.kept.values ∙ before.kept.values };
-      known = one-more_known b c.loop-c.values c.fill_corner.new.values n p at (λ q known. stays-known g b c.loop-c.values c.fill_corner.new.values q filled known) before.known c.in_ok-fill_corner.ensures.known;
-      grows = grows-then g b c.args.values.now c.loop-c.values c.fill_corner.new.values before.grows filled;
-      counted = λ f enough.
-          charges-then c.layers_hold.ensures f 0 0 0 c.args.values.now c.loop-c.values c.fill_corner.new.values c.args.tally.now c.loop-c.tally c.fill_corner.new.tally (omega arith) (before.counted f enough)
-          (after.counted f (λ q covers. enough q (wider q covers)));
-      paid = λ f due.
-          pays-then f c.args.values.now c.loop-c.values c.fill_corner.new.values c.args.tally.now c.loop-c.tally c.fill_corner.new.tally (before.paid f due)
-          (after.paid f (λ q covers. due q (wider q covers)));
-      together = together-stays c.loop-c.values c.fill_corner.new.values (point i.x0 i.y0 i.z0) c.together-first.result c.in_ok-fill_corner.ensures.keeps before.together;
-    }
+pub returns-in_err-make_rows-clause-paid : goal.returns-in_err-make_rows-clause-paid
+returns-in_err-make_rows-clause-paid c = λ f due. pays-none c.layers_hold.ensures f c.args.values.now c.args.tally.now
+
+pub returns-in_err-gaps-clause-counted : goal.returns-in_err-gaps-clause-counted
+returns-in_err-gaps-clause-counted c = λ f enough. same-charges c.layers_hold.ensures f c.args.values.now c.gaps_of.new.values c.args.tally.now c.in_err-gaps.ensures.same
+
+pub returns-in_err-gaps-clause-paid : goal.returns-in_err-gaps-clause-paid
+returns-in_err-gaps-clause-paid c = λ f due. same-pays c.layers_hold.ensures f c.args.values.now c.gaps_of.new.values c.args.tally.now c.in_err-gaps.ensures.same
+
+pub returns-in_err-gaps-clause-grows : goal.returns-in_err-gaps-clause-grows
+returns-in_err-gaps-clause-grows c = same-grows (grid_value c.args.desk.now.view c.args.list.now) c.args.b c.args.values.now c.gaps_of.new.values c.in_err-gaps.ensures.same
+
+pub fill_gaps-requires-clause-stand : goal.fill_gaps-requires-clause-stand
+fill_gaps-requires-clause-stand c = subst (All (StandsIn c.gaps_of.new.values)) (sym c.as_slice.ensures.value) c.in_ok-gaps.ensures.gaps.stand
 
 pub returns-clause-known : goal.returns-clause-known
 returns-clause-known c =
-    all-known c.args.b c.loop-c.values (short-one c.args.b c.requires.may.visit_is.box c.requires.one)
-    (λ k less. c.loop-c.invariant.known k (omega (arith, less, c.loop-c-test.false, c.loop-c.auto.c-end)))
+    gaps-known_then (grid_value c.args.desk.now.view c.args.list.now) c.args.b c.as_slice.result.now c.args.values.now c.gaps_of.new.values c.fill_gaps.new.values (are-filled c.args.desk.now.view c.desk.inside.places.view c.args.list.now c.args.b (point c.b.inside.x0 c.b.inside.y0 c.b.inside.z0) c.as_slice.result.now c.in_ok-gaps.gaps.items c.args.values.now c.gaps_of.new.values c.fill_gaps.new.values
+    (short-one c.args.b c.requires.may.visit_is.box c.requires.one) (ap (λ d. d.view) c.desk.view_is) (ap (λ a. point a.x0 a.y0 a.z0) c.b.view_is) c.as_slice.ensures.value c.in_ok-gaps.ensures.same c.in_ok-gaps.ensures.gaps c.fill_gaps.ensures.fills)
 
-pub returns-in_err-fill_corner-clause-counted : goal.returns-in_err-fill_corner-clause-counted
-returns-in_err-fill_corner-clause-counted c f enough =
-    let b = c.args.b in
-    let n = c.loop-c.c in
-    let i = c.b.inside in
-    let p = point (i.x0 + n % 2) (i.y0 + n / 2 % 2) (i.z0 + n / 4 % 2) in
-    let at : p ≡ further (point b.x0 b.y0 b.z0) n = ap (λ a. further (point a.x0 a.y0 a.z0) n) c.b.view_is in
-    let one = short-one b c.requires.may.visit_is.box c.requires.one in
-    charges-then c.layers_hold.ensures f 0 0 0 c.args.values.now c.loop-c.values c.fill_corner.new.values c.args.tally.now c.loop-c.tally c.fill_corner.new.tally (omega arith) (c.loop-c.invariant.counted f enough)
-    (c.in_err-fill_corner.ensures.counted f (λ q covers. enough q (corner-wider b n p q one at covers)))
+pub returns-clause-grows : goal.returns-clause-grows
+returns-clause-grows c =
+    gaps-grow (grid_value c.args.desk.now.view c.args.list.now) c.args.b c.as_slice.result.now c.args.values.now c.gaps_of.new.values c.fill_gaps.new.values (are-filled c.args.desk.now.view c.desk.inside.places.view c.args.list.now c.args.b (point c.b.inside.x0 c.b.inside.y0 c.b.inside.z0) c.as_slice.result.now c.in_ok-gaps.gaps.items c.args.values.now c.gaps_of.new.values c.fill_gaps.new.values
+    (short-one c.args.b c.requires.may.visit_is.box c.requires.one) (ap (λ d. d.view) c.desk.view_is) (ap (λ a. point a.x0 a.y0 a.z0) c.b.view_is) c.as_slice.ensures.value c.in_ok-gaps.ensures.same c.in_ok-gaps.ensures.gaps c.fill_gaps.ensures.fills)
 
-pub returns-in_err-fill_corner-clause-paid : goal.returns-in_err-fill_corner-clause-paid
-returns-in_err-fill_corner-clause-paid c f due =
-    let b = c.args.b in
-    let n = c.loop-c.c in
-    let i = c.b.inside in
-    let p = point (i.x0 + n % 2) (i.y0 + n / 2 % 2) (i.z0 + n / 4 % 2) in
-    let at : p ≡ further (point b.x0 b.y0 b.z0) n = ap (λ a. further (point a.x0 a.y0 a.z0) n) c.b.view_is in
-    let one = short-one b c.requires.may.visit_is.box c.requires.one in
-    pays-then f c.args.values.now c.loop-c.values c.fill_corner.new.values c.args.tally.now c.loop-c.tally c.fill_corner.new.tally (c.loop-c.invariant.paid f due)
-    (c.in_err-fill_corner.ensures.paid f (λ q covers. due q (corner-wider b n p q one at covers)))
+pub returns-clause-counted : goal.returns-clause-counted
+returns-clause-counted c =
+    λ f enough.
+    gaps-charged c.layers_hold.ensures f (grid_value c.args.desk.now.view c.args.list.now) c.args.b (length c.args.list.now) c.as_slice.result.now c.args.values.now c.gaps_of.new.values c.fill_gaps.new.values c.args.tally.now c.fill_gaps.new.tally
+    (are-filled c.args.desk.now.view c.desk.inside.places.view c.args.list.now c.args.b (point c.b.inside.x0 c.b.inside.y0 c.b.inside.z0) c.as_slice.result.now c.in_ok-gaps.gaps.items c.args.values.now c.gaps_of.new.values c.fill_gaps.new.values
+    (short-one c.args.b c.requires.may.visit_is.box c.requires.one) (ap (λ d. d.view) c.desk.view_is) (ap (λ a. point a.x0 a.y0 a.z0) c.b.view_is) c.as_slice.ensures.value c.in_ok-gaps.ensures.same c.in_ok-gaps.ensures.gaps c.fill_gaps.ensures.fills) enough c.fill_gaps.ensures.counted
 
-pub returns-in_err-fill_corner-clause-grows : goal.returns-in_err-fill_corner-clause-grows
-returns-in_err-fill_corner-clause-grows c =
-    let b = c.args.b in
-    let n = c.loop-c.c in
-    let list = c.args.list.now in
-    let i = c.b.inside in
-    let p = point (i.x0 + n % 2) (i.y0 + n / 2 % 2) (i.z0 + n / 4 % 2) in
-    let at : p ≡ further (point b.x0 b.y0 b.z0) n = ap (λ a. further (point a.x0 a.y0 a.z0) n) c.b.view_is in
-    let one = short-one b c.requires.may.visit_is.box c.requires.one in
-    let view = ap (λ a. a.view) c.loop-c.invariant.kept.places in
-    let g = grid_value c.args.desk.now.places.view list in
-    grows-then g b c.args.values.now c.loop-c.values c.fill_corner.new.values c.loop-c.invariant.grows
-    (grows-wider (grid_value c.loop-c.desk.places.view list) g (point_box p) b c.loop-c.values c.fill_corner.new.values (λ q covers. corner-wider b n p q one at covers) (λ q covers. ap (λ v. grid_value v list q) view)
-    c.in_err-fill_corner.ensures.grows)
+pub returns-clause-paid : goal.returns-clause-paid
+returns-clause-paid c =
+    λ f due.
+    gaps-paid c.layers_hold.ensures f (grid_value c.args.desk.now.view c.args.list.now) c.args.b (length c.args.list.now) c.as_slice.result.now c.args.values.now c.gaps_of.new.values c.fill_gaps.new.values c.args.tally.now c.fill_gaps.new.tally
+    (are-filled c.args.desk.now.view c.desk.inside.places.view c.args.list.now c.args.b (point c.b.inside.x0 c.b.inside.y0 c.b.inside.z0) c.as_slice.result.now c.in_ok-gaps.gaps.items c.args.values.now c.gaps_of.new.values c.fill_gaps.new.values
+    (short-one c.args.b c.requires.may.visit_is.box c.requires.one) (ap (λ d. d.view) c.desk.view_is) (ap (λ a. point a.x0 a.y0 a.z0) c.b.view_is) c.as_slice.ensures.value c.in_ok-gaps.ensures.same c.in_ok-gaps.ensures.gaps c.fill_gaps.ensures.fills) due c.fill_gaps.ensures.counted

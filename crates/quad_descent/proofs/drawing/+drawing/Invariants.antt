@@ -1,6 +1,5 @@
 use Rattle.std.proofs.Common.{◌≡◌, ◌+◌, ◌*◌, ◌++◌, take}
 use Rattle.box_chains.specs.Chains.{sides}
-use Rattle.quad_descent.specs.Desks.{KeepsDesk}
 use Rattle.quad_descent.proofs.Drawn.{CountsDrawn}
 use Rattle.quad_descent.specs.Nodes.{halves_nodes}
 use Rattle.quad_descent.specs.Raster.{raster}
@@ -21,7 +20,7 @@ decreases-draw_halves l = 4 * sides l.b
 
 abbrev pub invariant-draw_halves-loop-at : goal.invariant-draw_halves-loop-at
 invariant-draw_halves-loop-at l = record {
-  kept : KeepsDesk l.fn.desk l.desk;
-  nodes : l.nodes.items ≡ l.fn.nodes.items ++ halves_nodes (raster l.fn.desk.places.view) l.live (take l.at l.halves);
-  counted : CountsDrawn (raster l.fn.desk.places.view) l.live l.halves l.at l.fn.tally l.tally;
+  kept : l.desk ≡ l.fn.desk;
+  nodes : l.nodes.items ≡ l.fn.nodes.items ++ halves_nodes (raster l.fn.desk.view) l.live (take l.at l.halves);
+  counted : CountsDrawn (raster l.fn.desk.view) l.live l.halves l.at l.fn.tally l.tally;
 }

@@ -11,20 +11,20 @@ returns-in_err-desk-clause-at_most c = on_err _ _ (c.layers_hold.ensures.bounds.
 
 pub returns-in_err-draw_box-clause-at_most : goal.returns-in_err-draw_box-clause-at_most
 returns-in_err-draw_box-clause-at_most c =
-    let view = ap (λ p. p.view) c.in_ok-desk.ensures.places in
+    let view = ap (λ d. d.view) c.in_ok-desk.ensures in
     on_err _ _
     (subst (λ b. CountsAtMost (points_in (raster c.args.view.now) (visit b c.args.list.now)) (spans_in (raster c.args.view.now) (visit b c.args.list.now)) c.args.tally.now c.draw_box.new.tally) c.root.ensures
     (subst (λ w. CountsAtMost (points_in (raster w) (visit c.root.result c.args.list.now)) (spans_in (raster w) (visit c.root.result c.args.list.now)) c.args.tally.now c.draw_box.new.tally) view c.in_err-draw_box.ensures.at_most))
 
 pub returns-clause-counted : goal.returns-clause-counted
 returns-clause-counted c =
-    let view = ap (λ p. p.view) c.in_ok-desk.ensures.places in
+    let view = ap (λ d. d.view) c.in_ok-desk.ensures in
     subst (λ b. CountsExactly (points_in (raster c.args.view.now) (visit b c.args.list.now)) (spans_in (raster c.args.view.now) (visit b c.args.list.now)) c.args.tally.now c.draw_box.new.tally) c.root.ensures
     (subst (λ w. CountsExactly (points_in (raster w) (visit c.root.result c.args.list.now)) (spans_in (raster w) (visit c.root.result c.args.list.now)) c.args.tally.now c.draw_box.new.tally) view c.in_ok-draw_box.ensures.counted)
 
 pub returns-in_err-share-clause-at_most : goal.returns-in_err-share-clause-at_most
 returns-in_err-share-clause-at_most c =
-    let view = ap (λ p. p.view) c.in_ok-desk.ensures.places in
+    let view = ap (λ d. d.view) c.in_ok-desk.ensures in
     let p = fresh_points c.args.view.now c.args.list.now in
     let s = fresh_spans c.args.view.now c.args.list.now in
     on_err _ _ (c.layers_hold.ensures.bounds.exact c.args.tally.now c.draw_box.new.tally p s p s (omega arith) (omega arith)
