@@ -11,6 +11,7 @@ use Rattle.fixed_ops.specs.Raw.{is_inside}
 use Rattle.interval_ops.specs.HullCounts.{CountsHulls}
 use Rattle.kuhn_cells.specs.Triangles.{GridPoint, point}
 use Rattle.std.proofs.lemmas.Bool.{false≢true, and_parts, cond-false, cond-true, eq-eqb, eqb-true, ne_eqb}
+use Rattle.kuhn_cells.specs.declared.grid_size.GridSize.{GridSize}
 use Rattle.view_settings.specs.Boxes.{Indices}
 use Rattle.view_settings.specs.Window.{Window}
 use Rattle.oct_descent.proofs.Sizes.{size-is, size-none, size-then}

@@ -1,5 +1,6 @@
 use Rattle.std.proofs.Common.{◌≡◌, ◌<◌, length, pos, ap, arith, rules, sym, ◌∙◌}
 use Rattle.std.proofs.lemmas.List.{get_or_read}
+use Rattle.kuhn_cells.specs.Grids.{bordered}
 use Rattle.live_clauses.specs.Steps.{tape_value}
 use Rattle.oct_descent.specs.Gaps.{StandsIn, lies_at, nth, spot}
 use Rattle.oct_descent.specs.GridValues.{grid_value}
