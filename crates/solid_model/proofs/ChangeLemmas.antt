@@ -1,17 +1,15 @@
--- Edits by places are edits by names, and what a refusal of a cut tells.
-use Rattle.std.proofs.Common.{◌≡◌, ◌≢◌, ℕ, [], ◌∷◌, Bool, true, false, nat_le, List, length, Option, None, Some, Ok, Err, refl, ◌∙◌}
-use Rattle.std.specs.List.{position}
+-- Edits by places are edits by names.
+use Rattle.std.proofs.Common.{◌≡◌, ◌≢◌, ℕ, [], ◌∷◌, List, Ok, Err, refl}
 use Rattle.solid_model.specs.declared.clause.Clause.{Clause}
 use Rattle.solid_model.specs.declared.edit.Edit.{Edit}
 use Rattle.solid_model.specs.declared.edit.Edit.TheVariants.{Set, Add, Put, Cut}
-use Rattle.solid_model.specs.declared.edit.EditFault.TheVariants.{InUse, UnknownName}
+use Rattle.solid_model.specs.declared.edit.EditFault.TheVariants.{UnknownName}
 use Rattle.solid_model.specs.declared.edit.EditFault.{EditFault}
 use Rattle.solid_model.specs.Adding.{added}
 use Rattle.solid_model.specs.Parts.{Parts}
 use Rattle.solid_model.specs.Changes.{surgery}
-use Rattle.solid_model.specs.Clauses.{place_of, AreClauses, IsModel}
+use Rattle.solid_model.specs.Clauses.{AreClauses, IsModel}
 use Rattle.solid_model.specs.Edits.{edited, IsEdit}
-use Rattle.solid_model.specs.Surgery.{reads, taken_out, without_clause}
 use Rattle.solid_model.proofs.ModelLemmas.{IsModel-added}
 use Rattle.solid_model.proofs.NamedLemmas.{edited-added}
 use Rattle.solid_model.proofs.SurgeryLemmas.{edited-cut, edited-formed, edited-put}
@@ -28,17 +26,6 @@ models-surgery clauses (Set name form) new are is e = models-formed clauses name
 models-surgery clauses (Add name form) new are is e = IsModel-added clauses name form new are is.0 is.1 e
 models-surgery clauses (Put next name form) new are is e = models-put_in clauses next name form new are is.0 is.1 e
 models-surgery clauses (Cut name) new are is e = models-taken_out clauses name new are e
-
--- a cut that is refused as in use tells the first user
-pub refused-user : (clauses : List Clause) (name : List ℕ) (at user : ℕ) → taken_out clauses name ≡ Err (InUse user) → place_of clauses name ≡ Some at
-    → position (reads at) clauses ≡ Some user
-refused-user clauses name at user e there = by (position (reads at) clauses) (nat_le (length clauses) 1) refl refl (rw there at e)
-  where
-    by : (o : Option ℕ) (b : Bool) → position (reads at) clauses ≡ o → nat_le (length clauses) 1 ≡ b → without_clause clauses at ≡ Err (InUse user)
-        → position (reads at) clauses ≡ Some user
-    by (Some first) b found few was = let gives = rw found at was in found ∙ (cc)
-    by None true found few was = let gives = rw (found, few) at was in (cc)
-    by None false found few was = let gives = rw (found, few) at was in (cc)
 
 -- a first clause is refused for its arguments alone
 pub first-fault : (name : List ℕ) (form : Parts) (fault : EditFault) → added [] name form ≡ Err fault → (fault ≡ UnknownName) × (form.args ≢ [])

@@ -4,8 +4,7 @@ use Rattle.std.specs.List.{list_any}
 use Rattle.std.specs.Str.{bytes_eq}
 use Rattle.std.specs.Cmp.Lexicographic.{bytes_decides}
 use Rattle.std.proofs.lemmas.List.{get_or_append_left, length-append}
-use Rattle.std.proofs.lemmas.Option.{slice_get-get_or, slice_get-map, slice_get_within, unwrap_or-slice_get}
-use Rattle.std.specs.Option.{option_map, unwrap_or}
+use Rattle.std.proofs.lemmas.Option.{slice_get-get_or, slice_get_within}
 use Rattle.fixed_ops.specs.Arity.{arity_of}
 use Rattle.solid_model.specs.declared.row.Row.{Row}
 use Rattle.solid_model.specs.Tables.{clause_by, clause_of, clauses_of, label_of, no_row, row_of, standing_place, ArePlaces, IsTable, Standing, standing_rows}

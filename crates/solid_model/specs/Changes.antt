@@ -1,5 +1,5 @@
 -- What edits do, by places.
-use Rattle.std.specs.Prelude.{◌≡◌, ◌<◌, ◌≤◌, List, length, map, set, Option, Some, None, Result, ⊤}
+use Rattle.std.specs.Prelude.{◌≡◌, ◌<◌, ◌≤◌, List, length, map, set, Some, None, Result, ⊤}
 use Rattle.std.specs.List.{insert, position, remove}
 use Rattle.solid_model.specs.declared.change.Change.{Change}
 use Rattle.solid_model.specs.declared.change.Change.TheVariants.{Write, Insert, Remove}
@@ -7,6 +7,9 @@ use Rattle.solid_model.specs.declared.clause.Clause.{Clause}
 use Rattle.solid_model.specs.declared.edit.Edit.{Edit}
 use Rattle.solid_model.specs.declared.edit.Edit.TheVariants.{Set, Add, Put, Cut}
 use Rattle.solid_model.specs.declared.edit.EditFault.{EditFault}
+use Rattle.solid_model.specs.declared.edit.EditFault.TheVariants as edit_fault
+use Rattle.solid_model.specs.declared.refusal.Refusal.{Refusal}
+use Rattle.solid_model.specs.declared.refusal.Refusal.TheVariants.{Plain, InUse}
 use Rattle.solid_model.specs.Adding.{added}
 use Rattle.solid_model.specs.Clauses.{place_of}
 use Rattle.solid_model.specs.Seen.{clause_seen}
@@ -26,8 +29,8 @@ done clauses (Write at clause) = set clauses at (clause_seen clause)
 done clauses (Insert at clause) = insert (map (moved (up at)) clauses) at (clause_seen clause)
 done clauses (Remove at) = remove (map (moved (down at)) clauses) at
 
--- A change that clauses allow: a clause that is written anew keeps its name, one that is put in has a new name and
--- room, one that is taken out is no operand, and operands stand before the place.
+-- A change that clauses allow: a clause that is written anew keeps its name, one that is put in has
+-- a new name and room, one that is taken out is no operand, and operands stand before the place.
 abbrev pub Allows : List Clause → Change → Type 0
 Allows clauses (Write at clause) =
     (place_of clauses clause.name.now ≡ Some at) × HasOperandsBefore at (clause_seen clause)
@@ -41,3 +44,14 @@ abbrev pub PutsIn : Change → Type 0
 PutsIn (Write at clause) = ⊥
 PutsIn (Insert at clause) = ⊤
 PutsIn (Remove at) = ⊥
+
+-- the fault for which an edit is refused
+abbrev pub fault_of : Refusal → EditFault
+fault_of (Plain fault) = fault
+fault_of (InUse at user) = edit_fault.InUse user
+
+-- where a refusal says that the clause at a place is in use, it tells the first that reads it
+abbrev pub TellsUser : List Clause → Refusal → Type 0
+TellsUser clauses (Plain fault) = ⊤
+TellsUser clauses (InUse at user) =
+    (at < length clauses) × (position (reads at) clauses ≡ Some user)

@@ -16,8 +16,8 @@ place_of clauses name = position (λ c. bytes_eq name c.name) clauses
 abbrev pub names_of : List Clause → List (List ℕ)
 names_of clauses = map (λ c. c.name) clauses
 
--- What a clause may say at a place: the operands that its operation has stand before the place, those that it
--- lacks are 0, and its number is 0 where it is no constant.
+-- What a clause may say at a place: the operands that its operation has stand before the place,
+-- those that it lacks are 0, and its number is 0 where it is no constant.
 pub record FitsAt (place : ℕ) (op : Op) (a b : ℕ) (value : ℤ) : Type 0 where
   pub first : 0 < arity_of op → a < place
   pub second : 1 < arity_of op → b < place

@@ -39,7 +39,8 @@ with_form clauses name form =
     else if not (are_named (before clauses name) form.args) then Err NotEarlier
     else Ok (set clauses (place_among clauses name) (record { name = name; form = form }))
 
--- a clause of this name and form goes last, where each argument is named, the name is new, and there is room
+-- a clause of this name and form goes last, where each argument is named, the name is new, and there
+-- is room
 abbrev pub with_last : List Named → List ℕ → Parts → Result (List Named) EditFault
 with_last clauses name form =
     if not (are_named clauses form.args) then Err UnknownName
@@ -64,7 +65,8 @@ abbrev pub without : List Named → List ℕ → Result (List Named) EditFault
 without clauses name =
     if not (is_named clauses name) then Err UnknownName
     else option_map_or (λ user. Err (InUse user)) (position (has_argument name) clauses)
-    (if nat_le (length clauses) 1 then Err LastClause else Ok (remove clauses (place_among clauses name)))
+    (if nat_le (length clauses) 1 then Err LastClause
+    else Ok (remove clauses (place_among clauses name)))
 
 -- the named clauses after an edit, or the first fault for which it is refused
 abbrev pub changed : List Named → Edit → Result (List Named) EditFault

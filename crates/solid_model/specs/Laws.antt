@@ -9,8 +9,8 @@ use Rattle.solid_model.specs.Edits.{edited, IsEdit}
 use Rattle.solid_model.specs.Named.{named_of, placed}
 use Rattle.solid_model.specs.Values.{clause_value, values, solid_value}
 
--- The equations of plain evaluation: there is one value for each clause, and it is what the clause makes of
--- the values of its operands, read in the same list.
+-- The equations of plain evaluation: there is one value for each clause, and it is what the clause
+-- makes of the values of its operands, read in the same list.
 pub record AreValues (p : Point) (clauses : List Clause) (all : List ℤ) : Type 0 where
   pub as_many : length all ≡ length clauses
   pub each : (place : ℕ) (clause : Clause) → slice_get clauses place ≡ Some clause

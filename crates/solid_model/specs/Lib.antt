@@ -2,6 +2,7 @@ pub mod Adding
 pub mod Changes
 pub mod Clauses
 pub mod Edits
+pub mod Keys
 pub mod Laws
 pub mod Moves
 pub mod Named

@@ -70,7 +70,8 @@ put_in clauses next name form =
 abbrev pub without_clause : List Clause → ℕ → Result (List Clause) EditFault
 without_clause clauses at =
     option_map_or (λ user. Err (InUse user)) (position (reads at) clauses)
-    (if nat_le (length clauses) 1 then Err LastClause else Ok (remove (map (moved (down at)) clauses) at))
+    (if nat_le (length clauses) 1 then Err LastClause
+    else Ok (remove (map (moved (down at)) clauses) at))
 
 -- the clauses without that of this name, or the first fault
 abbrev pub taken_out : List Clause → List ℕ → Result (List Clause) EditFault

@@ -80,9 +80,10 @@ abbrev pub AreUnread : List ℕ → List Row → ℕ → ℕ → ℕ → Type 0
 AreUnread numbers rows number first end = (place user : ℕ) → first ≤ place → place < end
     → slice_get numbers place ≡ Some user → row_reads number (row_of rows user) ≡ false
 
--- Numbers with a name and a row each, of which a count stand as clauses. The names are distinct, also those
--- of numbers that stand no more, and no operand is past the numbers.
-pub record IsTable (order : Standing) (count : ℕ) (rows : List Row) (names : List (List ℕ)) : Type 0 where
+-- Numbers with a name and a row each, of which a count stand as clauses. The names are distinct, also
+-- those of numbers that stand no more, and no operand is past the numbers.
+pub record IsTable (order : Standing) (count : ℕ) (rows : List Row) (names : List (List ℕ))
+    : Type 0 where
   pub places : ArePlaces order
   pub within : count ≤ length order.numbers
   pub rows_are : length rows ≡ length order.numbers
@@ -120,7 +121,8 @@ abbrev pub AreFirstUsers : List Row → List ℕ → Type 0
 AreFirstUsers standing users = (number : ℕ) → 0 < slice_index_or users number 0
     → position (row_reads number) standing ≡ Some (slice_index_or users number 0)
 
--- what a table keeps: numbers in an order, how many of them stand as clauses, and the row and name of each
+-- what a table keeps: numbers in an order, how many of them stand as clauses, and the row and name
+-- of each
 pub record Kept : Type 0 where
   pub order : Standing
   pub count : ℕ
@@ -134,5 +136,6 @@ clauses_in kept = clauses_of kept.order kept.count kept.rows kept.names
 -- each number's uses are counted, and each first user that is told is one
 pub record IsKept (kept : Kept) (uses told : List ℕ) : Type 0 where
   pub table : IsTable kept.order kept.count kept.rows kept.names
-  pub counted : AreCounted (length kept.order.numbers) (standing_rows kept.order kept.count kept.rows) uses
+  pub counted : AreCounted (length kept.order.numbers)
+      (standing_rows kept.order kept.count kept.rows) uses
   pub users : AreFirstUsers (standing_rows kept.order kept.count kept.rows) told

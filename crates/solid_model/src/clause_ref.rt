@@ -5,8 +5,8 @@ ghost use Rattle.solid_model.specs.Surgery.{reads_before};
 
 use fixed_ops::{Fx, Op, arity};
 
-/// A clause of a model, whose name is lent: an operation, the places of its operands, and the number
-/// of a constant.
+/// A clause of a model, whose name is lent: an operation, the places of its operands, and the
+/// number of a constant.
 #[derive(Clone, Copy, Debug)]
 pub struct ClauseRef<'m> {
     /// The bytes of its name.

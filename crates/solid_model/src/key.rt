@@ -8,8 +8,8 @@ ghost use Rattle.std.specs.Cmp.{partial_equiv_from_equiv};
 ghost use Rattle.std.specs.Cmp.Rules.{hashing};
 ghost use Rattle.std.proofs.Common.{rules};
 
+use arrayvec::ArrayVec;
 use indexmap::IndexSet;
-use smallvec::SmallVec;
 use std::alloc::{AllocError, Global};
 use std::hash::{Hash, Hasher};
 use std::marker::Model;
@@ -20,28 +20,51 @@ const INLINE: usize = 16;
 // The most bytes of a name that are hashed as one number.
 const WORD: usize = 8;
 
-// The bytes of a name.
+// The bytes of a name, which contracts see: a table's own, or those of a name that is looked up,
+// which are lent and not copied.
 #[derive(Debug, Drop)]
-pub(crate) struct Key {
-    bytes: SmallVec<u8, INLINE>,
+pub(crate) struct Key<'n> {
+    bytes: KeyBytes<'n>,
 }
 
-impl Model for Key {
+// A short name takes no memory of its own.
+#[derive(Debug, Drop)]
+enum KeyBytes<'n> {
+    Short(ArrayVec<u8, INLINE>),
+    Long(Vec<u8>),
+    Lent(&'n [u8]),
+}
+
+impl<'n> Model for Key<'n> {
     ghost use Rattle.std.specs.Prelude.{List, ℕ};
+    ghost use Rattle.solid_model.specs.Keys.{key_bytes};
 
     ghost Value = { List ℕ };
 
-    ghost view = { λ k. k.bytes.items };
+    ghost view = { λ k. key_bytes k.bytes };
 }
 
-impl Key {
+impl<'n> Key<'n> {
     // These bytes, which are copied.
     #[inline]
-    pub(crate) fn copied(alloc: Global, bytes: &[u8]) -> Result<Key, AllocError>
+    pub(crate) fn copied(alloc: Global, bytes: &[u8]) -> Result<Key<'n>, AllocError>
         ensures { IfOk result (λ key. key ≡ bytes.now) }
     {
-        let bytes = SmallVec::from_slice(alloc, bytes)?;
+        let bytes = match ArrayVec::try_from(bytes) {
+            Ok(short) => KeyBytes::Short(short),
+            Err(_) => KeyBytes::Long(Vec::from_slice(alloc, bytes)?),
+        };
         Ok(Key { bytes })
+    }
+
+    // These bytes, which are lent.
+    #[inline]
+    fn lent(bytes: &'n [u8]) -> Key<'n>
+        ensures { result ≡ bytes.now }
+    {
+        Key {
+            bytes: KeyBytes::Lent(bytes),
+        }
     }
 
     // The bytes.
@@ -49,28 +72,32 @@ impl Key {
     pub(crate) fn bytes(&self) -> &[u8]
         ensures { result.now ≡ self.now }
     {
-        self.bytes.as_slice()
+        match &self.bytes {
+            KeyBytes::Short(bytes) => bytes.as_slice(),
+            KeyBytes::Long(bytes) => bytes.as_slice(),
+            KeyBytes::Lent(bytes) => bytes,
+        }
     }
 }
 
-impl PartialEq for Key {
+impl<'n> PartialEq for Key<'n> {
     ghost eq = { pointwise nat_eq };
 
     ghost laws = { partial_equiv_from_equiv nat_list_eq_equiv };
 
     #[inline]
-    fn eq(&self, other: &Key) -> bool {
+    fn eq(&self, other: &Key<'n>) -> bool {
         self.bytes() == other.bytes()
     }
 }
 
-impl Eq for Key {
+impl<'n> Eq for Key<'n> {
     ghost laws = { nat_list_eq_equiv };
 }
 
-// A short name is fed to the hasher at once. A longer one is fed byte by byte, as a slice is: in one
-// piece its first eight bytes could be chosen so that the others do not count.
-impl Hash for Key {
+// A short name is fed to the hasher at once. A longer one is fed byte by byte, as a slice is: in
+// one piece its first eight bytes could be chosen so that the others do not count.
+impl<'n> Hash for Key<'n> {
     ghost hash_input = { λ bytes. if nat_le (length bytes) 8 then bytes ∷ []
         else fed.slice fed.u8 bytes };
 
@@ -87,21 +114,11 @@ impl Hash for Key {
     }
 }
 
-// The number of this name among others. A long name is copied to be looked up. Where memory is
-// refused for that, the names are gone through.
+// The number of this name among others. No memory is asked for: the kept keys, which may live for
+// ever, are asked by a key that lives as long as the name is lent.
 #[inline]
-pub(crate) fn number_in(names: &IndexSet<Key>, alloc: Global, name: &[u8]) -> Option<usize>
+pub(crate) fn number_in(names: &IndexSet<Key<'static>>, name: &[u8]) -> Option<usize>
     ensures { result ≡ position (λ k. bytes_eq name.now k) names.now.keys }
 {
-    match Key::copied(alloc, name) {
-        Ok(key) => names.get_index_of(&key),
-        Err(_) => key_position(names.as_slice(), name),
-    }
-}
-
-// The place of the first key of these bytes.
-fn key_position(keys: &[Key], bytes: &[u8]) -> Option<usize>
-    ensures { result ≡ position (λ k. bytes_eq bytes.now k) keys.now }
-{
-    keys.iter().position(|key| bytes == key.bytes())
+    names.get_index_of(&Key::lent(name))
 }

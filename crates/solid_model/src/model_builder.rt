@@ -39,6 +39,15 @@ impl ModelBuilder {
         }
     }
 
+    /// No clauses yet, and room for so many, where memory is not refused.
+    pub fn with_room(alloc: Global, clauses: usize) -> ModelBuilder
+        ensures { result ≡ [] }
+    {
+        let mut table = Table::new(alloc);
+        table.make_room(clauses);
+        ModelBuilder { table }
+    }
+
     /// How many clauses there are.
     #[inline]
     pub fn len(&self) -> u32

@@ -1,34 +1,32 @@
 // A list of clauses in which a name is found at once, and whose clauses move without their
 // operands.
-ghost use Rattle.std.specs.Prelude.{◌≡◌, ◌≢◌, ℕ, ◌<◌, ◌≤◌, [], ◌∷◌, ◌++◌, length, map, set, slice_get, slice_index_or, if◌then◌else◌, true, false, is_some, Some, None, IfErr, IfOk, IfSome, MatchResult, OnErr, OnOk};
+ghost use Rattle.std.specs.Prelude.{◌≡◌, ◌≢◌, ◌<◌, ◌≤◌, [], ◌∷◌, ◌++◌, length, map, set, slice_get, slice_index_or, if◌then◌else◌, true, false, is_some, Some, None, IfErr, IfOk, IfSome, OnErr, OnOk};
 ghost use Rattle.std.specs.List.{insert, position, remove};
-ghost use Rattle.std.specs.Option.{option_map, unwrap_or};
-ghost use Rattle.solid_model.specs.Adding.{added, clause_after, operand};
-ghost use Rattle.solid_model.specs.Changes.{done, surgery, Allows, PutsIn};
+ghost use Rattle.std.specs.Option.{unwrap_or};
+ghost use Rattle.solid_model.specs.Changes.{done, surgery, Allows, PutsIn, TellsUser};
 ghost use Rattle.solid_model.specs.Clauses.{place_of, AreInOrder};
 ghost use Rattle.solid_model.specs.Edits.{IsEdit, MakesClause};
-ghost use Rattle.solid_model.specs.Names.{IsName};
-ghost use Rattle.solid_model.specs.Parts.{IsForm};
 ghost use Rattle.solid_model.specs.Pushing.{push_fault};
 ghost use Rattle.solid_model.specs.Refusals.{RefusesAs, WantsMemoryFor};
 ghost use Rattle.solid_model.specs.Seen.{clause_seen};
-ghost use Rattle.solid_model.specs.Surgery.{down, formed, moved, put_in, reads, reads_before, taken_out, up};
+ghost use Rattle.solid_model.specs.Surgery.{down, moved, reads, up};
 ghost use Rattle.solid_model.specs.Tables.{clauses_in, label_of, standing_place, HasName, HasOperandsBefore, IsNumbered};
 
 use crate::change::Change;
 use crate::key::{Key, number_in};
 use crate::numbers::{grow, move_number};
+use crate::refusal::Refusal;
 use crate::row::Row;
 use crate::users::{first_reader, keep_user, kept_user};
 use crate::uses::{count_operands, uncount_operands};
-use crate::{ClauseRef, Edit, EditFault, Form, Name, PushFault};
+use crate::{ClauseRef, Edit, EditFault, PushFault};
 use fixed_ops::arity;
 use indexmap::IndexSet;
 use std::alloc::{AllocError, Global};
 use std::marker::Model;
 
 // The most clauses that a table holds.
-const MOST: usize = 65_535;
+pub(crate) const MOST: usize = 65_535;
 
 // At most 65,535 clauses. Each has a number, by which its operands are told, and which it keeps
 // while it stands: a name and a row are found by it. The numbers stand in the order of the clauses,
@@ -43,7 +41,7 @@ pub(crate) struct Table {
     rows: Vec<Row>,
     uses: Vec<u32>,
     users: Vec<u16>,
-    names: IndexSet<Key>,
+    names: IndexSet<Key<'static>>,
 }
 
 impl Model for Table {
@@ -85,10 +83,17 @@ impl Table {
         }
     }
 
-    // The allocator.
-    #[inline]
-    pub(crate) fn alloc(&self) -> Global {
-        self.alloc
+    // Makes room for so many clauses more, or for as many as there may be, where memory is not
+    // refused.
+    pub(crate) fn make_room(&mut self, clauses: usize)
+        ensures { clauses_in self.new ≡ clauses_in self.old }
+    {
+        let clauses = clauses.min(MOST);
+        let _ = self.numbers.reserve(clauses);
+        let _ = self.places.reserve(clauses);
+        let _ = self.rows.reserve(clauses);
+        let _ = self.uses.reserve(clauses);
+        let _ = self.names.reserve(clauses);
     }
 
     // How many clauses there are.
@@ -125,7 +130,7 @@ impl Table {
         ensures place { result ≡ place_of (clauses_in self.now) name.now }
         ensures within { IfSome result (λ at. at < length (clauses_in self.now)) }
     {
-        let number = number_in(&self.names, self.alloc, name)?;
+        let number = number_in(&self.names, name)?;
         let place = self.places[number] as usize;
         if place < self.count {
             Some(place as u32)
@@ -150,130 +155,11 @@ impl Table {
     {
         match self.change(edit) {
             Ok(change) => self.make(&change),
-            Err(fault) => {
-                self.keep(edit, fault);
-                Err(fault)
+            Err(refusal) => {
+                self.keep(&refusal);
+                Err(refusal.fault())
             }
         }
-    }
-
-    // What an edit does, or its first fault. Nothing is changed, and no memory is asked for, but
-    // that a long name is copied where there is room.
-    fn change<'e>(&self, edit: &'e Edit) -> Result<Change<'e>, EditFault>
-        requires in_order { AreInOrder (clauses_in self.now) }
-        ensures change { MatchResult result
-            (λ change. surgery (clauses_in self.now) edit.now
-            ≡ Ok (done (clauses_in self.now) change))
-            (λ fault. surgery (clauses_in self.now) edit.now ≡ Err fault) }
-        ensures memory { IfErr result (λ fault. fault ≢ EditFault.NoMemory) }
-        ensures allowed { IfOk result (λ change. Allows (clauses_in self.now) change) }
-        ensures puts { IfOk result (λ change. PutsIn change → MakesClause edit.now) }
-        ensures edit { IsEdit edit.now }
-    {
-        match edit {
-            Edit::Set(name, form) => self.setting(name, form),
-            Edit::Add(name, form) => self.adding(name, form),
-            Edit::Put(next, name, form) => self.putting(next, name, form),
-            Edit::Cut(name) => self.cutting(name),
-        }
-    }
-
-    // The clause of this name gets another form.
-    fn setting<'e>(&self, name: &'e Name, form: &Form) -> Result<Change<'e>, EditFault>
-        ensures change { MatchResult result
-            (λ change. formed (clauses_in self.now) name.now form.now
-            ≡ Ok (done (clauses_in self.now) change))
-            (λ fault. formed (clauses_in self.now) name.now form.now ≡ Err fault) }
-        ensures memory { IfErr result (λ fault. fault ≢ EditFault.NoMemory) }
-        ensures allowed { IfOk result (λ change. Allows (clauses_in self.now) change) }
-        ensures puts { IfOk result (λ change. ¬ PutsIn change) }
-        ensures name { IsName name.now }
-        ensures form { IsForm form.now }
-    {
-        let formed = self.clause_after(name, form);
-        let at = self.position(name.bytes()).ok_or(EditFault::UnknownName)?;
-        let Some(clause) = formed else {
-            return Err(EditFault::UnknownName);
-        };
-        if !clause.reads_before(at) {
-            return Err(EditFault::NotEarlier);
-        }
-        Ok(Change::Write(at, clause))
-    }
-
-    // A clause of this name and form goes last.
-    fn adding<'e>(&self, name: &'e Name, form: &Form) -> Result<Change<'e>, EditFault>
-        requires in_order { AreInOrder (clauses_in self.now) }
-        ensures change { MatchResult result
-            (λ change. added (clauses_in self.now) name.now form.now
-            ≡ Ok (done (clauses_in self.now) change))
-            (λ fault. added (clauses_in self.now) name.now form.now ≡ Err fault) }
-        ensures memory { IfErr result (λ fault. fault ≢ EditFault.NoMemory) }
-        ensures allowed { IfOk result (λ change. Allows (clauses_in self.now) change) }
-        ensures name { IsName name.now }
-        ensures form { IsForm form.now }
-    {
-        let Some(clause) = self.clause_after(name, form) else {
-            return Err(EditFault::UnknownName);
-        };
-        if self.position(clause.name).is_some() {
-            return Err(EditFault::DoubleName);
-        }
-        let count = self.len();
-        if count >= MOST {
-            return Err(EditFault::Full);
-        }
-        Ok(Change::Insert(count as u32, clause))
-    }
-
-    // A clause of this name and form goes directly before that of another name.
-    fn putting<'e>(&self, next: &Name, name: &'e Name, form: &Form) -> Result<Change<'e>, EditFault>
-        ensures change { MatchResult result
-            (λ change. put_in (clauses_in self.now) next.now name.now form.now
-            ≡ Ok (done (clauses_in self.now) change))
-            (λ fault. put_in (clauses_in self.now) next.now name.now form.now ≡ Err fault) }
-        ensures memory { IfErr result (λ fault. fault ≢ EditFault.NoMemory) }
-        ensures allowed { IfOk result (λ change. Allows (clauses_in self.now) change) }
-        ensures name { IsName name.now }
-        ensures form { IsForm form.now }
-    {
-        let formed = self.clause_after(name, form);
-        let at = self.position(next.bytes()).ok_or(EditFault::UnknownName)?;
-        let Some(clause) = formed else {
-            return Err(EditFault::UnknownName);
-        };
-        if self.position(clause.name).is_some() {
-            return Err(EditFault::DoubleName);
-        }
-        if !clause.reads_before(at) {
-            return Err(EditFault::NotEarlier);
-        }
-        if self.len() >= MOST {
-            return Err(EditFault::Full);
-        }
-        Ok(Change::Insert(at, clause))
-    }
-
-    // The clause of this name is taken out.
-    fn cutting<'e>(&self, name: &Name) -> Result<Change<'e>, EditFault>
-        requires in_order { AreInOrder (clauses_in self.now) }
-        ensures change { MatchResult result
-            (λ change. taken_out (clauses_in self.now) name.now
-            ≡ Ok (done (clauses_in self.now) change))
-            (λ fault. taken_out (clauses_in self.now) name.now ≡ Err fault) }
-        ensures memory { IfErr result (λ fault. fault ≢ EditFault.NoMemory) }
-        ensures allowed { IfOk result (λ change. Allows (clauses_in self.now) change) }
-        ensures puts { IfOk result (λ change. ¬ PutsIn change) }
-        ensures name { IsName name.now }
-    {
-        let at = self.position(name.bytes()).ok_or(EditFault::UnknownName)?;
-        if let Some(user) = self.first_user(at) {
-            return Err(EditFault::InUse(user as u32));
-        }
-        if self.len() <= 1 {
-            return Err(EditFault::LastClause);
-        }
-        Ok(Change::Remove(at))
     }
 
     // Makes a change that the clauses allow.
@@ -301,65 +187,23 @@ impl Table {
         }
     }
 
-    // Keeps the first user that a refusal tells.
-    fn keep(&mut self, edit: &Edit, fault: EditFault)
+    // Keeps the first user that a refusal tells, until the clauses change.
+    fn keep(&mut self, refusal: &Refusal)
         requires in_order { AreInOrder (clauses_in self.old) }
-        requires refused { surgery (clauses_in self.old) edit.now ≡ Err fault }
+        requires told { TellsUser (clauses_in self.old) refusal.now }
         ensures { clauses_in self.new ≡ clauses_in self.old }
     {
-        if let Edit::Cut(name) = edit {
-            if let EditFault::InUse(user) = fault {
-                self.keep_user_of(name.bytes(), user);
-            }
-        }
-    }
-
-    // Keeps the first user of the clause of this name, until the clauses change.
-    fn keep_user_of(&mut self, name: &[u8], user: u32)
-        requires in_order { AreInOrder (clauses_in self.old) }
-        requires refused { taken_out (clauses_in self.old) name.now ≡ Err (EditFault.InUse user) }
-        ensures { clauses_in self.new ≡ clauses_in self.old }
-    {
-        if let Some(at) = self.position(name) {
-            let asked = self.numbers[at as usize];
-            keep_user(&mut self.users, asked, user as u16);
-        }
-    }
-
-    // The clause of this name and form, whose operands stand in the table, if they all do.
-    fn clause_after<'e>(&self, name: &'e Name, form: &Form) -> Option<ClauseRef<'e>>
-        ensures clause { option_map clause_seen result
-            ≡ clause_after (clauses_in self.now) name.now form.now }
-        ensures name { IsName name.now }
-        ensures form { IsForm form.now }
-    {
-        let bytes = name.bytes();
-        let args = form.args.as_slice();
-        let a = self.operand(args, 0)?;
-        let b = self.operand(args, 1)?;
-        Some(ClauseRef {
-            name: bytes,
-            op: form.op,
-            a,
-            b,
-            value: form.value,
-        })
-    }
-
-    // The place of the k-th operand, or 0 where there is none.
-    fn operand(&self, args: &[Name], k: usize) -> Option<u32>
-        ensures { result ≡ operand (clauses_in self.now) args.now k }
-    {
-        match args.get(k) {
-            Some(name) => self.position(name.bytes()),
-            None => Some(0),
+        if let Refusal::InUse(at, user) = refusal {
+            let asked = self.numbers[*at as usize];
+            keep_user(&mut self.users, asked, *user as u16);
         }
     }
 
     // Puts a clause last.
     pub(crate) fn push(&mut self, clause: &ClauseRef<'_>) -> Result<(), PushFault>
         requires in_order { AreInOrder (clauses_in self.old) }
-        requires operands { HasOperandsBefore (length (clauses_in self.old)) (clause_seen clause.now) }
+        requires operands { HasOperandsBefore (length (clauses_in self.old))
+            (clause_seen clause.now) }
         ensures free { OnOk result (push_fault (clauses_in self.old) clause.now.name.now ≡ None) }
         ensures ok { OnOk result (clauses_in self.new
             ≡ (clauses_in self.old) ++ clause_seen clause.now ∷ []) }
@@ -498,7 +342,7 @@ impl Table {
     // as they are. Where none has it, that is known at once, and else only a later one can have it.
     // A place that was found is kept until the clauses change. So between two changes one clause is
     // looked for at most once, past at most 65,535 rows, and a further call takes constant time.
-    fn first_user(&self, at: u32) -> Option<usize>
+    pub(crate) fn first_user(&self, at: u32) -> Option<usize>
         requires in_order { AreInOrder (clauses_in self.now) }
         requires there { at < length (clauses_in self.now) }
         ensures place { result ≡ position (reads at) (clauses_in self.now) }

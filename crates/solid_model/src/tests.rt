@@ -1,10 +1,18 @@
-ghost use Rattle.std.specs.Prelude.{◌≡◌, ◌≢◌, pos};
-ghost use Rattle.fixed_ops.specs.Arity.{arity_of};
+ghost use Rattle.std.specs.Prelude.{◌≡◌, ◌≢◌, ◌<◌, pos};
 
 use crate::{Edit, EditFault, Form, Model, ModelBuilder, Name, NameFault, PushFault};
-use fixed_ops::{Fx, Op};
+use fixed_ops::{Fx, Op, arity};
 use std::alloc::Global;
 use std::test::Fail;
+
+// Whether bytes are a name, which gives them back.
+fn is_name(alloc: Global, bytes: &[u8]) -> Result<bool, Fail> {
+    match Name::new(alloc, bytes) {
+        Ok(name) => Ok(name.bytes() == bytes),
+        Err(NameFault::BadName) => Ok(false),
+        Err(fault) => Err(Fail::from(fault)),
+    }
+}
 
 #[test]
 fn takes_tokens_that_begin_no_comment(rt: HostRuntime) -> Result<(), Fail> {
@@ -21,270 +29,313 @@ fn takes_tokens_that_begin_no_comment(rt: HostRuntime) -> Result<(), Fail> {
         (b"a\nb", false),
     ];
     for (bytes, good) in cases {
-        match Name::new(rt.alloc(), bytes) {
-            Ok(name) => {
-                assert!(rt; good, "at {bytes:?}");
-                assert_eq!(rt; name.bytes(), bytes);
-            }
-            Err(fault) => {
-                assert!(rt; !good, "at {bytes:?}");
-                assert_eq!(rt; fault, NameFault::BadName);
-            }
-        }
+        assert!(rt; is_name(rt.alloc(), bytes)? == good, "at {bytes:?}");
     }
     Ok(())
 }
 
-// A coordinate or a constant.
-fn leaf(alloc: Global, op: Op, value: Fx) -> Form
-    requires arity { arity_of op ≡ 0 }
-    requires no_value { op ≢ Op.Const → value ≡ pos 0 }
-{
-    Form::new(op, Vec::new(alloc), value)
-}
-
-// An operation on two clauses.
-fn pair(alloc: Global, op: Op, first: &[u8], second: &[u8]) -> Result<Form, Fail>
-    requires arity { arity_of op ≡ 2 }
-    requires no_constant { op ≢ Op.Const }
-{
+// The form of an operation on the clauses of these names, which are empty where it has no such
+// operand. A constant is one half.
+fn form(alloc: Global, op: Op, first: &[u8], second: &[u8]) -> Result<Form, Fail> {
     let mut args = Vec::new(alloc);
-    args.push(Name::new(alloc, first)?)?;
-    args.push(Name::new(alloc, second)?)?;
-    Ok(Form::new(op, args, Fx::from_raw(0)))
+    for name in [first, second] {
+        if !name.is_empty() {
+            args.push(Name::new(alloc, name)?)?;
+        }
+    }
+    if args.len() != arity(op) as usize {
+        return Err(Fail::new("not the operands of the operation"));
+    }
+    Ok(Form::new(op, args, value_of(op)))
 }
 
-fn add(alloc: Global, model: &mut Model, name: &[u8], form: Form) -> Result<(), Fail> {
-    let name = Name::new(alloc, name)?;
-    model.apply(Edit::Add(name, form))?;
-    Ok(())
+// One half for a constant, and 0 else.
+fn value_of(op: Op) -> Fx
+    ensures { op ≢ Op.Const → result ≡ pos 0 }
+{
+    match op {
+        Op::Const => Fx::from_raw(1 << 31),
+        _ => Fx::from_raw(0),
+    }
+}
+
+// A kind of edit.
+#[derive(Clone, Copy)]
+enum Verb {
+    Set,
+    Add,
+    Put,
+    Cut,
+}
+
+// The word of a letter: a blank stands for none.
+fn word(letters: &[u8; 4], k: usize) -> &[u8]
+    requires { k < 4 }
+{
+    if letters[k] == b' ' {
+        b""
+    } else {
+        &letters[k..k + 1]
+    }
+}
+
+// What an edit gives whose names are letters: that of the clause, that before which it is put, and
+// those of its operands. A blank stands for a name that the edit does not need.
+fn apply(
+    alloc: Global,
+    model: &mut Model,
+    verb: Verb,
+    letters: &[u8; 4],
+    op: Op,
+) -> Result<Result<(), EditFault>, Fail> {
+    let name = Name::new(alloc, word(letters, 0))?;
+    let edit = match verb {
+        Verb::Cut => Edit::Cut(name),
+        Verb::Set => Edit::Set(name, form(alloc, op, word(letters, 2), word(letters, 3))?),
+        Verb::Add => Edit::Add(name, form(alloc, op, word(letters, 2), word(letters, 3))?),
+        Verb::Put => {
+            let next = Name::new(alloc, word(letters, 1))?;
+            Edit::Put(
+                next,
+                name,
+                form(alloc, op, word(letters, 2), word(letters, 3))?,
+            )
+        }
+    };
+    Ok(model.apply(edit))
 }
 
 // x * x + y * y - 0.5, whose inside is a disc.
 fn disc(alloc: Global) -> Result<Model, Fail> {
-    let zero = Fx::from_raw(0);
-    let mut model = Model::first(alloc, Name::new(alloc, b"a")?, leaf(alloc, Op::X, zero))?;
-    add(alloc, &mut model, b"b", leaf(alloc, Op::Y, zero))?;
-    add(alloc, &mut model, b"c", pair(alloc, Op::Mul, b"a", b"a")?)?;
-    add(alloc, &mut model, b"d", pair(alloc, Op::Mul, b"b", b"b")?)?;
-    add(alloc, &mut model, b"e", pair(alloc, Op::Add, b"c", b"d")?)?;
-    let half = leaf(alloc, Op::Const, Fx::from_raw(1 << 31));
-    add(alloc, &mut model, b"r", half)?;
-    add(alloc, &mut model, b"f", pair(alloc, Op::Sub, b"e", b"r")?)?;
+    let later = [
+        (b"b   ", Op::Y),
+        (b"c aa", Op::Mul),
+        (b"d bb", Op::Mul),
+        (b"e cd", Op::Add),
+        (b"r   ", Op::Const),
+        (b"f er", Op::Sub),
+    ];
+    let mut model = first(alloc, Op::X, b"", b"")??;
+    for (letters, op) in later {
+        apply(alloc, &mut model, Verb::Add, letters, op)??;
+    }
     Ok(model)
+}
+
+// The model of one clause, whose name is a.
+fn first(
+    alloc: Global,
+    op: Op,
+    first: &[u8],
+    second: &[u8],
+) -> Result<Result<Model, EditFault>, Fail> {
+    let form = form(alloc, op, first, second)?;
+    let name = Name::new(alloc, b"a")?;
+    Ok(Model::first(alloc, name, form))
+}
+
+// Whether the clause at a place has this name, this operation, operands at these places and this
+// number, and is found by its name.
+fn is_clause(model: &Model, at: u32, name: &[u8], op: Op, operands: (u32, u32), value: Fx) -> bool {
+    if at >= model.len() {
+        return false;
+    }
+    let clause = model.clause(at);
+    clause.name == name
+        && clause.op == op
+        && (clause.a, clause.b) == operands
+        && clause.value == value
+        && model.position(name) == Some(at)
 }
 
 #[test]
 fn places_the_operands_of_a_disc(rt: HostRuntime) -> Result<(), Fail> {
     let model = disc(rt.alloc())?;
-    let zero = Fx::from_raw(0);
-    let cases: [(&[u8], Op, u32, u32, Fx); 7] = [
-        (b"a", Op::X, 0, 0, zero),
-        (b"b", Op::Y, 0, 0, zero),
-        (b"c", Op::Mul, 0, 0, zero),
-        (b"d", Op::Mul, 1, 1, zero),
-        (b"e", Op::Add, 2, 3, zero),
-        (b"r", Op::Const, 0, 0, Fx::from_raw(1 << 31)),
-        (b"f", Op::Sub, 4, 5, zero),
+    let cases = [
+        (b"a", Op::X, (0, 0)),
+        (b"b", Op::Y, (0, 0)),
+        (b"c", Op::Mul, (0, 0)),
+        (b"d", Op::Mul, (1, 1)),
+        (b"e", Op::Add, (2, 3)),
+        (b"r", Op::Const, (0, 0)),
+        (b"f", Op::Sub, (4, 5)),
     ];
-    assert_eq!(rt; model.len(), 7);
     for at in 0..7u32 {
-        let (name, op, a, b, value) = cases[at as usize];
-        let clause = model.clause(at);
-        assert_eq!(rt; clause.name, name);
-        assert_eq!(rt; clause.op, op, "at {at}");
-        assert_eq!(rt; clause.a, a, "at {at}");
-        assert_eq!(rt; clause.b, b, "at {at}");
-        assert!(rt; clause.value == value, "at {at}");
-        assert_eq!(rt; model.position(name), Some(at));
+        let (name, op, operands) = cases[at as usize];
+        assert!(rt;
+            is_clause(&model, at, name, op, operands, value_of(op)),
+            "at {at}"
+        );
     }
-    assert_eq!(rt; model.position(b"g"), None);
-    Ok(())
-}
-
-#[test]
-fn refuses_and_stays(rt: HostRuntime) -> Result<(), Fail> {
-    let alloc = rt.alloc();
-    let mut model = disc(alloc)?;
-    let cases: [(&[u8], &[u8], EditFault); 4] = [
-        (b"g", b"g", EditFault::UnknownName),
-        (b"g", b"none", EditFault::UnknownName),
-        (b"a", b"none", EditFault::UnknownName),
-        (b"a", b"f", EditFault::DoubleName),
-    ];
-    for (name, second, fault) in cases {
-        let edit = Edit::Add(Name::new(alloc, name)?, pair(alloc, Op::Add, b"a", second)?);
-        assert_eq!(rt; model.apply(edit), Err(fault));
-        assert_eq!(rt; model.len(), 7);
-        assert_eq!(rt; model.position(b"g"), None);
-    }
-    add(alloc, &mut model, b"g", pair(alloc, Op::Add, b"a", b"f")?)?;
-    assert_eq!(rt; model.len(), 8);
-    assert_eq!(rt; model.position(b"g"), Some(7));
+    assert!(rt; model.len() == 7 && model.position(b"g").is_none());
     Ok(())
 }
 
 #[test]
 fn refused_edits_tell_the_first_fault(rt: HostRuntime) -> Result<(), Fail> {
-    let alloc = rt.alloc();
-    let mut model = disc(alloc)?;
-    let name = |bytes: &[u8]| Name::new(alloc, bytes);
-    let sum = |first: &[u8], second: &[u8]| pair(alloc, Op::Add, first, second);
-    for (edit, fault) in [
-        (
-            Edit::Set(name(b"g")?, sum(b"a", b"b")?),
-            EditFault::UnknownName,
-        ),
-        (
-            Edit::Set(name(b"c")?, sum(b"f", b"g")?),
-            EditFault::UnknownName,
-        ),
-        (
-            Edit::Set(name(b"c")?, sum(b"a", b"c")?),
-            EditFault::NotEarlier,
-        ),
-        (
-            Edit::Put(name(b"g")?, name(b"h")?, sum(b"a", b"b")?),
-            EditFault::UnknownName,
-        ),
-        (
-            Edit::Put(name(b"c")?, name(b"a")?, sum(b"a", b"g")?),
-            EditFault::UnknownName,
-        ),
-        (
-            Edit::Put(name(b"c")?, name(b"a")?, sum(b"a", b"f")?),
-            EditFault::DoubleName,
-        ),
-        (
-            Edit::Put(name(b"c")?, name(b"g")?, sum(b"a", b"c")?),
-            EditFault::NotEarlier,
-        ),
-        (Edit::Cut(name(b"g")?), EditFault::UnknownName),
-        (Edit::Cut(name(b"a")?), EditFault::InUse(2)),
-        (Edit::Cut(name(b"e")?), EditFault::InUse(6)),
-    ] {
-        assert_eq!(rt; model.apply(edit), Err(fault));
-        assert_eq!(rt; model.len(), 7);
-        assert_eq!(rt; model.position(b"g"), None);
+    let mut model = disc(rt.alloc())?;
+    let cases = [
+        (Verb::Add, b"g ag", EditFault::UnknownName),
+        (Verb::Add, b"g an", EditFault::UnknownName),
+        (Verb::Add, b"a an", EditFault::UnknownName),
+        (Verb::Add, b"a af", EditFault::DoubleName),
+        (Verb::Set, b"g ab", EditFault::UnknownName),
+        (Verb::Set, b"c fg", EditFault::UnknownName),
+        (Verb::Set, b"c ac", EditFault::NotEarlier),
+        (Verb::Put, b"hgab", EditFault::UnknownName),
+        (Verb::Put, b"acag", EditFault::UnknownName),
+        (Verb::Put, b"acaf", EditFault::DoubleName),
+        (Verb::Put, b"gcac", EditFault::NotEarlier),
+        (Verb::Cut, b"g   ", EditFault::UnknownName),
+        (Verb::Cut, b"a   ", EditFault::InUse(2)),
+        (Verb::Cut, b"e   ", EditFault::InUse(6)),
+    ];
+    for (verb, letters, fault) in cases {
+        let given = apply(rt.alloc(), &mut model, verb, letters, Op::Add)?;
+        let stays = model.len() == 7 && model.position(b"g").is_none();
+        assert!(rt; given == Err(fault) && stays, "at {letters:?}");
     }
-    let mut only = Model::first(alloc, name(b"a")?, leaf(alloc, Op::X, Fx::from_raw(0)))?;
-    assert_eq!(rt;
-        only.apply(Edit::Cut(name(b"a")?)),
-        Err(EditFault::LastClause)
-    );
+    apply(rt.alloc(), &mut model, Verb::Add, b"g af", Op::Add)??;
+    assert!(rt; is_clause(&model, 7, b"g", Op::Add, (0, 6), Fx::from_raw(0)));
     Ok(())
 }
 
-// The places of the operands of each clause.
-fn operands(alloc: Global, model: &Model) -> Result<Vec<(u32, u32)>, Fail> {
-    let mut places = Vec::new(alloc);
+#[test]
+fn the_only_clause_stays(rt: HostRuntime) -> Result<(), Fail> {
+    let mut only = first(rt.alloc(), Op::X, b"", b"")??;
+    let cut = apply(rt.alloc(), &mut only, Verb::Cut, b"a   ", Op::X)?;
+    assert!(rt; cut == Err(EditFault::LastClause));
+    Ok(())
+}
+
+#[test]
+fn the_first_clause_has_no_argument(rt: HostRuntime) -> Result<(), Fail> {
+    let refused = first(rt.alloc(), Op::Add, b"a", b"a")?.err();
+    assert!(rt; refused == Some(EditFault::UnknownName));
+    Ok(())
+}
+
+// Whether the clauses are as many as these pairs of digits, and have operands at their places.
+fn has_operands(model: &Model, digits: &[u8]) -> bool {
+    let mut rest = digits;
     for at in 0..model.len() {
+        let [a, b, ..] = rest else {
+            return false;
+        };
         let clause = model.clause(at);
-        places.push((clause.a, clause.b))?;
+        if clause.a != u32::from(*a & 15) || clause.b != u32::from(*b & 15) {
+            return false;
+        }
+        rest = &rest[2..];
     }
-    Ok(places)
+    rest.is_empty()
 }
 
 #[test]
 fn edits_move_the_operands(rt: HostRuntime) -> Result<(), Fail> {
-    let alloc = rt.alloc();
-    let mut model = disc(alloc)?;
-    let name = |bytes: &[u8]| Name::new(alloc, bytes);
-    model.apply(Edit::Put(name(b"c")?, name(b"g")?, pair(alloc, Op::Min, b"a", b"b")?))?;
-    assert_eq!(rt; model.position(b"g"), Some(2));
-    assert_eq!(rt;
-        operands(alloc, &model)?.as_slice(),
-        [
-            (0, 0),
-            (0, 0),
-            (0, 1),
-            (0, 0),
-            (1, 1),
-            (3, 4),
-            (0, 0),
-            (5, 6)
-        ]
-        .as_slice()
-    );
-    model.apply(Edit::Cut(name(b"g")?))?;
-    model.apply(Edit::Set(name(b"f")?, pair(alloc, Op::Sub, b"r", b"e")?))?;
-    assert_eq!(rt;
-        operands(alloc, &model)?.as_slice(),
-        [(0, 0), (0, 0), (0, 0), (1, 1), (2, 3), (0, 0), (5, 4)].as_slice()
-    );
-    model.apply(Edit::Cut(name(b"f")?))?;
-    assert_eq!(rt; model.len(), 6);
-    assert_eq!(rt; model.position(b"f"), None);
-    assert_eq!(rt; model.clause(5).op, Op::Const);
+    let mut model = disc(rt.alloc())?;
+    let cases: [(Verb, &[u8; 4], Op, Option<u32>, &[u8]); 4] = [
+        (Verb::Put, b"gcab", Op::Min, Some(2), b"0000010011340056"),
+        (Verb::Cut, b"g   ", Op::X, None, b"00000011230045"),
+        (Verb::Set, b"f re", Op::Sub, Some(6), b"00000011230054"),
+        (Verb::Cut, b"f   ", Op::X, None, b"000000112300"),
+    ];
+    for (verb, letters, op, place, operands) in cases {
+        apply(rt.alloc(), &mut model, verb, letters, op)??;
+        let found = model.position(word(letters, 0)) == place;
+        assert!(rt; found && has_operands(&model, operands), "at {letters:?}");
+    }
+    assert!(rt; is_clause(&model, 5, b"r", Op::Const, (0, 0), value_of(Op::Const)));
     Ok(())
 }
 
 #[test]
 fn the_first_user_is_that_of_the_clauses_now(rt: HostRuntime) -> Result<(), Fail> {
-    let alloc = rt.alloc();
-    let mut model = disc(alloc)?;
-    let name = |bytes: &[u8]| Name::new(alloc, bytes);
-    let in_use = |user: u32| Err(EditFault::InUse(user));
-    assert_eq!(rt; model.apply(Edit::Cut(name(b"a")?)), in_use(2));
-    assert_eq!(rt; model.apply(Edit::Cut(name(b"a")?)), in_use(2));
-    model.apply(Edit::Put(name(b"b")?, name(b"g")?, pair(alloc, Op::Min, b"a", b"a")?))?;
-    assert_eq!(rt; model.apply(Edit::Cut(name(b"a")?)), in_use(1));
-    model.apply(Edit::Cut(name(b"g")?))?;
-    assert_eq!(rt; model.apply(Edit::Cut(name(b"a")?)), in_use(2));
+    let mut model = disc(rt.alloc())?;
+    let cases = [
+        (Verb::Cut, b"a   ", Err(EditFault::InUse(2))),
+        (Verb::Cut, b"a   ", Err(EditFault::InUse(2))),
+        (Verb::Put, b"gbaa", Ok(())),
+        (Verb::Cut, b"a   ", Err(EditFault::InUse(1))),
+        (Verb::Cut, b"g   ", Ok(())),
+        (Verb::Cut, b"a   ", Err(EditFault::InUse(2))),
+    ];
+    for (verb, letters, wanted) in cases {
+        let given = apply(rt.alloc(), &mut model, verb, letters, Op::Min)?;
+        assert!(rt; given == wanted, "at {letters:?}");
+    }
     Ok(())
+}
+
+// What it gives to add the sum of the first two clauses.
+fn add_sum(alloc: Global, model: &mut Model, name: &[u8]) -> Result<Result<(), EditFault>, Fail> {
+    let name = Name::new(alloc, name)?;
+    let sum = form(alloc, Op::Add, b"a", b"b")?;
+    Ok(model.apply(Edit::Add(name, sum)))
+}
+
+// Whether a name is new, and stands at a place once a clause of it was added, and not once more.
+fn comes_once(alloc: Global, model: &mut Model, name: &[u8], place: u32) -> Result<bool, Fail> {
+    let is_new = model.position(name).is_none();
+    let added = add_sum(alloc, model, name)?;
+    let found = model.position(name) == Some(place);
+    let again = add_sum(alloc, model, name)?;
+    Ok(is_new && added == Ok(()) && found && again == Err(EditFault::DoubleName))
 }
 
 #[test]
 fn finds_names_of_each_length(rt: HostRuntime) -> Result<(), Fail> {
-    let alloc = rt.alloc();
-    let mut model = disc(alloc)?;
+    let mut model = disc(rt.alloc())?;
     let cases: [(&[u8], u32); 4] = [
         (b"fifteen-bytes-1", 7),
         (b"sixteen-bytes-16", 8),
         (b"seventeen-bytes-1", 9),
         (b"seventeen-bytes-2", 10),
     ];
-    for (name, _) in cases {
-        add(alloc, &mut model, name, pair(alloc, Op::Add, b"a", b"b")?)?;
+    for (name, place) in cases {
+        assert!(rt;
+            comes_once(rt.alloc(), &mut model, name, place)?,
+            "at {name:?}"
+        );
     }
     for (name, place) in cases {
-        assert_eq!(rt; model.position(name), Some(place));
-        let again = Edit::Add(Name::new(alloc, name)?, pair(alloc, Op::Add, b"a", b"b")?);
-        assert_eq!(rt; model.apply(again), Err(EditFault::DoubleName));
+        assert!(rt; model.position(name) == Some(place), "at {name:?}");
     }
-    assert_eq!(rt; model.position(b"seventeen-bytes-3"), None);
+    assert!(rt; model.position(b"seventeen-bytes-3").is_none());
     Ok(())
 }
 
-#[test]
-fn the_first_clause_has_no_argument(rt: HostRuntime) -> Result<(), Fail> {
-    let alloc = rt.alloc();
-    let form = pair(alloc, Op::Add, b"a", b"a")?;
-    match Model::first(alloc, Name::new(alloc, b"a")?, form) {
-        Ok(_) => assert!(rt; false, "an argument in the first clause"),
-        Err(fault) => assert_eq!(rt; fault, EditFault::UnknownName),
+// A clause x and its square.
+fn squared(alloc: Global) -> Result<ModelBuilder, Fail> {
+    let zero = Fx::from_raw(0);
+    let mut builder = ModelBuilder::with_room(alloc, 2);
+    builder.push(b"x", Op::X, 0, 0, zero)?;
+    if let Some(at) = builder.position(b"x") {
+        builder.push(b"s", Op::Square, at, 0, zero)?;
     }
-    Ok(())
+    Ok(builder)
 }
 
 #[test]
 fn builds_a_model_by_places(rt: HostRuntime) -> Result<(), Fail> {
-    let zero = Fx::from_raw(0);
-    let mut builder = ModelBuilder::new(rt.alloc());
-    builder.push(b"x", Op::X, 0, 0, zero)?;
-    assert_eq!(rt;
-        builder.push(b"x", Op::Y, 0, 0, zero),
-        Err(PushFault::DoubleName)
+    let model = squared(rt.alloc())?.finish().ok_or("no clause")?;
+    assert!(rt;
+        model.len() == 2 && is_clause(&model, 1, b"s", Op::Square, (0, 0), Fx::from_raw(0))
     );
-    assert_eq!(rt; builder.len(), 1);
-    if let Some(at) = builder.position(b"x") {
-        builder.push(b"s", Op::Square, at, 0, zero)?;
-    }
-    assert_eq!(rt; builder.position(b"y"), None);
-    let model = builder.finish().ok_or("no clause")?;
-    assert_eq!(rt; model.len(), 2);
-    assert_eq!(rt; model.clause(1).op, Op::Square);
-    assert_eq!(rt; model.clause(1).a, 0);
+    Ok(())
+}
+
+#[test]
+fn a_builder_refuses_a_name_that_stands(rt: HostRuntime) -> Result<(), Fail> {
+    let mut builder = squared(rt.alloc())?;
+    let again = builder.push(b"x", Op::Y, 0, 0, Fx::from_raw(0));
+    let stays = builder.len() == 2 && builder.position(b"y").is_none();
+    assert!(rt; again == Err(PushFault::DoubleName) && stays);
+    Ok(())
+}
+
+#[test]
+fn no_clauses_are_no_model(rt: HostRuntime) -> Result<(), Fail> {
     assert!(rt; ModelBuilder::new(rt.alloc()).finish().is_none());
     Ok(())
 }

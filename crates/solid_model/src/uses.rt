@@ -14,7 +14,8 @@ pub(crate) fn count_operands(uses: &mut Vec<u32>, row: &Row)
         → slice_index_or uses.old.items n 0 ≤ 131070 }
     ensures len { length uses.new.items ≡ length uses.old.items }
     ensures each { (n : ℕ) → n < length uses.old.items
-        → slice_index_or uses.new.items n 0 ≡ slice_index_or uses.old.items n 0 + row_uses n row.now }
+        → slice_index_or uses.new.items n 0
+        ≡ slice_index_or uses.old.items n 0 + row_uses n row.now }
 {
     let operands = arity(row.op);
     count_one(uses, row.a, operands >= 1);
@@ -29,7 +30,8 @@ pub(crate) fn uncount_operands(uses: &mut Vec<u32>, row: &Row)
         → row_uses n row.now ≤ slice_index_or uses.old.items n 0 }
     ensures len { length uses.new.items ≡ length uses.old.items }
     ensures each { (n : ℕ) → n < length uses.old.items
-        → slice_index_or uses.new.items n 0 + row_uses n row.now ≡ slice_index_or uses.old.items n 0 }
+        → slice_index_or uses.new.items n 0 + row_uses n row.now
+        ≡ slice_index_or uses.old.items n 0 }
 {
     let operands = arity(row.op);
     uncount_one(uses, row.a, operands >= 1);

@@ -1,11 +1,10 @@
 -- The name is new, there is room, and the operands of the form stand among the clauses.
-use Rattle.std.proofs.Common.{◌≡◌, ◌<◌, None, Some, Ok, true, false, length, nat_le, ap, sym, subst, arith}
+use Rattle.std.proofs.Common.{◌≡◌, ◌<◌, None, Some, Ok, length, ap, sym, subst, arith}
 use Rattle.std.proofs.lemmas.Bool.Decides.{nat_tests}
 use Rattle.std.proofs.lemmas.Grind.{common_steps}
 use Rattle.solid_model.specs.Adding.{clause_after}
-use Rattle.solid_model.specs.Clauses.{place_of, AreInOrder}
+use Rattle.solid_model.specs.Clauses.{place_of}
 use Rattle.solid_model.specs.Seen.{clause_seen}
-use Rattle.solid_model.specs.Surgery.{reads, reads_before}
 use Rattle.solid_model.specs.Tables.{clauses_in}
 use Rattle.solid_model.proofs.ModelLemmas.{Matches-clause_after}
 use Rattle.solid_model.proofs.PushLemmas.{insert-behind, no_push_fault, operands-after}

@@ -10,7 +10,7 @@ use Rattle.solid_model.specs.Clauses.{AreInOrder}
 use Rattle.solid_model.proofs.UseLemmas.{unused}
 use Rattle.solid_model.proofs.Readers.{readers-alike, first-user}
 use Rattle.solid_model.proofs.Lookups.{number-within}
-use Rattle.solid_model.proofs.KeptLemmas.{at-place, kept-told}
+use Rattle.solid_model.proofs.KeptLemmas.{at-place}
 
 pub index-requires : goal.index-requires
 index-requires c =

@@ -1,14 +1,13 @@
 -- The name is new, there is room, and the operands of the form stand before the place.
-use Rattle.std.proofs.Common.{◌≡◌, ◌<◌, None, Some, Ok, true, false, length, nat_le, ap, sym, subst, arith}
+use Rattle.std.proofs.Common.{◌≡◌, ◌<◌, None, Some, true, length, arith}
 use Rattle.std.proofs.lemmas.Bool.Decides.{nat_tests}
 use Rattle.std.proofs.lemmas.Grind.{common_steps}
 use Rattle.solid_model.specs.Adding.{clause_after}
-use Rattle.solid_model.specs.Clauses.{place_of, AreInOrder}
+use Rattle.solid_model.specs.Clauses.{place_of}
 use Rattle.solid_model.specs.Seen.{clause_seen}
-use Rattle.solid_model.specs.Surgery.{reads, reads_before}
+use Rattle.solid_model.specs.Surgery.{reads_before}
 use Rattle.solid_model.specs.Tables.{clauses_in}
 use Rattle.solid_model.proofs.PushLemmas.{operands-before}
-use Rattle.solid_model.proofs.Places.{position_within}
 use Rattle.solid_model.proofs.table.Table.putting.Goals as goal
 
 pub returns-clause-allowed : goal.returns-clause-allowed

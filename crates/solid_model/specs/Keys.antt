@@ -1,0 +1,10 @@
+-- How a table keeps a name, and how it is asked for one.
+use Rattle.std.specs.Prelude.{List, ℕ}
+use Rattle.solid_model.specs.declared.key.KeyBytes.{KeyBytes}
+use Rattle.solid_model.specs.declared.key.KeyBytes.TheVariants.{Short, Long, Lent}
+
+-- the bytes of a key
+abbrev pub key_bytes : KeyBytes → List ℕ
+key_bytes (Short bytes) = bytes.items
+key_bytes (Long bytes) = bytes.items
+key_bytes (Lent bytes) = bytes.now
