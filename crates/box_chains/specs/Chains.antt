@@ -1,6 +1,6 @@
 -- Boxes that receive lists of steps, and the boxes on the way to a sample.
 use Rattle.std.specs.Prelude.{ℕ, zero, suc, ◌+◌, ◌-◌, Bool, false, ◌||◌, nat_lt, List, [], ◌∷◌, Option, Some, None, unwrap_or, if◌then◌else◌}
-use Rattle.std.specs.List.{find, last_or}
+use Rattle.std.specs.List.{find, last_or, sum_by}
 use Rattle.choice_trace.specs.Hulls.{choices_over, tape_hull}
 use Rattle.interval_ops.specs.Decided.{decided_of}
 use Rattle.live_clauses.specs.Live.{live_of}
@@ -24,6 +24,10 @@ pub record Visit : Type 0 where
 
 abbrev pub visit : Indices → List Step → Visit
 visit b list = record { box = b; list = list }
+
+-- the sum of a number over some boxes that receive a list
+abbrev pub sum_over : (Visit → ℕ) → List Step → List Indices → ℕ
+sum_over f list boxes = sum_by (λ b. f (visit b list)) boxes
 
 -- inside or outside, where the hull of the received list over the box decides it
 abbrev pub decision : Descent → Visit → Option Bool

@@ -4,7 +4,7 @@ use Rattle.std.specs.List.{sum_by}
 use Rattle.live_clauses.specs.declared.step.Step.{Step}
 use Rattle.view_settings.specs.Boxes.{Indices, halves_of}
 use Rattle.view_settings.specs.Spans.{root_of}
-use Rattle.box_chains.specs.Chains.{Descent, Visit, chain, chain_end, decision, handed_on, is_long, visit}
+use Rattle.box_chains.specs.Chains.{Descent, Visit, chain, chain_end, decision, handed_on, is_long, sum_over}
 use Rattle.box_chains.specs.Sums.{Sample, size, sum_in}
 
 -- the evaluations that a sample takes in the last box on the way to it: none where that is decided,
@@ -43,10 +43,10 @@ root_visit d list = record { box = root_of d.view d.lattice; list = list }
 
 -- the evaluations that some boxes take that receive a list, and the steps that are traced over them
 abbrev pub halves_points : Descent → List Step → List Indices → ℕ
-halves_points d list halves = sum_by (λ half. points_in d (visit half list)) halves
+halves_points d list halves = sum_over (points_in d) list halves
 
 abbrev pub halves_spans : Descent → List Step → List Indices → ℕ
-halves_spans d list halves = sum_by (λ half. spans_in d (visit half list)) halves
+halves_spans d list halves = sum_over (spans_in d) list halves
 
 -- the work of an undecided box that hands on a list, but for its own trace
 abbrev pub open_points : Descent → Indices → List Step → ℕ

@@ -3,7 +3,7 @@ use Rattle.std.specs.Prelude.{ℕ, nat_lt, Bool, ◌&&◌, List, length, if◌th
 use Rattle.std.specs.List.{sum_by}
 use Rattle.live_clauses.specs.declared.step.Step.{Step}
 use Rattle.view_settings.specs.Boxes.{Indices, halves_of}
-use Rattle.box_chains.specs.Chains.{Descent, Visit, chain, is_long, visit}
+use Rattle.box_chains.specs.Chains.{Descent, Visit, chain, is_long, sum_over}
 use Rattle.box_chains.specs.Counts.{cost, is_first}
 use Rattle.box_chains.specs.Sums.{Sample, sum_in}
 
@@ -28,12 +28,10 @@ spans_where test d v = sum_in v.box (λ s. lengths_where test s (chain d v s))
 
 -- the same of some boxes that receive a list
 abbrev pub halves_points_where : (Sample → Bool) → Descent → List Step → List Indices → ℕ
-halves_points_where test d list halves =
-    sum_by (λ half. points_where test d (visit half list)) halves
+halves_points_where test d list halves = sum_over (points_where test d) list halves
 
 abbrev pub halves_spans_where : (Sample → Bool) → Descent → List Step → List Indices → ℕ
-halves_spans_where test d list halves =
-    sum_by (λ half. spans_where test d (visit half list)) halves
+halves_spans_where test d list halves = sum_over (spans_where test d) list halves
 
 -- and of an undecided box that hands on a list, but for its own trace
 abbrev pub open_points_where : (Sample → Bool) → Descent → Indices → List Step → ℕ

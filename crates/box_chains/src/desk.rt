@@ -5,7 +5,7 @@ ghost use Rattle.choice_trace.specs.Hulls.{tape_hull};
 ghost use Rattle.interval_ops.specs.Decided.{decided_of};
 ghost use Rattle.interval_ops.specs.HullCounts.{CountsHulls};
 ghost use Rattle.live_clauses.specs.Live.{IsWhole};
-ghost use Rattle.view_settings.specs.Spans.{IsInRoot, region_of};
+ghost use Rattle.view_settings.specs.Spans.{IsInRoot, region_of, root_of};
 ghost use Rattle.box_chains.specs.Desks.{samples};
 ghost use Rattle.box_chains.specs.Outcomes.{AreInRoot, HandsOn, asked_outcome, asked_outcomes, outcome_of, outcomes_of};
 ghost use Rattle.box_chains.specs.Tallied.{CountsAtMost};
@@ -53,6 +53,14 @@ impl Desk {
             room,
             rows: Vec::new(alloc),
         })
+    }
+
+    /// The box of all samples.
+    #[inline]
+    pub fn root(&self) -> IndexBox
+        ensures { result ≡ root_of self.now.view self.now.lattice }
+    {
+        self.places.root()
     }
 
     /// The columns of the view.

@@ -4,6 +4,9 @@ ghost use Rattle.box_chains.specs.Chains.{is_long};
 
 use view_settings::IndexBox;
 
+/// The longest side of a leaf of samples.
+pub const LEAF: u32 = 8;
+
 /// Whether some side of a box is longer than `leaf`, so that the box is no leaf.
 #[inline]
 pub fn is_long(b: IndexBox, leaf: u32) -> bool

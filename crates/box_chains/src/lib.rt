@@ -16,7 +16,7 @@ pub use laws::{
     boxes_are_counted_once, chains_go_on, layers_hold, samples_are_told, tested_work_adds_up,
     work_adds_up,
 };
-pub use leaves::is_long;
+pub use leaves::{LEAF, is_long};
 pub use outcome::Outcome;
 pub use places::Places;
 pub use workspace::Workspace;

@@ -2,14 +2,14 @@
 ghost use Rattle.std.specs.Prelude.{◌≡◌, ◌+◌, ◌<◌, ◌≤◌, IfOk};
 ghost use Rattle.std.specs.Int.{int_max, int_min};
 ghost use Rattle.view_settings.specs.Places.{place_of, steps_of};
-ghost use Rattle.view_settings.specs.Spans.{IsInRoot, last_of, range_along, region_of};
+ghost use Rattle.view_settings.specs.Spans.{IsInRoot, last_of, range_along, region_of, root_of};
 ghost use Rattle.box_chains.specs.Placing.{places_along};
 
 use fixed_ops::{Fx, le};
 use interval_ops::{Region, Span};
 use std::alloc::{AllocError, Global};
 use std::marker::Model;
-use view_settings::{Axis, IndexBox, Lattice, View, samples_along};
+use view_settings::{Axis, IndexBox, Lattice, View, root, samples_along};
 
 /// The places of the samples of a lattice over a view, each worked out once.
 #[derive(Debug, Drop)]
@@ -50,6 +50,14 @@ impl Places {
             y,
             z,
         })
+    }
+
+    /// The box of all samples.
+    #[inline]
+    pub fn root(&self) -> IndexBox
+        ensures { result ≡ root_of self.now.view self.now.lattice }
+    {
+        root(&self.view, self.lattice)
     }
 
     /// The columns of the view.

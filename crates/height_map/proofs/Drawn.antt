@@ -28,7 +28,8 @@ use Rattle.height_map.specs.Tops.{inside, top_among}
 use Rattle.height_map.proofs.ChangeLaws.{Changes-numbers, cell-of, covers-place, place-within}
 use Rattle.height_map.proofs.Beside.{far-dropped, far-taken, farther-below, halves-top, nearer-ends}
 use Rattle.height_map.specs.Beside.{beside_top, farther, nearer}
-use Rattle.height_map.specs.Opened.{outcome_top, sampling}
+use Rattle.box_chains.specs.Opened.{sampling}
+use Rattle.height_map.specs.Opened.{outcome_top}
 use Rattle.height_map.specs.Desks.{IsPlaced, MayDraw, MayReceive}
 use Rattle.box_chains.specs.Outcomes.{outcome_by, outcome_of}
 use Rattle.box_chains.specs.declared.outcome.Outcome.{Outcome}
@@ -93,7 +94,7 @@ undecided-drawn laws view list live b w before after width is same changed =
 
 -- what a box changes by its outcome
 pub outcome-drawn : (laws : Lawful) (view : Window) (list : List Step) (b : Indices) (o : Outcome) (w : ℕ) (before after : List ℕ) → w ≡ view.w → IsVisit (layered view) (visit b list)
-    → o ≡ outcome_of (sampling view) list b → Changes (covers w b) (outcome_top view b o) before after → Changes (covers w b) (leaf_top view list b) before after
+    → o ≡ outcome_of (sampling (layered view)) list b → Changes (covers w b) (outcome_top view b o) before after → Changes (covers w b) (leaf_top view list b) before after
 outcome-drawn laws view list b o w before after width is told changed =
     by (decision (layered view) (visit b list)) refl (subst (λ x. Changes (covers w b) (outcome_top view b x) before after) told changed)
   where

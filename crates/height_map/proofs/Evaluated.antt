@@ -16,7 +16,8 @@ use Rattle.view_settings.specs.Spans.{root_of}
 use Rattle.view_settings.specs.Window.{Window}
 use Rattle.view_settings.specs.declared.lattice.Lattice.TheVariants.{Height}
 use Rattle.box_chains.specs.Outcomes.{outcome_by, outcome_of}
-use Rattle.height_map.specs.Opened.{outcome_points, sampling}
+use Rattle.box_chains.specs.Opened.{sampling}
+use Rattle.height_map.specs.Opened.{outcome_points}
 use Rattle.height_map.specs.Bound.{CountsPoints, height_points, is_near, layered, whole}
 use Rattle.box_chains.specs.Tested.{halves_points_where, open_points_where, points_where}
 use Rattle.height_map.specs.Columns.{IsAmong, covers, is_open, leaf_cost}
@@ -76,7 +77,7 @@ handed-open laws view list live b tops is same s lies =
 
 -- a box takes the evaluations of its outcome
 pub points-outcome : (laws : Lawful) (view : Window) (list : List Step) (b : Indices) (tops : List ℕ) → IsVisit (layered view) (visit b list)
-    → points_where (is_open view list b tops) (layered view) (visit b list) ≡ outcome_points view tops b (outcome_of (sampling view) list b)
+    → points_where (is_open view list b tops) (layered view) (visit b list) ≡ outcome_points view tops b (outcome_of (sampling (layered view)) list b)
 points-outcome laws view list b tops is = by (decision d v) refl
   where
     d : Descent

@@ -29,7 +29,8 @@ use Rattle.height_map.specs.Beside.{LieBeside, beside_points, beside_top, beside
 use Rattle.height_map.specs.Bound.{CountsPoints, CountsSpans, layered}
 use Rattle.box_chains.specs.Tested.{halves_points_where, halves_spans_where, has_some, points_where, spans_where}
 use Rattle.height_map.specs.Columns.{Changes, IsAmong, covers, has_open, is_open, leaf_top}
-use Rattle.height_map.specs.Opened.{outcome_points, outcome_spans, outcome_top, outcome_traced, sampling}
+use Rattle.box_chains.specs.Opened.{outcome_spans, sampling}
+use Rattle.height_map.specs.Opened.{outcome_points, outcome_top, outcome_traced}
 use Rattle.height_map.specs.Tops.{greatest, top_among}
 use Rattle.height_map.proofs.Beside.{halves-parts}
 use Rattle.height_map.proofs.ChangeLaws.{covers-place, lifted-some, place-within}
@@ -52,7 +53,7 @@ box-has_sides b is = omega (arith, is.x)
 
 -- its own trace, and what may be traced below it
 pub spans-outcome : (laws : Lawful) (view : Window) (list : List Step) (b : Indices) → IsBox b
-    → spans_in (layered view) (visit b list) ≡ length list + outcome_spans view b (outcome_of (sampling view) list b)
+    → spans_in (layered view) (visit b list) ≡ length list + outcome_spans (layered view) b (outcome_of (sampling (layered view)) list b)
 spans-outcome laws view list b is = by (decision d v) refl
   where
     d : Descent
@@ -61,20 +62,20 @@ spans-outcome laws view list b is = by (decision d v) refl
     v : Visit
     v = visit b list
 
-    by : (t : Option Bool) → decision d v ≡ t → spans_in d v ≡ length list + outcome_spans view b (outcome_by t (handed_on d v))
+    by : (t : Option Bool) → decision d v ≡ t → spans_in d v ≡ length list + outcome_spans (layered view) b (outcome_by t (handed_on d v))
     by (Some true) e = omega (arith, spans-decided laws d v true (omega arith) is e)
     by (Some false) e = omega (arith, spans-decided laws d v false (omega arith) is e)
     by None e = spans-open laws d v (omega arith) is e
 
 -- a box that is traced, and then drawn by its outcome
 pub box-bounded : (laws : Lawful) (view : Window) (list : List Step) (b : Indices) (o : Outcome) (tops : List ℕ) (before mid after : Counts) → IsVisit (layered view) (visit b list)
-    → o ≡ outcome_of (sampling view) list b → CountsHulls (length list) before mid → CountsAtMost (outcome_points view tops b o) (outcome_spans view b o) mid after
+    → o ≡ outcome_of (sampling (layered view)) list b → CountsHulls (length list) before mid → CountsAtMost (outcome_points view tops b o) (outcome_spans (layered view) b o) mid after
     → CountsAtMost (points_where (is_open view list b tops) (layered view) (visit b list)) (spans_in (layered view) (visit b list)) before after
 box-bounded laws view list b o tops before mid after is told h below =
-    laws.bounds.sum before mid after 0 (length list) (outcome_points view tops b o) (outcome_spans view b o)
+    laws.bounds.sum before mid after 0 (length list) (outcome_points view tops b o) (outcome_spans (layered view) b o)
     (points_where (is_open view list b tops) (layered view) (visit b list)) (spans_in (layered view) (visit b list))
     (omega (arith, points-outcome laws view list b tops is, ap (outcome_points view tops b) told))
-    (omega (arith, spans-outcome laws view list b is.box, ap (outcome_spans view b) told)) (laws.bounds.hulls before mid (length list) h) below
+    (omega (arith, spans-outcome laws view list b is.box, ap (outcome_spans (layered view) b) told)) (laws.bounds.hulls before mid (length list) h) below
 
 -- a trace alone is among its work
 pub trace-bounded : (laws : Lawful) (view : Window) (list : List Step) (b : Indices) (points : ℕ) (before after : Counts) → IsBox b → CountsHulls (length list) before after
@@ -83,21 +84,21 @@ trace-bounded laws view list b points before after is h =
     laws.bounds.more before after 0 (length list) points (spans_in (layered view) (visit b list)) (omega arith) (omega (arith, spans-outcome laws view list b is)) (laws.bounds.hulls before after (length list) h)
 
 pub box-points : (laws : Lawful) (view : Window) (list : List Step) (b : Indices) (o : Outcome) (tops : List ℕ) (before mid after : Counts) → IsVisit (layered view) (visit b list)
-    → o ≡ outcome_of (sampling view) list b → CountsHulls (length list) before mid → CountsPoints (outcome_points view tops b o) mid after
+    → o ≡ outcome_of (sampling (layered view)) list b → CountsHulls (length list) before mid → CountsPoints (outcome_points view tops b o) mid after
     → CountsPoints (points_where (is_open view list b tops) (layered view) (visit b list)) before after
 box-points laws view list b o tops before mid after is told h below =
     points-then before mid after 0 (outcome_points view tops b o) (points_where (is_open view list b tops) (layered view) (visit b list))
     (omega (arith, points-outcome laws view list b tops is, ap (outcome_points view tops b) told)) (points-hulls before mid (length list) h) below
 
 pub box-traced : (laws : Lawful) (view : Window) (list : List Step) (b : Indices) (o : Outcome) (tops : List ℕ) (before mid after : Counts) → IsVisit (layered view) (visit b list)
-    → has_some (is_open view list b tops) b ≡ true → o ≡ outcome_of (sampling view) list b → CountsHulls (length list) before mid → CountsSpans (outcome_traced view tops b o) mid after
+    → has_some (is_open view list b tops) b ≡ true → o ≡ outcome_of (sampling (layered view)) list b → CountsHulls (length list) before mid → CountsSpans (outcome_traced view tops b o) mid after
     → CountsSpans (spans_where (is_open view list b tops) (layered view) (visit b list)) before after
 box-traced laws view list b o tops before mid after is some told h below =
     spans-then before mid after (length list) (outcome_traced view tops b o) (spans_where (is_open view list b tops) (layered view) (visit b list))
     (omega (arith, traced-outcome laws view list b tops is some, ap (outcome_traced view tops b) told)) (spans-hulls before mid (length list) h) below
 
 -- what is told over the places of a height map
-pub told-by : (places : Sampling) (list : List Step) (b : Indices) (o : Outcome) → places.lattice ≡ Height → o ≡ outcome_of places list b → o ≡ outcome_of (sampling places.view) list b
+pub told-by : (places : Sampling) (list : List Step) (b : Indices) (o : Outcome) → places.lattice ≡ Height → o ≡ outcome_of places list b → o ≡ outcome_of (sampling (layered places.view)) list b
 told-by places list b o is are = are ∙ ap (λ lattice. outcome_of (record { view = places.view; lattice = lattice }) list b) is
 
 -- the list that an outcome hands on
@@ -119,7 +120,7 @@ other-out live e = absurd (omega (arith, ap is_opened e))
 
 -- what a box hands on can be drawn
 pub may-open : (laws : Lawful) (before desk : Tracing) (list : List Step) (b : Indices) (o : Outcome) (len other : ℕ) → desk ≡ before → other ≡ len → IsPlaced before len b → IsTape list
-    → length list ≤ before.room → o ≡ outcome_of (sampling before.view) list b → HandsOn (length list) o → MayOpen desk b o other
+    → length list ≤ before.room → o ≡ outcome_of (sampling (layered before.view)) list b → HandsOn (length list) o → MayOpen desk b o other
 may-open laws before desk list b o len other kept same placed tape room told hands = record {
   placed = placed-kept before desk len other b kept same placed;
   hands = λ live is.
@@ -136,7 +137,7 @@ may-open laws before desk list b o len other kept same placed tape room told han
     d : Descent
     d = layered before.view
 
-    handed : (live : List Step) → outcome_of (sampling before.view) list b ≡ Open live → IsTape live
+    handed : (live : List Step) → outcome_of (sampling (layered before.view)) list b ≡ Open live → IsTape live
     handed live = by (decision d v)
       where
         by : (t : Option Bool) → outcome_by t (handed_on d v) ≡ Open live → IsTape live
@@ -150,7 +151,7 @@ may-open laws before desk list b o len other kept same placed tape room told han
 pub record IsNext (view : Window) (list : List Step) (boxes : List Indices) (old mid : List ℕ) (i : ℕ) (b : Indices) (o : Outcome) : Type 0 where
   pub visit_is : IsVisit (layered view) (visit b list)
   pub among : IsAmong view.w (length old) b
-  pub told : o ≡ outcome_of (sampling view) list b
+  pub told : o ≡ outcome_of (sampling (layered view)) list b
   pub more : drop i boxes ≡ b ∷ drop (suc i) boxes
   pub same : (p : ℕ) → p < length old → covers view.w b p ≡ true → get_or mid p 0 ≡ get_or old p 0
 
@@ -158,12 +159,12 @@ drop-beside : (w i : ℕ) (boxes : List Indices) → LieBeside w boxes → LieBe
 drop-beside w i boxes apart p = omega (arith, sum-drop_below (λ b. cond {A = ℕ} (covers w b p) 1 0) boxes i, apart p)
 
 pub next-is : (view : Window) (list : List Step) (boxes : List Indices) (outcomes : List Outcome) (old mid : List ℕ) (n i : ℕ) (b : Indices) (o : Outcome) → n ≡ suc i → i < length boxes
-    → b ≡ get_or boxes i b → o ≡ get_or outcomes i o → outcomes ≡ outcomes_of (sampling view) list boxes → LieBeside view.w boxes → IsVisit (layered view) (visit b list)
+    → b ≡ get_or boxes i b → o ≡ get_or outcomes i o → outcomes ≡ outcomes_of (sampling (layered view)) list boxes → LieBeside view.w boxes → IsVisit (layered view) (visit b list)
     → IsAmong view.w (length old) b → Changes (λ p. true) (beside_top view list (drop n boxes)) old mid → IsNext view list boxes old mid i b o
 next-is view list boxes outcomes old mid n i b o left within read there are apart visit_is among changed = record {
   visit_is = visit_is;
   among = among;
-  told = there ∙ ap (λ l. get_or l i o) are ∙ get_or-map (outcome_of (sampling view) list) boxes i b o within ∙ ap (outcome_of (sampling view) list) (sym read);
+  told = there ∙ ap (λ l. get_or l i o) are ∙ get_or-map (outcome_of (sampling (layered view)) list) boxes i b o within ∙ ap (outcome_of (sampling (layered view)) list) (sym read);
   more = more;
   same = λ p h e.
       changed.each p h ∙ ap (λ m. beside_top view list (drop m boxes) p (get_or old p 0)) left
@@ -247,20 +248,20 @@ next-traced laws view list boxes old mid n i b o start between end left is some 
     same : spans_where (is_open view list b mid) (layered view) (visit b list) ≡ spans_where (is_open view list b old) (layered view) (visit b list)
     same = laws.tested.spans_same (is_open view list b mid) (is_open view list b old) (layered view) (visit b list) (omega arith) is.visit_is.box open'
 
-    own : spans_where (is_open view list b mid) (layered view) (visit b list) ≡ length list + outcome_traced view mid b (outcome_of (sampling view) list b)
+    own : spans_where (is_open view list b mid) (layered view) (visit b list) ≡ length list + outcome_traced view mid b (outcome_of (sampling (layered view)) list b)
     own = traced-outcome laws view list b mid is.visit_is (some-same laws (is_open view list b mid) (is_open view list b old) b open' ∙ some)
 
-    told : outcome_traced view mid b o ≡ outcome_traced view mid b (outcome_of (sampling view) list b)
+    told : outcome_traced view mid b o ≡ outcome_traced view mid b (outcome_of (sampling (layered view)) list b)
     told = ap (outcome_traced view mid b) is.told
 
 pub next-bounded : (laws : Lawful) (view : Window) (list : List Step) (boxes : List Indices) (old mid : List ℕ) (n i : ℕ) (b : Indices) (o : Outcome) (start between end : Counts) → n ≡ suc i
     → IsNext view list boxes old mid i b o
     → CountsAtMost (beside_points view list old (drop n boxes)) (n * length list + halves_spans (layered view) list (drop n boxes)) start between
-    → CountsAtMost (outcome_points view mid b o) (outcome_spans view b o) between end
+    → CountsAtMost (outcome_points view mid b o) (outcome_spans (layered view) b o) between end
     → CountsAtMost (beside_points view list old (drop i boxes)) (i * length list + halves_spans (layered view) list (drop i boxes)) start end
 next-bounded laws view list boxes old mid n i b o start between end left is first second =
     laws.bounds.sum start between end (beside_points view list old (drop n boxes)) (n * length list + halves_spans (layered view) list (drop n boxes))
-    (outcome_points view mid b o) (outcome_spans view b o) (beside_points view list old (drop i boxes)) (i * length list + halves_spans (layered view) list (drop i boxes))
+    (outcome_points view mid b o) (outcome_spans (layered view) b o) (beside_points view list old (drop i boxes)) (i * length list + halves_spans (layered view) list (drop i boxes))
     (omega (arith, more-points laws view list boxes old mid i b o is, ap (λ m. beside_points view list old (drop m boxes)) left))
     (omega (arith, ap (λ m. m * length list) left, once, ap (λ m. halves_spans (layered view) list (drop m boxes)) left, ap (halves_spans (layered view) list) is.more, cons, own, told))
     first second
@@ -271,11 +272,11 @@ next-bounded laws view list boxes old mid n i b o start between end left is firs
     cons : halves_spans (layered view) list (b ∷ drop (suc i) boxes) ≡ spans_in (layered view) (visit b list) + halves_spans (layered view) list (drop (suc i) boxes)
     cons = sum_by-cons (λ h. spans_in (layered view) (visit h list)) b (drop (suc i) boxes)
 
-    own : spans_in (layered view) (visit b list) ≡ length list + outcome_spans view b (outcome_of (sampling view) list b)
+    own : spans_in (layered view) (visit b list) ≡ length list + outcome_spans (layered view) b (outcome_of (sampling (layered view)) list b)
     own = spans-outcome laws view list b is.visit_is.box
 
-    told : outcome_spans view b o ≡ outcome_spans view b (outcome_of (sampling view) list b)
-    told = ap (outcome_spans view b) is.told
+    told : outcome_spans (layered view) b o ≡ outcome_spans (layered view) b (outcome_of (sampling (layered view)) list b)
+    told = ap (outcome_spans (layered view) b) is.told
 
 -- the traces of some boxes and all work of the others are among the work of all
 rest-below : (laws : Lawful) (view : Window) (list : List Step) (boxes : List Indices) (i : ℕ) → All IsBox boxes → i ≤ length boxes

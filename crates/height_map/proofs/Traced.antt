@@ -20,7 +20,8 @@ use Rattle.view_settings.specs.Spans.{root_of}
 use Rattle.view_settings.specs.Window.{Window}
 use Rattle.view_settings.specs.declared.lattice.Lattice.TheVariants.{Height}
 use Rattle.box_chains.specs.Outcomes.{outcome_by, outcome_of}
-use Rattle.height_map.specs.Opened.{outcome_traced, sampling}
+use Rattle.box_chains.specs.Opened.{sampling}
+use Rattle.height_map.specs.Opened.{outcome_traced}
 use Rattle.height_map.specs.Bound.{CountsSpans, is_near, layered, near_spans, whole}
 use Rattle.box_chains.specs.Tested.{halves_spans_where, has_some, lengths_where, open_spans_where, spans_where}
 use Rattle.height_map.specs.Columns.{HasOpen, IsAmong, covers, is_open}
@@ -137,7 +138,7 @@ traced-covered laws view list b w tops counts width among is covered =
 
 -- another one takes its own trace, and those below it
 pub traced-outcome : (laws : Lawful) (view : Window) (list : List Step) (b : Indices) (tops : List ℕ) → IsVisit (layered view) (visit b list) → has_some (is_open view list b tops) b ≡ true
-    → spans_where (is_open view list b tops) (layered view) (visit b list) ≡ length list + outcome_traced view tops b (outcome_of (sampling view) list b)
+    → spans_where (is_open view list b tops) (layered view) (visit b list) ≡ length list + outcome_traced view tops b (outcome_of (sampling (layered view)) list b)
 traced-outcome laws view list b tops is some = by (decision d v) refl
   where
     d : Descent

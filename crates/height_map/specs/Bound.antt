@@ -1,6 +1,7 @@
 -- Height maps as boxes of samples, with the work that one takes at most.
 use Rattle.std.specs.Prelude.{◌≡◌, ℕ, ◌+◌, nat_le, Bool, List}
 use Rattle.box_chains.specs.Chains.{Descent, Visit}
+use Rattle.box_chains.specs.declared.leaves.TheConstants.{LEAF}
 use Rattle.box_chains.specs.Counts.{root_visit, spans_in}
 use Rattle.box_chains.specs.Sums.{Sample}
 use Rattle.box_chains.specs.Tested.{points_where, spans_where}
@@ -10,13 +11,9 @@ use Rattle.view_settings.specs.Window.{Window}
 use Rattle.view_settings.specs.declared.lattice.Lattice.TheVariants.{Height}
 use Rattle.height_map.specs.Tops.{top_of}
 
--- the longest side of a box that is not halved
-abbrev pub leaf_side : ℕ
-leaf_side = 8
-
 -- how the samples of a height map are looked into
 abbrev pub layered : Window → Descent
-layered view = record { view = view; lattice = Height; leaf = leaf_side }
+layered view = record { view = view; lattice = Height; leaf = LEAF }
 
 -- the box of all samples, with the whole list
 abbrev pub whole : Window → List Step → Visit

@@ -1,19 +1,12 @@
 -- What is drawn of a box whose outcome is known, and the work that it takes, but for its own trace.
 use Rattle.std.specs.Prelude.{ℕ, List}
-use Rattle.box_chains.specs.Placing.{Sampling}
 use Rattle.box_chains.specs.declared.outcome.Outcome.{Outcome}
 use Rattle.box_chains.specs.declared.outcome.Outcome.TheVariants.{Inside as AllInside, Outside as AllOutside, Open}
 use Rattle.view_settings.specs.Boxes.{Indices}
 use Rattle.view_settings.specs.Window.{Window}
-use Rattle.view_settings.specs.declared.lattice.Lattice.TheVariants.{Height}
 use Rattle.height_map.specs.Bound.{layered}
-use Rattle.box_chains.specs.Counts.{open_spans}
 use Rattle.box_chains.specs.Tested.{open_points_where, open_spans_where}
 use Rattle.height_map.specs.Columns.{is_open, leaf_top, lifted}
-
--- the samples of a height map
-abbrev pub sampling : Window → Sampling
-sampling view = record { view = view; lattice = Height }
 
 -- the top of a column, once the samples of the box are looked at
 abbrev pub outcome_top : Window → Indices → Outcome → ℕ → ℕ → ℕ
@@ -28,14 +21,9 @@ outcome_points view tops b AllOutside = 0
 outcome_points view tops b (Open list) =
     open_points_where (is_open view list b tops) (layered view) b list
 
--- the steps that are traced below it, and those that are at most
+-- the steps that are traced below it
 abbrev pub outcome_traced : Window → List ℕ → Indices → Outcome → ℕ
 outcome_traced view tops b AllInside = 0
 outcome_traced view tops b AllOutside = 0
 outcome_traced view tops b (Open list) =
     open_spans_where (is_open view list b tops) (layered view) b list
-
-abbrev pub outcome_spans : Window → Indices → Outcome → ℕ
-outcome_spans view b AllInside = 0
-outcome_spans view b AllOutside = 0
-outcome_spans view b (Open list) = open_spans (layered view) b list

@@ -11,19 +11,17 @@ ghost use Rattle.height_map.specs.Bound.{CountsPoints, CountsSpans, layered};
 ghost use Rattle.box_chains.specs.Tested.{halves_points_where, halves_spans_where, open_points_where, open_spans_where, points_where, spans_where};
 ghost use Rattle.height_map.specs.Columns.{Changes, covers, has_open, is_open, leaf_top};
 ghost use Rattle.height_map.specs.Desks.{IsPlaced, MayDraw, MayOpen, MayReceive};
-ghost use Rattle.height_map.specs.Opened.{outcome_points, outcome_spans, outcome_top, outcome_traced};
+ghost use Rattle.box_chains.specs.Opened.{outcome_spans};
+ghost use Rattle.height_map.specs.Opened.{outcome_points, outcome_top, outcome_traced};
 
 use crate::columns::{is_covered, lift};
 use crate::halves::{farther_count, open_among};
 use crate::leaf::draw_leaf;
-use box_chains::{Desk, Outcome, is_long, layers_hold, make_rows};
+use box_chains::{Desk, LEAF, Outcome, is_long, layers_hold, make_rows};
 use fixed_ops::Tally;
 use live_clauses::Tape;
 use std::alloc::{AllocError, Global};
 use view_settings::{IndexBox, split};
-
-/// The longest side of a leaf.
-pub const LEAF: u32 = 8;
 
 /// Draws a box, which receives a list: gives each of its columns that has no top the one that the
 /// samples of the box give it.
@@ -74,7 +72,7 @@ fn draw_outcome(
     ensures tops { OnOk result (Changes (covers desk.old.view.w b)
         (outcome_top desk.old.view b outcome.now) tops.old tops.new) }
     ensures at_most { CountsAtMost (outcome_points desk.old.view tops.old b outcome.now)
-        (outcome_spans desk.old.view b outcome.now) tally.old tally.new }
+        (outcome_spans (layered desk.old.view) b outcome.now) tally.old tally.new }
     ensures points { OnOk result
         (CountsPoints (outcome_points desk.old.view tops.old b outcome.now)
         tally.old tally.new) }

@@ -6,8 +6,8 @@ ghost use Rattle.height_map.specs.Beside.{farther, nearer};
 ghost use Rattle.view_settings.specs.Boxes.{halves_of};
 
 use crate::columns::is_covered;
-use crate::drawing::LEAF;
 use arrayvec::ArrayVec;
+use box_chains::LEAF;
 use view_settings::IndexBox;
 
 /// How many of the halves of a box are farther ones, which come first.

@@ -11,7 +11,7 @@ use fixed_ops::Tally;
 use live_clauses::Tape;
 use std::alloc::{AllocError, Global};
 use std::marker::Model;
-use view_settings::{Lattice, View, root};
+use view_settings::{Lattice, View};
 
 /// A height map: what lies nearest in each column of samples.
 #[derive(Debug, Drop)]
@@ -58,15 +58,9 @@ pub fn heights(
 {
     layers_hold();
     let mut desk = Desk::new(alloc, view, Lattice::Height, list.len())?;
+    let root = desk.root();
     let mut tops = vec![in alloc; 0u16; view.w as usize * view.h as usize]?;
-    draw_box(
-        alloc,
-        &mut desk,
-        root(view, Lattice::Height),
-        list,
-        &mut tops,
-        tally,
-    )?;
+    draw_box(alloc, &mut desk, root, list, &mut tops, tally)?;
     Ok(TopMap {
         w: view.w,
         h: view.h,

@@ -1,7 +1,7 @@
 -- What looking into a box needs, and the work that it takes.
 use Rattle.std.specs.Prelude.{◌≡◌, ℕ, ◌-◌, ◌<◌, ◌≤◌, true, List, [], ◌∷◌, length, get_or, if◌then◌else◌}
-use Rattle.std.specs.List.{All, flat_map, sum_by}
-use Rattle.box_chains.specs.Chains.{Visit, is_long, visit}
+use Rattle.std.specs.List.{All, flat_map}
+use Rattle.box_chains.specs.Chains.{Visit, is_long, sum_over, visit}
 use Rattle.box_chains.specs.Desks.{Tracing}
 use Rattle.box_chains.specs.Outcomes.{HandsOn, asked_outcome}
 use Rattle.box_chains.specs.Placing.{Sampling}
@@ -33,11 +33,11 @@ pub record MayLook (desk : Tracing) (b : Indices) (list : List Step) (t : PointV
 
 -- the steps that are traced over some halves of a box, which receive a list
 abbrev pub halves_spans : CellDescent → List Step → List Indices → ℕ
-halves_spans d list halves = sum_by (λ half. spans_in d (visit half list)) halves
+halves_spans d list halves = sum_over (spans_in d) list halves
 
 -- and of these, those that are traced over boxes of more than one cell
 abbrev pub halves_long_spans : CellDescent → List Step → List Indices → ℕ
-halves_long_spans d list halves = sum_by (λ half. long_spans_in d (visit half list)) halves
+halves_long_spans d list halves = sum_over (long_spans_in d) list halves
 
 -- whatever points take, if it is enough for each half of a box, no more is counted
 abbrev pub ChargesHalves : CellDescent → List Step → List Indices → PointValues → PointValues → Counts

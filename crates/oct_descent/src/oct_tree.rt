@@ -12,7 +12,7 @@ use fixed_ops::Tally;
 use live_clauses::Tape;
 use std::alloc::{AllocError, Global};
 use std::marker::Model;
-use view_settings::{Lattice, View, root};
+use view_settings::{Lattice, View};
 
 /// The cells of the grid of a list of steps over a view, by boxes: the values of the corners of all
 /// cells that have both an inside and an outside one. Contracts see the view and the list.
@@ -55,15 +55,9 @@ pub fn cells(
 {
     layers_hold();
     let mut desk = Desk::new(alloc, view, Lattice::Grid, list.len())?;
+    let root = desk.root();
     let mut values = GridValues::new(alloc, mesh_size(view))?;
-    look_into(
-        alloc,
-        &mut desk,
-        root(view, Lattice::Grid),
-        list,
-        &mut values,
-        tally,
-    )?;
+    look_into(alloc, &mut desk, root, list, &mut values, tally)?;
     Ok(OctTree {
         view: *view,
         list: list.share()?,

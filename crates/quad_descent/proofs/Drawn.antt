@@ -25,7 +25,8 @@ use Rattle.box_chains.specs.Outcomes.{HandsOn, IsHandedOn, outcome_by, outcome_o
 use Rattle.box_chains.specs.declared.outcome.Outcome.{Outcome}
 use Rattle.box_chains.specs.declared.outcome.Outcome.TheVariants.{Open}
 use Rattle.quad_descent.proofs.NodeLaws.{nodes-are}
-use Rattle.quad_descent.specs.Opened.{all_spans_below, outcome_nodes, outcome_points, outcome_spans, sampling, spans_below}
+use Rattle.box_chains.specs.Opened.{all_spans_below, outcome_points, outcome_spans, sampling, spans_below}
+use Rattle.quad_descent.specs.Opened.{outcome_nodes}
 use Rattle.quad_descent.specs.Nodes.{halves_nodes, nodes_of, open_nodes, split_node}
 use Rattle.box_chains.specs.Tallied.{CountsAtMost, CountsExactly}
 use Rattle.box_chains.specs.Laws.{Lawful}

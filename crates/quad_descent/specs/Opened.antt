@@ -1,41 +1,14 @@
--- The nodes of a box whose outcome is known, and the work below it, but for its own trace.
-use Rattle.std.specs.Prelude.{ℕ, List, [], ◌∷◌}
-use Rattle.std.specs.List.{sum_by}
+-- The nodes of a box whose outcome is known.
+use Rattle.std.specs.Prelude.{List, [], ◌∷◌}
 use Rattle.box_chains.specs.Chains.{Descent}
-use Rattle.box_chains.specs.Outcomes.{outcome_of}
-use Rattle.box_chains.specs.Placing.{Sampling}
 use Rattle.box_chains.specs.declared.outcome.Outcome.{Outcome}
 use Rattle.box_chains.specs.declared.outcome.Outcome.TheVariants.{Inside as AllInside, Outside as AllOutside, Open}
-use Rattle.live_clauses.specs.declared.step.Step.{Step}
 use Rattle.view_settings.specs.Boxes.{Indices}
 use Rattle.quad_descent.specs.Nodes.{open_nodes}
-use Rattle.box_chains.specs.Counts.{open_points, open_spans}
 use Rattle.quad_descent.specs.declared.node.Node.{Node}
 use Rattle.quad_descent.specs.declared.node.Node.TheVariants.{Outside, Inside}
-
--- the samples that a descent looks into
-abbrev pub sampling : Descent → Sampling
-sampling d = record { view = d.view; lattice = d.lattice }
 
 abbrev pub outcome_nodes : Descent → Indices → Outcome → List Node
 outcome_nodes d b AllInside = Inside ∷ []
 outcome_nodes d b AllOutside = Outside ∷ []
 outcome_nodes d b (Open list) = open_nodes d b list
-
-abbrev pub outcome_points : Descent → Indices → Outcome → ℕ
-outcome_points d b AllInside = 0
-outcome_points d b AllOutside = 0
-outcome_points d b (Open list) = open_points d b list
-
-abbrev pub outcome_spans : Descent → Indices → Outcome → ℕ
-outcome_spans d b AllInside = 0
-outcome_spans d b AllOutside = 0
-outcome_spans d b (Open list) = open_spans d b list
-
--- the steps that are traced below a box which receives a list
-abbrev pub spans_below : Descent → List Step → Indices → ℕ
-spans_below d list b = outcome_spans d b (outcome_of (sampling d) list b)
-
--- and below some boxes which receive it
-abbrev pub all_spans_below : Descent → List Step → List Indices → ℕ
-all_spans_below d list boxes = sum_by (spans_below d list) boxes

@@ -1,6 +1,7 @@
 -- Rasters as boxes of samples, with the work that a fresh image takes.
 use Rattle.std.specs.Prelude.{ℕ, List}
 use Rattle.box_chains.specs.Chains.{Descent, Visit}
+use Rattle.box_chains.specs.declared.leaves.TheConstants.{LEAF}
 use Rattle.box_chains.specs.Counts.{points_in, root_visit, spans_in}
 use Rattle.live_clauses.specs.declared.step.Step.{Step}
 use Rattle.view_settings.specs.Window.{Window}
@@ -11,13 +12,9 @@ pub record Drawing : Type 0 where
   pub view : Window
   pub list : List Step
 
--- the longest side of a box that is not halved
-abbrev pub leaf_side : ℕ
-leaf_side = 8
-
 -- how the samples of a raster are looked into
 abbrev pub raster : Window → Descent
-raster view = record { view = view; lattice = Raster; leaf = leaf_side }
+raster view = record { view = view; lattice = Raster; leaf = LEAF }
 
 -- the box of all samples, with the whole list
 abbrev pub whole : Window → List Step → Visit

@@ -7,20 +7,18 @@ ghost use Rattle.view_settings.specs.Boxes.{halves_of};
 ghost use Rattle.view_settings.specs.declared.lattice.Lattice.TheVariants.{Raster};
 ghost use Rattle.live_clauses.specs.Live.{IsWhole};
 ghost use Rattle.quad_descent.specs.Nodes.{halves_nodes, nodes_of, open_nodes, split_node};
-ghost use Rattle.quad_descent.specs.Opened.{outcome_nodes, outcome_points, outcome_spans};
+ghost use Rattle.box_chains.specs.Opened.{outcome_points, outcome_spans};
+ghost use Rattle.quad_descent.specs.Opened.{outcome_nodes};
 ghost use Rattle.box_chains.specs.Tallied.{CountsAtMost, CountsExactly};
 ghost use Rattle.quad_descent.specs.Raster.{raster};
 
 use crate::leaf::leaf_rows;
 use crate::node::Node;
-use box_chains::{Desk, Outcome, is_long, layers_hold, make_rows};
+use box_chains::{Desk, LEAF, Outcome, is_long, layers_hold, make_rows};
 use fixed_ops::Tally;
 use live_clauses::Tape;
 use std::alloc::{AllocError, Global};
 use view_settings::{IndexBox, split};
-
-/// The longest side of a leaf.
-pub const LEAF: u32 = 8;
 
 /// Draws a box, which receives a list: adds its nodes and those of the boxes below it.
 pub fn draw_box(

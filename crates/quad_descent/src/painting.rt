@@ -8,9 +8,8 @@ ghost use Rattle.quad_descent.specs.Pixels.{rows_from};
 
 use crate::QuadTree;
 use crate::band::Band;
-use crate::drawing::LEAF;
 use crate::node::Node;
-use box_chains::layers_hold;
+use box_chains::{LEAF, layers_hold};
 use view_settings::{IndexBox, Lattice, root, split};
 
 /// Paints the rows of an image from `row` on, as many as there are places for. They are the bytes of

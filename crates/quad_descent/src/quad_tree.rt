@@ -10,7 +10,7 @@ use fixed_ops::Tally;
 use live_clauses::Tape;
 use std::alloc::{AllocError, Global};
 use std::marker::Model;
-use view_settings::{Lattice, View, root};
+use view_settings::{Lattice, View};
 
 /// An image of a list of steps over a view, by boxes: which of them are decided, and what the samples
 /// of undecided leaves are. Contracts see the view and the list.
@@ -54,15 +54,9 @@ pub fn draw(
 {
     layers_hold();
     let mut desk = Desk::new(alloc, view, Lattice::Raster, list.len())?;
+    let root = desk.root();
     let mut nodes = Vec::new(alloc);
-    draw_box(
-        alloc,
-        &mut desk,
-        root(view, Lattice::Raster),
-        list,
-        &mut nodes,
-        tally,
-    )?;
+    draw_box(alloc, &mut desk, root, list, &mut nodes, tally)?;
     Ok(QuadTree {
         view: *view,
         list: list.share()?,

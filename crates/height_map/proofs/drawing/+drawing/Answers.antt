@@ -15,7 +15,8 @@ use Rattle.height_map.specs.Bound.{CountsPoints, CountsSpans, layered}
 use Rattle.box_chains.specs.Counts.{halves_spans}
 use Rattle.height_map.specs.Columns.{Changes, IsAmong, covers, has_open, leaf_cost, leaf_top}
 use Rattle.height_map.specs.Desks.{IsPlaced}
-use Rattle.height_map.specs.Opened.{outcome_points, outcome_spans, outcome_top, outcome_traced}
+use Rattle.box_chains.specs.Opened.{outcome_spans}
+use Rattle.height_map.specs.Opened.{outcome_points, outcome_top, outcome_traced}
 use Rattle.height_map.proofs.Beside.{farther-beside, nearer-beside}
 use Rattle.height_map.proofs.Drawn.{columns-there, farther-parts, halves-drawn, leaf-counted, nearer-drawn, nearer-parts, on_ok-then, placed-may, room-kept}
 use Rattle.height_map.proofs.Evaluated.{points-are, points-halves, points-leaf}
@@ -372,7 +373,7 @@ draw_open-loop-n-preserved t c =
       tops = next-top laws view live boxes old mid c.draw_outcome.new.tops n i c.loop-n.desk.view.w b o left (ap (λ d. d.view.w) was.kept) next was.tops
           (subst (λ v. Changes (covers c.loop-n.desk.view.w b) (outcome_top v b o) mid c.draw_outcome.new.tops) same after.tops);
       counted = next-bounded laws view live boxes old mid n i b o c.args.tally.now c.loop-n.tally c.draw_outcome.new.tally left next was.counted
-          (subst (λ v. CountsAtMost (outcome_points v mid b o) (outcome_spans v b o) c.loop-n.tally c.draw_outcome.new.tally) same after.at_most);
+          (subst (λ v. CountsAtMost (outcome_points v mid b o) (outcome_spans (layered v) b o) c.loop-n.tally c.draw_outcome.new.tally) same after.at_most);
       points = next-points laws view live boxes old mid n i b o c.args.tally.now c.loop-n.tally c.draw_outcome.new.tally left next was.points
           (subst (λ v. CountsPoints (outcome_points v mid b o) c.loop-n.tally c.draw_outcome.new.tally) same after.points);
       hulls = next-traced laws view live boxes old mid n i b o c.args.tally.now c.loop-n.tally c.draw_outcome.new.tally left next (told-some c.layers_hold.ensures view live b desk.view.w old refl placed.box open') was.hulls
@@ -401,4 +402,4 @@ draw_open-returns-in_err-draw_outcome-clause-at_most t c =
     rest-bounded laws view live boxes old i c.args.tally.now c.draw_outcome.new.tally
     (All-weaker (IsPlaced desk (length old)) IsBox (λ h is. is.box) boxes c.requires.placed) (omega (arith, some, few))
     (next-bounded laws view live boxes old mid n i b o c.args.tally.now c.loop-n.tally c.draw_outcome.new.tally left next was.counted
-    (subst (λ v. CountsAtMost (outcome_points v mid b o) (outcome_spans v b o) c.loop-n.tally c.draw_outcome.new.tally) (ap (λ d. d.view) was.kept) c.in_err-draw_outcome.ensures.at_most))
+    (subst (λ v. CountsAtMost (outcome_points v mid b o) (outcome_spans (layered v) b o) c.loop-n.tally c.draw_outcome.new.tally) (ap (λ d. d.view) was.kept) c.in_err-draw_outcome.ensures.at_most))

@@ -1,9 +1,10 @@
 use Rattle.std.proofs.Common.{length, refl, subst}
 use Rattle.std.specs.Prelude.{OnOk}
 use Rattle.box_chains.specs.Tallied.{CountsAtMost}
-use Rattle.height_map.specs.Bound.{CountsPoints, CountsSpans}
+use Rattle.height_map.specs.Bound.{CountsPoints, CountsSpans, layered}
 use Rattle.height_map.specs.Columns.{Changes, covers}
-use Rattle.height_map.specs.Opened.{outcome_points, outcome_spans, outcome_top, outcome_traced}
+use Rattle.box_chains.specs.Opened.{outcome_spans}
+use Rattle.height_map.specs.Opened.{outcome_points, outcome_top, outcome_traced}
 use Rattle.box_chains.specs.Desks.{samples}
 use Rattle.height_map.proofs.Drawn.{columns-there, on_ok-then, outcome-drawn}
 use Rattle.height_map.proofs.Evaluated.{points-covered}
@@ -61,7 +62,7 @@ returns-clause-at_most c =
     let told = told-by (samples desk) c.args.received.now c.args.b c.in_ok-outcome.outcome c.requires.lattice c.in_ok-outcome.ensures.outcome in
     box-bounded c.layers_hold.ensures desk.view c.args.received.now c.args.b c.in_ok-outcome.outcome c.args.tops.now c.args.tally.now c.trace_box.new.tally c.draw_outcome.new.tally c.requires.visit_is
     told c.in_ok-outcome.ensures.counted
-    (subst (λ d. CountsAtMost (outcome_points d.view c.args.tops.now c.args.b c.in_ok-outcome.outcome) (outcome_spans d.view c.args.b c.in_ok-outcome.outcome) c.trace_box.new.tally c.draw_outcome.new.tally)
+    (subst (λ d. CountsAtMost (outcome_points d.view c.args.tops.now c.args.b c.in_ok-outcome.outcome) (outcome_spans (layered d.view) c.args.b c.in_ok-outcome.outcome) c.trace_box.new.tally c.draw_outcome.new.tally)
     c.in_ok-outcome.ensures.kept c.draw_outcome.ensures.at_most)
 
 pub returns-clause-points : goal.returns-clause-points

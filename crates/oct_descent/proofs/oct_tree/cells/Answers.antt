@@ -1,4 +1,4 @@
-use Rattle.std.proofs.Common.{rules, ap, subst, sym, ◌∙◌}
+use Rattle.std.proofs.Common.{◌≡◌, rules, ap, subst, sym, ◌∙◌}
 use Rattle.std.proofs.lemmas.Bool.{false≢true}
 use Rattle.box_chains.specs.Chains.{visit}
 use Rattle.kuhn_cells.specs.Sizes.{IsBounded}
@@ -23,42 +23,42 @@ pub returns-in_err-look_into-clause-at_most : goal.returns-in_err-look_into-clau
 returns-in_err-look_into-clause-at_most c =
     let view = ap (λ d. d.view) c.in_ok-desk.ensures in
     let n = c.in_ok-values.ensures.n ∙ c.mesh_size.ensures.size in
-    whole-counted c.layers_hold.ensures c.args.view.now c.in_ok-desk.desk.view c.args.list.now c.root.result c.in_ok-values.values c.look_into.new.values c.args.tally.now c.look_into.new.tally view c.root.ensures n c.in_ok-values.ensures.none
+    whole-counted c.layers_hold.ensures c.args.view.now c.in_ok-desk.desk.view c.args.list.now c.root-root.result c.in_ok-values.values c.look_into.new.values c.args.tally.now c.look_into.new.tally view (subst (λ d. c.root-root.result ≡ root_of d.view d.lattice) c.in_ok-desk.ensures c.root-root.ensures) n c.in_ok-values.ensures.none
     c.in_err-look_into.ensures.counted
 
 pub returns-in_err-share-clause-at_most : goal.returns-in_err-share-clause-at_most
 returns-in_err-share-clause-at_most c =
     let view = ap (λ d. d.view) c.in_ok-desk.ensures in
     let n = c.in_ok-values.ensures.n ∙ c.mesh_size.ensures.size in
-    whole-counted c.layers_hold.ensures c.args.view.now c.in_ok-desk.desk.view c.args.list.now c.root.result c.in_ok-values.values c.look_into.new.values c.args.tally.now c.look_into.new.tally view c.root.ensures n c.in_ok-values.ensures.none
+    whole-counted c.layers_hold.ensures c.args.view.now c.in_ok-desk.desk.view c.args.list.now c.root-root.result c.in_ok-values.values c.look_into.new.values c.args.tally.now c.look_into.new.tally view (subst (λ d. c.root-root.result ≡ root_of d.view d.lattice) c.in_ok-desk.ensures c.root-root.ensures) n c.in_ok-values.ensures.none
     c.in_ok-look_into.ensures.counted
 
 pub returns-clause-at_most : goal.returns-clause-at_most
 returns-clause-at_most c =
     let view = ap (λ d. d.view) c.in_ok-desk.ensures in
     let n = c.in_ok-values.ensures.n ∙ c.mesh_size.ensures.size in
-    whole-counted c.layers_hold.ensures c.args.view.now c.in_ok-desk.desk.view c.args.list.now c.root.result c.in_ok-values.values c.look_into.new.values c.args.tally.now c.look_into.new.tally view c.root.ensures n c.in_ok-values.ensures.none
+    whole-counted c.layers_hold.ensures c.args.view.now c.in_ok-desk.desk.view c.args.list.now c.root-root.result c.in_ok-values.values c.look_into.new.values c.args.tally.now c.look_into.new.tally view (subst (λ d. c.root-root.result ≡ root_of d.view d.lattice) c.in_ok-desk.ensures c.root-root.ensures) n c.in_ok-values.ensures.none
     c.in_ok-look_into.ensures.counted
 
 pub returns-clause-at_least : goal.returns-clause-at_least
 returns-clause-at_least c =
     let view = ap (λ d. d.view) c.in_ok-desk.ensures in
     let n = c.in_ok-values.ensures.n ∙ c.mesh_size.ensures.size in
-    whole-paid c.layers_hold.ensures c.args.view.now c.in_ok-desk.desk.view c.args.list.now c.root.result c.in_ok-values.values c.look_into.new.values c.args.tally.now c.look_into.new.tally view c.root.ensures n c.in_ok-values.ensures.none
+    whole-paid c.layers_hold.ensures c.args.view.now c.in_ok-desk.desk.view c.args.list.now c.root-root.result c.in_ok-values.values c.look_into.new.values c.args.tally.now c.look_into.new.tally view (subst (λ d. c.root-root.result ≡ root_of d.view d.lattice) c.in_ok-desk.ensures c.root-root.ensures) n c.in_ok-values.ensures.none
     c.in_ok-look_into.ensures.worked c.in_ok-look_into.ensures.paid
 
 pub returns-clause-traced : goal.returns-clause-traced
 returns-clause-traced c =
     let view = ap (λ d. d.view) c.in_ok-desk.ensures in
     subst (λ v. CountsHullsAtLeast (long_spans_in (gridded v) (visit (root_of c.args.view.now lattices.Grid) c.args.list.now)) c.args.tally.now c.look_into.new.tally) view
-    (subst (λ b. CountsHullsAtLeast (long_spans_in (gridded c.in_ok-desk.desk.view) (visit b c.args.list.now)) c.args.tally.now c.look_into.new.tally) c.root.ensures c.in_ok-look_into.ensures.traced)
+    (subst (λ b. CountsHullsAtLeast (long_spans_in (gridded c.in_ok-desk.desk.view) (visit b c.args.list.now)) c.args.tally.now c.look_into.new.tally) (subst (λ d. c.root-root.result ≡ root_of d.view d.lattice) c.in_ok-desk.ensures c.root-root.ensures) c.in_ok-look_into.ensures.traced)
 
 pub invariant_of-result : goal.invariant_of-result
 invariant_of-result c =
     let view = ap (λ d. d.view) c.in_ok-desk.ensures in
     let n = c.in_ok-values.ensures.n ∙ c.mesh_size.ensures.size in
     let few = subst IsBounded c.mesh_size.ensures.size c.mesh_size.ensures.bounded in
-    let told = whole-told c.args.view.now c.in_ok-desk.desk.view c.args.list.now c.root.result c.in_ok-values.values c.look_into.new.values view c.root.ensures n few c.in_ok-values.ensures.none
+    let told = whole-told c.args.view.now c.in_ok-desk.desk.view c.args.list.now c.root-root.result c.in_ok-values.values c.look_into.new.values view (subst (λ d. c.root-root.result ≡ root_of d.view d.lattice) c.in_ok-desk.ensures c.root-root.ensures) n few c.in_ok-values.ensures.none
     c.in_ok-look_into.ensures.grows c.in_ok-look_into.ensures.settled in
     subst (λ l. IsTold c.args.view.now l c.look_into.new.values) (sym c.in_ok-share.ensures) told
 

@@ -8,7 +8,8 @@ use Rattle.view_settings.specs.Spans.{IsInRoot}
 use Rattle.view_settings.specs.declared.lattice.Lattice.TheVariants.{Raster}
 use Rattle.quad_descent.specs.Nodes.{halves_nodes}
 use Rattle.box_chains.specs.Counts.{halves_points, halves_spans}
-use Rattle.quad_descent.specs.Opened.{outcome_nodes, outcome_points, outcome_spans}
+use Rattle.box_chains.specs.Opened.{outcome_points, outcome_spans}
+use Rattle.quad_descent.specs.Opened.{outcome_nodes}
 use Rattle.quad_descent.specs.Raster.{raster}
 use Rattle.quad_descent.specs.declared.node.Node.TheVariants.{Split}
 use Rattle.quad_descent.proofs.Drawn.{bounded-leaf, bounded-traces, counted-leaf, drawn-all, few-at, half-part, half-shorter, half-within, halves-bounded, halves-boxes, halves-counted, halves-more, halves-told, nodes-outcome, on_err, opened, split-set, told-all, told-at}

@@ -2,7 +2,8 @@ use Rattle.std.proofs.Common.{◌≡◌, ◌++◌, ap, arith, subst, sym, ◌∙
 use Rattle.std.specs.Prelude.{OnErr, OnOk}
 use Rattle.box_chains.specs.Tallied.{CountsAtMost, CountsExactly}
 use Rattle.box_chains.specs.Desks.{samples}
-use Rattle.quad_descent.specs.Opened.{outcome_nodes, outcome_points, outcome_spans}
+use Rattle.box_chains.specs.Opened.{outcome_points, outcome_spans}
+use Rattle.quad_descent.specs.Opened.{outcome_nodes}
 use Rattle.quad_descent.specs.Raster.{raster}
 use Rattle.quad_descent.proofs.Drawn.{bounded-box, bounded-trace, counted-box, nodes-outcome, on_err, on_err-then, on_ok-then, told-one}
 use Rattle.quad_descent.proofs.drawing.draw_box.Goals as goal
