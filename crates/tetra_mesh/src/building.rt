@@ -12,6 +12,7 @@ ghost use Rattle.view_settings.specs.Window.{FitsMesh};
 
 use crate::faces::push_faces;
 use crate::laws::meshes_are_sound;
+use crate::mesh_size::mesh_size;
 use crate::numbering::Numbering;
 use crate::shapes::Shapes;
 use crate::sided_cell::SidedCell;
@@ -57,7 +58,7 @@ fn cells_are_few(cells: &CellList, view: &View)
     ensures { length cells.now.cells.items ≤ 16777216 }
 {
     mixed_cells_suffice();
-    let _size = GridSize::cube(view.n);
+    let _size = mesh_size(view);
 }
 
 // The vertices of the cells of a list that is given up, and the places and sides of the cells.
@@ -111,7 +112,7 @@ fn mesh_of_parts(
 {
     meshes_are_sound();
     mixed_cells_suffice();
-    let faces = faces_of(alloc, sided, GridSize::cube(view.n))?;
+    let faces = faces_of(alloc, sided, mesh_size(view))?;
     Ok(Mesh { vertices, faces })
 }
 

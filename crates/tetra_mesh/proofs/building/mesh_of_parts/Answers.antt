@@ -1,10 +1,9 @@
 -- The mixed cells of the grid suffice.
-use Rattle.std.proofs.Common.{◌≤◌, ap, arith, subst, sym, ◌∙◌}
+use Rattle.std.proofs.Common.{subst, sym}
 use Rattle.kuhn_cells.specs.Cells.{mixed_cells}
-use Rattle.kuhn_cells.specs.Sizes.{IsBounded, cube}
+use Rattle.kuhn_cells.specs.Sizes.{IsBounded}
 use Rattle.tetra_mesh.specs.Sizes.{size_of}
 use Rattle.tetra_mesh.specs.Sound.{IsSound, LieApart}
-use Rattle.view_settings.specs.Window.{IsWindow}
 use Rattle.tetra_mesh.proofs.GridLaws.{are_cells, mesh_is}
 use Rattle.tetra_mesh.proofs.SideLaws.{sides_as}
 use Rattle.tetra_mesh.proofs.building.mesh_of_parts.Goals as goal
@@ -15,21 +14,19 @@ faces_of-requires c =
     let n = size_of c.args.view.now in
     let g = c.requires.0 in
     let is = c.requires.1 in
-    let size = c.cube.ensures.size ∙ ap (λ v. cube v.n) c.view.view_is in
-    let narrow : c.view.inside.n ≤ 256 = let most = c.view.invariant.n.few in omega (arith, most) in
-    let bounded = subst IsBounded size (c.cube.ensures.bounded narrow) in
+    let size = c.mesh_size.ensures.size in
+    let bounded = subst IsBounded size c.mesh_size.ensures.bounded in
     let cells = are_cells laws.cells laws.order laws.few laws.edges n g c.args.vertices.items c.args.sided.now bounded is in
-    (mixed_cells g, sides_as (mixed_cells g) c.args.sided.now n c.cube.result (sym size) (record { mixed = cells; sides = is.sides }))
+    (mixed_cells g, sides_as (mixed_cells g) c.args.sided.now n c.mesh_size.result (sym size) (record { mixed = cells; sides = is.sides }))
 
 pub returns-clause-mesh : goal.returns-clause-mesh
 returns-clause-mesh c g is =
     let laws = c.mixed_cells_suffice.ensures in
     let n = size_of c.args.view.now in
-    let size = c.cube.ensures.size ∙ ap (λ v. cube v.n) c.view.view_is in
-    let narrow : c.view.inside.n ≤ 256 = let most = c.view.invariant.n.few in omega (arith, most) in
-    let bounded = subst IsBounded size (c.cube.ensures.bounded narrow) in
+    let size = c.mesh_size.ensures.size in
+    let bounded = subst IsBounded size c.mesh_size.ensures.bounded in
     let cells = are_cells laws.cells laws.order laws.few laws.edges n g c.args.vertices.items c.args.sided.now bounded is in
-    let are = sides_as (mixed_cells g) c.args.sided.now n c.cube.result (sym size) (record { mixed = cells; sides = is.sides }) in
+    let are = sides_as (mixed_cells g) c.args.sided.now n c.mesh_size.result (sym size) (record { mixed = cells; sides = is.sides }) in
     mesh_is laws.cells laws.vertices laws.triangles n g c.args.vertices.items c.args.sided.now c.in_ok-faces.faces.items is (c.in_ok-faces.ensures (mixed_cells g) are)
 
 pub returns-clause-sound : goal.returns-clause-sound
@@ -40,6 +37,5 @@ pub returns-clause-apart : goal.returns-clause-apart
 returns-clause-apart c fits =
     let g = c.requires.0 in
     let is = c.requires.1 in
-    let window = subst IsWindow c.view.view_is c.view.invariant in
     subst (λ m. LieApart c.args.view.now m.vertices) (sym (returns-clause-mesh c g is))
-    (c.meshes_are_sound.ensures.apart c.args.view.now g window fits (record { x = is.x; y = is.y; z = is.z }) is.border)
+    (c.meshes_are_sound.ensures.apart c.args.view.now g c.mesh_size.ensures.window fits (record { x = is.x; y = is.y; z = is.z }) is.border)
