@@ -17,7 +17,8 @@ use Rattle.clause_reader.specs.Lines.{begins_comment}
 
 -- all operations
 abbrev pub operations : List Op
-operations = X ∷ Y ∷ Z ∷ Const ∷ Neg ∷ Square ∷ Sqrt ∷ Abs ∷ Floor ∷ Add ∷ Sub ∷ Mul ∷ Div ∷ Min ∷ Max ∷ []
+operations =
+    X ∷ Y ∷ Z ∷ Const ∷ Neg ∷ Square ∷ Sqrt ∷ Abs ∷ Floor ∷ Add ∷ Sub ∷ Mul ∷ Div ∷ Min ∷ Max ∷ []
 
 -- the operation that a word names
 abbrev pub operation_of : List ℕ → Option Op

@@ -20,7 +20,8 @@ with_feed (first ∷ others) =
 abbrev pub HasNoFeed : List ℕ → Type 0
 HasNoFeed bytes = All (λ byte. byte ≢ 10) bytes
 
--- the text is these lines: none of them holds a line feed, and a line feed ends each but perhaps the last
+-- the text is these lines: none of them holds a line feed, and a line feed ends each but perhaps
+-- the last
 pub record AreLines (text : List ℕ) (lines : List (List ℕ)) : Type 0 where
   pub whole : All HasNoFeed lines
   pub joined : ended lines ≡ with_feed text

@@ -22,7 +22,8 @@ arguments clauses clause =
 abbrev pub spaced : List (List ℕ) → List ℕ
 spaced tokens = flat_map (λ token. 32 ∷ token) tokens
 
--- the line of a clause: its name, then its operation and its arguments, each after a space, and a line feed
+-- the line of a clause: its name, then its operation and its arguments, each after a space, and a
+-- line feed
 abbrev pub clause_line : List Clause → Clause → List ℕ
 clause_line clauses clause =
     clause.name ++ spaced (name_of clause.op ∷ arguments clauses clause) ++ 10 ∷ []

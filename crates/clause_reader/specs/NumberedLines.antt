@@ -14,7 +14,8 @@ numbered_from number lines = zip (range_with_len number (length lines)) (map tok
 abbrev pub numbered_lines : List ℕ → List (ℕ × List (List ℕ))
 numbered_lines text = numbered_from 1 (lines_of text)
 
--- tokens of a line that is given: there are some, and where comments are skipped the first begins none
+-- tokens of a line that is given: there are some, and where comments are skipped the first begins
+-- none
 abbrev pub is_given : Comments → List (List ℕ) → Bool
 is_given Skipped tokens = is_clause tokens
 is_given Kept tokens = nat_lt 0 (length tokens)

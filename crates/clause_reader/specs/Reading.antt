@@ -23,7 +23,8 @@ has_unknown clauses names = list_any (λ name. is_none (place_of clauses name)) 
 -- the place of the earlier clause that the k-th operand names, or 0 where there is no such operand
 abbrev pub place_or_zero : List Clause → List (List ℕ) → ℕ → ℕ
 place_or_zero clauses names k =
-    option_map_or (λ name. option_map_or (λ place. place) (place_of clauses name) 0) (slice_get names k) 0
+    option_map_or (λ name. option_map_or (λ place. place) (place_of clauses name) 0)
+    (slice_get names k) 0
 
 -- the clause of this name, operation and arguments: each operand replaced by the place of the
 -- clause that it names

@@ -1,4 +1,5 @@
--- What always holds of reading: it says what the relations between lines and clauses say, and nothing else.
+-- What always holds of reading: it says what the relations between lines and clauses say, and
+-- nothing else.
 use Rattle.std.specs.Prelude.{◌≡◌, ◌≢◌, ◌↔◌, ℕ, ◌⊎◌, List, [], ◌∷◌, ◌++◌, Ok, Err}
 use Rattle.solid_model.specs.declared.clause.Clause.{Clause}
 use Rattle.clause_reader.specs.declared.text_fault.TextFault.{TextFault}

@@ -1,4 +1,5 @@
--- What a text says, as relations between the lines of the text and the clauses, with no reader in them.
+-- What a text says, as relations between the lines of the text and the clauses, with no reader in
+-- them.
 use Rattle.std.specs.Prelude.{◌≡◌, ℕ, ◌+◌, ◌<◌, ◌⊎◌, List, [], length, filter, take, slice_get, Some, Ok, Err}
 use Rattle.solid_model.specs.declared.clause.Clause.{Clause}
 use Rattle.clause_reader.specs.declared.text_reason.TextReason.{TextReason}

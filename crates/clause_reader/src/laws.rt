@@ -30,7 +30,7 @@ pub fn lines_and_tokens_are_exact()
     ensures tokens { TokensAreExact }
 {}
 
-/// The lines of a text that is not empty are the line with which it begins and the lines after that,
+/// The lines of a text that is not empty are the line with which it begins and the lines after it,
 /// which are fewer bytes.
 pub fn texts_begin_with_lines()
     ensures { TextsBeginWithLines }

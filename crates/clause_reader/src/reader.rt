@@ -13,6 +13,9 @@ use crate::{Comments, Lines, ReadError, TextFault, TextReason, Tokens};
 use solid_model::{Model, ModelBuilder};
 use std::alloc::Global;
 
+// The bytes of a clause line, of which few are shorter: a text is first given room for so many.
+const LINE: usize = 16;
+
 /// The model that a text says, line by line: blank lines and comments say nothing, and each other
 /// line is a name, an operation and its arguments.
 ///
@@ -22,7 +25,7 @@ pub fn read_model(alloc: Global, text: &[u8]) -> Result<Model, TextFault>
     requires { length text.now < 2 ^ 32 }
     ensures { GivesModel text.now result }
 {
-    let mut builder = ModelBuilder::new(alloc);
+    let mut builder = ModelBuilder::with_room(alloc, text.len() / LINE);
     let mut lines = Lines::new(text, Comments::Skipped);
     while let Some(line) = lines.next() {
         if let Err(error) = read_clause(&mut builder, line.first, line.others) {
