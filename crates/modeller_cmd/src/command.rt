@@ -145,7 +145,7 @@ fn tell<N: Sink>(notes: &mut N, stop: Stop)
     ensures never_falls { N.faults notes.old ≤ N.faults notes.new }
     ensures fails_once { RoseAtMost N.faults notes.old notes.new 1 }
 {
-    let _ = write_all(notes, note_of(stop).as_slice());
+    let _ = write_all(notes, note_of(stop).bytes());
 }
 
 // Reads, works and writes, up to what ends the run.
