@@ -81,12 +81,6 @@ module _ (words : List (List ℕ)) (told : Option (List ℕ)) (input : List ℕ)
   served-counted (Err ReadFault) P worked done other = absurd worked
   served-counted (Err NoMemory) P worked done other = absurd worked
 
-  -- and of work that is done
-  pub served-done : {T : Type 0} (r : Result T Stop) (P : List Part → Type 0) → IsOk r → OnOk r (P (output_as (made job input)).parts)
-      → IfSome told (λ bytes. P (output_as (outcome words bytes)).parts)
-  served-done (Ok x) P ok done = as-told (λ o. P (output_as o).parts) done
-  served-done (Err stop) P ok done = (cc)
-
 -- what is so of work that is done and of work that is stopped is so
 pub done-or-stopped : {T : Type 0} (r : Result T Stop) (P Q : Type 0) (R : Stop → Type 0) → (Q → P) → ((stop : Stop) → R stop → P) → OnOk r Q → IfErr r R → P
 done-or-stopped (Ok x) P Q R f g done stopped = f done

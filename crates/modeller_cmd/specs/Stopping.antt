@@ -11,7 +11,7 @@ use Rattle.solid_model.specs.Edits.{MakesClause, edited}
 use Rattle.solid_model.specs.declared.clause.Clause.{Clause}
 use Rattle.view_settings.specs.declared.job.Job.TheVariants.{Replay}
 use Rattle.modeller_cmd.specs.Asking.{asked}
-use Rattle.modeller_cmd.specs.Parts.{AreExact, work_of_parts}
+use Rattle.modeller_cmd.specs.Parts.{work_of_parts}
 use Rattle.modeller_cmd.specs.Playing.{Played, Stopped}
 use Rattle.modeller_cmd.specs.Replays.{parts_at, replayed, standing}
 use Rattle.modeller_cmd.specs.Stops.{status_at}
@@ -39,8 +39,7 @@ pub record StopsIn {K : Type 0} (held : K → Option (List ℕ)) (faults : K →
   pub unwritten : stop ≡ NoMemory → after ≡ before
   pub wants : stop ≡ NoMemory → WantsMemory clauses command
   pub writes : stop ≡ WriteFault → WritesSomething clauses command
-  pub counted : stop ≡ WriteFault → AreExact (parts_at clauses command)
-      → CountsWork first last (work_of_parts (parts_at clauses command))
+  pub counted : stop ≡ WriteFault → CountsWork first last (work_of_parts (parts_at clauses command))
   pub stopped : Stopped held faults before after first last (parts_at clauses command) stop
 
 -- Something stopped one of these commands: those before it were played whole, and nothing was done
