@@ -33,7 +33,7 @@ use Rattle.modeller_cmd.specs.Parts.{Part, bytes_of_parts, work_of_parts}
 use Rattle.modeller_cmd.specs.Playing.{Played, Stopped}
 use Rattle.modeller_cmd.specs.Statuses.{number_of}
 use Rattle.modeller_cmd.specs.SoundTexts.{HasSoundFrame, MeshFramesAreSound, MeshesAreSound}
-use Rattle.modeller_cmd.specs.Stopping.{StopsAt, StopsIn, StopsPlay, StopsRun, WantsMemory, WritesSomething}
+use Rattle.modeller_cmd.specs.Stopping.{IsUnbegun, StopsAt, StopsIn, StopsPlay, StopsRun, WantsMemory, WritesSomething}
 use Rattle.modeller_cmd.specs.Stops.{status_at}
 use Rattle.modeller_cmd.specs.Forging.{forge_text, forged_clauses}
 use Rattle.fixed_ops.specs.Counts.{Counts, RisesAtMost, RisesWithin, no_counts, risen}
@@ -749,6 +749,10 @@ bytes_of_no_frame stops = let front = stops.stopped.front refl in by front.count
     by zero same = (cc)
     by (suc count) same = let byte : 98 ≡ 64 = ap (λ s. slice_index_or s 0 0) same in absurd (omega (arith, byte))
 
+-- no fault of the sink stops a script before anything of it is done
+fault_after_nothing : IsUnbegun stop.WriteFault → ⊥
+fault_after_nothing may = may
+
 -- half a frame is written of no script that wants memory
 half_a_frame : StopsRun (λ (s : List ℕ). Some s) (λ s. 0) [] (codes "@") no_counts no_counts (codes "replay" ∷ []) (codes "x var-x\n%%\ntext\n") status.NoMemory → ⊥
 unfolding digits replayed standing
@@ -774,9 +778,9 @@ half_a_frame run = by run.stop run.is (run.play refl)
     by stop.WriteFault is play = (cc)
     by stop.NoMemory is play = either (play (take 1 two) (commands.Text ∷ []) refl refl)
       where
-        either : ((codes "@" ≡ []) × (no_counts ≡ no_counts))
+        either : (IsUnbegun stop.NoMemory × (codes "@" ≡ []) × (no_counts ≡ no_counts))
             ⊎ StopsAt (λ (s : List ℕ). Some s) (λ s. 0) [] (codes "@") no_counts no_counts (take 1 two) (commands.Text ∷ []) stop.NoMemory → ⊥
-        either (inl none) = let same : codes "@" ≡ [] = none.0 in (cc)
+        either (inl none) = let same : codes "@" ≡ [] = none.1 in (cc)
         either (inr stops) = at stops.earlier stops.command stops.later stops.split stops.between stops.counts stops.played stops.stops
 
 -- the text of a mesh that is written is told to be sound, and so is that of a frame: of what stands where it comes

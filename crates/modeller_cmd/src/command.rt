@@ -107,10 +107,13 @@ pub fn run<S: Source, K: Sink, N: Sink>(
     ensures never_falls { N.faults notes.old ≤ N.faults notes.new }
     ensures fails_once { RoseAtMost N.faults notes.old notes.new 1 }
 
-    // The one line of the notes.
+    // The one line of the notes: under statuses 2 to 5 it is that of the output.
     ensures note { Tells (bytes_of words.now)
         (input_told S.rest source.old (asks_nothing (bytes_of words.now))) result
         (TakesLine N.faults N.held notes.old notes.new) }
+    ensures noted { WithOutput S.rest source.old (bytes_of words.now) (λ output.
+        output.status ≡ result → result ≢ Status.Done
+        → TakesLine N.faults N.held notes.old notes.new output.note) }
 
     // The work that is counted: between its least and its most where it was done, which are one for
     // the evaluations and traced steps of images and height maps. Whatever the status, never more.

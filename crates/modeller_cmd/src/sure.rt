@@ -55,6 +55,9 @@ pub fn run_surely(
     ensures note { Tells (bytes_of words.now)
         (input_told (λ s. Some s.rest) source.old (asks_nothing (bytes_of words.now))) result
         (TakesLine (λ _. 0) (λ s. s.held) notes.old notes.new) }
+    ensures noted { WithOutput (λ s. Some s.rest) source.old (bytes_of words.now) (λ output.
+        output.status ≡ result → result ≢ Done
+        → TakesLine (λ _. 0) (λ s. s.held) notes.old notes.new output.note) }
     ensures counted { IsWorked (bytes_of words.now) result
         → WithOutput (λ s. Some s.rest) source.old (bytes_of words.now) (λ output.
         CountsWork tally.old tally.new (work_of_parts output.parts)) }

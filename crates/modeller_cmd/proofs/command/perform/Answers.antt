@@ -7,14 +7,16 @@ use Rattle.modeller_cmd.specs.Endings.{Ends, GainsParts}
 use Rattle.modeller_cmd.specs.Output.{made, output_as, output_of}
 use Rattle.modeller_cmd.specs.Parts.{bytes_of_parts, work_of_parts}
 use Rattle.modeller_cmd.specs.Playing.{Played, Stopped}
-use Rattle.modeller_cmd.specs.declared.stop.Stop.TheVariants.{NoMemory, WriteFault}
+use Rattle.modeller_cmd.specs.Stopping.{IsUnbegun}
+use Rattle.modeller_cmd.specs.Stops.{stop_of_end}
+use Rattle.modeller_cmd.specs.declared.stop.Stop.TheVariants.{NoMemory, Refused, WriteFault}
 use Rattle.modeller_cmd.proofs.Inputs.{frames-told, read-ends, reads-some, told-by-words}
 use Rattle.modeller_cmd.proofs.Outcomes.{some-none, some_all, some_follows}
-use Rattle.modeller_cmd.proofs.Plays.{parts-none}
+use Rattle.modeller_cmd.proofs.Plays.{parts-none, stops-with}
 use Rattle.modeller_cmd.proofs.Serving.{as-told, done-or-stopped, err-follows, ok-follows, served, served-counted, served-front, served-told, served-whole}
 use Rattle.modeller_cmd.proofs.Soundness.{frames_are_sound, run_is_sound}
 use Rattle.view_settings.specs.declared.job.Job.TheVariants.{Replay}
-use Rattle.modeller_cmd.proofs.Stops.{served-stops, unplayed}
+use Rattle.modeller_cmd.proofs.Stops.{asks-none, served-stops, unplayed, unread}
 use Rattle.modeller_cmd.proofs.command.perform.Goals as goal
 
 pub returns-in_err-job-clause-work : goal.returns-in_err-job-clause-work
@@ -153,11 +155,15 @@ pub returns-in_err-job-clause-stops : goal.returns-in_err-job-clause-stops
 returns-in_err-job-clause-stops g c =
     unplayed g.K.Sink.held g.K.Sink.faults c.args.out.now c.args.tally.now c.from_residual.result (input_told g.S.Source.rest c.args.source.now (asks_nothing (bytes_of c.args.words.now)))
     (asked (bytes_of c.args.words.now) ≡ Ok Replay)
+    (stops-with c.from_residual.result (Refused c.in_err-job.field-0.0) (λ stop. asked (bytes_of c.args.words.now) ≡ Ok Replay → IsUnbegun stop) c.from_residual.ensures.1
+    (λ replays. absurd (asks-none (asked (bytes_of c.args.words.now)) c.in_err-job.field-0.0 Replay c.in_err-job.ensures.job replays)))
 
 pub returns-in_err-input-clause-stops : goal.returns-in_err-input-clause-stops
 returns-in_err-input-clause-stops g c =
     unplayed g.K.Sink.held g.K.Sink.faults c.args.out.now c.args.tally.now c.from_residual-in_err-input.result (input_told g.S.Source.rest c.args.source.now (asks_nothing (bytes_of c.args.words.now)))
     (asked (bytes_of c.args.words.now) ≡ Ok Replay)
+    (stops-with c.from_residual-in_err-input.result (stop_of_end c.in_err-input.field-0.0) (λ stop. asked (bytes_of c.args.words.now) ≡ Ok Replay → IsUnbegun stop) c.from_residual-in_err-input.ensures.1
+    (λ replays. unread c.in_err-input.field-0.0))
 
 pub returns-clause-stops : goal.returns-clause-stops
 returns-clause-stops g c =
