@@ -1,16 +1,16 @@
 -- The tops of a height map are those of the solid, and its work is bounded.
 use Rattle.std.proofs.Common.{◌≡◌, ℕ, zero, suc, ◌+◌, ◌-◌, ◌*◌, ◌≤◌, Bool, true, false, List, length, map, if◌then◌else◌, sym, ap, subst, ◌∙◌, arith, mul-le-mul_left, zero-add}
-use Rattle.std.specs.Prelude.{All, IfOk, Result}
+use Rattle.std.specs.Prelude.{All, Err, IfOk, Ok, OnOk, Result}
 use Rattle.std.specs.List.{flat_map, range_with_len}
 use Rattle.std.proofs.lemmas.List.{length-append}
 use Rattle.std.proofs.lemmas.List.Concat.{flat_map-cons}
 use Rattle.std.proofs.lemmas.List.Elements.{All-append, All-cons, All-nil}
 use Rattle.std.proofs.lemmas.List.FromFn.{length-map-range_with_len}
-use Rattle.box_chains.specs.Tallied.{CountsAtMost}
-use Rattle.fixed_ops.specs.Counts.{Counts}
+use Rattle.box_chains.specs.Tallied.{CountsAtMost, work_of}
+use Rattle.fixed_ops.specs.Counts.{Counts, risen}
 use Rattle.fixed_ops.specs.Points.{Point}
 use Rattle.fixed_ops.specs.Raw.{is_inside}
-use Rattle.height_map.specs.Bound.{height_points, height_spans}
+use Rattle.height_map.specs.Bound.{CountsPoints, CountsSpans, height_points, height_spans, near_spans}
 use Rattle.height_map.specs.Laws.{HeightPointsAreBounded}
 use Rattle.height_map.specs.TopMaps.{Heights}
 use Rattle.height_map.specs.Tops.{greatest, tops_of as drawn_tops}
@@ -24,8 +24,8 @@ use Rattle.view_settings.specs.Places.{point_of}
 use Rattle.view_settings.specs.Window.{IsWindow, Window}
 use Rattle.view_settings.specs.declared.lattice.Lattice.TheVariants.{Height}
 use Rattle.edit_session.specs.Heights.{heights_of, plain_depths, top_at, tops_at, tops_of}
-use Rattle.edit_session.specs.Work.{CountsWithin, PointsRiseAtMost, height_work}
-use Rattle.edit_session.proofs.Frames.{root-few}
+use Rattle.edit_session.specs.Work.{CountsWithin, CountsWork, PointsRiseAtMost, height_work}
+use Rattle.edit_session.proofs.Frames.{plain-within, root-few}
 
 -- a top is of the values of its column: where a list has the solid's value, its tops are the solid's
 tops-same : (view : Window) (clauses : List Clause) (list : List Step) → ((p : Point) → tape_value p list ≡ solid_value p clauses)
@@ -102,20 +102,48 @@ pub heights_within : (before after : Counts) (view : Window) (clauses : List Cla
     → CountsWithin before after (height_work view clauses)
 unfolding CountsWithin
 heights_within before after view clauses list is h =
-    subst (λ l. CountsAtMost (height_points view l) (height_spans view l) before after) is h
+    let root = subst (λ l. CountsAtMost (height_points view l) (height_spans view l) before after) is h in
+    record { by = root.by; within = root.few; rises = root.rises }
+
+-- counts are those of which each is
+counts-same : (counts : Counts) (points spans corners : ℕ) → counts.points ≡ points → counts.spans ≡ spans → counts.corners ≡ corners
+    → counts ≡ work_of points spans corners
+counts-same counts points spans corners p s c = λ k. record { points = p k; spans = s k; corners = c k }
+
+-- a map that is made has taken exactly its evaluations and its traced steps
+heights-done : (before after : Counts) (view : Window) (clauses : List Clause)
+    → CountsAtMost (height_points view (root_of clauses)) (height_spans view (root_of clauses)) before after
+    → CountsPoints (height_points view (root_of clauses)) before after → CountsSpans (near_spans view (root_of clauses)) before after
+    → CountsWork before after (height_work view clauses)
+unfolding CountsWork
+heights-done before after view clauses h points spans =
+    let p = height_points view (root_of clauses) in
+    let s = near_spans view (root_of clauses) in
+    record {
+      by = work_of p s h.by.corners;
+      enough = record { points = omega arith; spans = omega arith; corners = omega arith };
+      within = record { points = omega arith; spans = omega arith; corners = h.few.corners };
+      rises = counts-same after (risen before.points p) (risen before.spans s) (risen before.corners h.by.corners) points spans (ap (λ c. c.corners) h.rises);
+    }
+
+pub heights_counted : {T E : Type 0} (r : Result T E) (before after : Counts) (view : Window) (clauses : List Clause) (list : List Step) → list ≡ root_of clauses
+    → CountsAtMost (height_points view list) (height_spans view list) before after → OnOk r (CountsPoints (height_points view list) before after)
+    → OnOk r (CountsSpans (near_spans view list) before after) → OnOk r (CountsWork before after (height_work view clauses))
+heights_counted (Err e) before after view clauses list is h points spans = tt
+heights_counted (Ok x) before after view clauses list is h points spans =
+    heights-done before after view clauses
+    (subst (λ l. CountsAtMost (height_points view l) (height_spans view l) before after) is h)
+    (subst (λ l. CountsPoints (height_points view l) before after) is points)
+    (subst (λ l. CountsSpans (near_spans view l) before after) is spans)
 
 -- a height map takes no more evaluations than evaluating each clause at each sample
 pub heights_plain : (before after : Counts) (view : Window) (clauses : List Clause) (list : List Step) → list ≡ root_of clauses
     → IsWindow view → IsTape list → HeightPointsAreBounded → CountsWithin before after (height_work view clauses)
     → PointsRiseAtMost before after (plain_depths view (length clauses))
-unfolding CountsWithin
 heights_plain before after view clauses list is window tape points h =
     let few = points view (root_of clauses) window (subst IsTape is tape) in
-    record {
-      by = h.by.points;
-      few = omega (arith, few, h.few.points, mul-le-mul_left (view.w * view.h * view.d) (root-few clauses));
-      rises = ap (λ c. c.points) h.rises;
-    }
+    plain-within before after (height_work view clauses) (plain_depths view (length clauses))
+    (omega (arith, few, mul-le-mul_left (view.w * view.h * view.d) (root-few clauses))) h
 
 -- the bytes of a map of the solid's tops are those of the solid's height map
 pub bytes-same : {T E : Type 0} (r : Result T E) (items : T → List ℕ) (view : Window) (clauses : List Clause) (map : Heights)

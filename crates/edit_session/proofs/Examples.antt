@@ -1,13 +1,13 @@
 -- The definitions of frames, computed on models and views that were worked out by hand.
-use Rattle.std.proofs.Common.{◌≡◌, ℕ, pos, negsuc, List, [], ◌∷◌, ◌++◌, Result, Ok, Err, refl, ap, arith}
+use Rattle.std.proofs.Common.{◌≡◌, ℕ, pos, negsuc, List, [], ◌∷◌, ◌++◌, Result, Ok, Err, refl, arith}
 use Rattle.std.specs.Prelude.{codes, replicate, take}
 use Rattle.std.specs.Fmt.{digits}
 use Rattle.box_chains.specs.Chains.{chain_within}
 use Rattle.box_chains.specs.Counts.{points_in, spans_in}
 use Rattle.clause_reader.specs.Reading.{text_read}
 use Rattle.clause_reader.specs.declared.text_fault.TextFault.{TextFault}
-use Rattle.box_chains.specs.Tested.{points_where}
-use Rattle.oct_descent.specs.Bound.{mesh_points, spans_in as spans_of_cells}
+use Rattle.box_chains.specs.Tested.{points_where, spans_where}
+use Rattle.oct_descent.specs.Bound.{long_spans_in, mesh_least, mesh_points, spans_in as spans_of_cells}
 use Rattle.oct_descent.specs.Ways.{way_within}
 use Rattle.fixed_ops.specs.Numerals.{cut_magnitude, is_unsigned_numeral, nearest_raw, unsigned_raw}
 use Rattle.kuhn_cells.specs.Faces.{all_triangles, faces}
@@ -18,7 +18,7 @@ use Rattle.edit_session.specs.Heights.{heights_of, plain_depths}
 use Rattle.edit_session.specs.Images.{image_of, plain_points}
 use Rattle.edit_session.specs.Meshes.{grid_of, mesh_text, plain_grid}
 use Rattle.fixed_ops.specs.Counts.{no_counts, points_of, spans_of}
-use Rattle.edit_session.specs.Work.{CountsWithin, CountsWork, FitsCounts, PointsRiseAtMost, Work, both, frame_work, height_work, mesh_work, no_work}
+use Rattle.edit_session.specs.Work.{CountsWithin, CountsWork, FitsCounts, PointsRiseAtMost, Work, both, exactly, frame_work, height_work, mesh_work, no_work}
 
 -- the clauses of a text that is read
 abbrev solid : List ℕ → List Clause
@@ -74,13 +74,13 @@ plain_corners = refl
 
 -- The left one of two boxes holds five samples, of which the middle one is 0, and so stays undecided.
 undecided_half : frame_work (window 9 1 1) (solid (codes "x var-x\n"))
-    ≡ record { points = 5; spans = 3; plain = 9 }
+    ≡ exactly 5 3 9
 unfolding points_in spans_in chain_within
 undecided_half = refl
 
 -- what is decided at once takes no evaluation
 decided_at_once : frame_work (window 8 8 1) (solid (codes "a const -1\n"))
-    ≡ record { points = 0; spans = 1; plain = 64 }
+    ≡ exactly 0 1 64
 unfolding points_in spans_in chain_within cut_magnitude is_unsigned_numeral nearest_raw unsigned_raw
 decided_at_once = refl
 
@@ -121,46 +121,49 @@ unfolding grid_of
 along_z = refl
 
 -- the work of two frames is the sum, number by number
-sum_of_work : both (record { points = 1; spans = 20; plain = 300 }) (record { points = 4; spans = 50; plain = 600 })
-    ≡ record { points = 5; spans = 70; plain = 900 }
+sum_of_work : both (exactly 1 20 300) (exactly 4 50 600) ≡ exactly 5 70 900
 sum_of_work = refl
 
-nothing_adds_nothing : both no_work (record { points = 1; spans = 20; plain = 300 }) ≡ record { points = 1; spans = 20; plain = 300 }
+nothing_adds_nothing : both no_work (exactly 1 20 300) ≡ exactly 1 20 300
 nothing_adds_nothing = refl
 
 -- a count has at most 64 bits
-points_beyond_a_count : FitsCounts (record no_work { points = 18446744073709551616 }) → ⊥
+points_beyond_a_count : FitsCounts (exactly 18446744073709551616 0 0) → ⊥
 points_beyond_a_count fits = absurd (omega (arith, fits.points))
 
-spans_beyond_a_count : FitsCounts (record no_work { spans = 18446744073709551616 }) → ⊥
+spans_beyond_a_count : FitsCounts (exactly 0 18446744073709551616 0) → ⊥
 spans_beyond_a_count fits = absurd (omega (arith, fits.spans))
 
 -- of a clause that the last one does not need, a map and a mesh take no work, but plain evaluation of it does
-map_of_two_clauses : height_work (window 1 1 3) (solid (codes "u var-x\nz var-z\n"))
-    ≡ record { points = 3; spans = 1; plain = 6 }
-unfolding points_in spans_in points_where chain_within
+map_of_two_clauses : height_work (window 1 1 3) (solid (codes "u var-x\nz var-z\n")) ≡ exactly 3 1 6
+unfolding points_in spans_in points_where spans_where chain_within
 map_of_two_clauses = refl
 
+-- a mesh of one cell is traced at no box of more than one
 mesh_of_two_clauses : mesh_work (window 1 1 1) (solid (codes "u var-x\na const -1\n"))
-    ≡ record { points = 8; spans = 1; plain = 16 }
-unfolding mesh_points spans_of_cells way_within cut_magnitude is_unsigned_numeral nearest_raw unsigned_raw
+    ≡ record (exactly 8 1 16) { least = points_of 8 }
+unfolding mesh_points mesh_least long_spans_in spans_of_cells way_within cut_magnitude is_unsigned_numeral nearest_raw unsigned_raw
 mesh_of_two_clauses = refl
 
 -- exact work is counted neither more nor less, and evaluations are no hulls
 abbrev two_points : Work
-two_points = record no_work { points = 2 }
+two_points = exactly 2 0 0
 
 one_for_two : CountsWork no_counts (points_of 1) two_points → ⊥
 unfolding CountsWork
-one_for_two counts = let same : 1 ≡ 2 = ap (λ c. c.points) counts.rises in absurd (omega (arith, same))
+one_for_two counts = (grind (arith, counts.enough.points, counts.rises))
+
+none_for_two : CountsWork no_counts no_counts two_points → ⊥
+unfolding CountsWork
+none_for_two counts = (grind (arith, counts.enough.points, counts.rises))
 
 three_for_two : CountsWithin no_counts (points_of 3) two_points → ⊥
 unfolding CountsWithin
-three_for_two counts = (grind (arith, counts.few.points, counts.rises))
+three_for_two counts = (grind (arith, counts.within.points, counts.rises))
 
 hull_for_two : CountsWithin no_counts (spans_of 1) two_points → ⊥
 unfolding CountsWithin
-hull_for_two counts = (grind (arith, counts.few.spans, counts.rises))
+hull_for_two counts = (grind (arith, counts.within.spans, counts.rises))
 
 three_above_two : PointsRiseAtMost no_counts (points_of 3) 2 → ⊥
 three_above_two rises = (grind (arith, rises.few, rises.rises))

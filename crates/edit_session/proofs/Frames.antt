@@ -14,7 +14,7 @@ use Rattle.live_clauses.specs.Steps.{IsTape, step_of, steps_of, tape_value}
 use Rattle.live_clauses.specs.declared.step.Step.{Step}
 use Rattle.quad_descent.specs.Laws.{FreshPointsAreBounded, FreshSpansAreBounded}
 use Rattle.quad_descent.specs.Pixels.{pixels_of as drawn_pixels}
-use Rattle.box_chains.specs.Tallied.{CountsAtMost, CountsExactly}
+use Rattle.box_chains.specs.Tallied.{CountsAtMost, CountsExactly, work_of}
 use Rattle.quad_descent.specs.Raster.{Drawing, fresh_points, fresh_spans}
 use Rattle.raster_pgm.specs.Pgm.{pgm_header_of}
 use Rattle.solid_model.specs.Values.{solid_value}
@@ -22,7 +22,7 @@ use Rattle.solid_model.specs.declared.clause.Clause.{Clause}
 use Rattle.view_settings.specs.Places.{raster_point}
 use Rattle.view_settings.specs.Window.{IsWindow, Window}
 use Rattle.edit_session.specs.Images.{image_of, pixels_of, plain_points}
-use Rattle.edit_session.specs.Work.{CountsWithin, CountsWork, FitsCounts, PointsRiseAtMost, Work, frame_work}
+use Rattle.edit_session.specs.Work.{CountsWithin, CountsWork, FitsCounts, PointsRiseAtMost, Work, exactly, frame_work}
 
 -- an error says what holds anyway
 pub on_err : {T E : Type 0} (r : Result T E) (P : Type 0) → P → OnErr r P
@@ -71,7 +71,7 @@ root-few clauses =
 
 -- a fresh image takes no more evaluations than evaluating each clause at each sample
 pub fresh-plain : (view : Window) (clauses : List Clause) → fresh_points view (root_of clauses) ≤ view.w * view.h * length (root_of clauses)
-    → (frame_work view clauses).points ≤ plain_points view (length clauses)
+    → (frame_work view clauses).most.points ≤ plain_points view (length clauses)
 fresh-plain view clauses few = omega (arith, few, mul-le-mul_left (view.w * view.h) (root-few clauses))
 
 -- and its work fits a count
@@ -95,35 +95,54 @@ drawn_fits view clauses list is window tape points spans =
     fresh-fits view clauses window root (points view (root_of clauses) window root) (spans view (root_of clauses) window root)
 
 pub drawn_few : (view : Window) (clauses : List Clause) (list : List Step) → list ≡ root_of clauses → IsWindow view → IsTape list
-    → FreshPointsAreBounded → (frame_work view clauses).points ≤ plain_points view (length clauses)
+    → FreshPointsAreBounded → (frame_work view clauses).most.points ≤ plain_points view (length clauses)
 drawn_few view clauses list is window tape points =
     let root : IsTape (root_of clauses) = subst IsTape is tape in
     fresh-plain view clauses (points view (root_of clauses) window root)
 
--- the evaluations of exact work are no more than as many, and so are those of bounded work
-plain-exactly : (before after : Counts) (work : Work) (most : ℕ) → work.points ≤ most → CountsExactly work.points work.spans before after → PointsRiseAtMost before after most
-plain-exactly before after work most few h = record { by = work.points; few = few; rises = ap (λ c. c.points) h.rises }
+-- work that is counted exactly is done, and within its bound
+exactly-done : (before after : Counts) (points spans plain : ℕ) → CountsExactly points spans before after → CountsWork before after (exactly points spans plain)
+unfolding CountsWork
+exactly-done before after points spans plain h = record {
+  by = work_of points spans h.corners;
+  enough = record { points = omega arith; spans = omega arith; corners = omega arith };
+  within = record { points = omega arith; spans = omega arith; corners = h.few };
+  rises = h.rises;
+}
 
-plain-within : (before after : Counts) (work : Work) (most : ℕ) → work.points ≤ most → CountsAtMost work.points work.spans before after → PointsRiseAtMost before after most
-plain-within before after work most few h = record { by = h.by.points; few = omega (arith, few, h.few.points); rises = ap (λ c. c.points) h.rises }
+exactly-within : (before after : Counts) (points spans plain : ℕ) → CountsExactly points spans before after → CountsWithin before after (exactly points spans plain)
+unfolding CountsWithin
+exactly-within before after points spans plain h = record {
+  by = work_of points spans h.corners;
+  within = record { points = omega arith; spans = omega arith; corners = h.few };
+  rises = h.rises;
+}
 
--- what was drawn or refused took no more evaluations than evaluating each clause at each sample
-pub drawn_plain : {T E : Type 0} (r : Result T E) (before after : Counts) (work : Work) (most : ℕ) → work.points ≤ most
-    → OnOk r (CountsExactly work.points work.spans before after) → OnErr r (CountsAtMost work.points work.spans before after)
-    → PointsRiseAtMost before after most
-drawn_plain r before after work most few all some =
-    either_way r (CountsExactly work.points work.spans before after) (CountsAtMost work.points work.spans before after) (PointsRiseAtMost before after most)
-    (plain-exactly before after work most few) (plain-within before after work most few) all some
+-- so is work that was counted up to where memory was refused
+stopped-within : (before after : Counts) (points spans plain : ℕ) → CountsAtMost points spans before after → CountsWithin before after (exactly points spans plain)
+unfolding CountsWithin
+stopped-within before after points spans plain h = record { by = h.by; within = h.few; rises = h.rises }
+
+-- what is within a bound rises in evaluations by no more than that has
+pub plain-within : (before after : Counts) (work : Work) (most : ℕ) → work.bound.points ≤ most → CountsWithin before after work → PointsRiseAtMost before after most
+unfolding CountsWithin
+plain-within before after work most few h =
+    record { by = h.by.points; few = omega (arith, few, h.within.points); rises = ap (λ c. c.points) h.rises }
 
 -- what a list counts is what its root list does
-pub drawn_exactly : {T E : Type 0} (r : Result T E) (before after : Counts) (view : Window) (clauses : List Clause) (list : List Step) → list ≡ root_of clauses
+pub drawn_counted : {T E : Type 0} (r : Result T E) (before after : Counts) (view : Window) (clauses : List Clause) (list : List Step) → list ≡ root_of clauses
     → OnOk r (CountsExactly (fresh_points view list) (fresh_spans view list) before after) → OnOk r (CountsWork before after (frame_work view clauses))
-unfolding CountsWork
-drawn_exactly r before after view clauses list is h =
-    subst (λ l. OnOk r (CountsExactly (fresh_points view l) (fresh_spans view l) before after)) is h
+drawn_counted (Err e) before after view clauses list is h = tt
+drawn_counted (Ok x) before after view clauses list is h =
+    exactly-done before after (fresh_points view (root_of clauses)) (fresh_spans view (root_of clauses)) (plain_points view (length clauses))
+    (subst (λ l. CountsExactly (fresh_points view l) (fresh_spans view l) before after) is h)
 
 pub drawn_within : {T E : Type 0} (r : Result T E) (before after : Counts) (view : Window) (clauses : List Clause) (list : List Step) → list ≡ root_of clauses
-    → OnErr r (CountsAtMost (fresh_points view list) (fresh_spans view list) before after) → OnErr r (CountsWithin before after (frame_work view clauses))
-unfolding CountsWithin
-drawn_within r before after view clauses list is h =
-    subst (λ l. OnErr r (CountsAtMost (fresh_points view l) (fresh_spans view l) before after)) is h
+    → OnOk r (CountsExactly (fresh_points view list) (fresh_spans view list) before after)
+    → OnErr r (CountsAtMost (fresh_points view list) (fresh_spans view list) before after) → CountsWithin before after (frame_work view clauses)
+drawn_within (Ok x) before after view clauses list is h some =
+    exactly-within before after (fresh_points view (root_of clauses)) (fresh_spans view (root_of clauses)) (plain_points view (length clauses))
+    (subst (λ l. CountsExactly (fresh_points view l) (fresh_spans view l) before after) is h)
+drawn_within (Err e) before after view clauses list is all h =
+    stopped-within before after (fresh_points view (root_of clauses)) (fresh_spans view (root_of clauses)) (plain_points view (length clauses))
+    (subst (λ l. CountsAtMost (fresh_points view l) (fresh_spans view l) before after) is h)

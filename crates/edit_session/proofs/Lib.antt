@@ -3,6 +3,7 @@ mod Examples
 mod Frames
 mod GridLaws
 mod GridWork
+mod LeastWork
 mod MeshLaws
 mod SoundTexts
 pub mod WorkLaws

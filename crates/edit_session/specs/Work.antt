@@ -1,10 +1,10 @@
 -- The work that frames take, and how it is counted.
-use Rattle.std.specs.Prelude.{◌≡◌, ℕ, ◌+◌, ◌^◌, ◌<◌, ◌≤◌, List, length}
-use Rattle.fixed_ops.specs.Counts.{Counts, risen}
-use Rattle.height_map.specs.Bound.{height_points, height_spans}
+use Rattle.std.specs.Prelude.{◌≡◌, ℕ, ◌+◌, ◌*◌, ◌^◌, ◌<◌, ◌≤◌, List, length}
+use Rattle.fixed_ops.specs.Counts.{Counts, RisesAtMost, RisesWithin, no_counts, plus, risen}
+use Rattle.height_map.specs.Bound.{height_points, height_spans, near_spans}
 use Rattle.live_clauses.specs.Live.{root_of}
-use Rattle.box_chains.specs.Tallied.{CountsAtMost, CountsExactly}
-use Rattle.oct_descent.specs.Bound.{mesh_points, mesh_spans}
+use Rattle.box_chains.specs.Tallied.{work_of}
+use Rattle.oct_descent.specs.Bound.{mesh_least, mesh_long_spans, mesh_points, mesh_spans}
 use Rattle.quad_descent.specs.Raster.{fresh_points, fresh_spans}
 use Rattle.solid_model.specs.declared.clause.Clause.{Clause}
 use Rattle.view_settings.specs.Window.{Window}
@@ -12,66 +12,84 @@ use Rattle.edit_session.specs.Heights.{plain_depths}
 use Rattle.edit_session.specs.Images.{plain_points}
 use Rattle.edit_session.specs.Meshes.{plain_grid}
 
--- the evaluations at samples, the steps that are traced over boxes, and the evaluations that
--- evaluating each clause once at each sample would take
+-- What a frame takes: where it is drawn, at least and at most so many evaluations, traced steps and
+-- corners of hulls, and no more than so many whatever stops it; and the evaluations that evaluating
+-- each clause once at each sample would take.
 pub record Work : Type 0 where
-  pub points : ℕ
-  pub spans : ℕ
+  pub least : Counts
+  pub most : Counts
+  pub bound : Counts
   pub plain : ℕ
 
 -- no work
 abbrev pub no_work : Work
-no_work = record { points = 0; spans = 0; plain = 0 }
+no_work = record { least = no_counts; most = no_counts; bound = no_counts; plain = 0 }
 
 -- the work of two frames
 abbrev pub both : Work → Work → Work
 both a b = record {
-  points = a.points + b.points;
-  spans = a.spans + b.spans;
+  least = plus a.least b.least;
+  most = plus a.most b.most;
+  bound = plus a.bound b.bound;
   plain = a.plain + b.plain;
 }
 
--- the work of a fresh image of a solid over a view: that of its root list, and beside it what all
--- clauses would take
-abbrev pub frame_work : Window → List Clause → Work
-frame_work view clauses = record {
-  points = fresh_points view (root_of clauses);
-  spans = fresh_spans view (root_of clauses);
-  plain = plain_points view (length clauses);
+-- exactly so many evaluations and traced steps, with at most four corners for each of these
+abbrev pub exactly : ℕ → ℕ → ℕ → Work
+exactly points spans plain = record {
+  least = work_of points spans 0;
+  most = work_of points spans (4 * spans);
+  bound = work_of points spans (4 * spans);
+  plain = plain;
 }
 
--- the work that a height map of a solid over a view takes at most: that of its root list, and
--- beside it what all clauses would take
-abbrev pub height_work : Window → List Clause → Work
-height_work view clauses = record {
-  points = height_points view (root_of clauses);
-  spans = height_spans view (root_of clauses);
-  plain = plain_depths view (length clauses);
-}
-
--- the work that a mesh of a solid over a view takes at most: that of its root list, and beside it
+-- the work of a fresh image of a solid over a view: exactly that of its root list, and beside it
 -- what all clauses would take
+abbrev pub frame_work : Window → List Clause → Work
+frame_work view clauses =
+    exactly (fresh_points view (root_of clauses)) (fresh_spans view (root_of clauses))
+    (plain_points view (length clauses))
+
+-- the work of a height map of a solid over a view: exactly the evaluations of the samples that do
+-- not lie behind a top, and the steps traced on the ways to them; and beside it what all clauses
+-- would take
+abbrev pub height_work : Window → List Clause → Work
+height_work view clauses =
+    let points = height_points view (root_of clauses) in
+    let near = near_spans view (root_of clauses) in
+    let spans = height_spans view (root_of clauses) in
+    record {
+      least = work_of points near 0;
+      most = work_of points near (4 * spans);
+      bound = work_of points spans (4 * spans);
+      plain = plain_depths view (length clauses);
+    }
+
+-- the work of a mesh of a solid over a view: at each corner of a working cell an evaluation of the
+-- shortest list at least, and of the longest at most, that a working cell there receives; and at
+-- least the steps traced over the boxes of more than one cell, at most those over all boxes
 abbrev pub mesh_work : Window → List Clause → Work
-mesh_work view clauses = record {
-  points = mesh_points view (root_of clauses);
-  spans = mesh_spans view (root_of clauses);
-  plain = plain_grid view (length clauses);
-}
+mesh_work view clauses =
+    let spans = mesh_spans view (root_of clauses) in
+    record {
+      least = work_of (mesh_least view (root_of clauses)) (mesh_long_spans view (root_of clauses)) 0;
+      most = work_of (mesh_points view (root_of clauses)) spans (4 * spans);
+      bound = work_of (mesh_points view (root_of clauses)) spans (4 * spans);
+      plain = plain_grid view (length clauses);
+    }
 
--- each of its numbers fits a count
+-- its evaluations and its traced steps fit a count
 pub record FitsCounts (work : Work) : Type 0 where
-  pub points : work.points < 2 ^ 64
-  pub spans : work.spans < 2 ^ 64
+  pub points : work.most.points < 2 ^ 64
+  pub spans : work.most.spans < 2 ^ 64
 
--- a tally rises by exactly the evaluations and the hulls of the work, with at most four corners for
--- each hull
+-- the work is done: each count of a tally rises by what lies between its least and its most
 unfoldable pub CountsWork : Counts → Counts → Work → Type 0
-CountsWork before after work = CountsExactly work.points work.spans before after
+CountsWork before after work = RisesWithin before after work.least work.most
 
--- a tally rises by no more than the evaluations and the hulls of the work, and four corners for each
--- hull
+-- the work may have stopped: each count of a tally rises by no more than its bound
 unfoldable pub CountsWithin : Counts → Counts → Work → Type 0
-CountsWithin before after work = CountsAtMost work.points work.spans before after
+CountsWithin before after work = RisesAtMost before after work.bound
 
 -- the evaluations of a tally rise by at most so many
 pub record PointsRiseAtMost (before after : Counts) (most : ℕ) : Type 0 where

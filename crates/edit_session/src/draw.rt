@@ -1,5 +1,5 @@
 // The image of a solid over a view.
-ghost use Rattle.std.specs.Prelude.{◌≡◌, length, IfOk, OnOk, OnErr};
+ghost use Rattle.std.specs.Prelude.{◌≡◌, length, IfOk, OnOk};
 ghost use Rattle.fixed_ops.specs.Points.{Point};
 ghost use Rattle.live_clauses.specs.Live.{root_of};
 ghost use Rattle.live_clauses.specs.Steps.{tape_value};
@@ -25,8 +25,7 @@ pub(crate) fn draw(
 ) -> Result<Vec<u8>, AllocError>
     ensures ok { IfOk result (λ image. image.items ≡ image_of view.now model.now) }
     ensures counted { OnOk result (CountsWork tally.old tally.new (frame_work view.now model.now)) }
-    ensures at_most { OnErr result
-        (CountsWithin tally.old tally.new (frame_work view.now model.now)) }
+    ensures at_most { CountsWithin tally.old tally.new (frame_work view.now model.now) }
     ensures plain { PointsRiseAtMost tally.old tally.new
         (plain_points view.now (length model.now)) }
 {
@@ -50,8 +49,7 @@ pub fn draw_tree(
         (p : Point) → tape_value p tree.list ≡ solid_value p model.now) }
     ensures fits { OnOk result (FitsCounts (frame_work view.now model.now)) }
     ensures counted { OnOk result (CountsWork tally.old tally.new (frame_work view.now model.now)) }
-    ensures at_most { OnErr result
-        (CountsWithin tally.old tally.new (frame_work view.now model.now)) }
+    ensures at_most { CountsWithin tally.old tally.new (frame_work view.now model.now) }
     ensures plain { PointsRiseAtMost tally.old tally.new
         (plain_points view.now (length model.now)) }
 {

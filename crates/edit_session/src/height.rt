@@ -1,8 +1,8 @@
 // The height map of a solid over a view.
-ghost use Rattle.std.specs.Prelude.{◌≡◌, length, IfOk};
+ghost use Rattle.std.specs.Prelude.{◌≡◌, length, IfOk, OnOk};
 ghost use Rattle.view_settings.specs.Window.{FitsHeight};
 ghost use Rattle.edit_session.specs.Heights.{heights_of, plain_depths, tops_of};
-ghost use Rattle.edit_session.specs.Work.{CountsWithin, PointsRiseAtMost, height_work};
+ghost use Rattle.edit_session.specs.Work.{CountsWithin, CountsWork, PointsRiseAtMost, height_work};
 
 use crate::draw::window_holds;
 use fixed_ops::Tally;
@@ -13,8 +13,8 @@ use solid_model::Model;
 use std::alloc::{AllocError, Global};
 use view_settings::View;
 
-// The height map of a model over a view, as PGM text. No more work is counted than that of the
-// samples that do not lie behind a top, whether or not memory suffices.
+// The height map of a model over a view, as PGM text. The work of the samples that do not lie behind
+// a top is counted, and where memory is refused no more than that of a map.
 pub(crate) fn height(
     alloc: Global,
     model: &Model,
@@ -23,6 +23,8 @@ pub(crate) fn height(
 ) -> Result<Vec<u8>, AllocError>
     requires { FitsHeight view.now }
     ensures ok { IfOk result (λ text. text.items ≡ heights_of view.now model.now) }
+    ensures counted { OnOk result
+        (CountsWork tally.old tally.new (height_work view.now model.now)) }
     ensures at_most { CountsWithin tally.old tally.new (height_work view.now model.now) }
     ensures plain { PointsRiseAtMost tally.old tally.new
         (plain_depths view.now (length model.now)) }
@@ -32,8 +34,8 @@ pub(crate) fn height(
     samples_text(alloc, map.w, map.h, map.d, &map.tops)
 }
 
-// The tops of a model over a view. No more work is counted than that of the samples that do not lie
-// behind a top.
+// The tops of a model over a view. The work of the samples that do not lie behind a top is counted,
+// and where memory is refused no more than that of a map.
 fn top_map(
     alloc: Global,
     model: &Model,
@@ -47,6 +49,8 @@ fn top_map(
       d = view.now.d;
       tops = tops_of view.now model.now;
     }) }
+    ensures counted { OnOk result
+        (CountsWork tally.old tally.new (height_work view.now model.now)) }
     ensures at_most { CountsWithin tally.old tally.new (height_work view.now model.now) }
     ensures plain { PointsRiseAtMost tally.old tally.new
         (plain_depths view.now (length model.now)) }

@@ -1,9 +1,9 @@
 // The mesh of a solid over a view.
-ghost use Rattle.std.specs.Prelude.{◌≡◌, ◌<◌, ◌^◌, length, All, IfOk};
+ghost use Rattle.std.specs.Prelude.{◌≡◌, ◌<◌, ◌^◌, length, All, IfOk, OnOk};
 ghost use Rattle.box_chains.specs.Tallied.{CountsAtMost};
 ghost use Rattle.kuhn_cells.specs.Lists.{ListsCells};
 ghost use Rattle.live_clauses.specs.Steps.{tape_value};
-ghost use Rattle.oct_descent.specs.Bound.{mesh_points, mesh_spans};
+ghost use Rattle.oct_descent.specs.Bound.{CountsAtLeast, CountsHullsAtLeast, mesh_least, mesh_long_spans, mesh_points, mesh_spans};
 ghost use Rattle.ply_writer.specs.Ply.{ply_of};
 ghost use Rattle.solid_model.specs.Values.{solid_value};
 ghost use Rattle.tetra_mesh.specs.Cuts.{mesh_of};
@@ -12,7 +12,7 @@ ghost use Rattle.tetra_mesh.specs.Sizes.{size_of};
 ghost use Rattle.view_settings.specs.Window.{FitsMesh};
 ghost use Rattle.edit_session.specs.Meshes.{grid_of, mesh_text, plain_grid};
 ghost use Rattle.edit_session.specs.SoundTexts.{MeshTextsAreSound};
-ghost use Rattle.edit_session.specs.Work.{CountsWithin, PointsRiseAtMost, mesh_work};
+ghost use Rattle.edit_session.specs.Work.{CountsWithin, CountsWork, PointsRiseAtMost, mesh_work};
 
 use crate::draw::window_holds;
 use fixed_ops::Tally;
@@ -25,8 +25,8 @@ use std::alloc::{AllocError, Global};
 use tetra_mesh::{Mesh, build_from, meshes_are_sound};
 use view_settings::View;
 
-// The mesh of a model over a view, as PLY text. No more work is counted than that of the boxes that
-// are looked into and of the corners of working cells, whether or not memory suffices.
+// The mesh of a model over a view, as PLY text. The work of the boxes that are looked into and of
+// the corners of working cells is counted, and where memory is refused no more than that of a mesh.
 pub(crate) fn mesh(
     alloc: Global,
     model: &Model,
@@ -35,6 +35,8 @@ pub(crate) fn mesh(
 ) -> Result<Vec<u8>, AllocError>
     requires { FitsMesh view.now }
     ensures ok { IfOk result (λ text. text.items ≡ mesh_text view.now model.now) }
+    ensures counted { OnOk result
+        (CountsWork tally.old tally.new (mesh_work view.now model.now)) }
     ensures at_most { CountsWithin tally.old tally.new (mesh_work view.now model.now) }
     ensures plain { PointsRiseAtMost tally.old tally.new (plain_grid view.now (length model.now)) }
 {
@@ -42,9 +44,9 @@ pub(crate) fn mesh(
     ply_text(alloc, &mesh, view)
 }
 
-/// The mesh of a model over a view, whose text is the one that a session gives. No more work is
-/// counted than that of the boxes that are looked into and of the corners of working cells.
-/// AllocError: memory was refused, after some of that work perhaps.
+/// The mesh of a model over a view, whose text is the one that a session gives. The work of the boxes
+/// that are looked into and of the corners of working cells is counted. AllocError: memory was
+/// refused, after some of that work perhaps.
 pub fn solid_mesh(
     alloc: Global,
     model: &Model,
@@ -59,6 +61,8 @@ pub fn solid_mesh(
     ensures placed { IfOk result (λ mesh. All (IsPlaced view.now) mesh.vertices) }
     ensures vertices { IfOk result (λ mesh. length mesh.vertices < 2 ^ 31) }
     ensures faces { IfOk result (λ mesh. length mesh.faces < 2 ^ 31) }
+    ensures counted { OnOk result
+        (CountsWork tally.old tally.new (mesh_work view.now model.now)) }
     ensures at_most { CountsWithin tally.old tally.new (mesh_work view.now model.now) }
     ensures plain { PointsRiseAtMost tally.old tally.new (plain_grid view.now (length model.now)) }
 {
@@ -84,6 +88,10 @@ fn mixed_cells(
         ListsCells (size_of view.now) cells (grid_of view.now (λ p. tape_value p list.now))) }
     ensures at_most { CountsAtMost (mesh_points view.now list.now) (mesh_spans view.now list.now)
         tally.old tally.new }
+    ensures at_least { OnOk result
+        (CountsAtLeast (mesh_least view.now list.now) tally.old tally.new) }
+    ensures traced { OnOk result
+        (CountsHullsAtLeast (mesh_long_spans view.now list.now) tally.old tally.new) }
 {
     let tree = cells(alloc, list, view, tally)?;
     cell_list(alloc, &tree)

@@ -69,21 +69,22 @@ impl Session {
         ensures stands { self.new ≡ self.old }
         ensures counted { OnOk result
             (CountsWork tally.old tally.new (frame_work view.now self.old)) }
-        ensures at_most { OnErr result
-            (CountsWithin tally.old tally.new (frame_work view.now self.old)) }
+        ensures at_most { CountsWithin tally.old tally.new (frame_work view.now self.old) }
         ensures plain { PointsRiseAtMost tally.old tally.new
             (plain_points view.now (length self.old)) }
     {
         draw(self.alloc, &self.model, view, tally)
     }
 
-    /// The height map of the model over a view, as PGM text. No more work is counted than that of
-    /// the samples that do not lie behind a top. The model stays. AllocError: memory was refused,
-    /// after some of that work perhaps.
+    /// The height map of the model over a view, as PGM text. The work of the samples that do not lie
+    /// behind a top is counted. The model stays. AllocError: memory was refused, after some of that
+    /// work perhaps.
     pub fn height(&mut self, view: &View, tally: &mut Tally) -> Result<Vec<u8>, AllocError>
         requires { FitsHeight view.now }
         ensures heights { IfOk result (λ text. text.items ≡ heights_of view.now self.old) }
         ensures stands { self.new ≡ self.old }
+        ensures counted { OnOk result
+            (CountsWork tally.old tally.new (height_work view.now self.old)) }
         ensures at_most { CountsWithin tally.old tally.new (height_work view.now self.old) }
         ensures plain { PointsRiseAtMost tally.old tally.new
             (plain_depths view.now (length self.old)) }
@@ -91,13 +92,15 @@ impl Session {
         height(self.alloc, &self.model, view, tally)
     }
 
-    /// The mesh of the model over a view, as PLY text. No more work is counted than that of the
-    /// boxes that are looked into and of the corners of working cells. The model stays. AllocError:
-    /// memory was refused, after some of that work perhaps.
+    /// The mesh of the model over a view, as PLY text. The work of the boxes that are looked into and
+    /// of the corners of working cells is counted. The model stays. AllocError: memory was refused,
+    /// after some of that work perhaps.
     pub fn mesh(&mut self, view: &View, tally: &mut Tally) -> Result<Vec<u8>, AllocError>
         requires { FitsMesh view.now }
         ensures mesh { IfOk result (λ text. text.items ≡ mesh_text view.now self.old) }
         ensures stands { self.new ≡ self.old }
+        ensures counted { OnOk result
+            (CountsWork tally.old tally.new (mesh_work view.now self.old)) }
         ensures at_most { CountsWithin tally.old tally.new (mesh_work view.now self.old) }
         ensures plain { PointsRiseAtMost tally.old tally.new
             (plain_grid view.now (length self.old)) }

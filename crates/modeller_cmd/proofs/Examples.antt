@@ -1,12 +1,10 @@
 -- The definitions of a run, computed on words, texts and views that were worked out by hand.
 use Rattle.std.proofs.Common.{◌≡◌, ℕ, zero, suc, true, false, pos, negsuc, ◌+◌, ◌*◌, ◌^◌, inl, inr, List, [], ◌∷◌, ◌++◌, length, map, take, Option, Some, None, Err, refl, subst, sym, ap, ◌∙◌, arith}
-use Rattle.std.specs.Prelude.{◌≤◌, ◌⊎◌, codes, slice_get, slice_index_or, IsTrue, ℤ}
-use Rattle.std.proofs.lemmas.List.Elements.{All-head}
+use Rattle.std.specs.Prelude.{◌≤◌, ◌⊎◌, codes, slice_get, slice_index_or, ℤ}
 use Rattle.std.specs.Fmt.{digits}
 use Rattle.std.proofs.lemmas.Bool.{le-ltb, lt-ltb}
 use Rattle.box_chains.specs.Chains.{chain_within}
 use Rattle.box_chains.specs.Counts.{points_in, spans_in}
-use Rattle.box_chains.specs.Tallied.{CountsAtMost, CountsExactly}
 use Rattle.clause_reader.specs.Reading.{text_read}
 use Rattle.clause_reader.specs.declared.text_reason.TextReason.TheVariants as text
 use Rattle.edit_script.specs.declared.script_reason.ScriptReason.TheVariants as script
@@ -15,7 +13,7 @@ use Rattle.fixed_ops.specs.Numerals.{cut_magnitude, is_unsigned_numeral, nearest
 use Rattle.fixed_ops.specs.Operations.{op_result}
 use Rattle.fixed_ops.specs.Raw.{greatest, least}
 use Rattle.fixed_ops.specs.declared.operation.Op.TheVariants as op
-use Rattle.box_chains.specs.Tested.{points_where}
+use Rattle.box_chains.specs.Tested.{points_where, spans_where}
 use Rattle.modeller_io.specs.Count.{last_count}
 use Rattle.view_settings.specs.Setting.{setting_of}
 use Rattle.view_settings.specs.Window.{Window, has_room}
@@ -31,14 +29,14 @@ use Rattle.solid_model.specs.declared.edit.EditFault.TheVariants as fault
 use Rattle.edit_session.specs.Heights.{heights_of}
 use Rattle.modeller_cmd.specs.Notes.{line_of}
 use Rattle.modeller_cmd.specs.Output.{Output, WithOutput, input_limit, made, model_bytes, output_as, output_of, parts_after}
-use Rattle.modeller_cmd.specs.Parts.{AreExact, Part, bytes_of_parts, exact_work_of, work_of_parts}
+use Rattle.modeller_cmd.specs.Parts.{Part, bytes_of_parts, work_of_parts}
 use Rattle.modeller_cmd.specs.Playing.{Played, Stopped}
 use Rattle.modeller_cmd.specs.Statuses.{number_of}
 use Rattle.modeller_cmd.specs.SoundTexts.{HasSoundFrame, MeshFramesAreSound, MeshesAreSound}
-use Rattle.modeller_cmd.specs.Stopping.{StopsAt, StopsIn, StopsPlay, StopsRun, WantsMemory, WritesSomething}
+use Rattle.modeller_cmd.specs.Stopping.{IsUnbegun, StopsAt, StopsIn, StopsPlay, StopsRun, WantsMemory, WritesSomething}
 use Rattle.modeller_cmd.specs.Stops.{status_at}
 use Rattle.modeller_cmd.specs.Forging.{forge_text, forged_clauses}
-use Rattle.fixed_ops.specs.Counts.{Counts, no_counts, risen}
+use Rattle.fixed_ops.specs.Counts.{Counts, RisesAtMost, RisesWithin, no_counts, risen}
 use Rattle.solid_model.specs.declared.clause.Clause.{Clause}
 use Rattle.solid_model.specs.declared.edit.Edit.TheVariants as edits
 use Rattle.edit_script.specs.declared.command.Command.{Command}
@@ -46,7 +44,7 @@ use Rattle.edit_script.specs.declared.command.Command.TheVariants as commands
 use Rattle.clause_reader.specs.declared.text_fault.TextFault.{TextFault}
 use Rattle.modeller_cmd.specs.Replays.{parts_at, replayed, standing}
 use Rattle.edit_session.specs.SoundTexts.{IsSoundText}
-use Rattle.edit_session.specs.Work.{CountsWithin, CountsWork, no_work}
+use Rattle.edit_session.specs.Work.{CountsWithin, CountsWork, exactly, frame_work, no_work}
 use Rattle.modeller_cmd.specs.declared.refusal.Refusal.TheVariants as refusal
 use Rattle.modeller_cmd.specs.declared.status.Status.{Status}
 use Rattle.modeller_cmd.specs.declared.status.Status.TheVariants as status
@@ -81,7 +79,7 @@ counted view input = output_as (made (Count view) input)
 -- traced, and what plain evaluation takes
 abbrev done : List ℕ → ℕ → ℕ → ℕ → Output
 done bytes points spans plain =
-    record { status = status.Done; parts = record { bytes = bytes; exact = true; work = record { points = points; spans = spans; plain = plain } } ∷ []; note = [] }
+    record { status = status.Done; parts = record { bytes = bytes; work = exactly points spans plain } ∷ []; note = [] }
 
 -- a run that writes nothing but this note
 abbrev refused : Status → List ℕ → Output
@@ -127,27 +125,23 @@ plain_counts_all : counted (window 8 1 (pos 0)) (codes "u var-y\nx var-x") ≡ d
 unfolding digits points_in spans_in chain_within
 plain_counts_all = refl
 
--- a height map of a text, with the work that it takes at most
+-- a height map of a text
 abbrev mapped : Window → List ℕ → Output
 mapped view input = output_as (made (Height view) input)
 
-abbrev done_within : List ℕ → ℕ → ℕ → ℕ → Output
-done_within bytes points spans plain =
-    record { status = status.Done; parts = record { bytes = bytes; exact = false; work = record { points = points; spans = spans; plain = plain } } ∷ []; note = [] }
-
 -- of three samples of a column the one below 0 is the far one, whose top is 1: the nearer ones are evaluated, and it
-tops_are_written : mapped (record (window 1 1 (pos 0)) { d = 3 }) (codes "z var-z") ≡ done_within (codes "P5\n1 1\n3\n" ++ 1 ∷ []) 3 1 3
-unfolding digits points_in spans_in points_where heights_of chain_within
+tops_are_written : mapped (record (window 1 1 (pos 0)) { d = 3 }) (codes "z var-z") ≡ done (codes "P5\n1 1\n3\n" ++ 1 ∷ []) 3 1 3
+unfolding digits points_in spans_in points_where spans_where heights_of chain_within
 tops_are_written = refl
 
 -- where the greatest top is above 255 each has two bytes
-two_bytes_are_written : mapped (record (window 1 1 (pos 0)) { d = 256 }) (codes "x var-x") ≡ done_within (codes "P5\n1 1\n256\n" ++ 1 ∷ 0 ∷ []) 0 1 256
-unfolding digits points_in spans_in points_where heights_of chain_within
+two_bytes_are_written : bytes_of_parts (mapped (record (window 1 1 (pos 0)) { d = 256 }) (codes "x var-x")).parts ≡ codes "P5\n1 1\n256\n" ++ 1 ∷ 0 ∷ []
+unfolding digits heights_of
 two_bytes_are_written = refl
 
 -- comments and blanks are dropped where a model is written back, and nothing is evaluated
 text_is_written_back : output_of (codes "text" ∷ []) (codes "# x and -x\n a  var-x\r\nb neg\ta")
-    ≡ record { status = status.Done; parts = record { bytes = codes "a var-x\nb neg a\n"; exact = true; work = no_work } ∷ []; note = [] }
+    ≡ record { status = status.Done; parts = record { bytes = codes "a var-x\nb neg a\n"; work = no_work } ∷ []; note = [] }
 text_is_written_back = refl
 
 -- lines are counted from 1 on, those that say nothing too
@@ -173,14 +167,13 @@ abbrev played : List Part → Output
 played parts = record { status = status.Done; parts = parts; note = [] }
 
 abbrev idle : List ℕ → Part
-idle bytes = record { bytes = bytes; exact = true; work = no_work }
+idle bytes = record { bytes = bytes; work = no_work }
 
 -- the frame of a picture of three pixels, of which two are inside, drawn by three clauses
 abbrev picture : Part
 picture = record {
   bytes = codes "@ render 14\nP5\n3 1\n255\n" ++ 255 ∷ 255 ∷ 0 ∷ [];
-  exact = true;
-  work = record { points = 9; spans = 3; plain = 9 };
+  work = exactly 9 3 9;
 }
 
 -- Of three pixels the places -1 and 0 lie below 0.5. Each of three edits is refused for its own reason, so the picture is
@@ -547,24 +540,13 @@ stray_is_passed at = by at.earlier at.command at.later at.split at.between at.co
 parts_in_order : bytes_of_parts (idle (codes "a") ∷ idle (codes "bc") ∷ []) ≡ codes "abc"
 parts_in_order = refl
 
-work_adds_up : work_of_parts (picture ∷ record { bytes = []; exact = true; work = record { points = 1; spans = 20; plain = 300 } } ∷ [])
-    ≡ record { points = 10; spans = 23; plain = 309 }
+work_adds_up : work_of_parts (picture ∷ record { bytes = []; work = exactly 1 20 300 } ∷ []) ≡ exactly 10 23 309
 work_adds_up = refl
 
--- what is bounded is not exact
-bounded_is_not_exact : AreExact (record (idle []) { exact = false } ∷ []) → ⊥
-unfolding AreExact
-bounded_is_not_exact exact =
-    let is : false ≡ true = All-head (λ (part : Part). IsTrue part.exact) (record (idle []) { exact = false }) [] exact in (cc)
-
--- an image is counted exactly, and a map and a mesh at most, each by its own plain evaluation: pixels, samples and points
+-- an image, a map and a mesh have each their own plain evaluation: pixels, samples and points
 abbrev drawn_of_two : List Part
 drawn_of_two =
     let view = record (window 2 3 (pos 0)) { d = 4; n = 1 } in replayed two (commands.Render view ∷ commands.Height view ∷ commands.Mesh view ∷ [])
-
-exact_or_bounded : map (λ part. part.exact) drawn_of_two ≡ true ∷ false ∷ false ∷ []
-unfolding replayed
-exact_or_bounded = refl
 
 plain_evaluations : map (λ part. part.work.plain) drawn_of_two ≡ 12 ∷ 48 ∷ 16 ∷ []
 unfolding replayed
@@ -579,8 +561,20 @@ forged_lines : forge_text (window 3 1 (pos 0)) (
 unfolding digits points_in spans_in chain_within
 forged_lines = refl
 
--- forging gives one part, whose work is exact
-forging_is_exact : (wanted : Wanted) (input : List ℕ) → map (λ part. part.exact) (output_as (made (Forge wanted) input)).parts ≡ true ∷ []
+-- an image and a height map take as many evaluations and traced steps at least as at most
+exact_evaluations : (view : Window) → map (λ part. part.work.least.points) (replayed two (commands.Render view ∷ commands.Height view ∷ []))
+    ≡ map (λ part. part.work.most.points) (replayed two (commands.Render view ∷ commands.Height view ∷ []))
+unfolding replayed
+exact_evaluations view = refl
+
+exact_traces : (view : Window) → map (λ part. part.work.least.spans) (replayed two (commands.Render view ∷ commands.Height view ∷ []))
+    ≡ map (λ part. part.work.most.spans) (replayed two (commands.Render view ∷ commands.Height view ∷ []))
+unfolding replayed
+exact_traces view = refl
+
+-- and so does what is forged, which is one part
+forging_is_exact : (wanted : Wanted) (input : List ℕ) → map (λ part. part.work.least.points) (output_as (made (Forge wanted) input)).parts
+    ≡ (frame_work wanted.view (forged_clauses wanted)).most.points ∷ []
 forging_is_exact wanted input = refl
 
 -- each stop ends a run with its own status
@@ -632,46 +626,45 @@ unfolding digits points_in spans_in chain_within setting_of CountsWithin
 some_input_counts = record {
   input = codes "x var-x";
   few = omega arith;
-  work = record { by = risen_by 3 1 4; few = record { points = omega arith; spans = omega arith; corners = omega arith }; rises = refl };
+  work = record { by = risen_by 3 1 4; within = record { points = omega arith; spans = omega arith; corners = omega arith }; rises = refl };
   plain = record { by = 3; few = omega arith; rises = refl };
 }
 
 refused_words_count_none : CountsForSome (codes "draw" ∷ []) no_counts (risen_by 1 0 0) → ⊥
 unfolding CountsWithin
 refused_words_count_none some =
-    let work : CountsAtMost 0 0 no_counts (risen_by 1 0 0) = some.work in
+    let work : RisesAtMost no_counts (risen_by 1 0 0) no_counts = some.work in
     let points : 1 ≡ risen 0 work.by.points = ap (λ (counts : Counts). counts.points) work.rises in
-    omega (arith, work.few.points, points)
+    omega (arith, work.within.points, points)
 
--- the work of an exact part that was written is counted
-picture_is_exact : AreExact (picture ∷ [])
-unfolding AreExact
-picture_is_exact zero d less = refl
-picture_is_exact (suc k) d less = absurd (omega (arith, less))
-
+-- the work of a part that was written is counted
 uncounted_part : Played (λ (s : List ℕ). Some s) (λ s. 0) [] picture.bytes no_counts no_counts (picture ∷ []) → ⊥
 unfolding CountsWork
 uncounted_part played =
-    let counts : CountsExactly 9 3 no_counts no_counts = played.counted picture_is_exact in
-    let points : 0 ≡ risen 0 9 = ap (λ (counts : Counts). counts.points) counts.rises in
-    omega (arith, points)
+    let counts : RisesWithin no_counts no_counts (risen_by 9 3 0) (risen_by 9 3 12) = played.counted in
+    let points : 0 ≡ risen 0 counts.by.points = ap (λ (counts : Counts). counts.points) counts.rises in
+    omega (arith, counts.enough.points, points)
 
--- beside a part whose work is a bound the work of an exact one is counted all the same
+-- beside a part whose work is only known within bounds at least the least of both is counted
 abbrev bounded : Part
-bounded = record (idle (codes "m")) { exact = false; work = record { points = 50; spans = 40; plain = 70 } }
+bounded = record {
+  bytes = codes "m";
+  work = record { least = risen_by 5 4 0; most = risen_by 50 40 160; bound = risen_by 50 40 160; plain = 70 };
+}
 
-work_of_the_exact : exact_work_of (bounded ∷ picture ∷ bounded ∷ []) ≡ picture.work
-work_of_the_exact = refl
-
-uncounted_beside : Played (λ (s : List ℕ). Some s) (λ s. 0) [] (bounded.bytes ++ picture.bytes) no_counts (risen_by 8 3 0) (bounded ∷ picture ∷ []) → ⊥
+uncounted_beside : Played (λ (s : List ℕ). Some s) (λ s. 0) [] (bounded.bytes ++ picture.bytes) no_counts (risen_by 13 7 0) (bounded ∷ picture ∷ []) → ⊥
+unfolding CountsWork
 uncounted_beside played =
-    let points : 8 ≡ risen 0 played.least.by.points = ap (λ (counts : Counts). counts.points) played.least.rises in
-    omega (arith, played.least.points, points)
+    let counts : RisesWithin no_counts (risen_by 13 7 0) (risen_by 14 7 0) (risen_by 59 43 172) = played.counted in
+    let points : 13 ≡ risen 0 counts.by.points = ap (λ (counts : Counts). counts.points) counts.rises in
+    omega (arith, counts.enough.points, points)
 
-fewer_hulls_beside : Played (λ (s : List ℕ). Some s) (λ s. 0) [] (bounded.bytes ++ picture.bytes) no_counts (risen_by 9 2 0) (bounded ∷ picture ∷ []) → ⊥
+fewer_hulls_beside : Played (λ (s : List ℕ). Some s) (λ s. 0) [] (bounded.bytes ++ picture.bytes) no_counts (risen_by 14 6 0) (bounded ∷ picture ∷ []) → ⊥
+unfolding CountsWork
 fewer_hulls_beside played =
-    let spans : 2 ≡ risen 0 played.least.by.spans = ap (λ (counts : Counts). counts.spans) played.least.rises in
-    omega (arith, played.least.spans, spans)
+    let counts : RisesWithin no_counts (risen_by 14 6 0) (risen_by 14 7 0) (risen_by 59 43 172) = played.counted in
+    let spans : 6 ≡ risen 0 counts.by.spans = ap (λ (counts : Counts). counts.spans) counts.rises in
+    omega (arith, counts.enough.spans, spans)
 
 -- a part that was played, with exactly its work, and one that a fault of the sink stopped behind its first byte
 picture_is_played : Played (λ (s : List ℕ). Some s) (λ s. 0) [] picture.bytes no_counts (risen_by 9 3 12) (picture ∷ [])
@@ -679,14 +672,18 @@ unfolding CountsWork CountsWithin
 picture_is_played = record {
   gained = refl;
   no_fault = refl;
-  counted = λ exact. record { corners = 12; few = omega arith; rises = refl };
-  least = record { by = risen_by 9 3 12; points = omega arith; spans = omega arith; rises = refl };
-  at_most = record { by = risen_by 9 3 12; few = record { points = omega arith; spans = omega arith; corners = omega arith }; rises = refl };
+  counted = record {
+    by = risen_by 9 3 12;
+    enough = record { points = omega arith; spans = omega arith; corners = omega arith };
+    within = record { points = omega arith; spans = omega arith; corners = omega arith };
+    rises = refl;
+  };
+  at_most = record { by = risen_by 9 3 12; within = record { points = omega arith; spans = omega arith; corners = omega arith }; rises = refl };
   plain = record { by = 9; few = omega arith; rises = refl };
 }
 
 abbrev busy : Part
-busy = record (idle (codes "ab")) { work = record { points = 1; spans = 2; plain = 3 } }
+busy = record { bytes = codes "ab"; work = exactly 1 2 3 }
 
 front_is_left : Stopped (λ (s : List ℕ). Some s) (λ s. length s) [] (codes "a") no_counts (risen_by 1 2 8) (busy ∷ []) stop.WriteFault
 unfolding CountsWithin
@@ -695,7 +692,7 @@ front_is_left = record {
   whole = λ is. cc;
   write_fault = λ is. refl;
   no_write_fault = λ other. absurd (other refl);
-  at_most = record { by = risen_by 1 2 8; few = record { points = omega arith; spans = omega arith; corners = omega arith }; rises = refl };
+  at_most = record { by = risen_by 1 2 8; within = record { points = omega arith; spans = omega arith; corners = omega arith }; rises = refl };
   plain = record { by = 1; few = omega arith; rises = refl };
   grew = record { bytes = codes "a"; gained = refl };
 }
@@ -718,9 +715,9 @@ fault_is_counted_once stopped = let rose : 0 ≡ 1 = stopped.write_fault refl in
 more_than_the_work : Stopped (λ (s : List ℕ). Some s) (λ s. last_count) [] [] no_counts (risen_by 0 3 0) (busy ∷ []) stop.WriteFault → ⊥
 unfolding CountsWithin
 more_than_the_work stopped =
-    let work : CountsAtMost 1 2 no_counts (risen_by 0 3 0) = stopped.at_most in
+    let work : RisesAtMost no_counts (risen_by 0 3 0) (risen_by 1 2 8) = stopped.at_most in
     let spans : 3 ≡ risen 0 work.by.spans = ap (λ (counts : Counts). counts.spans) work.rises in
-    omega (arith, work.few.spans, spans)
+    omega (arith, work.within.spans, spans)
 
 more_than_plain : Stopped (λ (s : List ℕ). Some s) (λ s. last_count) [] [] no_counts (risen_by 4 0 0) (busy ∷ []) stop.WriteFault → ⊥
 more_than_plain stopped =
@@ -738,17 +735,12 @@ edit_meets_no_fault stops = accepted_edit_writes_nothing (stops.writes refl)
 abbrev drawing : Command
 drawing = commands.Render (window 3 1 (pos 0))
 
-drawing_is_exact : AreExact (parts_at two drawing)
-unfolding AreExact
-drawing_is_exact zero d less = refl
-drawing_is_exact (suc k) d less = absurd (omega (arith, less))
-
 uncounted_frame : StopsIn (λ (s : List ℕ). Some s) (λ s. last_count) [] [] no_counts no_counts two drawing stop.WriteFault → ⊥
 unfolding CountsWork points_in spans_in chain_within
 uncounted_frame stops =
-    let counts : CountsExactly 6 2 no_counts no_counts = stops.counted refl drawing_is_exact in
-    let points : 0 ≡ risen 0 6 = ap (λ (counts : Counts). counts.points) counts.rises in
-    omega (arith, points)
+    let counts : RisesWithin no_counts no_counts (risen_by 6 2 0) (risen_by 6 2 8) = stops.counted refl in
+    let points : 0 ≡ risen 0 counts.by.points = ap (λ (counts : Counts). counts.points) counts.rises in
+    omega (arith, counts.enough.points, points)
 
 bytes_of_no_frame : StopsIn (λ (s : List ℕ). Some s) (λ s. last_count) [] (codes "b") no_counts no_counts two commands.Text stop.WriteFault → ⊥
 bytes_of_no_frame stops = let front = stops.stopped.front refl in by front.count front.gained
@@ -756,6 +748,10 @@ bytes_of_no_frame stops = let front = stops.stopped.front refl in by front.count
     by : (count : ℕ) → codes "b" ≡ take count (bytes_of_parts (parts_at two commands.Text)) → ⊥
     by zero same = (cc)
     by (suc count) same = let byte : 98 ≡ 64 = ap (λ s. slice_index_or s 0 0) same in absurd (omega (arith, byte))
+
+-- no fault of the sink stops a script before anything of it is done
+fault_after_nothing : IsUnbegun stop.WriteFault → ⊥
+fault_after_nothing may = may
 
 -- half a frame is written of no script that wants memory
 half_a_frame : StopsRun (λ (s : List ℕ). Some s) (λ s. 0) [] (codes "@") no_counts no_counts (codes "replay" ∷ []) (codes "x var-x\n%%\ntext\n") status.NoMemory → ⊥
@@ -782,9 +778,9 @@ half_a_frame run = by run.stop run.is (run.play refl)
     by stop.WriteFault is play = (cc)
     by stop.NoMemory is play = either (play (take 1 two) (commands.Text ∷ []) refl refl)
       where
-        either : ((codes "@" ≡ []) × (no_counts ≡ no_counts))
+        either : (IsUnbegun stop.NoMemory × (codes "@" ≡ []) × (no_counts ≡ no_counts))
             ⊎ StopsAt (λ (s : List ℕ). Some s) (λ s. 0) [] (codes "@") no_counts no_counts (take 1 two) (commands.Text ∷ []) stop.NoMemory → ⊥
-        either (inl none) = let same : codes "@" ≡ [] = none.0 in (cc)
+        either (inl none) = let same : codes "@" ≡ [] = none.1 in (cc)
         either (inr stops) = at stops.earlier stops.command stops.later stops.split stops.between stops.counts stops.played stops.stops
 
 -- the text of a mesh that is written is told to be sound, and so is that of a frame: of what stands where it comes

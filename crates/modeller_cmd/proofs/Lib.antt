@@ -1,3 +1,4 @@
+mod Counting
 mod Examples
 mod Forging
 mod Gaining

@@ -1,6 +1,6 @@
 -- What an outcome says of the status, the bytes and the work of a run.
-use Rattle.std.proofs.Common.{◌≡◌, ◌≢◌, ℕ, ◌+◌, ◌≤◌, ◌<◌, false, List, [], ◌∷◌, length, nat_lt, Option, Some, None, Result, Ok, Err, IsOk, IfSome, append-nil, refl, sym, ap, subst, ◌∙◌, arith}
-use Rattle.std.specs.Prelude.{All, Bool, IsTrue, OnSome, true, if◌then◌else◌}
+use Rattle.std.proofs.Common.{◌≡◌, ◌≢◌, ℕ, ◌≤◌, ◌<◌, false, List, [], ◌∷◌, length, nat_lt, Option, Some, None, Result, Ok, Err, IsOk, IfSome, append-nil, refl, sym, ap, subst, ◌∙◌, arith}
+use Rattle.std.specs.Prelude.{OnSome, true}
 use Rattle.std.specs.Io.KnownBytes.{Consumes}
 use Rattle.std.proofs.lemmas.Bool.{le-ltb, lt-ltb}
 use Rattle.clause_reader.specs.Reading.{text_read}
@@ -8,7 +8,7 @@ use Rattle.clause_reader.specs.declared.text_fault.TextFault.{TextFault}
 use Rattle.edit_session.specs.Heights.{heights_of}
 use Rattle.edit_session.specs.Images.{image_of}
 use Rattle.edit_session.specs.Meshes.{mesh_text}
-use Rattle.edit_session.specs.Work.{CountsWithin, CountsWork, Work, both, frame_work, height_work, mesh_work, no_work}
+use Rattle.edit_session.specs.Work.{frame_work, height_work, mesh_work, no_work}
 use Rattle.edit_session.specs.Laws.{FramesAddUp}
 use Rattle.fixed_ops.specs.Counts.{Counts}
 use Rattle.modeller_io.specs.Count.{RoseBy}
@@ -21,9 +21,8 @@ use Rattle.view_settings.specs.declared.forge.Forge.{Forge as Forged}
 use Rattle.modeller_cmd.specs.Asking.{asked, asks_nothing, reads_nothing}
 use Rattle.modeller_cmd.specs.Forging.{forge_part, forge_text, forged_clauses}
 use Rattle.modeller_cmd.specs.Endings.{CountsForSome, Ends, IsAnswer, Makes, status_after}
-use Rattle.modeller_cmd.specs.Output.{count_part, input_limit, made, model_bytes, outcome, output_as, output_of, parts_after, parts_of}
-use Rattle.modeller_cmd.specs.Parts.{AreExact, Part, bytes_of_parts, exact_work_of, heights_part, image_part, mesh_part, text_part, work_of_parts}
-use Rattle.modeller_cmd.specs.Playing.{CountsLeast}
+use Rattle.modeller_cmd.specs.Output.{count_part, input_limit, made, model_bytes, outcome, output_as, output_of, parts_of}
+use Rattle.modeller_cmd.specs.Parts.{Part, bytes_of_parts, heights_part, image_part, mesh_part, text_part, work_of_parts}
 use Rattle.modeller_cmd.specs.Statuses.{status_of}
 use Rattle.modeller_cmd.specs.Stops.{status_at}
 use Rattle.modeller_cmd.specs.declared.refusal.Refusal.{Refusal}
@@ -31,7 +30,7 @@ use Rattle.modeller_cmd.specs.declared.refusal.Refusal.TheVariants as refusal
 use Rattle.modeller_cmd.specs.declared.status.Status.TheVariants as status
 use Rattle.modeller_cmd.specs.declared.stop.Stop.{Stop}
 use Rattle.modeller_cmd.specs.declared.stop.Stop.TheVariants as stop
-use Rattle.modeller_cmd.proofs.WorkSums.{least-few}
+use Rattle.modeller_cmd.proofs.WorkSums.{both-none}
 
 -- what follows from a fact about what is told
 pub some_follows : {X : Type 0} (told : Option X) (P Q : X → Type 0) → ((x : X) → P x → Q x) → IfSome told P → IfSome told Q
@@ -165,28 +164,13 @@ pub made_text : (job : Job) (input : List ℕ) (clauses : List Clause) → job �
 made_text job input clauses is few reads =
     ap (λ j. made j input) is ∙ made_as Text input clauses few reads
 
--- the work of one part alone
-one_work : (work : Work) → both work no_work ≡ work
-one_work work =
-    let p : work.points + 0 ≡ work.points = omega arith in
-    let s : work.spans + 0 ≡ work.spans = omega arith in
-    let n : work.plain + 0 ≡ work.plain = omega arith in
-    λ k. record { points = p k; spans = s k; plain = n k }
-
 -- the work of what is made where its parts are one, and its bytes
 pub work_of_one : (outcome : Result (List Part) Refusal) (part : Part) → outcome ≡ Ok (part ∷ []) → work_of_parts (output_as outcome).parts ≡ part.work
-work_of_one outcome part is = ap (λ o. work_of_parts (output_as o).parts) is ∙ one_work part.work
+work_of_one outcome part is = ap (λ o. work_of_parts (output_as o).parts) is ∙ both-none part.work
 
 pub bytes_of_one : (outcome : Result (List Part) Refusal) (part : Part) (bytes : List ℕ) → outcome ≡ Ok (part ∷ []) → bytes ≡ part.bytes → Makes outcome (λ whole. bytes ≡ whole)
 bytes_of_one outcome part bytes is same =
     subst (λ o. Makes o (λ whole. bytes ≡ whole)) (sym is) (same ∙ sym (append-nil part.bytes))
-
--- it is not exact where that part is not
-pub one_bounded : (outcome : Result (List Part) Refusal) (part : Part) → outcome ≡ Ok (part ∷ []) → part.exact ≡ false → AreExact (output_as outcome).parts → ⊥
-unfolding AreExact
-one_bounded outcome part is bounded exact =
-    let one = subst (λ o. All (λ p. IsTrue p.exact) (output_as o).parts) is exact 0 part (omega arith) in
-    grind (arith, one, bounded)
 
 -- the work of what is forged, and its text
 pub forge_work : (job : Job) (forge : Forged) (input : List ℕ) → job ≡ Forge forge
@@ -224,18 +208,6 @@ pub text_work : (job : Job) (input : List ℕ) (clauses : List Clause) → job �
     → work_of_parts (output_as (made job input)).parts ≡ no_work
 text_work job input clauses is few reads =
     work_of_one (made job input) (text_part clauses) (made_text job input clauses is few reads)
-
--- the work of a height map is not exact
-pub height_bounded : (job : Job) (view : Window) (input : List ℕ) (clauses : List Clause) → job ≡ Height view → length input ≤ input_limit → text_read input ≡ Ok clauses
-    → AreExact (output_as (made job input)).parts → ⊥
-height_bounded job view input clauses is few reads exact =
-    one_bounded (made job input) (heights_part view clauses) (made_height job view input clauses is few reads) refl exact
-
--- nor is that of a mesh
-pub mesh_bounded : (job : Job) (view : Window) (input : List ℕ) (clauses : List Clause) → job ≡ Mesh view → length input ≤ input_limit → text_read input ≡ Ok clauses
-    → AreExact (output_as (made job input)).parts → ⊥
-mesh_bounded job view input clauses is few reads exact =
-    one_bounded (made job input) (mesh_part view clauses) (made_mesh job view input clauses is few reads) refl exact
 
 -- the bytes of an image, a height map and a mesh are those that their jobs make
 pub image_bytes : (job : Job) (view : Window) (input : List ℕ) (clauses drawn : List Clause) (bytes : List ℕ) → job ≡ Render view
@@ -299,35 +271,3 @@ some-none frames words counts = record {
   work = frames.within_none counts (work_of_parts (output_of words []).parts);
   plain = frames.plain_none counts (work_of_parts (output_of words []).parts).plain;
 }
-
--- a job that plays no script makes one part at the most
-few-after : (job : Job) (input : List ℕ) → job ≢ Replay → (r : Result (List Clause) TextFault) → length (output_as (parts_after job input r)).parts ≤ 1
-few-after job input other (Err fault) = omega arith
-few-after (Render view) input other (Ok clauses) = omega arith
-few-after (Height view) input other (Ok clauses) = omega arith
-few-after (Mesh view) input other (Ok clauses) = omega arith
-few-after (Count view) input other (Ok clauses) = omega arith
-few-after Text input other (Ok clauses) = omega arith
-few-after (Forge wanted) input other (Ok clauses) = omega arith
-few-after Replay input other (Ok clauses) = absurd (other refl)
-
-few-read : (job : Job) (input : List ℕ) → job ≢ Replay → (long : Bool)
-    → length (output_as (if long then Err refusal.TooLong else parts_after job input (text_read (model_bytes job input)))).parts ≤ 1
-few-read job input other true = omega arith
-few-read job input other false = few-after job input other (text_read (model_bytes job input))
-
-few-parts : (job : Job) (input : List ℕ) → job ≢ Replay → length (output_as (made job input)).parts ≤ 1
-few-parts (Forge wanted) input other = omega arith
-few-parts (Render view) input other = few-read (Render view) input other (nat_lt input_limit (length input))
-few-parts (Height view) input other = few-read (Height view) input other (nat_lt input_limit (length input))
-few-parts (Mesh view) input other = few-read (Mesh view) input other (nat_lt input_limit (length input))
-few-parts (Count view) input other = few-read (Count view) input other (nat_lt input_limit (length input))
-few-parts Text input other = few-read Text input other (nat_lt input_limit (length input))
-few-parts Replay input other = absurd (other refl)
-
--- so the least that it counts is known
-pub least_of_job : (job : Job) (input : List ℕ) (before after : Counts) → job ≢ Replay
-    → (AreExact (output_as (made job input)).parts → CountsWork before after (work_of_parts (output_as (made job input)).parts))
-    → CountsWithin before after (work_of_parts (output_as (made job input)).parts)
-    → CountsLeast before after (exact_work_of (output_as (made job input)).parts)
-least_of_job job input before after other = least-few before after (output_as (made job input)).parts (few-parts job input other)

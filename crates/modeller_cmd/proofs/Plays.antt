@@ -1,6 +1,6 @@
 -- Parts that are written one after the other, up to what stops that.
 use Rattle.std.proofs.Common.{◌≡◌, ◌≢◌, ℕ, ◌+◌, List, [], ◌∷◌, ◌++◌, length, take, Option, Result, Ok, Err, refl, sym, ap, subst, ◌∙◌, append-nil, length-append, arith}
-use Rattle.std.specs.Prelude.{IfErr, IsErrAnd, IsTrue, OnOk}
+use Rattle.std.specs.Prelude.{IfErr, IsErrAnd, OnOk}
 use Rattle.std.proofs.Math.Seq.{take-append-add}
 use Rattle.std.proofs.lemmas.List.{take-append-le}
 use Rattle.edit_script.specs.declared.command.Command.{Command as Given}
@@ -16,21 +16,20 @@ use Rattle.solid_model.specs.declared.edit.Edit.{Edit}
 use Rattle.solid_model.specs.declared.edit.EditFault.{EditFault as Fault}
 use Rattle.solid_model.specs.declared.edit.EditFault.TheVariants as EditFault
 use Rattle.modeller_cmd.specs.Endings.{GainsParts, IsWorkStop}
-use Rattle.modeller_cmd.specs.Parts.{AreExact, Part, bytes_of_parts, exact_work_of, work_of_parts}
-use Rattle.modeller_cmd.specs.Playing.{CountsLeast, Played, Stopped}
+use Rattle.modeller_cmd.specs.Parts.{Part, bytes_of_parts, work_of_parts}
+use Rattle.modeller_cmd.specs.Playing.{Played, Stopped}
 use Rattle.modeller_cmd.specs.Replays.{clauses_after, parts_at, refusal}
 use Rattle.modeller_cmd.specs.declared.stop.Stop.{Stop}
 use Rattle.modeller_cmd.specs.declared.stop.Stop.TheVariants.{Refused, ReadFault, WriteFault, NoMemory}
 use Rattle.modeller_cmd.proofs.Gaining.{Extends-none, Gains-then, GainsPrefix-after, Grew-after, Grew-gains, Grew-prefix, RoseBy-after, on-ok}
-use Rattle.modeller_cmd.proofs.WorkSums.{bytes-append, exact-append, exact-left, exact-right, least-none, least-part, least-then, work-append}
+use Rattle.modeller_cmd.proofs.WorkSums.{both-none, bytes-append, work-append}
 
 -- nothing was played
 pub played-none : (frames : FramesAddUp) {K : Type 0} (held : K → Option (List ℕ)) (faults : K → ℕ) (out : K) (counts : Counts) → Played held faults out out counts counts []
 played-none frames held faults out counts = record {
   gained = Extends-none (held out);
   no_fault = refl;
-  counted = λ _. frames.none counts;
-  least = least-none counts;
+  counted = frames.none counts;
   at_most = frames.within_none counts no_work;
   plain = frames.plain_none counts 0;
 }
@@ -43,10 +42,7 @@ played-then frames held faults a b c s t u ps qs first next =
     record {
       gained = subst (Gains held a c) (sym (bytes-append ps qs)) (Gains-then held a b c (bytes_of_parts ps) (bytes_of_parts qs) first.gained next.gained);
       no_fault = next.no_fault ∙ first.no_fault;
-      counted = λ exact. subst (CountsWork s u) work
-          (frames.sum s t u (work_of_parts ps) (work_of_parts qs) (first.counted (exact-left ps qs exact)) (next.counted (exact-right ps qs exact)));
-      least = subst (CountsLeast s u) (sym (exact-append ps qs))
-          (least-then s t u (exact_work_of ps) (exact_work_of qs) first.least next.least);
+      counted = subst (CountsWork s u) work (frames.sum s t u (work_of_parts ps) (work_of_parts qs) first.counted next.counted);
       at_most = subst (CountsWithin s u) work
           (frames.within_sum s t u (work_of_parts ps) (work_of_parts qs) first.at_most next.at_most);
       plain = subst (λ w. PointsRiseAtMost s u w.plain) work
@@ -131,26 +127,17 @@ work-other NoMemory is fault = cc
 
 -- one part, written whole after its work was counted, and what stops that
 module _ {K : Type 0} (held : K → Option (List ℕ)) (faults : K → ℕ) (before after : K) (s t : Counts) (part : Part) (bytes : List ℕ) (is : bytes ≡ part.bytes) where
-  one-work : both part.work no_work ≡ part.work
-  one-work =
-      let p : part.work.points + 0 ≡ part.work.points = omega arith in
-      let n : part.work.spans + 0 ≡ part.work.spans = omega arith in
-      let q : part.work.plain + 0 ≡ part.work.plain = omega arith in
-      λ k. record { points = p k; spans = n k; plain = q k }
-
   one-bytes : bytes ≡ part.bytes ++ []
   one-bytes = is ∙ sym (append-nil part.bytes)
 
-  pub part-played : Gains held before after bytes → Stands faults before after → (IsTrue part.exact → CountsWork s t part.work)
+  pub part-played : Gains held before after bytes → Stands faults before after → CountsWork s t part.work
       → CountsWithin s t part.work → PointsRiseAtMost s t part.work.plain → Played held faults before after s t (part ∷ [])
-  unfolding AreExact
-  part-played gained stands exact few plain = record {
+  part-played gained stands done few plain = record {
     gained = subst (Gains held before after) one-bytes gained;
     no_fault = stands;
-    counted = λ all. subst (CountsWork s t) (sym one-work) (exact (all 0 part (omega arith)));
-    least = least-part s t part exact few;
-    at_most = subst (CountsWithin s t) (sym one-work) few;
-    plain = subst (λ w. PointsRiseAtMost s t w.plain) (sym one-work) plain;
+    counted = subst (CountsWork s t) (sym (both-none part.work)) done;
+    at_most = subst (CountsWithin s t) (sym (both-none part.work)) few;
+    plain = subst (λ w. PointsRiseAtMost s t w.plain) (sym (both-none part.work)) plain;
   }
 
   pub part-stopped : GainsPrefix held before after bytes → RoseBy faults before after 1
@@ -160,21 +147,20 @@ module _ {K : Type 0} (held : K → Option (List ℕ)) (faults : K → ℕ) (bef
     whole = λ memory. cc;
     write_fault = λ _. rose;
     no_write_fault = λ other. absurd (other refl);
-    at_most = subst (CountsWithin s t) (sym one-work) few;
-    plain = subst (λ w. PointsRiseAtMost s t w.plain) (sym one-work) plain;
+    at_most = subst (CountsWithin s t) (sym (both-none part.work)) few;
+    plain = subst (λ w. PointsRiseAtMost s t w.plain) (sym (both-none part.work)) plain;
     grew = Grew-prefix held before after bytes front;
   }
 
-  pub part-counted : (IsTrue part.exact → CountsWork s t part.work) → AreExact (part ∷ []) → CountsWork s t (work_of_parts (part ∷ []))
-  unfolding AreExact
-  part-counted exact all =
-      subst (CountsWork s t) (sym one-work) (exact (all 0 part (omega arith)))
+-- the work of one part that is done
+pub part-counted : (s t : Counts) (part : Part) → CountsWork s t part.work → CountsWork s t (work_of_parts (part ∷ []))
+part-counted s t part done = subst (CountsWork s t) (sym (both-none part.work)) done
 
 -- memory is refused to a part before it is written
 pub part-undrawn : {K : Type 0} (held : K → Option (List ℕ)) (faults : K → ℕ) (out : K) (s t : Counts) (part : Part)
     → CountsWithin s t part.work → PointsRiseAtMost s t part.work.plain → Stopped held faults out out s t (part ∷ []) NoMemory
 part-undrawn held faults out s t part few plain =
-    let w = one-work held faults out out s t part part.bytes refl in
+    let w = both-none part.work in
     stopped-before held faults out s t (part ∷ []) NoMemory (memory-other NoMemory refl)
     (subst (CountsWithin s t) (sym w) few) (subst (λ v. PointsRiseAtMost s t v.plain) (sym w) plain)
 

@@ -1,19 +1,22 @@
 -- What work on the bytes that were read says of the words and of what the source tells.
 use Rattle.std.proofs.Common.{◌≡◌, ◌≢◌, ℕ, List, length, Option, Some, None, Result, Ok, Err, IsOk, IfSome, refl, sym, ap, subst, ◌∙◌, arith}
-use Rattle.std.specs.Prelude.{IfErr, OnErr, OnOk}
+use Rattle.std.specs.Prelude.{IfErr, IsErr, OnErr, OnOk}
 use Rattle.std.proofs.Math.Seq.{take-length}
 use Rattle.modeller_io.specs.Count.{RoseBy}
 use Rattle.modeller_io.specs.Held.{Gains, GainsPrefix}
 use Rattle.view_settings.specs.declared.job.Job.{Job}
+use Rattle.view_settings.specs.declared.word_fault.WordFault.{WordFault}
 use Rattle.view_settings.specs.declared.job.Job.TheVariants.{Replay}
 use Rattle.modeller_cmd.specs.Asking.{asked}
-use Rattle.modeller_cmd.specs.Endings.{Ends, IsServeStop, IsTold, IsWorked, Makes, NoFault, TakesLine, Tells, status_after}
-use Rattle.modeller_cmd.specs.Notes.{line_of}
-use Rattle.modeller_cmd.specs.Output.{made, outcome, output_as}
+use Rattle.modeller_cmd.specs.Endings.{Ends, IsServeStop, IsTold, IsWorked, Makes, NoFault, TakesLine, Tells, TellsRefusal, status_after}
+use Rattle.modeller_cmd.specs.Notes.{line_of, refusal_line}
+use Rattle.modeller_cmd.specs.Output.{made, outcome, output_as, output_of}
 use Rattle.modeller_cmd.specs.Stops.{status_at}
 use Rattle.modeller_cmd.specs.Parts.{Part, bytes_of_parts}
 use Rattle.modeller_cmd.specs.declared.refusal.Refusal.{Refusal}
 use Rattle.modeller_cmd.specs.declared.refusal.Refusal.TheVariants as refusal
+use Rattle.modeller_cmd.specs.declared.status.Status.{Status}
+use Rattle.modeller_cmd.specs.declared.status.Status.TheVariants as statuses
 use Rattle.modeller_cmd.specs.declared.stop.Stop.{Stop}
 use Rattle.modeller_cmd.specs.declared.stop.Stop.TheVariants.{Refused, ReadFault, WriteFault, NoMemory}
 use Rattle.modeller_cmd.proofs.Outcomes.{asked_made}
@@ -81,12 +84,6 @@ module _ (words : List (List ℕ)) (told : Option (List ℕ)) (input : List ℕ)
   served-counted (Err ReadFault) P worked done other = absurd worked
   served-counted (Err NoMemory) P worked done other = absurd worked
 
-  -- and of work that is done
-  pub served-done : {T : Type 0} (r : Result T Stop) (P : List Part → Type 0) → IsOk r → OnOk r (P (output_as (made job input)).parts)
-      → IfSome told (λ bytes. P (output_as (outcome words bytes)).parts)
-  served-done (Ok x) P ok done = as-told (λ o. P (output_as o).parts) done
-  served-done (Err stop) P ok done = (cc)
-
 -- what is so of work that is done and of work that is stopped is so
 pub done-or-stopped : {T : Type 0} (r : Result T Stop) (P Q : Type 0) (R : Stop → Type 0) → (Q → P) → ((stop : Stop) → R stop → P) → OnOk r Q → IfErr r R → P
 done-or-stopped (Ok x) P Q R f g done stopped = f done
@@ -102,6 +99,38 @@ tells words told (Refused (refusal.Script fault)) takes is line = record { fault
 tells words told ReadFault takes is line = line
 tells words told WriteFault takes is line = line
 tells words told NoMemory takes is line = line
+
+-- refusals that are one outcome are one
+err-same : (outcome : Result (List Part) Refusal) (a b : Refusal) → outcome ≡ Err a → outcome ≡ Err b → a ≡ b
+err-same outcome a b one other = cc
+
+-- under the status of the output the notes are told its note
+pub noted : (words : List (List ℕ)) (told : Option (List ℕ)) (status : Status) (takes : List ℕ → Type 0) → (status ≡ statuses.Usage → IsErr (asked words))
+    → Tells words told status takes → IfSome told (λ input. (output_of words input).status ≡ status → status ≢ statuses.Done → takes (output_of words input).note)
+noted words None status takes usage line = tt
+noted words (Some input) status takes usage line = by (outcome words input) refl
+  where
+    words_told : (r : Result Job Refusal) (fault : WordFault) → asked words ≡ r → outcome words input ≡ Err (refusal.Words fault) → IsErr r
+        → IfErr r (λ why. takes (refusal_line why)) → takes (refusal_line (refusal.Words fault))
+    words_told (Ok job) fault is given refused line = absurd (grind (arith, refused))
+    words_told (Err why) fault is given refused line =
+        let same : outcome words input ≡ Err why = rw is refl in
+        let one : why ≡ refusal.Words fault = err-same (outcome words input) why (refusal.Words fault) same given in
+        subst (λ w. takes (refusal_line w)) one line
+
+    by : (o : Result (List Part) Refusal) → outcome words input ≡ o → (output_as o).status ≡ status → status ≢ statuses.Done → takes (output_as o).note
+    by (Ok parts) is same other = absurd (other (sym same))
+    by (Err (refusal.Words fault)) is same other =
+        words_told (asked words) fault refl is (usage (sym same)) (subst (λ s. Tells words (Some input) s takes) (sym same) line)
+    by (Err refusal.TooLong) is same other = subst (λ s. Tells words (Some input) s takes) (sym same) line
+    by (Err (refusal.Model fault)) is same other =
+        let says : TellsRefusal refusal.Model words (Some input) takes = subst (λ s. Tells words (Some input) s takes) (sym same) line in
+        let one : refusal.Model says.fault ≡ refusal.Model fault = err-same (outcome words input) (refusal.Model says.fault) (refusal.Model fault) says.given is in
+        subst (λ w. takes (refusal_line w)) one says.told
+    by (Err (refusal.Script fault)) is same other =
+        let says : TellsRefusal refusal.Script words (Some input) takes = subst (λ s. Tells words (Some input) s takes) (sym same) line in
+        let one : refusal.Script says.fault ≡ refusal.Script fault = err-same (outcome words input) (refusal.Script says.fault) (refusal.Script fault) says.given is in
+        subst (λ w. takes (refusal_line w)) one says.told
 
 -- a count that rose tells of a fault
 pub rose-fault : {X : Type 0} (faults : X → ℕ) (before after : X) → RoseBy faults before after 1 → NoFault faults before after → ⊥

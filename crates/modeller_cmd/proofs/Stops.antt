@@ -1,7 +1,14 @@
 -- Where the commands of a script stop.
-use Rattle.std.proofs.Common.{◌≡◌, ℕ, List, inl, inr, Option, Some, None, Result, Ok, Err, IfSome, refl, subst}
+use Rattle.std.proofs.Common.{◌≡◌, ◌≢◌, ℕ, List, inl, inr, Option, Some, None, Result, Ok, Err, IfSome, refl, subst}
 use Rattle.std.specs.Prelude.{IfErr}
 use Rattle.clause_reader.specs.Reading.{text_read}
+use Rattle.clause_reader.specs.declared.text_reason.TextReason.{TextReason}
+use Rattle.clause_reader.specs.declared.text_reason.TextReason.TheVariants as reasons
+use Rattle.edit_script.specs.declared.script_reason.ScriptReason.{ScriptReason}
+use Rattle.edit_script.specs.declared.script_reason.ScriptReason.TheVariants as scripts
+use Rattle.modeller_io.specs.declared.read_end.ReadEnd.{ReadEnd}
+use Rattle.modeller_io.specs.declared.read_end.ReadEnd.TheVariants as end
+use Rattle.modeller_cmd.specs.Stops.{stop_of_end, stop_of_script, stop_of_text}
 use Rattle.edit_script.specs.Marks.{before_mark}
 use Rattle.edit_script.specs.Scripts.{script_read}
 use Rattle.edit_script.specs.declared.command.Command.{Command}
@@ -15,10 +22,11 @@ use Rattle.solid_model.specs.declared.edit.Edit.{Edit}
 use Rattle.solid_model.specs.declared.edit.EditFault.{EditFault as Fault}
 use Rattle.modeller_cmd.specs.Parts.{work_of_parts}
 use Rattle.modeller_cmd.specs.Replays.{parts_at}
-use Rattle.modeller_cmd.specs.Stopping.{StopsAt, StopsPlay}
+use Rattle.modeller_cmd.specs.Stopping.{IsUnbegun, StopsAt, StopsPlay}
 use Rattle.view_settings.specs.declared.job.Job.{Job}
 use Rattle.view_settings.specs.declared.job.Job.TheVariants.{Replay}
 use Rattle.modeller_cmd.specs.Asking.{asked}
+use Rattle.modeller_cmd.specs.declared.refusal.Refusal.{Refusal}
 use Rattle.modeller_cmd.specs.declared.stop.Stop.{Stop}
 use Rattle.modeller_cmd.proofs.Serving.{told-input}
 
@@ -41,12 +49,33 @@ module _ {K : Type 0} (held : K → Option (List ℕ)) (faults : K → ℕ) (bef
   served-stops (Err stop) words told all job asks p =
       told-input told input (λ bytes. asked words ≡ Ok Replay → StopsPlay held faults before after s t bytes stop) all (λ is. p cc)
 
--- a run that did nothing
+-- a run that did nothing, for what may stop a script so
 pub unplayed : {K T : Type 0} (held : K → Option (List ℕ)) (faults : K → ℕ) (out : K) (s : Counts) (r : Result T Stop) (told : Option (List ℕ)) (A : Type 0)
-    → IfErr r (λ stop. IfSome told (λ input. A → StopsPlay held faults out out s s input stop))
-unplayed held faults out s (Ok x) told A = tt
-unplayed held faults out s (Err stop) None A = tt
-unplayed held faults out s (Err stop) (Some input) A = λ is clauses script read found. inl (refl, refl)
+    → IfErr r (λ stop. A → IsUnbegun stop) → IfErr r (λ stop. IfSome told (λ input. A → StopsPlay held faults out out s s input stop))
+unplayed held faults out s (Ok x) told A may = tt
+unplayed held faults out s (Err stop) None A may = tt
+unplayed held faults out s (Err stop) (Some input) A may = λ is clauses script read found. inl (may is, refl, refl)
+
+-- words that are refused ask for no job
+pub asks-none : (r : Result Job Refusal) (why : Refusal) (job : Job) → Err why ≡ r → r ≡ Ok job → ⊥
+asks-none r why job refused is = cc
+
+-- reading the source stops it so
+pub unread : (why : ReadEnd) → IsUnbegun (stop_of_end why)
+unread end.Failed = tt
+unread end.TooLong = tt
+unread end.NoMemory = tt
+
+-- and so does reading a solid or a script that is none to refuse
+pub unbegun-text : (text : List ℕ) (clauses : List Clause) (line : ℕ) (reason : TextReason) → text_read text ≡ Ok clauses
+    → (reason ≢ reasons.NoMemory → text_read text ≡ Err (record { line = line; reason = reason })) → IsUnbegun (stop_of_text (record { line = line; reason = reason }))
+unbegun-text text clauses line reasons.NoMemory read refused = tt
+unbegun-text text clauses line other read refused = let no = refused (λ is. cc) in absurd (cc)
+
+pub unbegun-script : (input : List ℕ) (script : List Command) (line : ℕ) (reason : ScriptReason) → script_read input ≡ Ok script
+    → (reason ≢ scripts.NoMemory → script_read input ≡ Err (record { line = line; reason = reason })) → IsUnbegun (stop_of_script (record { line = line; reason = reason }))
+unbegun-script input script line scripts.NoMemory read refused = tt
+unbegun-script input script line other read refused = let no = refused (λ is. cc) in absurd (cc)
 
 -- an edit takes no work
 pub edit-work : (frames : FramesAddUp) (clauses : List Clause) (line : ℕ) (edit : Edit) (counts : Counts) → CountsWork counts counts (work_of_parts (parts_at clauses (commands.Edit line edit)))

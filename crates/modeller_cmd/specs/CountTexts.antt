@@ -2,8 +2,9 @@
 use Rattle.std.specs.Prelude.{ℕ, List, ◌++◌, codes, decimal}
 use Rattle.edit_session.specs.Work.{Work}
 
--- the three lines that tell the work of an image
+-- the three lines that tell the work of an image, of which as many evaluations and traced steps are
+-- done at least as at most
 abbrev pub count_text : Work → List ℕ
 count_text work =
-    codes "points " ++ decimal work.points ++ codes "\nspans " ++ decimal work.spans
+    codes "points " ++ decimal work.least.points ++ codes "\nspans " ++ decimal work.least.spans
     ++ codes "\nplain " ++ decimal work.plain ++ codes "\n"

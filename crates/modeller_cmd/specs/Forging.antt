@@ -1,5 +1,5 @@
 -- What `forge` writes of the solid that it makes.
-use Rattle.std.specs.Prelude.{ℕ, ◌==◌, List, ◌++◌, true, length, codes, count_by, decimal}
+use Rattle.std.specs.Prelude.{ℕ, ◌==◌, List, ◌++◌, length, codes, count_by, decimal}
 use Rattle.edit_session.specs.Images.{pixels_of}
 use Rattle.edit_session.specs.Work.{frame_work}
 use Rattle.model_forge.specs.Forged.{forged}
@@ -28,6 +28,5 @@ forge_text view clauses =
 abbrev pub forge_part : Forge → Part
 forge_part forge = record {
   bytes = forge_text forge.view (forged_clauses forge);
-  exact = true;
   work = frame_work forge.view (forged_clauses forge);
 }

@@ -1,6 +1,6 @@
 -- What a run gives for its words and its input: a status, the bytes in their parts, and a note
 -- line.
-use Rattle.std.specs.Prelude.{ℕ, nat_lt, true, List, [], ◌∷◌, length, Option, Result, Ok, Err, IfSome, if◌then◌else◌}
+use Rattle.std.specs.Prelude.{ℕ, nat_lt, List, [], ◌∷◌, length, Option, Result, Ok, Err, IfSome, if◌then◌else◌}
 use Rattle.clause_reader.specs.Reading.{text_read}
 use Rattle.clause_reader.specs.declared.text_fault.TextFault.{TextFault}
 use Rattle.edit_script.specs.Marks.{before_mark}
@@ -38,7 +38,6 @@ parts_played clauses (Err fault) = Err (Script fault)
 abbrev pub count_part : Window → List Clause → Part
 count_part view clauses = record {
   bytes = count_text (frame_work view clauses);
-  exact = true;
   work = frame_work view clauses;
 }
 

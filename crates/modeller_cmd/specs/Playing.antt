@@ -1,28 +1,20 @@
 -- What playing commands does to a sink and to a tally.
-use Rattle.std.specs.Prelude.{◌≡◌, ◌≢◌, ℕ, ◌≤◌, List, Option}
-use Rattle.edit_session.specs.Work.{CountsWithin, CountsWork, PointsRiseAtMost, Work}
-use Rattle.fixed_ops.specs.Counts.{Counts, RisesBy}
+use Rattle.std.specs.Prelude.{◌≡◌, ◌≢◌, ℕ, List, Option}
+use Rattle.edit_session.specs.Work.{CountsWithin, CountsWork, PointsRiseAtMost}
+use Rattle.fixed_ops.specs.Counts.{Counts}
 use Rattle.modeller_io.specs.Count.{RoseBy, Stands}
 use Rattle.modeller_io.specs.Held.{Gains, GainsPrefix, Grew}
 use Rattle.modeller_cmd.specs.Endings.{GainsParts}
-use Rattle.modeller_cmd.specs.Parts.{AreExact, Part, bytes_of_parts, exact_work_of, work_of_parts}
+use Rattle.modeller_cmd.specs.Parts.{Part, bytes_of_parts, work_of_parts}
 use Rattle.modeller_cmd.specs.declared.stop.Stop.{Stop}
 use Rattle.modeller_cmd.specs.declared.stop.Stop.TheVariants.{WriteFault, NoMemory}
 
--- a tally rises by at least the evaluations and the hulls of the work
-pub record CountsLeast (before after : Counts) (work : Work) : Type 0 where
-  pub by : Counts
-  pub points : work.points ≤ by.points
-  pub spans : work.spans ≤ by.spans
-  pub rises : RisesBy before after by
-
--- the parts were written whole, and their work was counted: that of the exact ones, whatever else
+-- the parts were written whole, and their work was done and counted
 pub record Played {K : Type 0} (held : K → Option (List ℕ)) (faults : K → ℕ)
     (before after : K) (first last : Counts) (parts : List Part) : Type 0 where
   pub gained : Gains held before after (bytes_of_parts parts)
   pub no_fault : Stands faults before after
-  pub counted : AreExact parts → CountsWork first last (work_of_parts parts)
-  pub least : CountsLeast first last (exact_work_of parts)
+  pub counted : CountsWork first last (work_of_parts parts)
   pub at_most : CountsWithin first last (work_of_parts parts)
   pub plain : PointsRiseAtMost first last (work_of_parts parts).plain
 

@@ -1,5 +1,5 @@
 -- What the commands of a script make of a solid, one after the other.
-use Rattle.std.specs.Prelude.{ℕ, List, [], ◌∷◌, ◌++◌, true, fold}
+use Rattle.std.specs.Prelude.{ℕ, List, [], ◌∷◌, ◌++◌, fold}
 use Rattle.clause_reader.specs.Reading.{on_result}
 use Rattle.edit_script.specs.declared.command.Command.{Command}
 use Rattle.edit_script.specs.declared.command.Command.TheVariants as commands
@@ -19,7 +19,7 @@ framed kind part = record part { bytes = frame_of kind part.bytes }
 
 -- the line of an edit that is refused, which takes no work
 abbrev pub refusal : ℕ → EditFault → Part
-refusal line fault = record { bytes = refused_line line fault; exact = true; work = no_work }
+refusal line fault = record { bytes = refused_line line fault; work = no_work }
 
 -- the parts that a command writes of the clauses then standing: nothing for an edit that is
 -- accepted, the line of one that is refused, and a frame of what is drawn. An edit that names no

@@ -11,13 +11,14 @@ use Rattle.solid_model.specs.Edits.{MakesClause, edited}
 use Rattle.solid_model.specs.declared.clause.Clause.{Clause}
 use Rattle.view_settings.specs.declared.job.Job.TheVariants.{Replay}
 use Rattle.modeller_cmd.specs.Asking.{asked}
-use Rattle.modeller_cmd.specs.Parts.{AreExact, work_of_parts}
+use Rattle.modeller_cmd.specs.Parts.{work_of_parts}
 use Rattle.modeller_cmd.specs.Playing.{Played, Stopped}
 use Rattle.modeller_cmd.specs.Replays.{parts_at, replayed, standing}
 use Rattle.modeller_cmd.specs.Stops.{status_at}
+use Rattle.modeller_cmd.specs.declared.refusal.Refusal.TheVariants as refusal
 use Rattle.modeller_cmd.specs.declared.status.Status.{Status}
 use Rattle.modeller_cmd.specs.declared.stop.Stop.{Stop}
-use Rattle.modeller_cmd.specs.declared.stop.Stop.TheVariants.{WriteFault, NoMemory}
+use Rattle.modeller_cmd.specs.declared.stop.Stop.TheVariants.{Refused, ReadFault, WriteFault, NoMemory}
 
 -- Memory may be wanted for a command: for an edit only where it is accepted and makes a clause, and
 -- never for one that names no clause anywhere.
@@ -39,8 +40,7 @@ pub record StopsIn {K : Type 0} (held : K → Option (List ℕ)) (faults : K →
   pub unwritten : stop ≡ NoMemory → after ≡ before
   pub wants : stop ≡ NoMemory → WantsMemory clauses command
   pub writes : stop ≡ WriteFault → WritesSomething clauses command
-  pub counted : stop ≡ WriteFault → AreExact (parts_at clauses command)
-      → CountsWork first last (work_of_parts (parts_at clauses command))
+  pub counted : stop ≡ WriteFault → CountsWork first last (work_of_parts (parts_at clauses command))
   pub stopped : Stopped held faults before after first last (parts_at clauses command) stop
 
 -- Something stopped one of these commands: those before it were played whole, and nothing was done
@@ -57,6 +57,14 @@ pub record StopsAt {K : Type 0} (held : K → Option (List ℕ)) (faults : K →
   pub played : Played held faults before between first counts (replayed clauses earlier)
   pub stops : StopsIn held faults between after counts last (standing clauses earlier) command stop
 
+-- what may stop a script before anything of it is done: a fault of the source, an input that is too
+-- long, or want of memory
+abbrev pub IsUnbegun : Stop → Type 0
+IsUnbegun ReadFault = ⊤
+IsUnbegun (Refused refusal.TooLong) = ⊤
+IsUnbegun NoMemory = ⊤
+IsUnbegun other = ⊥
+
 -- What an input has as its solid and its script was stopped by this: before anything was done, or
 -- at one of the commands.
 abbrev pub StopsPlay : {K : Type 0} → (K → Option (List ℕ)) → (K → ℕ) → K → K → Counts → Counts
@@ -64,7 +72,7 @@ abbrev pub StopsPlay : {K : Type 0} → (K → Option (List ℕ)) → (K → ℕ
 StopsPlay held faults before after first last input stop =
     (clauses : List Clause) (script : List Command) → text_read (before_mark input) ≡ Ok clauses
     → script_read input ≡ Ok script
-    → ((after ≡ before) × (last ≡ first))
+    → (IsUnbegun stop × (after ≡ before) × (last ≡ first))
     ⊎ StopsAt held faults before after first last clauses script stop
 
 -- so it is where the words of a run ask for a script, and the run ends with the status of that

@@ -11,8 +11,8 @@ ghost use Rattle.view_settings.specs.Words.{bytes_of};
 ghost use Rattle.modeller_cmd.specs.Endings.{CountsForSome, Ends, GainsParts, IsAnswer, IsRead, IsRefusal, IsServeStop, IsTold, IsUnwritten, IsWorkStop, IsWorked, Makes, NoFault, ReadsWhole, TakesLine, Tells, status_after};
 ghost use Rattle.modeller_cmd.specs.Notes.{line_of};
 ghost use Rattle.modeller_cmd.specs.Output.{WithOutput, input_limit, made, outcome, output_as};
-ghost use Rattle.modeller_cmd.specs.Parts.{AreExact, bytes_of_parts, exact_work_of, work_of_parts};
-ghost use Rattle.modeller_cmd.specs.Playing.{CountsLeast, Played, Stopped};
+ghost use Rattle.modeller_cmd.specs.Parts.{bytes_of_parts, work_of_parts};
+ghost use Rattle.modeller_cmd.specs.Playing.{Played, Stopped};
 ghost use Rattle.modeller_cmd.specs.Asking.{asked, asks_nothing, input_told, reads_nothing};
 ghost use Rattle.modeller_cmd.specs.SoundTexts.{MeshFramesAreSound, MeshesAreSound};
 ghost use Rattle.modeller_cmd.specs.Stopping.{StopsPlay, StopsRun};
@@ -107,19 +107,19 @@ pub fn run<S: Source, K: Sink, N: Sink>(
     ensures never_falls { N.faults notes.old ≤ N.faults notes.new }
     ensures fails_once { RoseAtMost N.faults notes.old notes.new 1 }
 
-    // The one line of the notes.
+    // The one line of the notes: under statuses 2 to 5 it is that of the output.
     ensures note { Tells (bytes_of words.now)
         (input_told S.rest source.old (asks_nothing (bytes_of words.now))) result
         (TakesLine N.faults N.held notes.old notes.new) }
+    ensures noted { WithOutput S.rest source.old (bytes_of words.now) (λ output.
+        output.status ≡ result → result ≢ Status.Done
+        → TakesLine N.faults N.held notes.old notes.new output.note) }
 
-    // The work that is counted: all of it where it was done and is exact, and never more, whatever
-    // the status.
+    // The work that is counted: between its least and its most where it was done, which are one for
+    // the evaluations and traced steps of images and height maps. Whatever the status, never more.
     ensures counted { IsWorked (bytes_of words.now) result
         → WithOutput S.rest source.old (bytes_of words.now) (λ output.
-        AreExact output.parts → CountsWork tally.old tally.new (work_of_parts output.parts)) }
-    ensures least { result ≡ Status.Done
-        → WithOutput S.rest source.old (bytes_of words.now) (λ output.
-        CountsLeast tally.old tally.new (exact_work_of output.parts)) }
+        CountsWork tally.old tally.new (work_of_parts output.parts)) }
     ensures uncounted { IsRefusal result → tally.new ≡ tally.old }
     ensures work { WithOutput S.rest source.old (bytes_of words.now) (λ output.
         CountsWithin tally.old tally.new (work_of_parts output.parts)) }
@@ -145,7 +145,7 @@ fn tell<N: Sink>(notes: &mut N, stop: Stop)
     ensures never_falls { N.faults notes.old ≤ N.faults notes.new }
     ensures fails_once { RoseAtMost N.faults notes.old notes.new 1 }
 {
-    let _ = write_all(notes, note_of(stop).as_slice());
+    let _ = write_all(notes, note_of(stop).bytes());
 }
 
 // Reads, works and writes, up to what ends the run.
@@ -194,9 +194,7 @@ fn perform<S: Source, K: Sink>(
 
     ensures counted { IsWorked (bytes_of words.now) (status_after result)
         → WithOutput S.rest source.old (bytes_of words.now) (λ output.
-        AreExact output.parts → CountsWork tally.old tally.new (work_of_parts output.parts)) }
-    ensures least { IsOk result → WithOutput S.rest source.old (bytes_of words.now) (λ output.
-        CountsLeast tally.old tally.new (exact_work_of output.parts)) }
+        CountsWork tally.old tally.new (work_of_parts output.parts)) }
     ensures uncounted { IsRefusal (status_after result) → tally.new ≡ tally.old }
     ensures work { WithOutput S.rest source.old (bytes_of words.now) (λ output.
         CountsWithin tally.old tally.new (work_of_parts output.parts)) }
@@ -269,7 +267,6 @@ fn serve<K: Sink>(
         (output_as (made job.now input.now)).parts) }
     ensures unwritten { job.now ≢ Job.Replay → result ≡ Err Stop.NoMemory → out.new ≡ out.old }
     ensures counted { job.now ≢ Job.Replay → result ≡ Err Stop.WriteFault
-        → AreExact (output_as (made job.now input.now)).parts
         → CountsWork tally.old tally.new
         (work_of_parts (output_as (made job.now input.now)).parts) }
     ensures refused { IsRefusal (status_after result)
@@ -288,7 +285,6 @@ fn serve<K: Sink>(
 }
 
 // Does a job on an input, and writes what it makes when all of it is made.
-#[tactic(auto, using(crate::proofs::Outcomes::least_of_job))]
 fn serve_at_once<K: Sink>(
     alloc: Global,
     job: &Job,
@@ -308,7 +304,6 @@ fn serve_at_once<K: Sink>(
         (output_as (made job.now input.now)).parts) }
     ensures unwritten { result ≡ Err Stop.NoMemory → out.new ≡ out.old }
     ensures counted { result ≡ Err Stop.WriteFault
-        → AreExact (output_as (made job.now input.now)).parts
         → CountsWork tally.old tally.new
         (work_of_parts (output_as (made job.now input.now)).parts) }
     ensures refused { IsRefusal (status_after result)
@@ -330,8 +325,7 @@ fn work(alloc: Global, job: &Job, input: &[u8], tally: &mut Tally) -> Result<Vec
     ensures ends { Ends (made job.now input.now) result }
     ensures stop { IfErr result IsWorkStop }
     ensures script { status_after result ≢ Status.BadScript }
-    ensures counted { OnOk result (AreExact (output_as (made job.now input.now)).parts
-        → CountsWork tally.old tally.new
+    ensures counted { OnOk result (CountsWork tally.old tally.new
         (work_of_parts (output_as (made job.now input.now)).parts)) }
     ensures uncounted { IsRefusal (status_after result) → tally.new ≡ tally.old }
     ensures at_most { CountsWithin tally.old tally.new
@@ -358,8 +352,7 @@ fn work_on_input(alloc: Global, job: &Job, input: &[u8], tally: &mut Tally) -> R
     ensures ends { Ends (made job.now input.now) result }
     ensures stop { IfErr result IsWorkStop }
     ensures script { status_after result ≢ Status.BadScript }
-    ensures counted { OnOk result (AreExact (output_as (made job.now input.now)).parts
-        → CountsWork tally.old tally.new
+    ensures counted { OnOk result (CountsWork tally.old tally.new
         (work_of_parts (output_as (made job.now input.now)).parts)) }
     ensures uncounted { IsRefusal (status_after result) → tally.new ≡ tally.old }
     ensures at_most { CountsWithin tally.old tally.new

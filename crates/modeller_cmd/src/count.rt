@@ -1,10 +1,10 @@
 // The work of an image, as text.
-ghost use Rattle.std.specs.Prelude.{◌≡◌, length, IfOk, OnOk, OnErr};
+ghost use Rattle.std.specs.Prelude.{◌≡◌, length, IfOk, OnOk};
 ghost use Rattle.edit_session.specs.Images.{plain_points as plain_points_of};
-ghost use Rattle.edit_session.specs.Work.{CountsWithin, CountsWork, PointsRiseAtMost, frame_work};
+ghost use Rattle.edit_session.specs.Work.{CountsWithin, CountsWork, PointsRiseAtMost, exactly, frame_work};
 ghost use Rattle.modeller_cmd.specs.CountTexts.{count_text};
 
-use edit_session::draw_tree;
+use edit_session::{draw_tree, frames_add_up};
 use fixed_ops::Tally;
 use solid_model::Model;
 use std::alloc::{AllocError, Global};
@@ -12,7 +12,6 @@ use view_settings::View;
 
 /// The work that a fresh image of a model over a view takes, as text: the image is drawn, and no
 /// pixel of it is written. What the tally counted before is not told.
-#[tactic(auto, unfolding(edit_session::specs::Work::CountsWork, edit_session::specs::Work::CountsWithin))]
 pub fn count(
     alloc: Global,
     model: &Model,
@@ -21,11 +20,11 @@ pub fn count(
 ) -> Result<Vec<u8>, AllocError>
     ensures ok { IfOk result (λ text. text.items ≡ count_text (frame_work view.now model.now)) }
     ensures counted { OnOk result (CountsWork tally.old tally.new (frame_work view.now model.now)) }
-    ensures at_most { OnErr result
-        (CountsWithin tally.old tally.new (frame_work view.now model.now)) }
+    ensures at_most { CountsWithin tally.old tally.new (frame_work view.now model.now) }
     ensures plain { PointsRiseAtMost tally.old tally.new
         (plain_points_of view.now (length model.now)) }
 {
+    frames_add_up();
     let mut frame = Tally::new();
     let drawn = draw_tree(alloc, model, view, &mut frame);
     tally.join(&frame);
@@ -43,8 +42,7 @@ pub(crate) fn plain_points(model: &Model, view: &View) -> u64
 
 // The three lines of these counts.
 fn count_lines(alloc: Global, points: u64, spans: u64, plain: u64) -> Result<Vec<u8>, AllocError>
-    ensures { IfOk result (λ text. text.items
-        ≡ count_text (record { points = points; spans = spans; plain = plain })) }
+    ensures { IfOk result (λ text. text.items ≡ count_text (exactly points spans plain)) }
 {
     let text = format!(in alloc; "points {points}\nspans {spans}\nplain {plain}\n")?;
     Ok(text.into_bytes())

@@ -1,7 +1,7 @@
 // A model that is made from a seed, and what its image takes, as text.
-ghost use Rattle.std.specs.Prelude.{◌≡◌, ◌==◌, ◌++◌, codes, count_by, decimal, length, IfOk, OnOk, OnErr};
+ghost use Rattle.std.specs.Prelude.{◌≡◌, ◌==◌, ◌++◌, codes, count_by, decimal, length, IfOk, OnOk};
 ghost use Rattle.edit_session.specs.Images.{plain_points as plain_points_of};
-ghost use Rattle.edit_session.specs.Work.{CountsWithin, CountsWork, PointsRiseAtMost, frame_work};
+ghost use Rattle.edit_session.specs.Work.{CountsWithin, CountsWork, PointsRiseAtMost, exactly, frame_work};
 ghost use Rattle.quad_descent.specs.Pixels.{pixels_of};
 ghost use Rattle.view_settings.specs.Settings.{IsJob};
 ghost use Rattle.view_settings.specs.declared.job.Job.TheVariants as jobs;
@@ -27,8 +27,8 @@ pub fn forge(alloc: Global, wanted: &Forge, tally: &mut Tally) -> Result<Vec<u8>
         ≡ forge_text wanted.now.view (forged_clauses wanted.now)) }
     ensures counted { OnOk result (CountsWork tally.old tally.new
         (frame_work wanted.now.view (forged_clauses wanted.now))) }
-    ensures at_most { OnErr result (CountsWithin tally.old tally.new
-        (frame_work wanted.now.view (forged_clauses wanted.now))) }
+    ensures at_most { CountsWithin tally.old tally.new
+        (frame_work wanted.now.view (forged_clauses wanted.now)) }
     ensures plain { PointsRiseAtMost tally.old tally.new
         (plain_points_of wanted.now.view (length (forged_clauses wanted.now))) }
 {
@@ -39,7 +39,6 @@ pub fn forge(alloc: Global, wanted: &Forge, tally: &mut Tally) -> Result<Vec<u8>
 
 // The five lines of a model and of its image over a view. The image is a fresh one: what the tally
 // counted before is not told.
-#[tactic(auto, unfolding(edit_session::specs::Work::CountsWork, edit_session::specs::Work::CountsWithin))]
 fn draw_lines(
     alloc: Global,
     model: &Model,
@@ -48,11 +47,11 @@ fn draw_lines(
 ) -> Result<Vec<u8>, AllocError>
     ensures ok { IfOk result (λ text. text.items ≡ forge_text view.now model.now) }
     ensures counted { OnOk result (CountsWork tally.old tally.new (frame_work view.now model.now)) }
-    ensures at_most { OnErr result
-        (CountsWithin tally.old tally.new (frame_work view.now model.now)) }
+    ensures at_most { CountsWithin tally.old tally.new (frame_work view.now model.now) }
     ensures plain { PointsRiseAtMost tally.old tally.new
         (plain_points_of view.now (length model.now)) }
 {
+    frames_add_up();
     let mut frame = Tally::new();
     let drawn = draw_tree(alloc, model, view, &mut frame);
     tally.join(&frame);
@@ -89,7 +88,7 @@ fn forge_lines(
 ) -> Result<Vec<u8>, AllocError>
     ensures { IfOk result (λ text. text.items
         ≡ codes "clauses " ++ decimal clauses ++ codes "\ninside " ++ decimal inside ++ codes "\n"
-        ++ count_text (record { points = points; spans = spans; plain = plain })) }
+        ++ count_text (exactly points spans plain)) }
 {
     let text = format!(in alloc;
         "clauses {clauses}\ninside {inside}\npoints {points}\nspans {spans}\nplain {plain}\n"

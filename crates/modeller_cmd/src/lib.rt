@@ -7,6 +7,7 @@ mod count;
 mod forge;
 mod frame;
 mod frame_kind;
+mod line;
 mod mesh;
 mod note;
 mod refusal;

@@ -8,7 +8,7 @@ ghost use Rattle.tetra_mesh.specs.Places.{IsPlaced};
 ghost use Rattle.view_settings.specs.Window.{FitsMesh};
 ghost use Rattle.modeller_cmd.specs.Endings.{Ends, IsRefusal, IsServeStop, IsWorkStop, Makes, status_after};
 ghost use Rattle.modeller_cmd.specs.Output.{input_limit, made, output_as};
-ghost use Rattle.modeller_cmd.specs.Parts.{AreExact, work_of_parts};
+ghost use Rattle.modeller_cmd.specs.Parts.{work_of_parts};
 ghost use Rattle.modeller_cmd.specs.Playing.{Played, Stopped};
 
 use crate::Status;
@@ -41,7 +41,6 @@ pub fn serve_mesh<K: Sink>(
         (output_as (made (Job.Mesh view.now) input.now)).parts) }
     ensures unwritten { result ≡ Err Stop.NoMemory → out.new ≡ out.old }
     ensures counted { result ≡ Err Stop.WriteFault
-        → AreExact (output_as (made (Job.Mesh view.now) input.now)).parts
         → CountsWork tally.old tally.new
         (work_of_parts (output_as (made (Job.Mesh view.now) input.now)).parts) }
     ensures refused { IsRefusal (status_after result)
@@ -65,8 +64,8 @@ fn mesh_of_input(alloc: Global, view: &View, input: &[u8], tally: &mut Tally) ->
     ensures ends { Ends (made (Job.Mesh view.now) input.now) result }
     ensures stop { IfErr result IsWorkStop }
     ensures script { status_after result ≢ Status.BadScript }
-    ensures inexact { OnOk result
-        (¬ AreExact (output_as (made (Job.Mesh view.now) input.now)).parts) }
+    ensures counted { OnOk result (CountsWork tally.old tally.new
+        (work_of_parts (output_as (made (Job.Mesh view.now) input.now)).parts)) }
     ensures uncounted { IsRefusal (status_after result) → tally.new ≡ tally.old }
     ensures at_most { CountsWithin tally.old tally.new
         (work_of_parts (output_as (made (Job.Mesh view.now) input.now)).parts) }

@@ -1,22 +1,18 @@
 // The one line that says why a run has not done its work.
 ghost use Rattle.std.specs.Prelude.{◌≡◌, ◌≤◌, length, codes, ◌++◌};
+ghost use Rattle.modeller_cmd.specs.declared.line.TheConstants.{LINE_LIMIT};
 ghost use Rattle.modeller_cmd.specs.Notes.{fault_line, line_of, refusal_line, script_reason_name, text_reason_name, word_reason_name};
 
+use crate::line::Line;
 use crate::refusal::Refusal;
 use crate::stop::Stop;
-use arrayvec::ArrayVec;
 use clause_reader::TextReason;
 use edit_script::ScriptReason;
-use itoa::Buffer;
 use view_settings::WordReason;
 
-/// A line of at most 51 bytes, made without memory: as long as a place of two words, a number of
-/// ten digits and the longest name of a reason need.
-pub type Note = ArrayVec<u8, 51>;
-
 /// The line that is written for a stop.
-pub fn note_of(stop: Stop) -> Note
-    ensures { result.items ≡ line_of stop }
+pub fn note_of(stop: Stop) -> Line
+    ensures { result ≡ line_of stop }
 {
     match stop {
         Stop::Refused(refusal) => refusal_note(refusal),
@@ -27,8 +23,8 @@ pub fn note_of(stop: Stop) -> Note
 }
 
 // The line that is written for a refusal.
-fn refusal_note(refusal: Refusal) -> Note
-    ensures { result.items ≡ refusal_line refusal }
+fn refusal_note(refusal: Refusal) -> Line
+    ensures { result ≡ refusal_line refusal }
 {
     match refusal {
         Refusal::Words(fault) => placed(b"word", fault.at, word_reason(fault.reason)),
@@ -38,32 +34,31 @@ fn refusal_note(refusal: Refusal) -> Note
     }
 }
 
-// A note of this text.
-fn whole(text: &[u8]) -> Note
-    requires { length text.now ≤ 51 }
-    ensures { result.items ≡ text.now }
+// The line of this text.
+fn whole(text: &[u8]) -> Line
+    requires { length text.now ≤ LINE_LIMIT }
+    ensures { result ≡ text.now }
 {
-    let mut note = Note::new();
-    note.try_extend_from_slice(text).unwrap();
-    note
+    let mut line = Line::new();
+    line.push(text);
+    line
 }
 
-// The note of what is wrong in the place of this number, as in a word or a line.
-fn placed(place: &[u8], number: u32, reason: &[u8]) -> Note
+// The line of what is wrong in the place of this number, as in a word or a line.
+fn placed(place: &[u8], number: u32, reason: &[u8]) -> Line
     requires place { length place.now ≤ 11 }
     requires reason { length reason.now ≤ 16 }
-    ensures { result.items ≡ fault_line place.now number reason.now }
+    ensures { result ≡ fault_line place.now number reason.now }
 {
-    let mut buffer = Buffer::new();
-    let mut note = whole(b"modeller: ");
-    note.try_extend_from_slice(place).unwrap();
-    note.try_extend_from_slice(b" ").unwrap();
-    note.try_extend_from_slice(buffer.format(number).as_bytes())
-        .unwrap();
-    note.try_extend_from_slice(b": ").unwrap();
-    note.try_extend_from_slice(reason).unwrap();
-    note.try_extend_from_slice(b"\n").unwrap();
-    note
+    let mut line = Line::new();
+    line.push(b"modeller: ");
+    line.push(place);
+    line.push(b" ");
+    line.push_number(u64::from(number));
+    line.push(b": ");
+    line.push(reason);
+    line.push(b"\n");
+    line
 }
 
 // The name of a reason why a word is refused.

@@ -9,7 +9,7 @@ ghost use Rattle.modeller_cmd.specs.Output.{input_limit, made, output_as};
 ghost use Rattle.modeller_cmd.specs.Playing.{Played, Stopped};
 ghost use Rattle.modeller_cmd.specs.Replays.{clauses_after, parts_at, refusal, replayed};
 ghost use Rattle.modeller_cmd.specs.Stopping.{StopsAt, StopsPlay, WantsMemory, WritesSomething};
-ghost use Rattle.modeller_cmd.specs.Parts.{AreExact, work_of_parts};
+ghost use Rattle.modeller_cmd.specs.Parts.{work_of_parts};
 ghost use Rattle.edit_session.specs.Work.{CountsWork};
 ghost use Rattle.solid_model.specs.Edits.{MakesClause, edited};
 
@@ -107,7 +107,7 @@ fn step<K: Sink>(
     ensures unwritten { result ≡ Err Stop.NoMemory → out.new ≡ out.old }
     ensures wants { result ≡ Err Stop.NoMemory → WantsMemory session.old command }
     ensures writes { result ≡ Err Stop.WriteFault → WritesSomething session.old command }
-    ensures counted { result ≡ Err Stop.WriteFault → AreExact (parts_at session.old command)
+    ensures counted { result ≡ Err Stop.WriteFault
         → CountsWork tally.old tally.new (work_of_parts (parts_at session.old command)) }
 {
     frames_add_up();

@@ -8,8 +8,7 @@ ghost use Rattle.edit_session.specs.Work.{CountsWithin, CountsWork, PointsRiseAt
 ghost use Rattle.modeller_cmd.specs.Asking.{asked, asks_nothing, input_told};
 ghost use Rattle.modeller_cmd.specs.Endings.{GainsParts, IsRead, IsRefusal, IsUnwritten, IsWorked, ReadsWhole, TakesLine, Tells};
 ghost use Rattle.modeller_cmd.specs.Output.{WithOutput, input_limit, output_of};
-ghost use Rattle.modeller_cmd.specs.Parts.{AreExact, bytes_of_parts, exact_work_of, work_of_parts};
-ghost use Rattle.modeller_cmd.specs.Playing.{CountsLeast};
+ghost use Rattle.modeller_cmd.specs.Parts.{bytes_of_parts, work_of_parts};
 ghost use Rattle.modeller_cmd.specs.Stopping.{StopsRun};
 ghost use Rattle.modeller_cmd.specs.declared.status.Status.TheVariants.{Done, NoMemory, TooLong, Usage};
 
@@ -56,12 +55,12 @@ pub fn run_surely(
     ensures note { Tells (bytes_of words.now)
         (input_told (λ s. Some s.rest) source.old (asks_nothing (bytes_of words.now))) result
         (TakesLine (λ _. 0) (λ s. s.held) notes.old notes.new) }
+    ensures noted { WithOutput (λ s. Some s.rest) source.old (bytes_of words.now) (λ output.
+        output.status ≡ result → result ≢ Done
+        → TakesLine (λ _. 0) (λ s. s.held) notes.old notes.new output.note) }
     ensures counted { IsWorked (bytes_of words.now) result
         → WithOutput (λ s. Some s.rest) source.old (bytes_of words.now) (λ output.
-        AreExact output.parts → CountsWork tally.old tally.new (work_of_parts output.parts)) }
-    ensures least { result ≡ Done
-        → WithOutput (λ s. Some s.rest) source.old (bytes_of words.now) (λ output.
-        CountsLeast tally.old tally.new (exact_work_of output.parts)) }
+        CountsWork tally.old tally.new (work_of_parts output.parts)) }
     ensures uncounted { IsRefusal result → tally.new ≡ tally.old }
     ensures work { WithOutput (λ s. Some s.rest) source.old (bytes_of words.now) (λ output.
         CountsWithin tally.old tally.new (work_of_parts output.parts)) }

@@ -1,16 +1,6 @@
 use Rattle.std.proofs.Common.{ap}
-use Rattle.edit_session.specs.Work.{frame_work}
-use Rattle.edit_session.proofs.WorkLaws.{within-exactly}
-use Rattle.edit_session.proofs.Frames.{image-same, on_err}
+use Rattle.edit_session.proofs.Frames.{image-same}
 use Rattle.edit_session.proofs.draw.draw.Goals as goal
-
-pub returns-in_err-image-clause-at_most : goal.returns-in_err-image-clause-at_most
-returns-in_err-image-clause-at_most c =
-    on_err _ _ (within-exactly c.args.tally.now c.draw_tree.new.tally (frame_work c.args.view.now c.args.model.now) c.in_ok-tree.ensures.counted)
-
-pub returns-in_err-push_pixels-clause-at_most : goal.returns-in_err-push_pixels-clause-at_most
-returns-in_err-push_pixels-clause-at_most c =
-    on_err _ _ (within-exactly c.args.tally.now c.draw_tree.new.tally (frame_work c.args.view.now c.args.model.now) c.in_ok-tree.ensures.counted)
 
 pub returns-clause-ok : goal.returns-clause-ok
 returns-clause-ok c =

@@ -1,24 +1,21 @@
 use Rattle.std.proofs.Common.{length, subst}
-use Rattle.std.specs.Prelude.{OnErr, OnOk}
 use Rattle.live_clauses.specs.Steps.{IsTape}
-use Rattle.box_chains.specs.Tallied.{CountsAtMost, CountsExactly}
-use Rattle.quad_descent.specs.Raster.{fresh_points, fresh_spans}
 use Rattle.edit_session.specs.Images.{plain_points}
 use Rattle.edit_session.specs.Work.{frame_work}
 use Rattle.edit_session.proofs.WorkLaws.{within-none}
-use Rattle.edit_session.proofs.Frames.{drawn_exactly, drawn_few, drawn_fits, drawn_plain, drawn_within, on_err, on_ok}
+use Rattle.edit_session.proofs.Frames.{drawn_counted, drawn_few, drawn_fits, drawn_within, on_ok, plain-within}
 use Rattle.edit_session.proofs.draw.draw_tree.Goals as goal
 
 pub returns-in_err-list-clause-at_most : goal.returns-in_err-list-clause-at_most
-returns-in_err-list-clause-at_most c = on_err _ _ (within-none c.args.tally.now (frame_work c.args.view.now c.args.model.now))
+returns-in_err-list-clause-at_most c = within-none c.args.tally.now (frame_work c.args.view.now c.args.model.now)
 
 pub returns-clause-counted : goal.returns-clause-counted
 returns-clause-counted c =
-    drawn_exactly c.draw.result c.args.tally.now c.draw.new.tally c.args.view.now c.args.model.now c.in_ok-list.list c.in_ok-list.ensures.live c.draw.ensures.counted
+    drawn_counted c.draw.result c.args.tally.now c.draw.new.tally c.args.view.now c.args.model.now c.in_ok-list.list c.in_ok-list.ensures.live c.draw.ensures.counted
 
 pub returns-clause-at_most : goal.returns-clause-at_most
 returns-clause-at_most c =
-    drawn_within c.draw.result c.args.tally.now c.draw.new.tally c.args.view.now c.args.model.now c.in_ok-list.list c.in_ok-list.ensures.live c.draw.ensures.at_most
+    drawn_within c.draw.result c.args.tally.now c.draw.new.tally c.args.view.now c.args.model.now c.in_ok-list.list c.in_ok-list.ensures.live c.draw.ensures.counted c.draw.ensures.at_most
 
 pub returns-clause-fits : goal.returns-clause-fits
 returns-clause-fits c =
@@ -31,7 +28,5 @@ returns-clause-plain c =
     let clauses = c.args.model.now in
     let few = drawn_few view clauses c.in_ok-list.list c.in_ok-list.ensures.live c.window_holds.ensures
     (subst IsTape c.list.view_is c.list.invariant) c.fresh_work_is_bounded.ensures.points in
-    let same = c.in_ok-list.ensures.live in
-    drawn_plain c.draw.result c.args.tally.now c.draw.new.tally (frame_work view clauses) (plain_points view (length clauses)) few
-    (subst (λ l. OnOk c.draw.result (CountsExactly (fresh_points view l) (fresh_spans view l) c.args.tally.now c.draw.new.tally)) same c.draw.ensures.counted)
-    (subst (λ l. OnErr c.draw.result (CountsAtMost (fresh_points view l) (fresh_spans view l) c.args.tally.now c.draw.new.tally)) same c.draw.ensures.at_most)
+    plain-within c.args.tally.now c.draw.new.tally (frame_work view clauses) (plain_points view (length clauses)) few
+    (drawn_within c.draw.result c.args.tally.now c.draw.new.tally view clauses c.in_ok-list.list c.in_ok-list.ensures.live c.draw.ensures.counted c.draw.ensures.at_most)

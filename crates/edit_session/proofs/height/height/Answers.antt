@@ -1,6 +1,7 @@
 use Rattle.std.proofs.Common.{◌*◌, ◌≤◌, length, sym, ap, subst, ◌∙◌}
 use Rattle.std.specs.Prelude.{All}
 use Rattle.edit_session.specs.Heights.{tops_of}
+use Rattle.edit_session.proofs.Frames.{on_ok}
 use Rattle.edit_session.proofs.Depths.{bytes-same, tops-below, tops-count}
 use Rattle.edit_session.proofs.height.height.Goals as goal
 
@@ -20,3 +21,6 @@ returns-clause-ok c =
     bytes-same c.samples_text.result (λ text. text.items) c.args.view.now c.args.model.now
     (record { w = c.map.inside.w; h = c.map.inside.h; d = c.map.inside.d; tops = c.map.inside.tops.items }) c.deref.result.now
     (c.map.view_is ∙ c.in_ok-map.ensures.map) c.deref.ensures.value c.samples_text.ensures.text
+
+pub returns-clause-counted : goal.returns-clause-counted
+returns-clause-counted c = on_ok _ _ c.in_ok-map.ensures.counted

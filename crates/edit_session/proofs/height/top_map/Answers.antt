@@ -1,6 +1,6 @@
 use Rattle.std.proofs.Common.{subst}
 use Rattle.live_clauses.specs.Steps.{IsTape}
-use Rattle.edit_session.proofs.Depths.{heights_plain, heights_within, map-same}
+use Rattle.edit_session.proofs.Depths.{heights_counted, heights_plain, heights_within, map-same}
 use Rattle.edit_session.proofs.WorkLaws.{within-none}
 use Rattle.edit_session.proofs.height.top_map.Goals as goal
 
@@ -10,6 +10,11 @@ returns-in_err-list-clause-at_most c = within-none c.args.tally.now _
 pub returns-clause-map : goal.returns-clause-map
 returns-clause-map c =
     map-same c.heights.result c.args.view.now c.args.model.now c.in_ok-list.list c.in_ok-list.ensures.value c.heights.ensures.map
+
+pub returns-clause-counted : goal.returns-clause-counted
+returns-clause-counted c =
+    heights_counted c.heights.result c.args.tally.now c.heights.new.tally c.args.view.now c.args.model.now c.in_ok-list.list c.in_ok-list.ensures.live c.heights.ensures.at_most c.heights.ensures.points
+    c.heights.ensures.hulls
 
 pub returns-clause-at_most : goal.returns-clause-at_most
 returns-clause-at_most c =

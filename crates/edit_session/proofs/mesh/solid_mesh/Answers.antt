@@ -7,7 +7,7 @@ use Rattle.tetra_mesh.specs.Cuts.{mesh_of}
 use Rattle.tetra_mesh.specs.Places.{IsPlaced}
 use Rattle.edit_session.specs.Meshes.{grid_of, mesh_text}
 use Rattle.edit_session.proofs.WorkLaws.{within-none}
-use Rattle.edit_session.proofs.GridWork.{mesh_plain, mesh_within}
+use Rattle.edit_session.proofs.GridWork.{mesh_counted, mesh_plain, mesh_within}
 use Rattle.edit_session.proofs.MeshLaws.{mesh_same, of_mesh, solid_faces, solid_placed, solid_text, solid_vertices}
 use Rattle.edit_session.proofs.mesh.solid_mesh.Goals as goal
 
@@ -69,3 +69,8 @@ returns-clause-plain c =
     mesh_plain c.args.tally.now c.mixed_cells.new.tally c.args.view.now c.args.model.now c.in_ok-list.list c.in_ok-list.ensures.live c.window_holds.ensures
     (subst IsTape c.list.view_is c.list.invariant) c.grid_work_is_bounded.ensures.points
     (mesh_within c.args.tally.now c.mixed_cells.new.tally c.args.view.now c.args.model.now c.in_ok-list.list c.in_ok-list.ensures.live c.in_ok-cells.ensures.at_most)
+
+pub returns-clause-counted : goal.returns-clause-counted
+returns-clause-counted c =
+    mesh_counted c.build_from.result c.args.tally.now c.mixed_cells.new.tally c.args.view.now c.args.model.now c.in_ok-list.list c.in_ok-list.ensures.live c.in_ok-cells.ensures.at_most
+    c.in_ok-cells.ensures.at_least c.in_ok-cells.ensures.traced

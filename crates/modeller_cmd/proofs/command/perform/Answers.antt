@@ -5,16 +5,18 @@ use Rattle.view_settings.specs.Words.{bytes_of}
 use Rattle.modeller_cmd.specs.Asking.{asked, asks_nothing, input_told, reads_nothing}
 use Rattle.modeller_cmd.specs.Endings.{Ends, GainsParts}
 use Rattle.modeller_cmd.specs.Output.{made, output_as, output_of}
-use Rattle.modeller_cmd.specs.Parts.{AreExact, bytes_of_parts, exact_work_of, work_of_parts}
-use Rattle.modeller_cmd.specs.Playing.{CountsLeast, Played, Stopped}
-use Rattle.modeller_cmd.specs.declared.stop.Stop.TheVariants.{NoMemory, WriteFault}
+use Rattle.modeller_cmd.specs.Parts.{bytes_of_parts, work_of_parts}
+use Rattle.modeller_cmd.specs.Playing.{Played, Stopped}
+use Rattle.modeller_cmd.specs.Stopping.{IsUnbegun}
+use Rattle.modeller_cmd.specs.Stops.{stop_of_end}
+use Rattle.modeller_cmd.specs.declared.stop.Stop.TheVariants.{NoMemory, Refused, WriteFault}
 use Rattle.modeller_cmd.proofs.Inputs.{frames-told, read-ends, reads-some, told-by-words}
 use Rattle.modeller_cmd.proofs.Outcomes.{some-none, some_all, some_follows}
-use Rattle.modeller_cmd.proofs.Plays.{parts-none}
-use Rattle.modeller_cmd.proofs.Serving.{as-told, done-or-stopped, err-follows, ok-follows, served, served-counted, served-done, served-front, served-told, served-whole}
+use Rattle.modeller_cmd.proofs.Plays.{parts-none, stops-with}
+use Rattle.modeller_cmd.proofs.Serving.{as-told, done-or-stopped, err-follows, ok-follows, served, served-counted, served-front, served-told, served-whole}
 use Rattle.modeller_cmd.proofs.Soundness.{frames_are_sound, run_is_sound}
 use Rattle.view_settings.specs.declared.job.Job.TheVariants.{Replay}
-use Rattle.modeller_cmd.proofs.Stops.{served-stops, unplayed}
+use Rattle.modeller_cmd.proofs.Stops.{asks-none, served-stops, unplayed, unread}
 use Rattle.modeller_cmd.proofs.command.perform.Goals as goal
 
 pub returns-in_err-job-clause-work : goal.returns-in_err-job-clause-work
@@ -103,23 +105,11 @@ returns-clause-counted g c = λ worked.
     let all = some_follows told _ (λ bytes. c.deref.result.now ≡ bytes) (λ bytes same. c.deref.ensures.value ∙ same)
     (told-by-words g.S.Source.rest c.args.source.now (reads_nothing c.in_ok-job.job) (asks_nothing (bytes_of c.args.words.now)) _ c.in_ok-job.ensures.nothing c.in_ok-input.ensures.all) in
     served-counted (bytes_of c.args.words.now) told c.deref.result.now all c.in_ok-job.job c.in_ok-job.ensures.job c.serve.result
-    (λ parts. AreExact parts → CountsWork c.args.tally.now c.serve.new.tally (work_of_parts parts)) worked
+    (λ parts. CountsWork c.args.tally.now c.serve.new.tally (work_of_parts parts)) worked
     (ok-follows c.serve.result
     (Played g.K.Sink.held g.K.Sink.faults c.args.out.now c.serve.new.out c.args.tally.now c.serve.new.tally (output_as (made c.in_ok-job.job c.deref.result.now)).parts)
-    (AreExact (output_as (made c.in_ok-job.job c.deref.result.now)).parts → CountsWork c.args.tally.now c.serve.new.tally (work_of_parts (output_as (made c.in_ok-job.job c.deref.result.now)).parts))
+    (CountsWork c.args.tally.now c.serve.new.tally (work_of_parts (output_as (made c.in_ok-job.job c.deref.result.now)).parts))
     (λ played. played.counted) c.serve.ensures.played) c.serve.ensures.counted
-
-pub returns-clause-least : goal.returns-clause-least
-returns-clause-least g c = λ ok.
-    let told = input_told g.S.Source.rest c.args.source.now (asks_nothing (bytes_of c.args.words.now)) in
-    let all = some_follows told _ (λ bytes. c.deref.result.now ≡ bytes) (λ bytes same. c.deref.ensures.value ∙ same)
-    (told-by-words g.S.Source.rest c.args.source.now (reads_nothing c.in_ok-job.job) (asks_nothing (bytes_of c.args.words.now)) _ c.in_ok-job.ensures.nothing c.in_ok-input.ensures.all) in
-    served-done (bytes_of c.args.words.now) told c.deref.result.now all c.in_ok-job.job c.in_ok-job.ensures.job c.serve.result
-    (λ parts. CountsLeast c.args.tally.now c.serve.new.tally (exact_work_of parts)) ok
-    (ok-follows c.serve.result
-    (Played g.K.Sink.held g.K.Sink.faults c.args.out.now c.serve.new.out c.args.tally.now c.serve.new.tally (output_as (made c.in_ok-job.job c.deref.result.now)).parts)
-    (CountsLeast c.args.tally.now c.serve.new.tally (exact_work_of (output_as (made c.in_ok-job.job c.deref.result.now)).parts))
-    (λ played. played.least) c.serve.ensures.played)
 
 pub returns-clause-work : goal.returns-clause-work
 returns-clause-work g c =
@@ -165,11 +155,15 @@ pub returns-in_err-job-clause-stops : goal.returns-in_err-job-clause-stops
 returns-in_err-job-clause-stops g c =
     unplayed g.K.Sink.held g.K.Sink.faults c.args.out.now c.args.tally.now c.from_residual.result (input_told g.S.Source.rest c.args.source.now (asks_nothing (bytes_of c.args.words.now)))
     (asked (bytes_of c.args.words.now) ≡ Ok Replay)
+    (stops-with c.from_residual.result (Refused c.in_err-job.field-0.0) (λ stop. asked (bytes_of c.args.words.now) ≡ Ok Replay → IsUnbegun stop) c.from_residual.ensures.1
+    (λ replays. absurd (asks-none (asked (bytes_of c.args.words.now)) c.in_err-job.field-0.0 Replay c.in_err-job.ensures.job replays)))
 
 pub returns-in_err-input-clause-stops : goal.returns-in_err-input-clause-stops
 returns-in_err-input-clause-stops g c =
     unplayed g.K.Sink.held g.K.Sink.faults c.args.out.now c.args.tally.now c.from_residual-in_err-input.result (input_told g.S.Source.rest c.args.source.now (asks_nothing (bytes_of c.args.words.now)))
     (asked (bytes_of c.args.words.now) ≡ Ok Replay)
+    (stops-with c.from_residual-in_err-input.result (stop_of_end c.in_err-input.field-0.0) (λ stop. asked (bytes_of c.args.words.now) ≡ Ok Replay → IsUnbegun stop) c.from_residual-in_err-input.ensures.1
+    (λ replays. unread c.in_err-input.field-0.0))
 
 pub returns-clause-stops : goal.returns-clause-stops
 returns-clause-stops g c =

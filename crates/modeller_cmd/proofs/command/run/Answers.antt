@@ -1,4 +1,4 @@
-use Rattle.std.proofs.Common.{◌≢◌, sym, ap, subst, ◌∙◌, Err}
+use Rattle.std.proofs.Common.{◌≢◌, refl, sym, ap, subst, ◌∙◌, Err}
 use Rattle.view_settings.specs.Words.{bytes_of}
 use Rattle.modeller_cmd.specs.Asking.{asks_nothing, input_told}
 use Rattle.modeller_cmd.specs.Endings.{IsAnswer, TakesLine, Tells}
@@ -6,8 +6,8 @@ use Rattle.modeller_cmd.specs.Output.{outcome, output_as}
 use Rattle.modeller_cmd.specs.Stops.{status_at}
 use Rattle.modeller_cmd.specs.declared.status.Status.TheVariants.{ReadFault, WriteFault}
 use Rattle.modeller_cmd.proofs.Inputs.{either-bool}
-use Rattle.modeller_cmd.proofs.Outcomes.{answer_of, made_bytes, made_done, ok_done, read_fault_of, some_follows, status_of_refusal, write_fault_of}
-use Rattle.modeller_cmd.proofs.Serving.{rose-fault, tells}
+use Rattle.modeller_cmd.proofs.Outcomes.{answer_of, made_bytes, made_done, ok_done, read_fault_of, some_all, some_follows, status_of_refusal, write_fault_of}
+use Rattle.modeller_cmd.proofs.Serving.{noted, rose-fault, tells}
 use Rattle.modeller_cmd.specs.Stopping.{StopsRun}
 use Rattle.modeller_cmd.proofs.command.run.Goals as goal
 
@@ -63,3 +63,15 @@ returns-in-Err-clause-stops g c = λ other. some_follows (input_told g.S.Source.
     (λ input. StopsRun g.K.Sink.held g.K.Sink.faults c.args.out.now c.perform.new.out c.args.tally.now c.perform.new.tally (bytes_of c.args.words.now) input c.status.result)
     (λ input play. record { stop = c.in-Err.stop; is = c.status.ensures; play = play })
     c.in-Err.ensures.stops
+
+pub returns-in-Ok-clause-noted : goal.returns-in-Ok-clause-noted
+returns-in-Ok-clause-noted g c =
+    some_all (input_told g.S.Source.rest c.args.source.now (asks_nothing (bytes_of c.args.words.now))) _ (λ input same other. absurd (other refl))
+
+pub returns-in-Err-clause-noted : goal.returns-in-Err-clause-noted
+returns-in-Err-clause-noted g c =
+    let words = bytes_of c.args.words.now in
+    let told = input_told g.S.Source.rest c.args.source.now (asks_nothing words) in
+    let takes = TakesLine g.N.Sink.faults g.N.Sink.held c.args.notes.now c.tell.new.notes in
+    noted words told c.status.result takes (λ is. c.in-Err.ensures.usage.0 (sym c.status.ensures ∙ is))
+    (subst (λ status. Tells words told status takes) (sym c.status.ensures) (tells words told c.in-Err.stop takes c.in-Err.ensures.refused c.tell.ensures.line))

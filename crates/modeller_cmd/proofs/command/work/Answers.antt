@@ -1,6 +1,5 @@
 use Rattle.std.proofs.Common.{subst, sym}
-use Rattle.edit_session.specs.Work.{CountsWithin, frame_work}
-use Rattle.modeller_cmd.specs.Forging.{forged_clauses}
+use Rattle.edit_session.specs.Work.{CountsWithin}
 use Rattle.modeller_cmd.proofs.Outcomes.{forge_work}
 use Rattle.modeller_cmd.proofs.command.work.Goals as goal
 
@@ -8,4 +7,4 @@ pub returns-in_ok-forge-in-Forge-clause-at_most : goal.returns-in_ok-forge-in-Fo
 returns-in_ok-forge-in-Forge-clause-at_most c =
     let wanted = c.in-Forge.wanted in
     subst (CountsWithin c.args.tally.now c.forge.new.tally) (sym (forge_work c.args.job.now wanted c.args.input.now c.in-Forge.is))
-    (c.frames_add_up.ensures.within c.args.tally.now c.forge.new.tally (frame_work wanted.view (forged_clauses wanted)) c.in_ok-forge-in-Forge.ensures.counted)
+    c.in_ok-forge-in-Forge.ensures.at_most

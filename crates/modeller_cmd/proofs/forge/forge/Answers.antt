@@ -2,12 +2,11 @@ use Rattle.std.proofs.Common.{◌≡◌, ◌∙◌, ap}
 use Rattle.std.proofs.lemmas.Result.{IfOk-weaker}
 use Rattle.edit_session.specs.Work.{frame_work}
 use Rattle.modeller_cmd.specs.Forging.{forge_text, forged_clauses}
-use Rattle.modeller_cmd.proofs.Gaining.{on-err}
 use Rattle.modeller_cmd.proofs.forge.forge.Goals as goal
 
 pub returns-in_err-model-clause-at_most : goal.returns-in_err-model-clause-at_most
 returns-in_err-model-clause-at_most c =
-    on-err c.from_residual.result _ (c.frames_add_up.ensures.within_none c.args.tally.now (frame_work c.args.wanted.now.view (forged_clauses c.args.wanted.now)))
+    c.frames_add_up.ensures.within_none c.args.tally.now (frame_work c.args.wanted.now.view (forged_clauses c.args.wanted.now))
 
 pub returns-clause-ok : goal.returns-clause-ok
 unfolding forged_clauses

@@ -5,7 +5,7 @@ use Rattle.view_settings.specs.declared.job.Job.TheVariants.{Mesh}
 use Rattle.modeller_cmd.specs.Output.{made, output_as}
 use Rattle.modeller_cmd.specs.Playing.{Stopped}
 use Rattle.modeller_cmd.specs.declared.stop.Stop.TheVariants.{NoMemory}
-use Rattle.modeller_cmd.proofs.Outcomes.{least_of_job, made_bytes}
+use Rattle.modeller_cmd.proofs.Outcomes.{made_bytes}
 use Rattle.modeller_cmd.proofs.Plays.{memory-other, stopped-before, stops-with, work-other}
 use Rattle.modeller_cmd.proofs.mesh.serve_mesh.Goals as goal
 
@@ -24,9 +24,6 @@ returns-in_err-text-clause-stopped g c =
     (Stopped g.K.Sink.held g.K.Sink.faults c.args.out.now c.args.out.now c.args.tally.now c.mesh_of_input.new.tally parts) c.from_residual-in_err-text.ensures.1
     (stopped-before g.K.Sink.held g.K.Sink.faults c.args.out.now c.args.tally.now c.mesh_of_input.new.tally parts NoMemory (memory-other NoMemory refl) c.in_ok-mesh.ensures.at_most c.in_ok-mesh.ensures.plain)
 
-pub returns-in_err-write_pieces-clause-counted : goal.returns-in_err-write_pieces-clause-counted
-returns-in_err-write_pieces-clause-counted g c = λ fault exact. absurd (c.in_ok-mesh.ensures.inexact exact)
-
 pub returns-clause-played : goal.returns-clause-played
 returns-clause-played g c =
     let whole = made_bytes (made (Mesh c.args.view.now) c.args.input.now)
@@ -35,8 +32,7 @@ returns-clause-played g c =
     record {
       gained = subst (Gains g.K.Sink.held c.args.out.now c.write_pieces.new.out) (c.in_ok-text.ensures ∙ whole) c.in_ok-write_pieces.ensures.ok;
       no_fault = c.in_ok-write_pieces.ensures.no_fault;
-      counted = λ exact. absurd (c.in_ok-mesh.ensures.inexact exact);
-      least = least_of_job (Mesh c.args.view.now) c.args.input.now c.args.tally.now c.mesh_of_input.new.tally (λ is. cc) (λ exact. absurd (c.in_ok-mesh.ensures.inexact exact)) c.in_ok-mesh.ensures.at_most;
+      counted = c.in_ok-mesh.ensures.counted;
       at_most = c.in_ok-mesh.ensures.at_most;
       plain = c.in_ok-mesh.ensures.plain;
     }

@@ -25,4 +25,4 @@ returns-in_err-write_refused-in_default-clause-stopped g c =
 pub returns-in_ok-write_refused-in_default-clause-played : goal.returns-in_ok-write_refused-in_default-clause-played
 returns-in_ok-write_refused-in_default-clause-played g c = λ counts.
     part-played g.K.Sink.held g.K.Sink.faults c.args.out.now c.write_refused.new.out counts counts (refusal c.args.line c.args.fault) (refused_line c.args.line c.args.fault) refl
-    c.in_ok-write_refused-in_default.ensures.ok c.in_ok-write_refused-in_default.ensures.no_fault (λ exact. c.frames_add_up.ensures.none counts) (c.frames_add_up.ensures.within_none counts no_work) (c.frames_add_up.ensures.plain_none counts 0)
+    c.in_ok-write_refused-in_default.ensures.ok c.in_ok-write_refused-in_default.ensures.no_fault (c.frames_add_up.ensures.none counts) (c.frames_add_up.ensures.within_none counts no_work) (c.frames_add_up.ensures.plain_none counts 0)

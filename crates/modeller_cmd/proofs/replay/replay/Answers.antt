@@ -1,5 +1,7 @@
-use Rattle.std.proofs.Common.{refl, inl, sym, ap, Ok, ◌∙◌}
+use Rattle.std.proofs.Common.{◌≡◌, ◌≢◌, refl, inl, sym, ap, subst, Ok, Err, ◌∙◌}
 use Rattle.clause_reader.specs.Reading.{text_read}
+use Rattle.clause_reader.specs.declared.text_reason.TextReason.TheVariants as reasons
+use Rattle.edit_script.specs.Marks.{before_mark}
 use Rattle.view_settings.specs.declared.job.Job.TheVariants.{Replay}
 use Rattle.modeller_cmd.specs.Output.{made, output_as}
 use Rattle.modeller_cmd.specs.Playing.{Stopped}
@@ -7,7 +9,7 @@ use Rattle.modeller_cmd.specs.Stops.{stop_of_script, stop_of_text}
 use Rattle.modeller_cmd.proofs.Playback.{script-other, text-other}
 use Rattle.modeller_cmd.specs.Stopping.{StopsPlay}
 use Rattle.modeller_cmd.proofs.Plays.{stopped-at-once, stops-with}
-use Rattle.modeller_cmd.proofs.Stops.{stops-play}
+use Rattle.modeller_cmd.proofs.Stops.{stops-play, unbegun-script, unbegun-text}
 use Rattle.modeller_cmd.proofs.replay.replay.Goals as goal
 
 pub returns-in_err-model-clause-stopped : goal.returns-in_err-model-clause-stopped
@@ -28,13 +30,18 @@ pub returns-in_err-model-clause-stops : goal.returns-in_err-model-clause-stops
 returns-in_err-model-clause-stops g c =
     stops-with c.from_residual.result (stop_of_text c.in_err-model.field-0.0)
     (StopsPlay g.K.Sink.held g.K.Sink.faults c.args.out.now c.args.out.now c.args.tally.now c.args.tally.now c.args.input.now) c.from_residual.ensures.1
-    (λ clauses script read found. inl (refl, refl))
+    (λ clauses script read found. inl (
+      unbegun-text (before_mark c.args.input.now) clauses c.in_err-model.field-0.0.line c.in_err-model.field-0.0.reason read
+          (subst (λ text. c.in_err-model.field-0.0.reason ≢ reasons.NoMemory → text_read text ≡ Err c.in_err-model.field-0.0) c.model_text.ensures c.in_err-model.ensures.0),
+      refl,
+      refl,
+    ))
 
 pub returns-in_err-commands-clause-stops : goal.returns-in_err-commands-clause-stops
 returns-in_err-commands-clause-stops g c =
     stops-with c.from_residual-in_err-commands.result (stop_of_script c.in_err-commands.field-0.0)
     (StopsPlay g.K.Sink.held g.K.Sink.faults c.args.out.now c.args.out.now c.args.tally.now c.args.tally.now c.args.input.now) c.from_residual-in_err-commands.ensures.1
-    (λ clauses script read found. inl (refl, refl))
+    (λ clauses script read found. inl (unbegun-script c.args.input.now script c.in_err-commands.field-0.0.line c.in_err-commands.field-0.0.reason found c.in_err-commands.ensures.script.refused, refl, refl))
 
 pub returns-clause-stops : goal.returns-clause-stops
 returns-clause-stops g c =

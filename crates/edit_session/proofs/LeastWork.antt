@@ -1,0 +1,95 @@
+-- The least work of a mesh is no more than its most.
+use Rattle.std.proofs.Common.{◌≡◌, ℕ, ◌-◌, ◌≤◌, Bool, true, false, List, [], ◌∷◌, ◌++◌, length, max, if◌then◌else◌, arith}
+use Rattle.std.specs.Prelude.{◌&&◌}
+use Rattle.std.specs.List.{flat_map, range_with_len, sum_by}
+use Rattle.std.proofs.lemmas.List.Sums.{sum_by-le-sum_by}
+use Rattle.box_chains.specs.Chains.{is_long}
+use Rattle.box_chains.specs.Counts.{first_lengths, is_first}
+use Rattle.box_chains.specs.Sums.{Sample, sum_in}
+use Rattle.kuhn_cells.specs.Grids.{over_block}
+use Rattle.kuhn_cells.specs.Triangles.{GridPoint, point}
+use Rattle.live_clauses.specs.declared.step.Step.{Step}
+use Rattle.oct_descent.specs.Bound.{greatest, has_point, least, lengths_at, long_lengths, long_spans_in, mesh_least, mesh_long_spans, mesh_points, mesh_spans, points_of_grid, sample_of, spans_in, working_lengths}
+use Rattle.oct_descent.specs.Sizes.{size_of}
+use Rattle.oct_descent.specs.Ways.{gridded, is_working, way, way_end, whole}
+use Rattle.view_settings.specs.Boxes.{Indices}
+use Rattle.view_settings.specs.Window.{Window}
+
+-- sums over a box of what is nowhere more
+sum-less : (b : Indices) (f g : Sample → ℕ) → ((s : Sample) → f s ≤ g s) → sum_in b f ≤ sum_in b g
+sum-less b f g less =
+    sum_by-le-sum_by (λ k. sum_by (λ j. sum_by (λ i. f (record { i = i; j = j; k = k })) (range_with_len b.x0 (b.x1 - b.x0))) (range_with_len b.y0 (b.y1 - b.y0)))
+    (λ k. sum_by (λ j. sum_by (λ i. g (record { i = i; j = j; k = k })) (range_with_len b.x0 (b.x1 - b.x0))) (range_with_len b.y0 (b.y1 - b.y0)))
+    (range_with_len b.z0 (b.z1 - b.z0))
+    (λ k. sum_by-le-sum_by (λ j. sum_by (λ i. f (record { i = i; j = j; k = k })) (range_with_len b.x0 (b.x1 - b.x0)))
+    (λ j. sum_by (λ i. g (record { i = i; j = j; k = k })) (range_with_len b.x0 (b.x1 - b.x0)))
+    (range_with_len b.y0 (b.y1 - b.y0))
+    (λ j. sum_by-le-sum_by (λ i. f (record { i = i; j = j; k = k })) (λ i. g (record { i = i; j = j; k = k })) (range_with_len b.x0 (b.x1 - b.x0))
+    (λ i. less (record { i = i; j = j; k = k }))))
+
+-- the least of some numbers is no more than the greatest
+least-greatest : (ns : List ℕ) → least ns ≤ greatest ns
+least-greatest [] = omega arith
+least-greatest (n ∷ []) = omega arith
+least-greatest (n ∷ m ∷ ns) = omega arith
+
+-- the greatest of two lists
+greatest-append : (ms ns : List ℕ) → greatest (ms ++ ns) ≡ max (greatest ms) (greatest ns)
+greatest-append [] ns = omega arith
+greatest-append (m ∷ ms) ns = omega (arith, greatest-append ms ns)
+
+-- where each item has no more, neither has the whole
+greatest-flat : {X : Type 0} (f g : X → List ℕ) → ((x : X) → greatest (f x) ≤ greatest (g x)) → (xs : List X) → greatest (flat_map f xs) ≤ greatest (flat_map g xs)
+greatest-flat f g less [] = omega arith
+greatest-flat f g less (x ∷ xs) =
+    omega (arith, less x, greatest-flat f g less xs, greatest-append (f x) (flat_map f xs), greatest-append (g x) (flat_map g xs))
+
+greatest-block : (nx ny nz : ℕ) (f g : GridPoint → List ℕ) → ((p : GridPoint) → greatest (f p) ≤ greatest (g p))
+    → greatest (over_block nx ny nz f) ≤ greatest (over_block nx ny nz g)
+greatest-block nx ny nz f g less =
+    greatest-flat (λ z. flat_map (λ y. flat_map (λ x. f (point x y z)) (range_with_len 0 nx)) (range_with_len 0 ny))
+    (λ z. flat_map (λ y. flat_map (λ x. g (point x y z)) (range_with_len 0 nx)) (range_with_len 0 ny))
+    (λ z. greatest-flat (λ y. flat_map (λ x. f (point x y z)) (range_with_len 0 nx)) (λ y. flat_map (λ x. g (point x y z)) (range_with_len 0 nx))
+    (λ y. greatest-flat (λ x. f (point x y z)) (λ x. g (point x y z)) (λ x. less (point x y z)) (range_with_len 0 nx)) (range_with_len 0 ny))
+    (range_with_len 0 nz)
+
+-- a working cell that has a point as a corner is a cell that has it
+cell-less : (has works : Bool) (n : ℕ)
+    → greatest (if has && works then n ∷ [] else []) ≤ greatest (if has then (if works then n else 0) ∷ [] else [])
+cell-less true true n = omega arith
+cell-less true false n = omega arith
+cell-less false works n = omega arith
+
+pub least-most : (view : Window) (list : List Step) → mesh_least view list ≤ mesh_points view list
+unfolding mesh_least mesh_points
+least-most view list =
+    sum-less (points_of_grid (size_of view)) (λ s. least (working_lengths view list (point s.i s.j s.k))) (λ s. greatest (lengths_at view list (point s.i s.j s.k)))
+    (λ s. at (point s.i s.j s.k))
+  where
+    at : (p : GridPoint) → least (working_lengths view list p) ≤ greatest (lengths_at view list p)
+    at p =
+        let n = size_of view in
+        let d = gridded view in
+        let v = whole view list in
+        let few = greatest-block n.x n.y n.z
+        (λ cell. if has_point (d.cell (sample_of cell)) p && is_working d v (sample_of cell) then length (way_end d v (sample_of cell)).list ∷ [] else [])
+        (λ cell. if has_point (d.cell (sample_of cell)) p then (if is_working d v (sample_of cell) then length (way_end d v (sample_of cell)).list else 0) ∷ [] else [])
+        (λ cell. cell-less (has_point (d.cell (sample_of cell)) p) (is_working d v (sample_of cell)) (length (way_end d v (sample_of cell)).list)) in
+        omega (arith, least-greatest (working_lengths view list p), few)
+
+-- a box of more than one cell is a box
+long-less : (long first : Bool) (n : ℕ) → (if long && first then n else 0) ≤ (if first then n else 0)
+long-less true first n = omega arith
+long-less false true n = omega arith
+long-less false false n = omega arith
+
+-- the steps traced over the boxes of more than one cell are some of those traced over all
+pub long-all : (view : Window) (list : List Step) → mesh_long_spans view list ≤ mesh_spans view list
+unfolding long_spans_in spans_in
+long-all view list =
+    let d = gridded view in
+    let v = whole view list in
+    sum-less v.box (λ s. long_lengths d s (way d v s)) (λ s. first_lengths s (way d v s))
+    (λ s. sum_by-le-sum_by (λ w. if is_long d.boxes.leaf w.box && is_first w.box s then length w.list else 0)
+    (λ w. if is_first w.box s then length w.list else 0) (way d v s)
+    (λ w. long-less (is_long d.boxes.leaf w.box) (is_first w.box s) (length w.list)))
