@@ -56,7 +56,8 @@ abbrev pub edit_read : ℕ → (List ℕ → Parts → Edit) → List ℕ → Li
     → Result Command ScriptReason
 edit_read line edit name form =
     on_result (form_found (form_said form))
-    (λ found. Ok (edit_or_stray line (edit_with edit (name_found name) found))) (λ reason. Err reason)
+    (λ found. Ok (edit_or_stray line (edit_with edit (name_found name) found)))
+    (λ reason. Err reason)
 
 -- the first fault of the name of a new clause: no operation follows it, or it begins with `#`
 abbrev pub name_checked : List ℕ → List (List ℕ) → Result ⊤ ScriptReason

@@ -29,6 +29,7 @@ abbrev pub mark_ends : List ℕ → Option (ℕ × ℕ)
 mark_ends input =
     option_map (λ place. (line_start input place, line_start input (place + 1))) (mark_place input)
 
--- the text of the model in an input: what stands before the first mark line, or all of it where there is none
+-- the text of the model in an input: what stands before the first mark line, or all of it where
+-- there is none
 abbrev pub before_mark : List ℕ → List ℕ
 before_mark input = option_map_or (λ ends. take ends.0 input) (mark_ends input) input

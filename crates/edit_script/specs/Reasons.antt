@@ -93,7 +93,8 @@ holds tokens reason = holds_under (keyword_of tokens) (drop 1 tokens) reason
 
 -- the reasons against a line, the lowest first
 abbrev pub reasons : List ScriptReason
-reasons = UnknownCommand ∷ TooShort ∷ BadName ∷ UnknownOperation ∷ WrongArity ∷ BadNumeral ∷ BadSetting ∷ []
+reasons =
+    UnknownCommand ∷ TooShort ∷ BadName ∷ UnknownOperation ∷ WrongArity ∷ BadNumeral ∷ BadSetting ∷ []
 
 -- the reason for which a line is refused
 abbrev pub reason_in : Result Command ScriptReason → Option ScriptReason
