@@ -15,8 +15,8 @@ numbers_of_runs = refl
 numbers_without_a_run : map number_of_end (Wordless OutOfMemory ∷ Wordless InvalidData ∷ []) ≡ 8 ∷ 1 ∷ []
 numbers_without_a_run = refl
 
-refused_words_have_run : HasRun (Ran Usage)
-refused_words_have_run = tt
+refused_words_have_run : HasRun (Ran Usage) (λ status. status ≡ Usage)
+refused_words_have_run = refl
 
-unreadable_words_have_not : HasRun (Wordless InvalidData) → ⊥
+unreadable_words_have_not : HasRun (Wordless InvalidData) (λ status. status ≡ Usage) → ⊥
 unreadable_words_have_not run = run

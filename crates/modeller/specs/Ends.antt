@@ -1,8 +1,8 @@
 -- What the program ends with.
-use Rattle.std.specs.Prelude.{ℕ, ⊤}
-use Rattle.std.specs.declared.io.ErrorKind.{ErrorKind}
+use Rattle.std.specs.Prelude.{ℕ}
 use Rattle.std.specs.declared.io.ErrorKind.TheVariants.{OutOfMemory}
 use Rattle.modeller_cmd.specs.Statuses.{number_of}
+use Rattle.modeller_cmd.specs.declared.status.Status.{Status}
 use Rattle.modeller_cmd.specs.declared.status.Status.TheVariants.{NoMemory}
 use Rattle.modeller.specs.declared.end.End.{End}
 use Rattle.modeller.specs.declared.end.End.TheVariants.{Ran, Wordless}
@@ -14,7 +14,7 @@ number_of_end (Ran status) = number_of status
 number_of_end (Wordless OutOfMemory) = number_of NoMemory
 number_of_end (Wordless _) = 1
 
--- the program has run
-abbrev pub HasRun : End → Type 0
-HasRun (Ran status) = ⊤
-HasRun (Wordless kind) = ⊥
+-- the program has run, and this holds of the run's status
+abbrev pub HasRun : End → (Status → Type 0) → Type 0
+HasRun (Ran status) P = P status
+HasRun (Wordless kind) P = ⊥

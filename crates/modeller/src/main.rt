@@ -4,29 +4,25 @@
 mod end;
 mod streams;
 
-ghost use Rattle.std.specs.Prelude.{◌≡◌, ◌≢◌, ◌↔◌, ◌+◌, ◌<◌, true, drop, Ok, IsErr, IfOk, IfErr};
+ghost use Rattle.std.specs.Prelude.{◌≡◌, drop, IfOk, IfErr};
 ghost use Rattle.std.specs.IoError.{error_kind};
 ghost use Rattle.modeller.specs.Ends.{HasRun};
-ghost use Rattle.modeller_cmd.specs.Asking.{asked, asks_nothing};
-ghost use Rattle.modeller_cmd.specs.Endings.{IsUnwritten};
-ghost use Rattle.modeller_cmd.specs.Output.{input_limit};
-ghost use Rattle.modeller_io.specs.Count.{last_count, RoseBy, Stands};
-ghost use Rattle.modeller_io.specs.ReadSource.{bytes_read, read_faults};
-ghost use Rattle.modeller_io.specs.WriteSink.{write_faults};
+ghost use Rattle.modeller_cmd.specs.Runs.{EndsSo};
 ghost use Rattle.view_settings.specs.Words.{bytes_of};
-ghost use Rattle.view_settings.specs.declared.job.Job.TheVariants.{Replay};
 
 use crate::end::{End, exit_code};
 use crate::streams::Streams;
 use fixed_ops::Tally;
-use modeller_cmd::{Status, run};
+use modeller_cmd::run;
+use modeller_io::{Sink, Source};
 use std::alloc::Global;
 use std::process::ExitCode;
 use std::{env, io};
 
 fn main(rt: HostRuntime) -> ExitCode {
     let line = command_line(&rt);
-    exit_code(end_on(rt.alloc(), line, &mut Streams::new(&rt)))
+    let mut streams = Streams::standard(&rt);
+    exit_code(end_on(rt.alloc(), line, &mut streams, &mut Tally::new()))
 }
 
 // The program's name, and the words after it.
@@ -34,39 +30,35 @@ fn command_line(rt: &HostRuntime) -> io::Result<Vec<String>> {
     Ok(env::args(rt)?.collect(rt.alloc())?)
 }
 
-// Runs the modeller over the streams, on the words of a command line where the system gave it.
-fn end_on(alloc: Global, line: io::Result<Vec<String>>, streams: &mut Streams) -> End
-    ensures ran { IfOk line (λ line. HasRun result) }
-    ensures usage { IfOk line (λ line.
-        (result ≡ End.Ran Status.Usage) ↔ IsErr (asked (bytes_of (drop 1 line.items)))) }
-    ensures script { IfOk line (λ line.
-        result ≡ End.Ran Status.BadScript → asked (bytes_of (drop 1 line.items)) ≡ Ok Replay) }
+// Runs the modeller over some streams, on the words of a command line where the system gave it.
+fn end_on<S: Source, K: Sink, N: Sink>(
+    alloc: Global,
+    line: io::Result<Vec<String>>,
+    streams: &mut Streams<S, K, N>,
+    tally: &mut Tally,
+) -> End
+    ensures ran { IfOk line (λ line. HasRun result (λ status. EndsSo (record {
+      rest = S.rest;
+      taken = S.taken;
+      read_faults = S.faults;
+      held = K.held;
+      write_faults = K.faults;
+      notes_held = N.held;
+      note_faults = N.faults;
+      source = streams.old.source;
+      source_after = streams.new.source;
+      out = streams.old.out;
+      out_after = streams.new.out;
+      notes = streams.old.notes;
+      notes_after = streams.new.notes;
+      first = tally.old;
+      last = tally.new;
+      words = bytes_of (drop 1 line.items);
+      status = status;
+    }))) }
     ensures wordless { IfErr line (λ error. result ≡ End.Wordless (error_kind error)) }
-
-    // Which faults the streams counted.
-    ensures read_fault { result ≡ End.Ran Status.ReadFault
-        → RoseBy read_faults streams.old.source streams.new.source 1 }
-    ensures no_read_fault { result ≢ End.Ran Status.ReadFault
-        → Stands read_faults streams.old.source streams.new.source }
-    ensures write_fault { result ≡ End.Ran Status.WriteFault
-        → RoseBy write_faults streams.old.out streams.new.out 1 }
-    ensures no_write_fault { result ≢ End.Ran Status.WriteFault
-        → Stands write_faults streams.old.out streams.new.out }
-    ensures too_long { result ≡ End.Ran Status.TooLong
-        → RoseBy bytes_read streams.old.source streams.new.source (input_limit + 1) }
-    ensures too_long_there { bytes_read streams.new.source
-        ≡ bytes_read streams.old.source + (input_limit + 1)
-        → bytes_read streams.new.source < last_count → result ≡ End.Ran Status.TooLong }
-
-    // Which streams are left alone.
     ensures untouched { IfErr line (λ error. streams.new ≡ streams.old) }
-    ensures unread { result ≡ End.Ran Status.Usage → streams.new.source ≡ streams.old.source }
-    ensures unasked { IfOk line (λ line. asks_nothing (bytes_of (drop 1 line.items)) ≡ true
-        → (streams.new.source ≡ streams.old.source) × (result ≢ End.Ran Status.ReadFault)) }
-    ensures unwritten { IfOk line (λ line. (status : Status) → result ≡ End.Ran status
-        → IsUnwritten (bytes_of (drop 1 line.items)) status
-        → streams.new.out ≡ streams.old.out) }
-    ensures silent { result ≡ End.Ran Status.Done → streams.new.notes ≡ streams.old.notes }
+    ensures uncounted { IfErr line (λ error. tally.new ≡ tally.old) }
 {
     match line {
         Ok(line) => End::Ran(run(
@@ -75,7 +67,7 @@ fn end_on(alloc: Global, line: io::Result<Vec<String>>, streams: &mut Streams) -
             &mut streams.source,
             &mut streams.out,
             &mut streams.notes,
-            &mut Tally::new(),
+            tally,
         )),
         Err(error) => End::Wordless(error.kind()),
     }

@@ -6,17 +6,17 @@ ghost use Rattle.modeller_io.specs.WriteSink.{write_faults};
 use modeller_io::{ReadSource, WriteSink};
 use std::rt::{Stderr, Stdin, Stdout};
 
-/// What the program reads, what it writes its work to, and what it writes its notes to.
+/// What is read, what the work is written to, and what the notes are written to.
 #[derive(Drop)]
-pub struct Streams {
-    pub source: ReadSource<Stdin>,
-    pub out: WriteSink<Stdout>,
-    pub notes: WriteSink<Stderr>,
+pub struct Streams<S, K, N> {
+    pub source: S,
+    pub out: K,
+    pub notes: N,
 }
 
-impl Streams {
+impl Streams<ReadSource<Stdin>, WriteSink<Stdout>, WriteSink<Stderr>> {
     /// The standard streams, before the first call of each.
-    pub fn new(rt: &HostRuntime) -> Streams
+    pub fn standard(rt: &HostRuntime) -> Self
         ensures taken { bytes_read result.source ≡ 0 }
         ensures read_faults { read_faults result.source ≡ 0 }
         ensures write_faults { write_faults result.out ≡ 0 }

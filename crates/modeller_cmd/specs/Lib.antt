@@ -8,6 +8,7 @@ pub mod Output
 pub mod Parts
 pub mod Playing
 pub mod Replays
+pub mod Runs
 pub mod SoundTexts
 pub mod Statuses
 pub mod Stopping
