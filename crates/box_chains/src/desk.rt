@@ -18,9 +18,9 @@ use std::alloc::{AllocError, Global};
 use std::marker::Model;
 use view_settings::{IndexBox, Lattice, View};
 
-/// What looking into the boxes of a lattice over a view needs, made once for lists of at most so many
-/// steps: the places of the samples, memory for tracing lists over boxes, and rows of eight numbers
-/// for evaluating them. Contracts see the samples and how many steps a list may have.
+/// What looking into the boxes of a lattice over a view needs, made once for lists of at most so
+/// many steps: the places of the samples, memory for tracing lists over boxes, and rows of eight
+/// numbers for evaluating them. Contracts see the samples and how many steps a list may have.
 #[derive(Debug, Drop)]
 pub struct Desk {
     /// The places of the samples.
@@ -36,12 +36,16 @@ impl Model for Desk {
 
     ghost Value = { Tracing };
 
-    ghost view = { λ d. record { view = d.places.view; lattice = d.places.lattice; room = length d.room } };
+    ghost view = { λ d. record {
+      view = d.places.view;
+      lattice = d.places.lattice;
+      room = length d.room;
+    } };
 }
 
 impl Desk {
-    /// What looking into the boxes of a lattice over a view with lists of at most `len` steps needs.
-    /// AllocError: there is no memory for it.
+    /// What looking into the boxes of a lattice over a view with lists of at most `len` steps
+    /// needs. AllocError: there is no memory for it.
     pub fn new(alloc: Global, view: &View, lattice: Lattice, len: u32) -> Result<Desk, AllocError>
         ensures { IfOk result
             (λ desk. desk ≡ record { view = view.now; lattice = lattice; room = len }) }
@@ -83,7 +87,8 @@ impl Desk {
     ) -> Result<Outcome, AllocError>
         requires room { length tape.now ≤ self.old.room }
         requires within { IsInRoot self.old.view self.old.lattice b }
-        ensures outcome { IfOk result (λ outcome. outcome ≡ outcome_of (samples self.old) tape.now b) }
+        ensures outcome { IfOk result
+            (λ outcome. outcome ≡ outcome_of (samples self.old) tape.now b) }
         ensures shorter { IfOk result (HandsOn (length tape.now)) }
         ensures kept { self.new ≡ self.old }
         ensures counted { CountsHulls (length tape.now) tally.old tally.new }
@@ -112,8 +117,8 @@ impl Desk {
             .trace_asked_box(alloc, tape, &self.places, asked, tally)
     }
 
-    /// What tracing a list over boxes that receive it tells of each of them, in their order. AllocError:
-    /// there is no memory for a shorter list, and no more was traced than that.
+    /// What tracing a list over boxes that receive it tells of each of them, in their order.
+    /// AllocError: there is no memory for a shorter list, and no more was traced than that.
     #[inline]
     pub fn trace_boxes(
         &mut self,
@@ -167,8 +172,8 @@ impl Desk {
             .trace_asked_boxes(alloc, tape, &self.places, asked, tally)
     }
 
-    /// Traces a list over a box, and hands nothing on: whether all of the box is inside, or outside, or
-    /// neither is decided. It is a call, for callers that have much beside it.
+    /// Traces a list over a box, and hands nothing on: whether all of the box is inside, or
+    /// outside, or neither is decided. It is a call, for callers that have much beside it.
     #[inline]
     pub fn look_apart(&mut self, tape: &Tape, b: IndexBox, tally: &mut Tally) -> Option<bool>
         requires room { length tape.now ≤ self.old.room }
@@ -182,8 +187,8 @@ impl Desk {
     }
 }
 
-/// Makes a row of numbers for each step of a list of `len` steps, where there are fewer. AllocError:
-/// there is no memory for them.
+/// Makes a row of numbers for each step of a list of `len` steps, where there are fewer.
+/// AllocError: there is no memory for them.
 #[inline]
 pub fn make_rows(rows: &mut Vec<[Fx; 8]>, len: u32) -> Result<(), AllocError>
     ensures { OnOk result (len ≤ length rows.new.items) }

@@ -1,3 +1,4 @@
+mod Applied
 mod Elements
 mod Examples
 mod HalfRows

@@ -4,5 +4,6 @@ pub mod Lanes
 pub mod Laws
 pub mod Layers
 pub mod Meaning
+pub mod Operands
 pub mod PointLaws
 pub mod Work

@@ -8,6 +8,7 @@ mod halves;
 mod inputs;
 mod lanes;
 mod laws;
+mod operands;
 mod tracer;
 
 pub use domain::Domain;

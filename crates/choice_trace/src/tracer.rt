@@ -1,16 +1,18 @@
 // The hulls and the choices of a list over a region.
-ghost use Rattle.std.specs.Prelude.{◌≡◌, ◌≤◌, ◌<◌, ℕ, List, drop, length, take};
+ghost use Rattle.std.specs.Prelude.{◌≡◌, ◌≤◌, drop, length, take};
 ghost use Rattle.fixed_ops.specs.Points.{Point};
 ghost use Rattle.interval_ops.specs.HullCounts.{CountsHulls};
-ghost use Rattle.interval_ops.specs.Spans.{Holds, Interval};
+ghost use Rattle.interval_ops.specs.Spans.{Holds};
 ghost use Rattle.live_clauses.specs.Choices.{AreChoices, AreRight};
-ghost use Rattle.live_clauses.specs.Steps.{IsStepAt, tape_value};
-ghost use Rattle.choice_trace.specs.Hulls.{AreOperands, IsIn, choices_over, tape_hull};
+ghost use Rattle.live_clauses.specs.Steps.{tape_value};
+ghost use Rattle.choice_trace.specs.Hulls.{IsIn, choices_over, tape_hull};
 
+use crate::Inputs;
 use crate::laws::layers_hold;
-use fixed_ops::{Op, Tally};
+use crate::operands::operands;
+use fixed_ops::Tally;
 use interval_ops::{Choice, Region, Span, choose, hull_counts, span_apply};
-use live_clauses::{Step, Tape};
+use live_clauses::Tape;
 
 /// The hull of a list over a region, with the choice of each step, which is right at every point of
 /// the region. `regs` has room for one range a step, and `choices` for one choice.
@@ -39,38 +41,22 @@ pub fn trace(
     hull_counts();
     // The ends of a range are in order.
     let _ends = (region.x.lo(), region.y.lo(), region.z.lo());
+    let ranges = Inputs {
+        x: region.x,
+        y: region.y,
+        z: region.z,
+    };
     let steps = tape.steps();
     let len = steps.len();
     // Counts that no other call sees stay in registers.
     let mut work = Tally::new();
     for at in 0..len {
         let step = steps.step(at);
-        let (a, b) = operands(&step, &region, regs);
+        let constant = Span::new(step.value, step.value);
+        let (a, b) = operands(&step, &ranges, constant, regs);
         choices[at as usize] = choose(step.op, a, b);
         regs[at as usize] = span_apply(step.op, a, b, &mut work);
     }
     tally.join(&work);
     regs[len as usize - 1]
-}
-
-// What the operation of a step is applied to: the range of a coordinate, the constant alone, or the
-// hulls of earlier steps. An operand that the operation lacks is read from the first step's place.
-#[inline]
-fn operands(step: &Step, region: &Region, regs: &[Span]) -> (Span, Span)
-    requires first { step.now.a < length regs.now }
-    requires second { step.now.b < length regs.now }
-    ensures { AreOperands region.now regs.now step.now result.0 result.1 }
-{
-    let a = regs[step.a as usize];
-    let b = regs[step.b as usize];
-    match step.op {
-        Op::X => (region.x, region.x),
-        Op::Y => (region.y, region.y),
-        Op::Z => (region.z, region.z),
-        Op::Const => {
-            let value = Span::new(step.value, step.value);
-            (value, value)
-        }
-        _ => (a, b),
-    }
 }

@@ -19,8 +19,8 @@ use live_clauses::Tape;
 use std::alloc::AllocError;
 use view_settings::IndexBox;
 
-/// Evaluates a list at those corners of a cell that are not known. AllocError: there is no memory for
-/// their values.
+/// Evaluates a list at those corners of a cell that are not known. AllocError: there is no memory
+/// for their values.
 pub fn fill_cell(
     desk: &mut Desk,
     b: IndexBox,

@@ -42,7 +42,8 @@ pub fn fill_gaps(
     }
 }
 
-// Evaluates a list at the first of some points: eight side by side, four, two, or one. Gives how many.
+// Evaluates a list at the first of some points: eight side by side, four, two, or one. Gives how
+// many.
 #[inline]
 fn fill_some(
     places: &Places,

@@ -2,6 +2,7 @@ use Rattle.std.proofs.Common.{◌∙◌, ap, arith, drop, length, refl, subst, s
 use Rattle.std.proofs.lemmas.List.{drop-set-lt}
 use Rattle.fixed_ops.specs.Counts.{RisesWithin, no_counts, times}
 use Rattle.live_clauses.specs.Steps.{values}
+use Rattle.choice_trace.proofs.Applied.{operands-stand}
 use Rattle.choice_trace.proofs.Elements.{none_read, read_more, step_stands, within_more, within_none}
 use Rattle.choice_trace.proofs.evaluator.evaluate.Goals as goal
 
@@ -18,13 +19,13 @@ loop-at-preserved g c =
     let steps = c.steps-steps.result in
     let at = c.loop-at.at in
     let step = c.step-step.result in
-    let a = c.operands-a.result.0 in
-    let b = c.operands-a.result.1 in
+    let a = c.operands.result.0 in
+    let b = c.operands.result.1 in
     record {
       read = λ p stand.
           read_more d.stands_for c.args.inputs.x c.loop-at.regs (values p steps) at c.apply.result (omega (arith, ap length c.steps-steps.ensures.steps)) (c.loop-at.invariant.read p stand)
           (step_stands c.values_are_of_operands.ensures d.stands_for p steps at step a b c.apply.result c.len-len.ensures.tape.each c.step-step.ensures.step
-          (c.operands-a.ensures p (values p steps) at c.step-step.ensures.stands stand (c.loop-at.invariant.read p stand)) c.apply.ensures.stands);
+          (operands-stand d.stands_for c.args.inputs c.constant.result c.loop-at.regs p (values p steps) at step a b c.step-step.ensures.stands c.constant.ensures stand (c.loop-at.invariant.read p stand) c.operands.ensures.first c.operands.ensures.second) c.apply.ensures.stands);
       rest = drop-set-lt (length steps) c.loop-at.regs at c.apply.result (omega arith) ∙ c.loop-at.invariant.rest;
       counted = within_more no_counts c.loop-at.work c.apply.new.tally d.least d.most at c.loop-at.invariant.counted c.apply.ensures.counted;
     }

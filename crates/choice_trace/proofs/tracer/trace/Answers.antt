@@ -6,6 +6,8 @@ use Rattle.interval_ops.specs.Spans.{Holds, Interval, all_numbers}
 use Rattle.interval_ops.specs.declared.choice.Choice.TheVariants.{Both}
 use Rattle.live_clauses.specs.Steps.{tape_value}
 use Rattle.choice_trace.specs.Hulls.{choices_over, hulls, tape_hull}
+use Rattle.choice_trace.specs.Operands.{operand_of}
+use Rattle.choice_trace.proofs.Applied.{first-within, operands-trace, ranges_of, second-within}
 use Rattle.choice_trace.proofs.HullLists.{length-hulls}
 use Rattle.choice_trace.proofs.Traces.{agree, all_chosen, are_choices, are_right, choice_written, front_more, hull_written, last_held, length-choices}
 use Rattle.choice_trace.proofs.tracer.trace.Goals as goal
@@ -16,16 +18,19 @@ loop-at-preserved c =
     let steps = c.steps-steps.result in
     let at = c.loop-at.at in
     let step = c.step-step.result in
-    let a = c.operands-a.result.0 in
-    let b = c.operands-a.result.1 in
+    let a = c.operands.result.0 in
+    let b = c.operands.result.1 in
     let same_length = ap length c.steps-steps.ensures.steps in
     let stand = c.len-len.ensures.tape.each in
     let same = c.loop-at.invariant.hulls in
+    let operands = operands-trace region c.loop-at.regs step a b (first-within at (length c.loop-at.regs) step c.step-step.ensures.stands (omega (arith, same_length))) (second-within at (length c.loop-at.regs) step c.step-step.ensures.stands (omega (arith, same_length)))
+    (c.operands.ensures.first ∙ ap (λ s. operand_of step.op (ranges_of region) s (get_or c.loop-at.regs step.a region.x)) c.new-constant.ensures)
+    (c.operands.ensures.second ∙ ap (λ s. operand_of step.op (ranges_of region) s (get_or c.loop-at.regs step.b region.x)) c.new-constant.ensures) in
     record {
       hulls = front_more c.loop-at.regs (hulls region steps) at c.span_apply.result all_numbers (omega (arith, same_length)) (omega (arith, length-hulls region steps)) same
-          (hull_written region steps c.loop-at.regs at step a b c.span_apply.result stand c.step-step.ensures.step same c.operands-a.ensures c.span_apply.ensures.value);
+          (hull_written region steps c.loop-at.regs at step a b c.span_apply.result stand c.step-step.ensures.step same operands c.span_apply.ensures.value);
       chosen = front_more c.loop-at.choices (choices_over region steps) at c.choose.result Both (omega (arith, same_length)) (omega (arith, length-choices region steps)) c.loop-at.invariant.chosen
-          (choice_written region steps c.loop-at.regs at step a b c.choose.result stand c.step-step.ensures.step same c.operands-a.ensures c.choose.ensures);
+          (choice_written region steps c.loop-at.regs at step a b c.choose.result stand c.step-step.ensures.step same operands c.choose.ensures);
       hulls_rest = drop-set-lt (length steps) c.loop-at.regs at c.span_apply.result (omega arith) ∙ c.loop-at.invariant.hulls_rest;
       choices_rest = drop-set-lt (length steps) c.loop-at.choices at c.choose.result (omega arith) ∙ c.loop-at.invariant.choices_rest;
       counted = c.hull_counts.ensures.add no_counts c.loop-at.work c.span_apply.new.tally at 1 c.loop-at.invariant.counted c.span_apply.ensures.counted;

@@ -6,8 +6,8 @@ use Rattle.choice_trace.proofs.tracer.trace.Given as goal
 
 abbrev pub invariant-loop-at : goal.invariant-loop-at
 invariant-loop-at l = record {
-  hulls : take l.at l.regs ≡ take l.at (hulls l.region l.steps);
-  chosen : take l.at l.choices ≡ take l.at (choices_over l.region l.steps);
+  hulls : take l.at l.regs ≡ take l.at (hulls l.fn.region l.steps);
+  chosen : take l.at l.choices ≡ take l.at (choices_over l.fn.region l.steps);
   hulls_rest : drop (length l.steps) l.regs ≡ drop (length l.steps) l.fn.regs;
   choices_rest : drop (length l.steps) l.choices ≡ drop (length l.steps) l.fn.choices;
   counted : CountsHulls l.at no_counts l.work;
