@@ -100,7 +100,7 @@ parts-of {X = X} {Y = Y} f (z ∷ xs) y inside = by (Contains-append_cases (f z)
           has = rest.has;
         }
 
-head-or-tail : {X : Type 0} (x : X) (xs : List X) (y : X) → Contains (x ∷ xs) y
+pub head-or-tail : {X : Type 0} (x : X) (xs : List X) (y : X) → Contains (x ∷ xs) y
     → (x ≡ y) ⊎ Contains xs y
 head-or-tail x xs y (zero, h, is) = inl is
 head-or-tail x xs y (suc k, h, is) = inr (k, omega (arith, h), is)

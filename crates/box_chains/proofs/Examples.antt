@@ -14,7 +14,7 @@ use Rattle.box_chains.specs.Placing.{places_along}
 use Rattle.box_chains.specs.Tallied.{CountsAtMost, CountsExactly}
 
 -- rasters from -1 to 1, at the height 0, by boxes with sides of at most 8
-abbrev raster : ℕ → ℕ → Descent
+abbrev pub raster : ℕ → ℕ → Descent
 raster w h = record {
   view = record {
     x0 = negsuc 4294967295;

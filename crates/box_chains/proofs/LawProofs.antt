@@ -12,6 +12,7 @@ use Rattle.box_chains.specs.Chains.{chain, chain_end, half_visit, is_split, next
 use Rattle.box_chains.specs.Counts.{end_cost, points_in, spans_in}
 use Rattle.box_chains.specs.Laws.{AxesAddUp, BoundsAddUp, ChainsGoOn, EndsGoOn, HalvesAreParts, Lawful, LayersHold, PointsAddUp, PointsAreBounded, SamplesAreTold, SpansAddUp, SpansAreBounded, SumsAddUp, VisitsHold, WorkAddsUp}
 use Rattle.box_chains.specs.Sums.{size}
+use Rattle.box_chains.proofs.RedrawnLaws.{redrawn_work_adds_up_is}
 use Rattle.box_chains.proofs.TestedLaws.{tested_work_adds_up_is}
 use Rattle.box_chains.proofs.ValueLaws.{decision-right, handed-is, handed-value, region-is}
 use Rattle.box_chains.proofs.WorkLaws.{end-is, half-is_visit, points-below, spans-below}
@@ -132,6 +133,7 @@ lawful laws = record {
   points = points_add_up_is laws;
   spans = spans_add_up_is laws;
   tested = tested_work_adds_up_is laws;
+  redrawn = redrawn_work_adds_up_is laws;
   work = work_adds_up_is;
   bounds = bounds_add_up_is;
 }

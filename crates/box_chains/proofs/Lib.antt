@@ -1,10 +1,12 @@
 pub mod BoxLaws
 pub mod ChainLaws
-mod Examples
+pub mod Examples
 pub mod HalfLaws
 pub mod Lanes
 pub mod LawProofs
 pub mod Placed
+mod RedrawnExamples
+pub mod RedrawnLaws
 pub mod SumLaws
 pub mod TallyLaws
 pub mod TestedLaws

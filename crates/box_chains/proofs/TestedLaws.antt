@@ -1,8 +1,8 @@
 -- The work of samples that pass a test, from that of the halves of a box.
 use Rattle.std.proofs.Common.{◌≡◌, ℕ, zero, suc, ◌+◌, ◌-◌, ◌<◌, ◌≤◌, Bool, true, false, cond, List, [], ◌∷◌, length, refl, sym, ap, ◌∙◌, mul-zero, zero-add, arith}
 use Rattle.std.specs.Prelude.{nat_lt, ◌&&◌}
-use Rattle.std.specs.List.{Contains, sum_by}
-use Rattle.std.proofs.lemmas.List.Elements.{All-contains_itself, All-weaker}
+use Rattle.std.specs.List.{sum_by}
+use Rattle.std.proofs.lemmas.List.Elements.{All-weaker}
 use Rattle.std.proofs.lemmas.List.Sums.{sum_by-cons}
 use Rattle.view_settings.specs.Boxes.{Indices, IsBox, halves_of}
 use Rattle.view_settings.specs.Laws.{HalvesPart}
@@ -17,7 +17,7 @@ use Rattle.box_chains.proofs.HalfLaws.{halves-are_parts, part-is_box, part-is_sh
 use Rattle.box_chains.proofs.SumLaws.{sum_by-equal, sum_in-const, sum_in-first, sum_in-plus, sum_in-same}
 
 -- a sum of nothing
-sum-nothing : (b : Indices) (f : Sample → ℕ) → ((s : Sample) → LiesIn b s → f s ≡ 0)
+pub sum-nothing : (b : Indices) (f : Sample → ℕ) → ((s : Sample) → LiesIn b s → f s ≡ 0)
     → sum_in b f ≡ 0
 sum-nothing b f none =
     sum_in-same b f (λ s. 0) none ∙ sum_in-const b 0 ∙ mul-zero (size b)
@@ -169,7 +169,7 @@ points-same test other d v same =
     (λ s lies. ap (λ t. cond t (cost d v s) 0) (same s lies))
 
 -- smaller numbers have smaller sums
-sum_in-below : (b : Indices) (f g : Sample → ℕ) → ((s : Sample) → LiesIn b s → f s ≤ g s)
+pub sum_in-below : (b : Indices) (f g : Sample → ℕ) → ((s : Sample) → LiesIn b s → f s ≤ g s)
     → sum_in b f ≤ sum_in b g
 sum_in-below b f g below =
     let apart = sum_in-same b g (λ s. f s + (g s - f s))

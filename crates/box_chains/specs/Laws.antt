@@ -1,12 +1,12 @@
 -- What always holds of chains of boxes and of the work that boxes take.
-use Rattle.std.specs.Prelude.{◌≡◌, ◌≢◌, ℕ, List, ◌+◌, ◌*◌, ◌<◌, ◌≤◌, Bool, true, false, [], ◌∷◌, length, Some, None, if◌then◌else◌}
+use Rattle.std.specs.Prelude.{◌≡◌, ◌≢◌, ℕ, List, ◌+◌, ◌*◌, ◌<◌, ◌≤◌, Bool, true, false, [], ◌∷◌, length, Option, Some, None, if◌then◌else◌}
 use Rattle.std.specs.List.{All, AllPairs, Contains, range_with_len, sum_by}
 use Rattle.choice_trace.specs.Laws.{AreRanges}
 use Rattle.choice_trace.specs.PointLaws.{ChoicesAreOfSteps, ChoicesAreRight, ValuesAreHeld}
 use Rattle.fixed_ops.specs.Counts.{Counts, RisesBy, points_of}
 use Rattle.fixed_ops.specs.Raw.{is_inside}
 use Rattle.interval_ops.specs.HullCounts.{CountsHulls}
-use Rattle.live_clauses.specs.Laws.{ChoicesKeepTheValue, LiveListsAreTapes}
+use Rattle.live_clauses.specs.Laws.{ChoicesKeepTheValue, ListsAreToldApart, LiveListsAreTapes}
 use Rattle.live_clauses.specs.Steps.{IsTape, tape_value}
 use Rattle.view_settings.specs.Boxes.{Indices, IsBox, halves_of, has_sample}
 use Rattle.view_settings.specs.Laws.{HalvesPart, RangesAreSpans, RangesHold}
@@ -14,6 +14,7 @@ use Rattle.view_settings.specs.Spans.{region_of}
 use Rattle.box_chains.specs.Chains.{Descent, Visit, chain, chain_end, decision, half_visit, half_with, handed_on, is_long, is_split, next_visit, sides}
 use Rattle.box_chains.specs.Counts.{end_cost, is_first, points_in, spans_in}
 use Rattle.box_chains.specs.Parts.{IsPart}
+use Rattle.box_chains.specs.Redrawn.{IsNew, half_before, points_after, spans_after}
 use Rattle.box_chains.specs.Sums.{LiesIn, Sample, size, sum_along, sum_in}
 use Rattle.box_chains.specs.Tallied.{CountsAtMost, CountsExactly}
 use Rattle.box_chains.specs.Tested.{has_some, points_where, spans_where}
@@ -21,6 +22,7 @@ use Rattle.box_chains.specs.Visits.{IsVisit, sample_point}
 
 -- what the layers below promise of boxes, lists and points
 pub record LayersHold : Type 0 where
+  pub equal : ListsAreToldApart
   pub halves : HalvesPart
   pub ranges : RangesHold
   pub spans : RangesAreSpans
@@ -161,6 +163,33 @@ pub record TestedWorkAddsUp : Type 0 where
       → points_where test d v ≤ points_where more d v
   pub points_all : (d : Descent) (v : Visit) → points_where (λ s. true) d v ≡ points_in d v
 
+-- How the work of a frame adds up that comes after another. From a box that received an equal list in
+-- the frame before, nothing is taken. A box that is new takes its own trace; and where it is split, what
+-- its halves take beside those of the frame before, which are new as well where that frame did not split
+-- the box; and where it is not, its cost at each sample. Without a frame before, all is taken, and never
+-- more than that.
+pub record RedrawnWorkAddsUp : Type 0 where
+  pub old_points : (d : Descent) (v : Visit) → 0 < d.leaf → IsBox v.box
+      → points_after d (Some v) v ≡ 0
+  pub old_spans : (d : Descent) (v : Visit) → 0 < d.leaf → IsBox v.box
+      → spans_after d (Some v) v ≡ 0
+  pub points : (d : Descent) (before : Option Visit) (v : Visit) → 0 < d.leaf → IsBox v.box
+      → IsNew before v
+      → points_after d before v ≡ (if is_split d v then sum_by
+      (λ half. points_after d (half_before d before half) (half_visit d v half))
+      (halves_of d.leaf v.box) else size v.box * end_cost d v)
+  pub spans : (d : Descent) (before : Option Visit) (v : Visit) → 0 < d.leaf → IsBox v.box
+      → IsNew before v
+      → spans_after d before v ≡ length v.list + (if is_split d v then sum_by
+      (λ half. spans_after d (half_before d before half) (half_visit d v half))
+      (halves_of d.leaf v.box) else 0)
+  pub fresh_points : (d : Descent) (v : Visit) → points_after d None v ≡ points_in d v
+  pub fresh_spans : (d : Descent) (v : Visit) → spans_after d None v ≡ spans_in d v
+  pub most_points : (d : Descent) (before : Option Visit) (v : Visit)
+      → points_after d before v ≤ points_in d v
+  pub most_spans : (d : Descent) (before : Option Visit) (v : Visit)
+      → spans_after d before v ≤ spans_in d v
+
 -- What a box shows of its samples: its ranges are spans; the list that it hands on can be
 -- evaluated, is no longer than the one that it receives, and has the same values; a decision is
 -- right; and its halves are such boxes again.
@@ -215,5 +244,6 @@ pub record Lawful : Type 0 where
   pub points : PointsAddUp
   pub spans : SpansAddUp
   pub tested : TestedWorkAddsUp
+  pub redrawn : RedrawnWorkAddsUp
   pub work : WorkAddsUp
   pub bounds : BoundsAddUp

@@ -6,6 +6,7 @@ pub mod Opened
 pub mod Outcomes
 pub mod Parts
 pub mod Placing
+pub mod Redrawn
 pub mod Sums
 pub mod Tallied
 pub mod Tested

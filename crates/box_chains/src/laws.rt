@@ -1,8 +1,8 @@
 // What always holds of chains of boxes and of the work that boxes take.
-ghost use Rattle.box_chains.specs.Laws.{BoxesAreCountedOnce, ChainsGoOn, Lawful, PointsAddUp, PointsAreBounded, SamplesAreTold, SpansAddUp, SpansAreBounded, TestedWorkAddsUp};
+ghost use Rattle.box_chains.specs.Laws.{BoxesAreCountedOnce, ChainsGoOn, Lawful, PointsAddUp, PointsAreBounded, RedrawnWorkAddsUp, SamplesAreTold, SpansAddUp, SpansAreBounded, TestedWorkAddsUp};
 
 use choice_trace::traces_are_right;
-use live_clauses::{choices_keep_the_value, live_steps_are_the_least};
+use live_clauses::{choices_keep_the_value, lists_are_told_apart, live_steps_are_the_least};
 use view_settings::{halves_part, ranges_hold};
 
 /// What the layers below promise of boxes, lists and points, and what follows from it of boxes and
@@ -14,6 +14,7 @@ pub fn layers_hold()
     halves_part();
     ranges_hold();
     live_steps_are_the_least();
+    lists_are_told_apart();
     choices_keep_the_value();
     traces_are_right();
 }
@@ -42,6 +43,15 @@ pub fn work_adds_up()
 /// samples of its halves.
 pub fn tested_work_adds_up()
     ensures { TestedWorkAddsUp }
+{
+    layers_hold();
+}
+
+/// The work of a frame that comes after another of the same samples: nothing from a box on that
+/// received an equal list in the frame before, and else the trace of the box and the work of its halves
+/// or of its samples; never more than that of a frame that comes first.
+pub fn redrawn_work_adds_up()
+    ensures { RedrawnWorkAddsUp }
 {
     layers_hold();
 }

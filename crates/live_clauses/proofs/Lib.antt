@@ -1,4 +1,5 @@
 pub mod Again
+pub mod EqualityLaws
 mod Examples
 pub mod Joined
 pub mod Keeping

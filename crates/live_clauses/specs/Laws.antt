@@ -6,6 +6,7 @@ use Rattle.solid_model.specs.Clauses.{IsModel}
 use Rattle.solid_model.specs.Values.{solid_value}
 use Rattle.interval_ops.specs.declared.choice.Choice.{Choice}
 use Rattle.interval_ops.specs.declared.choice.Choice.TheVariants.{Both}
+use Rattle.live_clauses.specs.Equality.{same_list}
 use Rattle.live_clauses.specs.declared.step.Step.{Step}
 use Rattle.live_clauses.specs.Choices.{step_at, choice_at, AreChoices, AreRight}
 use Rattle.live_clauses.specs.Live.{chosen, representative, IsLive, is_kept, live_of, root_of, IsWhole}
@@ -87,3 +88,7 @@ ChoicesKeepTheValue = (p : Point) (steps : List Step) (choices : List Choice) �
 abbrev pub RootHasTheValue : Type 0
 RootHasTheValue = (p : Point) (clauses : List Clause) → IsModel clauses
     → tape_value p (root_of clauses) ≡ solid_value p clauses
+
+-- the test of whether two lists have the same steps tells whether they are equal
+abbrev pub ListsAreToldApart : Type 0
+ListsAreToldApart = (a b : List Step) → IsTrue (same_list a b) ↔ (a ≡ b)

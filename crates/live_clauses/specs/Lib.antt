@@ -1,4 +1,5 @@
 pub mod Choices
+pub mod Equality
 pub mod Laws
 pub mod Live
 pub mod Marks

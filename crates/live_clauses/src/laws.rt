@@ -1,5 +1,5 @@
 // What always holds of the definitions that the contracts cite.
-ghost use Rattle.live_clauses.specs.Laws.{RepresentativesAreChosen, LiveStepsAreKept, LiveListsAreTapes, ChoicesKeepTheMeaning, ChoicesKeepTheValue, MeaningsAreOfOperands, RootHasTheMeaning, RootHasTheValue, LiveListsAreWhole, RootListsAreWhole, ValuesAreOfOperands, WholeListsNeedEachStep, WholeListsStand};
+ghost use Rattle.live_clauses.specs.Laws.{RepresentativesAreChosen, LiveStepsAreKept, LiveListsAreTapes, ChoicesKeepTheMeaning, ChoicesKeepTheValue, ListsAreToldApart, MeaningsAreOfOperands, RootHasTheMeaning, RootHasTheValue, LiveListsAreWhole, RootListsAreWhole, ValuesAreOfOperands, WholeListsNeedEachStep, WholeListsStand};
 
 use fixed_ops::Fx;
 
@@ -53,3 +53,9 @@ pub fn root_has_the_value()
 {
     live_lists_keep_meanings::<Fx>();
 }
+
+/// The test of whether two lists have the same steps tells whether they are equal.
+#[inline]
+pub fn lists_are_told_apart()
+    ensures { ListsAreToldApart }
+{}

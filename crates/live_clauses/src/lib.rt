@@ -10,7 +10,7 @@ mod step;
 mod tape;
 
 pub use laws::{
-    choices_keep_the_value, live_lists_are_whole, live_lists_keep_meanings,
+    choices_keep_the_value, lists_are_told_apart, live_lists_are_whole, live_lists_keep_meanings,
     live_steps_are_the_least, root_has_the_value, values_are_of_operands,
 };
 pub use shortening::{prune, prune_with, root_tape};

@@ -3,6 +3,7 @@ use Rattle.box_chains.proofs.laws.layers_hold.Goals as goal
 
 pub returns : goal.returns
 returns c = lawful (record {
+  equal = c.lists_are_told_apart.ensures;
   halves = c.halves_part.ensures;
   ranges = c.ranges_hold.ensures.ends;
   spans = c.ranges_hold.ensures.spans;
