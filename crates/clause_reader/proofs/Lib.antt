@@ -6,6 +6,7 @@ pub mod LineWalk
 pub mod OpLemmas
 pub mod ReadBack
 mod ReadingExamples
+pub mod ReasonLemmas
 pub mod Runs
 pub mod Said
 pub mod Scans

@@ -8,6 +8,7 @@ pub mod ModelText
 pub mod NumberedLines
 pub mod Reading
 pub mod ReadingLaws
+pub mod Reasons
 pub mod Says
 pub mod Scan
 pub mod Tokens

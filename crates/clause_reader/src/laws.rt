@@ -3,6 +3,7 @@ ghost use Rattle.clause_reader.specs.FirstLines.{TextsBeginWithLines};
 ghost use Rattle.clause_reader.specs.GivenLines.{GivenLinesStand};
 ghost use Rattle.clause_reader.specs.LineLaws.{LinesAreExact, TokensAreExact};
 ghost use Rattle.clause_reader.specs.ReadingLaws.{ReadingIsExact, RefusingIsExact, EachTextIsAnswered, NoneIsReadAndRefused, OneReading, OneRefusal, MemoryIsNoReason, EachLineAddsOne};
+ghost use Rattle.clause_reader.specs.Reasons.{LineReasonsAreLowest};
 ghost use Rattle.clause_reader.specs.WritingLaws.{WrittenModelsAreRead, WrittenModelsAreSaid};
 
 use fixed_ops::number_texts;
@@ -19,6 +20,11 @@ pub fn reading_is_exact()
     ensures one_refusal { OneRefusal }
     ensures never_memory { MemoryIsNoReason }
     ensures adds_one { EachLineAddsOne }
+{}
+
+/// A clause line is refused for the lowest reason that holds in it, and says a clause where none does.
+pub fn line_reasons_are_lowest()
+    ensures { LineReasonsAreLowest }
 {}
 
 /// A text splits into the one list of lines that hold no line feed and that, each followed by one,
