@@ -3,6 +3,7 @@ mod Examples
 pub mod GivenLaws
 pub mod GrammarLaws
 pub mod NameLaws
+pub mod ReasonLaws
 pub mod SpanLaws
 mod WordExamples
 pub mod WordLaws

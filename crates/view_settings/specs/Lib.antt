@@ -5,6 +5,7 @@ pub mod Laws
 pub mod Names
 pub mod Places
 pub mod Samples
+pub mod Reasons
 pub mod Setting
 pub mod Settings
 pub mod Spans

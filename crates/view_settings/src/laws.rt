@@ -1,6 +1,7 @@
 // What always holds of the definitions that the contracts cite.
 ghost use Rattle.view_settings.specs.Grammar.{GivenSettingsAreExact, RefusedWordIsExact};
 ghost use Rattle.view_settings.specs.Laws.{HalvesPart, RangesAreSpans, RangesHold};
+ghost use Rattle.view_settings.specs.Reasons.{WordReasonsAreLowest};
 
 /// Each sample of a box lies in exactly one of its halves, and no other sample lies in any.
 pub fn halves_part()
@@ -12,6 +13,11 @@ pub fn halves_part()
 pub fn words_are_exact()
     ensures given { GivenSettingsAreExact }
     ensures refused { RefusedWordIsExact }
+{}
+
+/// A word is refused for the lowest reason that holds in it, and gives a setting where none does.
+pub fn word_reasons_are_lowest()
+    ensures { WordReasonsAreLowest }
 {}
 
 /// The range of places along an axis has the least and the greatest place of its samples as its
