@@ -70,7 +70,7 @@ given_count verb name settings n each is =
     let value = given_value verb name settings (values.Count n) each is in
     rw value.taken (count_value value.kind n value.value_is)
 
-each-push : (verb : Verb) (settings : List Setting) (setting : Setting) → AllByRecursion (IsSetting verb) settings → IsSetting verb setting → AllByRecursion (IsSetting verb) (settings ++ setting ∷ [])
+pub each-push : (verb : Verb) (settings : List Setting) (setting : Setting) → AllByRecursion (IsSetting verb) settings → IsSetting verb setting → AllByRecursion (IsSetting verb) (settings ++ setting ∷ [])
 each-push verb [] setting each is = (is, tt)
 each-push verb (first ∷ settings) setting each is = (each.0, each-push verb settings setting each.1 is)
 

@@ -2,6 +2,7 @@ pub mod BoxLaws
 mod Examples
 pub mod GivenLaws
 pub mod GrammarLaws
+pub mod JobLaws
 pub mod NameLaws
 pub mod ReasonLaws
 pub mod SpanLaws

@@ -31,7 +31,7 @@ all_true false b c e = absurd cc
 true_all : (a b c : Bool) → a ≡ true → b ≡ true → c ≡ true → (a && (b && c)) ≡ true
 true_all a b c ha hb hc = rw (ha, hb, hc) refl
 
-fits_mesh_is : (v : Window) → IsTrue (fits_mesh v) ↔ FitsMesh v
+pub fits_mesh_is : (v : Window) → IsTrue (fits_mesh v) ↔ FitsMesh v
 fits_mesh_is v = (
   λ h. let each =
       all_true (has_room v.x0 v.x1 v.n) (has_room v.y0 v.y1 v.n) (has_room v.z0 v.z1 v.n) h in

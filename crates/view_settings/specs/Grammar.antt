@@ -1,11 +1,12 @@
 -- What words give, word by word: which settings, or which word is the first to be refused.
 use Rattle.std.specs.Prelude.{◌≡◌, ◌↔◌, ℕ, ◌+◌, ◌<◌, List, [], ◌++◌, length, take, slice_index_or, Ok, Err}
+use Rattle.view_settings.specs.declared.job.Job.{Job}
 use Rattle.view_settings.specs.declared.setting.Setting.{Setting}
 use Rattle.view_settings.specs.declared.verb.Verb.{Verb}
 use Rattle.view_settings.specs.declared.word_fault.WordReason.{WordReason}
 use Rattle.view_settings.specs.Setting.{setting_of}
-use Rattle.view_settings.specs.Settings.{begun}
-use Rattle.view_settings.specs.Words.{after_words}
+use Rattle.view_settings.specs.Settings.{IsJob, begun}
+use Rattle.view_settings.specs.Words.{after_words, job_after}
 
 -- each word gives one setting, after those that were taken and those of the words before it
 pub record GiveAfter (verb : Verb) (taken : List Setting)
@@ -48,3 +49,8 @@ RefusedWordIsExact =
       at = k + 2;
       reason = reason;
     })) ↔ Refuse verb words k reason
+
+-- the job that words ask for keeps what each job keeps: its view is one, and may be drawn so
+abbrev pub JobsHold : Type 0
+JobsHold =
+    (verb : Verb) (words : List (List ℕ)) (job : Job) → job_after words verb ≡ Ok job → IsJob job

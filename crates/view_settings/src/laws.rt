@@ -1,5 +1,5 @@
 // What always holds of the definitions that the contracts cite.
-ghost use Rattle.view_settings.specs.Grammar.{GivenSettingsAreExact, RefusedWordIsExact};
+ghost use Rattle.view_settings.specs.Grammar.{GivenSettingsAreExact, JobsHold, RefusedWordIsExact};
 ghost use Rattle.view_settings.specs.Laws.{HalvesPart, RangesAreSpans, RangesHold};
 ghost use Rattle.view_settings.specs.Reasons.{WordReasonsAreLowest};
 
@@ -13,6 +13,11 @@ pub fn halves_part()
 pub fn words_are_exact()
     ensures given { GivenSettingsAreExact }
     ensures refused { RefusedWordIsExact }
+{}
+
+/// The view of a job that words ask for keeps what every view keeps, and may be drawn as the job says.
+pub fn jobs_hold()
+    ensures { JobsHold }
 {}
 
 /// A word is refused for the lowest reason that holds in it, and gives a setting where none does.

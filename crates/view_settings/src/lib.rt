@@ -27,7 +27,7 @@ pub use forge::Forge;
 pub use index_box::{IndexBox, split};
 pub use job::Job;
 pub use lattice::{Axis, Lattice};
-pub use laws::{halves_part, ranges_hold, word_reasons_are_lowest, words_are_exact};
+pub use laws::{halves_part, jobs_hold, ranges_hold, word_reasons_are_lowest, words_are_exact};
 pub use place::{raw_place, root, sample, samples_along};
 pub use settings::Settings;
 pub use span::span_of;
