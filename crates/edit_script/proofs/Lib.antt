@@ -1,4 +1,5 @@
 pub mod CommandLemmas
+pub mod DrawLaws
 mod Examples
 pub mod KeywordLemmas
 pub mod LineStarts

@@ -152,3 +152,12 @@ IsCommand (commands.Render view) = IsWindow view
 IsCommand (commands.Height view) = IsWindow view × FitsHeight view
 IsCommand (commands.Mesh view) = IsWindow view × FitsMesh view
 IsCommand commands.Text = ⊤
+
+-- what a command draws may be drawn of its view
+abbrev pub MayBeDrawn : Command → Type 0
+MayBeDrawn (commands.Edit line edit) = ⊤
+MayBeDrawn (commands.Stray line) = ⊤
+MayBeDrawn (commands.Render view) = IsWindow view
+MayBeDrawn (commands.Height view) = IsWindow view × FitsHeight view
+MayBeDrawn (commands.Mesh view) = IsWindow view × FitsMesh view
+MayBeDrawn commands.Text = ⊤

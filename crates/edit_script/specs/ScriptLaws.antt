@@ -1,9 +1,10 @@
 -- What always holds of scripts: an input says what its lines say one by one, and nothing else.
-use Rattle.std.specs.Prelude.{◌≡◌, ◌↔◌, ℕ, ◌+◌, List, ◌∷◌, ◌++◌, ◌⊎◌, map, take, drop, Some, None, Result, Ok, Err}
+use Rattle.std.specs.Prelude.{◌≡◌, ◌↔◌, ℕ, ◌+◌, List, ◌∷◌, ◌++◌, ◌⊎◌, map, take, drop, Some, None, Result, Ok, Err, All, IfOk}
 use Rattle.clause_reader.specs.Lines.{lines_of}
 use Rattle.edit_script.specs.declared.command.Command.{Command}
 use Rattle.edit_script.specs.declared.script_fault.ScriptFault.{ScriptFault}
 use Rattle.edit_script.specs.declared.script_reason.ScriptReason.TheVariants.{NoMark}
+use Rattle.edit_script.specs.Commands.{MayBeDrawn}
 use Rattle.edit_script.specs.Marks.{mark_ends, mark_place}
 use Rattle.edit_script.specs.Scripts.{command_lines, command_at, script_read}
 
@@ -50,3 +51,7 @@ pub record Splits (input : List ℕ) (start end : ℕ) : Type 0 where
 abbrev pub InputsAreSplit : Type 0
 InputsAreSplit =
     (input : List ℕ) (start end : ℕ) → mark_ends input ≡ Some (start, end) → Splits input start end
+
+-- what the commands of an input draw may be drawn of their views
+abbrev pub DrawsMayBeDrawn : Type 0
+DrawsMayBeDrawn = (input : List ℕ) → IfOk (script_read input) (All MayBeDrawn)

@@ -1,8 +1,9 @@
 // What always holds of the definitions that the contracts cite.
 ghost use Rattle.edit_script.specs.Reasons.{ReasonsAreLowest};
-ghost use Rattle.edit_script.specs.ScriptLaws.{InputsAreSplit, RefusalsAreExact, ScriptsAreExact};
+ghost use Rattle.edit_script.specs.ScriptLaws.{DrawsMayBeDrawn, InputsAreSplit, RefusalsAreExact, ScriptsAreExact};
 
 use clause_reader::texts_begin_with_lines;
+use view_settings::jobs_hold;
 
 /// An input is read as the commands that its lines after the mark say, one by one, or else it is
 /// refused: on line 0 where there is no mark, and else on the first line that says no command.
@@ -22,4 +23,11 @@ pub fn inputs_are_split()
     ensures { InputsAreSplit }
 {
     texts_begin_with_lines();
+}
+
+/// What the commands of a script draw may be drawn of their views.
+pub fn draws_may_be_drawn()
+    ensures { DrawsMayBeDrawn }
+{
+    jobs_hold();
 }

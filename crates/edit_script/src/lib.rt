@@ -13,7 +13,7 @@ mod script_fault;
 mod script_reason;
 
 pub use command::Command;
-pub use laws::{inputs_are_split, reasons_are_lowest, scripts_are_exact};
+pub use laws::{draws_may_be_drawn, inputs_are_split, reasons_are_lowest, scripts_are_exact};
 pub use mark::split_input;
 pub use script::read_script;
 pub use script_fault::ScriptFault;
