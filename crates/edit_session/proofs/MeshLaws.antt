@@ -20,7 +20,8 @@ use Rattle.live_clauses.specs.declared.step.Step.{Step}
 use Rattle.ply_writer.specs.Ply.{ply_of}
 use Rattle.solid_model.specs.Values.{solid_value}
 use Rattle.solid_model.specs.declared.clause.Clause.{Clause}
-use Rattle.tetra_mesh.specs.Cuts.{mesh_of, vertex_of, way_up}
+use Rattle.tetra_mesh.specs.Cuts.{mesh_of, vertex_of}
+use Rattle.mesh_laws.specs.Places.{way_up}
 use Rattle.tetra_mesh.specs.Meshes.{Triangulation}
 use Rattle.tetra_mesh.specs.Places.{IsPlaced}
 use Rattle.view_settings.specs.Window.{Window}

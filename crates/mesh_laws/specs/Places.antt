@@ -2,18 +2,22 @@
 use Rattle.std.specs.Prelude.{◌≡◌, ℕ, ◌+◌, ◌-◌, ◌*◌, ◌==◌, ◌<◌, ℤ, pos, ◌+ℤ◌, ◌-ℤ◌, ◌*ℤ◌, ◌≤ℤ◌, List, [], ◌∷◌, ◌++◌, get_or, length, All, if◌then◌else◌}
 use Rattle.fixed_ops.specs.Cut.{cut_of}
 use Rattle.fixed_ops.specs.NumberTexts.{number_text}
-use Rattle.fixed_ops.specs.Raw.{IsRaw, floor_div}
+use Rattle.fixed_ops.specs.Raw.{IsRaw, floor_div, is_inside}
 use Rattle.kuhn_cells.specs.declared.edge_key.EdgeKey.{EdgeKey}
 use Rattle.kuhn_cells.specs.Corners.{along_x, along_y, along_z}
 use Rattle.kuhn_cells.specs.Grids.{Grid, is_inside_at, lower, upper, value_at}
 use Rattle.kuhn_cells.specs.Triangles.{GridPoint}
 use Rattle.kuhn_cells.specs.Vectors.{Vector}
 
--- the way from the lower of two points to the vertex between them, in parts of 65536 of the edge
+-- How far from the lower point of an edge the surface cuts it, in parts of 65536 of the edge, by
+-- the values of the lower and of the upper point, of which one is inside. The cut is told from the
+-- inside end on.
+abbrev pub way_up : ℤ → ℤ → ℕ
+way_up low high = if is_inside low then cut_of low high else 65536 - cut_of high low
+
+-- the same, between two points of a grid
 abbrev pub share_between : Grid → GridPoint → GridPoint → ℕ
-share_between g low high =
-    if is_inside_at g low then cut_of (value_at g low) (value_at g high)
-    else 65536 - cut_of (value_at g high) (value_at g low)
+share_between g low high = way_up (value_at g low) (value_at g high)
 
 -- the same, of an edge that has exactly one inside end
 abbrev pub share : Grid → EdgeKey → ℕ

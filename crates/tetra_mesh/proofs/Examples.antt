@@ -1,7 +1,7 @@
 -- Places, computed on vertices that were worked out by hand.
 use Rattle.std.proofs.Common.{◌≡◌, ℕ, ◌≤◌, pos, negsuc, refl, arith}
 use Rattle.tetra_mesh.specs.declared.vertex.Vertex.{Vertex}
-use Rattle.tetra_mesh.specs.Cuts.{way_up}
+use Rattle.mesh_laws.specs.Places.{way_up}
 use Rattle.tetra_mesh.specs.Places.{IsPlaced, lattice_place, vertex_place}
 use Rattle.tetra_mesh.specs.Sound.{lattice_of, raw_of}
 use Rattle.view_settings.specs.declared.lattice.Axis.TheVariants.{X, Y, Z}

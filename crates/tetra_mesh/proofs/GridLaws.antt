@@ -18,7 +18,8 @@ use Rattle.kuhn_cells.specs.Sizes.{IsBounded}
 use Rattle.kuhn_cells.specs.Triangles.{GridPoint, edge_from, further}
 use Rattle.tetra_mesh.specs.declared.sided_cell.SidedCell.{SidedCell}
 use Rattle.tetra_mesh.specs.declared.vertex.Vertex.{Vertex}
-use Rattle.tetra_mesh.specs.Cuts.{mesh_of, vertex_of, way_up}
+use Rattle.tetra_mesh.specs.Cuts.{mesh_of, vertex_of}
+use Rattle.mesh_laws.specs.Places.{way_up}
 use Rattle.tetra_mesh.specs.Meshes.{Triangulation}
 use Rattle.tetra_mesh.specs.Numbering.{AreCells, IsIn, all_faces, vertex_on, vertices_on}
 use Rattle.tetra_mesh.specs.Sides.{HasParts, sided_of}

@@ -11,7 +11,7 @@ use Rattle.kuhn_cells.specs.Arrangement.{differ}
 use Rattle.kuhn_cells.specs.Cells.{directions_of, has_inside, place_of}
 use Rattle.kuhn_cells.specs.Triangles.{edge_from}
 use Rattle.tetra_mesh.specs.declared.vertex.Vertex.{Vertex}
-use Rattle.tetra_mesh.specs.Cuts.{way_up}
+use Rattle.mesh_laws.specs.Places.{way_up}
 use Rattle.tetra_mesh.specs.Numbering.{directions_below, vertex_on}
 use Rattle.tetra_mesh.proofs.NumberLaws.{range_parts}
 

@@ -15,7 +15,7 @@ use Rattle.kuhn_cells.specs.Triangles.{edge_from}
 use Rattle.tetra_mesh.specs.declared.entry.Entry.{Entry}
 use Rattle.tetra_mesh.specs.declared.numbering.Numbering.{Numbering}
 use Rattle.tetra_mesh.specs.declared.vertex.Vertex.{Vertex}
-use Rattle.tetra_mesh.specs.Cuts.{way_up}
+use Rattle.mesh_laws.specs.Places.{way_up}
 
 abbrev pub one_if : Bool → ℕ
 one_if b = if b then 1 else 0

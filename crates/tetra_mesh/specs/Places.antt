@@ -1,10 +1,10 @@
 -- Where the vertices of a mesh lie.
-use Rattle.std.specs.Prelude.{ℕ, ◌+◌, ◌*◌, ◌==◌, ◌≤◌, ℤ, pos, ◌+ℤ◌, ◌-ℤ◌, ◌*ℤ◌, if◌then◌else◌}
-use Rattle.fixed_ops.specs.Raw.{floor_div}
+use Rattle.std.specs.Prelude.{ℕ, ◌+◌, ◌*◌, ◌==◌, ◌≤◌, ℤ, if◌then◌else◌}
 use Rattle.kuhn_cells.specs.Corners.{along_x, along_y, along_z}
 use Rattle.kuhn_cells.specs.Grids.{lower, upper}
 use Rattle.kuhn_cells.specs.Laws.{IsDirection}
 use Rattle.kuhn_cells.specs.Triangles.{GridPoint}
+use Rattle.mesh_laws.specs.Places.{between}
 use Rattle.view_settings.specs.declared.lattice.Axis.{Axis}
 use Rattle.view_settings.specs.declared.lattice.Axis.TheVariants.{X, Y, Z}
 use Rattle.view_settings.specs.declared.lattice.Lattice.TheVariants.{Grid}
@@ -29,11 +29,6 @@ steps_along Z dir = along_z dir
 abbrev pub lattice_place : Vertex → Axis → ℕ
 lattice_place v axis =
     65536 * index_along axis (lower v.key) + (if steps_along axis v.key.dir == 1 then v.t else 0)
-
--- Where a vertex lies between the raw places of the lower and of the upper point of its edge along
--- an axis that the direction has, rounded down.
-abbrev pub between : ℤ → ℤ → ℕ → ℤ
-between p q t = p +ℤ floor_div ((q -ℤ p) *ℤ pos t) 65536
 
 -- the raw place of a vertex along an axis
 abbrev pub vertex_place : Window → Vertex → Axis → ℤ

@@ -2,7 +2,7 @@
 ghost use Rattle.std.specs.Prelude.{◌≡◌, ◌≤◌, true};
 ghost use Rattle.fixed_ops.specs.Raw.{is_inside as is_inside_of};
 ghost use Rattle.kuhn_cells.specs.Arrangement.{differ};
-ghost use Rattle.tetra_mesh.specs.Cuts.{way_up as way_up_of};
+ghost use Rattle.mesh_laws.specs.Places.{way_up as way_up_of};
 ghost use Rattle.tetra_mesh.specs.Numbering.{signs_of as signs_of_cell};
 
 use fixed_ops::{Fx, cut, is_inside};
