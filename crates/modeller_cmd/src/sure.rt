@@ -4,7 +4,7 @@ ghost use Rattle.modeller_io.specs.Count.{RoseBy, last_count};
 ghost use Rattle.modeller_io.specs.Held.{Extends};
 ghost use Rattle.modeller_io.specs.Took.{LosesAtMost};
 ghost use Rattle.view_settings.specs.Words.{bytes_of};
-ghost use Rattle.edit_session.specs.Work.{CountsWithin, CountsWork, PointsRiseAtMost};
+ghost use Rattle.model_frames.specs.Work.{CountsWithin, CountsWork, PointsRiseAtMost};
 ghost use Rattle.modeller_cmd.specs.Asking.{asked, asks_nothing, input_told};
 ghost use Rattle.modeller_cmd.specs.Endings.{GainsParts, IsRead, IsRefusal, IsUnwritten, IsWorked, ReadsWhole, TakesLine, Tells};
 ghost use Rattle.modeller_cmd.specs.Output.{WithOutput, input_limit, output_of};

@@ -1,6 +1,6 @@
 use Rattle.std.proofs.Common.{◌≡◌, Ok, Err, refl, ap, ◌∙◌, arith}
 use Rattle.modeller_io.specs.Held.{Gains, GainsPrefix}
-use Rattle.edit_session.specs.Work.{CountsWithin, CountsWork, PointsRiseAtMost}
+use Rattle.model_frames.specs.Work.{CountsWithin, CountsWork, PointsRiseAtMost}
 use Rattle.view_settings.specs.Words.{bytes_of}
 use Rattle.modeller_cmd.specs.Asking.{asked, asks_nothing, input_told, reads_nothing}
 use Rattle.modeller_cmd.specs.Endings.{Ends, GainsParts}
