@@ -101,6 +101,31 @@ read_fault_of stop.ReadFault e = refl
 read_fault_of stop.WriteFault e = absurd (grind (arith, e))
 read_fault_of stop.NoMemory e = absurd (grind (arith, e))
 
+-- only want of memory has its own status, and no stop has that of work that is done
+other_memory : (why : Refusal) → status_of why ≡ status.NoMemory → ⊥
+other_memory (refusal.Words fault) e = grind (arith, e)
+other_memory refusal.TooLong e = grind (arith, e)
+other_memory (refusal.Text fault) e = grind (arith, e)
+other_memory (refusal.Script fault) e = grind (arith, e)
+
+pub no_memory_of : (why : Stop) → status_at why ≡ status.NoMemory → why ≡ stop.NoMemory
+no_memory_of (stop.Refused why) e = absurd (other_memory why e)
+no_memory_of stop.ReadFault e = absurd (grind (arith, e))
+no_memory_of stop.WriteFault e = absurd (grind (arith, e))
+no_memory_of stop.NoMemory e = refl
+
+refusal_not_done : (why : Refusal) → status_of why ≡ status.Done → ⊥
+refusal_not_done (refusal.Words fault) e = grind (arith, e)
+refusal_not_done refusal.TooLong e = grind (arith, e)
+refusal_not_done (refusal.Text fault) e = grind (arith, e)
+refusal_not_done (refusal.Script fault) e = grind (arith, e)
+
+pub not_done : (why : Stop) → status_at why ≡ status.Done → ⊥
+not_done (stop.Refused why) e = refusal_not_done why e
+not_done stop.ReadFault e = grind (arith, e)
+not_done stop.WriteFault e = grind (arith, e)
+not_done stop.NoMemory e = grind (arith, e)
+
 -- what is made of an input whose solid was read
 pub solid_read : (input solid : List ℕ) (makes : List Clause → Result (List Part) Refusal) (clauses : List Clause) → length input ≤ input_limit → text_read solid ≡ Ok clauses
     → of_solid input solid makes ≡ makes clauses

@@ -15,13 +15,13 @@ use Rattle.solid_model.specs.declared.clause.Clause.{Clause}
 use Rattle.solid_model.specs.declared.edit.Edit.{Edit}
 use Rattle.solid_model.specs.declared.edit.EditFault.{EditFault as Fault}
 use Rattle.solid_model.specs.declared.edit.EditFault.TheVariants as EditFault
-use Rattle.modeller_cmd.specs.Endings.{GainsParts, IsWorkStop}
+use Rattle.modeller_cmd.specs.Endings.{GainsParts}
 use Rattle.model_frames.specs.Frames.{Part}
 use Rattle.modeller_cmd.specs.Parts.{bytes_of_parts, work_of_parts}
 use Rattle.modeller_cmd.specs.Playing.{Played, Stopped}
 use Rattle.modeller_cmd.specs.Replays.{clauses_after, parts_at, refusal}
 use Rattle.modeller_cmd.specs.declared.stop.Stop.{Stop}
-use Rattle.modeller_cmd.specs.declared.stop.Stop.TheVariants.{Refused, ReadFault, WriteFault, NoMemory}
+use Rattle.modeller_cmd.specs.declared.stop.Stop.TheVariants.{WriteFault, NoMemory}
 use Rattle.modeller_cmd.proofs.Gaining.{Extends-none, Gains-then, GainsPrefix-after, Grew-after, Grew-gains, Grew-prefix, RoseBy-after, on-ok}
 use Rattle.modeller_cmd.proofs.WorkSums.{both-none, bytes-append, work-append}
 

@@ -10,6 +10,7 @@ ghost use Rattle.modeller_cmd.specs.Notes.{line_of};
 ghost use Rattle.modeller_cmd.specs.Output.{WithOutput, input_limit, outcome};
 ghost use Rattle.modeller_cmd.specs.Parts.{bytes_of_parts, work_of_parts};
 ghost use Rattle.modeller_cmd.specs.Asking.{asked, asks_nothing, input_told, reads_nothing};
+ghost use Rattle.modeller_cmd.specs.Runs.{EndsSo};
 ghost use Rattle.modeller_cmd.specs.Serving.{Served};
 ghost use Rattle.modeller_cmd.specs.SoundTexts.{MeshFramesAreSound, MeshesAreSound};
 ghost use Rattle.modeller_cmd.specs.Stopping.{StopsPlay, StopsRun};
@@ -126,7 +127,39 @@ pub fn run<S: Source, K: Sink, N: Sink>(
     ensures gained { Grew K.held out.old out.new }
     ensures untold { CountsForSome (bytes_of words.now) tally.old tally.new }
 {
-    match perform(alloc, words, source, out, tally) {
+    perform(alloc, words, source, out, notes, tally)
+}
+
+/// Reads, works and writes, and tells the notes why there is nothing.
+pub(crate) fn perform<S: Source, K: Sink, N: Sink>(
+    alloc: Global,
+    words: &[String],
+    source: &mut S,
+    out: &mut K,
+    notes: &mut N,
+    tally: &mut Tally,
+) -> Status
+    ensures { EndsSo (record {
+      rest = S.rest;
+      taken = S.taken;
+      read_faults = S.faults;
+      held = K.held;
+      write_faults = K.faults;
+      notes_held = N.held;
+      note_faults = N.faults;
+      source = source.old;
+      source_after = source.new;
+      out = out.old;
+      out_after = out.new;
+      notes = notes.old;
+      notes_after = notes.new;
+      first = tally.old;
+      last = tally.new;
+      words = bytes_of words.now;
+      status = result;
+    }) }
+{
+    match work(alloc, words, source, out, tally) {
         Ok(()) => Status::Done,
         Err(stop) => {
             tell(notes, stop);
@@ -145,7 +178,7 @@ fn tell<N: Sink>(notes: &mut N, stop: Stop)
 }
 
 // Reads, works and writes, up to what ends the run.
-fn perform<S: Source, K: Sink>(
+fn work<S: Source, K: Sink>(
     alloc: Global,
     words: &[String],
     source: &mut S,
