@@ -4,16 +4,15 @@ ghost use Rattle.clause_reader.specs.ModelText.{model_text};
 ghost use Rattle.solid_model.specs.Edits.{edited, MakesClause};
 ghost use Rattle.solid_model.specs.Refusals.{RefusesAs, WantsMemoryFor};
 ghost use Rattle.view_settings.specs.Window.{FitsHeight, FitsMesh};
-ghost use Rattle.edit_session.specs.Heights.{heights_of, plain_depths};
-ghost use Rattle.edit_session.specs.Images.{image_of, plain_points};
-ghost use Rattle.edit_session.specs.Meshes.{mesh_text, plain_grid};
-ghost use Rattle.edit_session.specs.Work.{CountsWithin, CountsWork, PointsRiseAtMost, frame_work, height_work, mesh_work};
+ghost use Rattle.model_frames.specs.Frames.{CanDraw, frame_part};
+ghost use Rattle.model_frames.specs.Heights.{heights_of, plain_depths};
+ghost use Rattle.model_frames.specs.Images.{image_of, plain_points};
+ghost use Rattle.model_frames.specs.Meshes.{mesh_text, plain_grid};
+ghost use Rattle.model_frames.specs.Work.{CountsWithin, CountsWork, PointsRiseAtMost, frame_work, height_work, mesh_work};
 
-use crate::draw::draw;
-use crate::height::height;
-use crate::mesh::mesh;
 use clause_reader::write_model;
 use fixed_ops::Tally;
+use model_frames::Frame;
 use solid_model::{Edit, EditFault, Model};
 use std::alloc::{AllocError, Global};
 use view_settings::View;
@@ -73,7 +72,7 @@ impl Session {
         ensures plain { PointsRiseAtMost tally.old tally.new
             (plain_points view.now (length self.old)) }
     {
-        draw(self.alloc, &self.model, view, tally)
+        Frame::Render(*view).bytes(self.alloc, &self.model, tally)
     }
 
     /// The height map of the model over a view, as PGM text. The work of the samples that do not lie
@@ -89,7 +88,7 @@ impl Session {
         ensures plain { PointsRiseAtMost tally.old tally.new
             (plain_depths view.now (length self.old)) }
     {
-        height(self.alloc, &self.model, view, tally)
+        Frame::Height(*view).bytes(self.alloc, &self.model, tally)
     }
 
     /// The mesh of the model over a view, as PLY text. The work of the boxes that are looked into and
@@ -105,7 +104,23 @@ impl Session {
         ensures plain { PointsRiseAtMost tally.old tally.new
             (plain_grid view.now (length self.old)) }
     {
-        mesh(self.alloc, &self.model, view, tally)
+        Frame::Mesh(*view).bytes(self.alloc, &self.model, tally)
+    }
+
+    /// A frame of the model, as bytes. The work is counted. The model stands. AllocError: memory was
+    /// refused, after some of that work perhaps.
+    pub fn frame(&mut self, frame: &Frame, tally: &mut Tally) -> Result<Vec<u8>, AllocError>
+        requires { CanDraw frame.now }
+        ensures bytes { IfOk result (λ bytes.
+            bytes.items ≡ (frame_part frame.now self.old).bytes) }
+        ensures stands { self.new ≡ self.old }
+        ensures counted { OnOk result
+            (CountsWork tally.old tally.new (frame_part frame.now self.old).work) }
+        ensures at_most { CountsWithin tally.old tally.new (frame_part frame.now self.old).work }
+        ensures plain { PointsRiseAtMost tally.old tally.new
+            (frame_part frame.now self.old).work.plain }
+    {
+        frame.bytes(self.alloc, &self.model, tally)
     }
 
     /// The text of the model: a line for each clause. AllocError: memory was refused.

@@ -1,6 +1,6 @@
 -- The work of a fresh image, which a tally of its own counts.
 use Rattle.std.proofs.Common.{◌≡◌, ℕ, ◌^◌, ◌<◌, ◌≤◌, ap, ◌∙◌, arith}
-use Rattle.edit_session.specs.Work.{CountsWork, FitsCounts, exactly}
+use Rattle.model_frames.specs.Work.{CountsWork, FitsCounts, exactly}
 use Rattle.modeller_cmd.specs.CountTexts.{count_text}
 use Rattle.fixed_ops.specs.Counts.{Counts, no_counts, risen}
 

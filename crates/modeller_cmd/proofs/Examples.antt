@@ -1,11 +1,11 @@
 -- The definitions of a run, computed on words, texts and views that were worked out by hand.
-use Rattle.std.proofs.Common.{◌≡◌, ℕ, zero, suc, true, false, pos, negsuc, ◌+◌, ◌*◌, ◌^◌, inl, inr, List, [], ◌∷◌, ◌++◌, length, map, take, Option, Some, None, Err, refl, subst, sym, ap, ◌∙◌, arith}
+use Rattle.std.proofs.Common.{◌≡◌, ℕ, zero, suc, true, false, pos, negsuc, ◌+◌, ◌*◌, ◌^◌, inl, inr, List, [], ◌∷◌, ◌++◌, length, map, take, Option, Some, None, Result, Err, refl, subst, sym, ap, ◌∙◌, arith}
 use Rattle.std.specs.Prelude.{◌≤◌, ◌⊎◌, codes, slice_get, slice_index_or, ℤ}
 use Rattle.std.specs.Fmt.{digits}
 use Rattle.std.proofs.lemmas.Bool.{le-ltb, lt-ltb}
 use Rattle.box_chains.specs.Chains.{chain_within}
 use Rattle.box_chains.specs.Counts.{points_in, spans_in}
-use Rattle.clause_reader.specs.Reading.{text_read}
+use Rattle.clause_reader.specs.Reading.{on_result, text_read}
 use Rattle.clause_reader.specs.declared.text_reason.TextReason.TheVariants as text
 use Rattle.edit_script.specs.declared.script_reason.ScriptReason.TheVariants as script
 use Rattle.fixed_ops.specs.NumberTexts.{size_text}
@@ -24,12 +24,13 @@ use Rattle.view_settings.specs.declared.word_fault.WordReason.TheVariants as wor
 use Rattle.modeller_cmd.specs.Asking.{asks_nothing, input_told, reads_nothing}
 use Rattle.modeller_cmd.specs.Endings.{CountsForSome, GainsParts, IsAnswer, IsRead, IsRefusal, IsUnwritten, IsWorked, NoFault, ReadsWhole, TakesLine, Tells}
 use Rattle.modeller_cmd.specs.Frames.{frame_header, frame_of, refused_line}
-use Rattle.modeller_cmd.specs.declared.frame_kind.FrameKind.TheVariants as frames
+use Rattle.model_frames.specs.declared.frame.Frame.TheVariants as frames
 use Rattle.solid_model.specs.declared.edit.EditFault.TheVariants as fault
-use Rattle.edit_session.specs.Heights.{heights_of}
+use Rattle.model_frames.specs.Heights.{heights_of}
 use Rattle.modeller_cmd.specs.Notes.{line_of}
-use Rattle.modeller_cmd.specs.Output.{Output, WithOutput, input_limit, made, model_bytes, output_as, output_of, parts_after}
-use Rattle.modeller_cmd.specs.Parts.{Part, bytes_of_parts, work_of_parts}
+use Rattle.modeller_cmd.specs.Output.{Output, WithOutput, input_limit, made, of_solid, output_as, output_of}
+use Rattle.model_frames.specs.Frames.{Part}
+use Rattle.modeller_cmd.specs.Parts.{bytes_of_parts, work_of_parts}
 use Rattle.modeller_cmd.specs.Playing.{Played, Stopped}
 use Rattle.modeller_cmd.specs.Statuses.{number_of}
 use Rattle.modeller_cmd.specs.SoundTexts.{HasSoundFrame, MeshFramesAreSound, MeshesAreSound}
@@ -41,10 +42,12 @@ use Rattle.solid_model.specs.declared.clause.Clause.{Clause}
 use Rattle.solid_model.specs.declared.edit.Edit.TheVariants as edits
 use Rattle.edit_script.specs.declared.command.Command.{Command}
 use Rattle.edit_script.specs.declared.command.Command.TheVariants as commands
-use Rattle.clause_reader.specs.declared.text_fault.TextFault.{TextFault}
 use Rattle.modeller_cmd.specs.Replays.{parts_at, replayed, standing}
-use Rattle.edit_session.specs.SoundTexts.{IsSoundText}
-use Rattle.edit_session.specs.Work.{CountsWithin, CountsWork, exactly, frame_work, no_work}
+use Rattle.model_frames.specs.SoundTexts.{IsSoundText}
+use Rattle.model_frames.specs.Work.{CountsWithin, CountsWork, exactly, frame_work, no_work}
+use Rattle.modeller_cmd.specs.declared.bad_text.BadText.{BadText}
+use Rattle.modeller_cmd.specs.declared.bad_text.BadText.TheVariants as bad
+use Rattle.modeller_cmd.specs.declared.refusal.Refusal.{Refusal}
 use Rattle.modeller_cmd.specs.declared.refusal.Refusal.TheVariants as refusal
 use Rattle.modeller_cmd.specs.declared.status.Status.{Status}
 use Rattle.modeller_cmd.specs.declared.status.Status.TheVariants as status
@@ -227,7 +230,7 @@ word_line : line_of (stop.Refused (refusal.Words (record { at = 12; reason = wor
 unfolding digits
 word_line = refl
 
-model_line : line_of (stop.Refused (refusal.Model (record { line = 307; reason = text.WrongArity }))) ≡ codes "modeller: line 307: WrongArity\n"
+model_line : line_of (stop.Refused (refusal.Text (bad.Model (record { line = 307; reason = text.WrongArity })))) ≡ codes "modeller: line 307: WrongArity\n"
 unfolding digits
 model_line = refl
 
@@ -248,9 +251,9 @@ no_memory_line : line_of stop.NoMemory ≡ codes "modeller: no memory\n"
 no_memory_line = refl
 
 -- an input of the most bytes is read
-limit_is_read : (job : Job) (input : List ℕ) → reads_nothing job ≡ false → length input ≡ input_limit → made job input ≡ parts_after job input (text_read (model_bytes job input))
-limit_is_read (Forge forge) input asks full = cc
-limit_is_read job input asks full = rw (le-ltb input_limit (length input) (omega (arith, full))) refl
+limit_is_read : (input solid : List ℕ) (makes : List Clause → Result (List Part) Refusal) → length input ≡ input_limit
+    → of_solid input solid makes ≡ on_result (text_read solid) makes (λ fault. Err (refusal.Text (bad.Model fault)))
+limit_is_read input solid makes full = rw (le-ltb input_limit (length input) (omega (arith, full))) refl
 
 -- and one byte more is too long, whatever the bytes are
 above_limit_is_refused : (job : Job) (input : List ℕ) → reads_nothing job ≡ false → length input ≡ input_limit + 1 → made job input ≡ Err refusal.TooLong
@@ -334,11 +337,11 @@ product_rounds_down : op_result op.Mul (negsuc 0) (pos 1) ≡ negsuc 0
 product_rounds_down = refl
 
 -- the words of frames, and of an edit that finds no room
-height_header : frame_header frames.Height 12 ≡ codes "@ height 12\n"
+height_header : frame_header (frames.Height (window 3 3 (pos 0))) 12 ≡ codes "@ height 12\n"
 unfolding digits
 height_header = refl
 
-mesh_header : frame_header frames.Mesh 305 ≡ codes "@ mesh 305\n"
+mesh_header : frame_header (frames.Mesh (window 3 3 (pos 0))) 305 ≡ codes "@ mesh 305\n"
 unfolding digits
 mesh_header = refl
 
@@ -440,16 +443,16 @@ write_fault_is_told : (words : List (List ℕ)) (input : Option (List ℕ)) (tak
 write_fault_is_told words input takes = refl
 
 -- of a solid the line that is refused is told, and no other: its number is the byte at place 15
-abbrev first_line : TextFault
-first_line = record { line = 1; reason = text.UnknownName }
+abbrev first_line : BadText
+first_line = bad.Model (record { line = 1; reason = text.UnknownName })
 
-abbrev tells_line_2 : TextFault → Type 0
-tells_line_2 fault = slice_index_or (line_of (stop.Refused (refusal.Model fault))) 15 0 ≡ 50
+abbrev tells_line_2 : BadText → Type 0
+tells_line_2 fault = slice_index_or (line_of (stop.Refused (refusal.Text fault))) 15 0 ≡ 50
 
 another_line_is_told : Tells (codes "text" ∷ []) (Some (codes "x neg y")) status.BadModel (λ line. slice_index_or line 15 0 ≡ 50) → ⊥
 unfolding digits
 another_line_is_told tells =
-    let given : Err (refusal.Model first_line) ≡ Err (refusal.Model tells.fault) = tells.given in
+    let given : Err (refusal.Text first_line) ≡ Err (refusal.Text tells.fault) = tells.given in
     let same : first_line ≡ tells.fault = cc in
     let told : 49 ≡ 50 = subst tells_line_2 (sym same) tells.told in
     absurd (omega (arith, told))
@@ -772,7 +775,7 @@ half_a_frame run = by run.stop run.is (run.play refl)
         → StopsPlay (λ (s : List ℕ). Some s) (λ s. 0) [] (codes "@") no_counts no_counts (codes "x var-x\n%%\ntext\n") why → ⊥
     by (stop.Refused (refusal.Words fault)) is play = (cc)
     by (stop.Refused refusal.TooLong) is play = (cc)
-    by (stop.Refused (refusal.Model fault)) is play = (cc)
+    by (stop.Refused (refusal.Text fault)) is play = (cc)
     by (stop.Refused (refusal.Script fault)) is play = (cc)
     by stop.ReadFault is play = (cc)
     by stop.WriteFault is play = (cc)
@@ -809,7 +812,7 @@ text_is_no_mesh : (view : Window) (clauses : List Clause)
 unfolding digits
 text_is_no_mesh view clauses has =
     let same : idle (codes "@ text 1\nb") ≡ has.frame = cc in
-    let bytes : codes "@ text 1\nb" ≡ frame_of frames.Mesh has.text = ap (λ (part : Part). part.bytes) same ∙ has.bytes in
+    let bytes : codes "@ text 1\nb" ≡ frame_of (frames.Mesh view) has.text = ap (λ (part : Part). part.bytes) same ∙ has.bytes in
     let byte : 116 ≡ 109 = ap (λ s. slice_index_or s 2 0) bytes in
     omega (arith, byte)
 

@@ -49,20 +49,9 @@ Grew-prefix held a b xs front = record { bytes = take front.count xs; gained = f
 pub RoseBy-after : {K : Type 0} (count : K → ℕ) (a b c : K) (n : ℕ) → Stands count a b → RoseBy count b c n → RoseBy count a c n
 RoseBy-after count a b c n stands rose = subst (λ m. count c ≡ raised m n) stands rose
 
--- what fails after other bytes leaves a front of both
-pub front-after : {K T E : Type 0} (held : K → Option (List ℕ)) (a b c : K) (xs ys : List ℕ) (r : Result T E) → Gains held a b xs → OnErr r (GainsPrefix held b c ys)
-    → OnErr r (GainsPrefix held a c (xs ++ ys))
-front-after held a b c xs ys (Ok x) first next = tt
-front-after held a b c xs ys (Err e) first next =
-    subst (λ l. GainsPrefix held a c (xs ++ l)) (append-nil ys) (GainsPrefix-after held a b c xs ys [] first next)
-
--- a front of the first bytes is a front of all
-pub front-of : {K : Type 0} (held : K → Option (List ℕ)) (a b : K) (xs ys : List ℕ) → GainsPrefix held a b xs → GainsPrefix held a b (xs ++ ys)
-front-of held a b xs ys front = record {
-  count = front.count;
-  within = omega (arith, front.within, length-append xs ys);
-  gained = subst (Gains held a b) (sym (take-append-le front.count xs ys front.within)) front.gained;
-}
+-- two pieces, one after the other
+pub two-pieces : (a b xs ys : List ℕ) → a ≡ xs → b ≡ ys → a ++ b ≡ xs ++ ys
+two-pieces a b xs ys first next = ap (λ l. l ++ b) first ∙ ap (λ l. xs ++ l) next
 
 -- what is so says that it is so of a failure
 pub on-err : {T E : Type 0} (r : Result T E) (P : Type 0) → P → OnErr r P

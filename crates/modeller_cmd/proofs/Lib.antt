@@ -1,3 +1,4 @@
+mod AtOnce
 mod Counting
 mod Examples
 mod Forging

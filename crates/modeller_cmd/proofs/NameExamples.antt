@@ -6,16 +6,12 @@ use Rattle.edit_script.specs.declared.script_reason.ScriptReason.TheVariants as 
 use Rattle.modeller_io.specs.declared.read_end.ReadEnd.TheVariants as end
 use Rattle.solid_model.specs.declared.edit.EditFault.TheVariants as fault
 use Rattle.view_settings.specs.declared.word_fault.WordReason.TheVariants as word
-use Rattle.modeller_cmd.specs.Frames.{fault_name, kind_name}
+use Rattle.modeller_cmd.specs.Frames.{fault_name}
 use Rattle.modeller_cmd.specs.Notes.{script_reason_name, text_reason_name, word_reason_name}
 use Rattle.modeller_cmd.specs.Stops.{stop_of_end, stop_of_script, stop_of_text}
-use Rattle.modeller_cmd.specs.declared.frame_kind.FrameKind.TheVariants.{Height, Mesh, Render, Text}
+use Rattle.modeller_cmd.specs.declared.bad_text.BadText.TheVariants as bad
 use Rattle.modeller_cmd.specs.declared.refusal.Refusal.TheVariants as refusal
 use Rattle.modeller_cmd.specs.declared.stop.Stop.TheVariants.{NoMemory, ReadFault, Refused}
-
-kinds_of_frames : map kind_name (Render ∷ Height ∷ Mesh ∷ Text ∷ [])
-    ≡ codes "render" ∷ codes "height" ∷ codes "mesh" ∷ codes "text" ∷ []
-kinds_of_frames = refl
 
 refused_edits : map fault_name (fault.UnknownName ∷ fault.DoubleName ∷ fault.NotEarlier
     ∷ fault.InUse 3 ∷ fault.LastClause ∷ fault.Full ∷ [])
@@ -51,7 +47,7 @@ ends_of_reading = refl
 
 faults_of_models : map stop_of_text (record { line = 3; reason = text.NoMemory }
     ∷ record { line = 4; reason = text.TooMany } ∷ [])
-    ≡ NoMemory ∷ Refused (refusal.Model (record { line = 4; reason = text.TooMany })) ∷ []
+    ≡ NoMemory ∷ Refused (refusal.Text (bad.Model (record { line = 4; reason = text.TooMany }))) ∷ []
 faults_of_models = refl
 
 faults_of_scripts : map stop_of_script (record { line = 3; reason = script.NoMemory }

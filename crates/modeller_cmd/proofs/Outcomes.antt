@@ -5,26 +5,21 @@ use Rattle.std.specs.Io.KnownBytes.{Consumes}
 use Rattle.std.proofs.lemmas.Bool.{le-ltb, lt-ltb}
 use Rattle.clause_reader.specs.Reading.{text_read}
 use Rattle.clause_reader.specs.declared.text_fault.TextFault.{TextFault}
-use Rattle.edit_session.specs.Heights.{heights_of}
-use Rattle.edit_session.specs.Images.{image_of}
-use Rattle.edit_session.specs.Meshes.{mesh_text}
-use Rattle.edit_session.specs.Work.{frame_work, height_work, mesh_work, no_work}
-use Rattle.edit_session.specs.Laws.{FramesAddUp}
+use Rattle.model_frames.specs.Laws.{FramesAddUp}
 use Rattle.fixed_ops.specs.Counts.{Counts}
 use Rattle.modeller_io.specs.Count.{RoseBy}
 use Rattle.modeller_io.specs.Took.{LosesAtMost}
 use Rattle.solid_model.specs.declared.clause.Clause.{Clause}
-use Rattle.view_settings.specs.Window.{Window}
 use Rattle.view_settings.specs.declared.job.Job.{Job}
-use Rattle.view_settings.specs.declared.job.Job.TheVariants.{Count, Forge, Height, Mesh, Render, Replay, Text}
-use Rattle.view_settings.specs.declared.forge.Forge.{Forge as Forged}
+use Rattle.view_settings.specs.declared.job.Job.TheVariants.{Forge}
 use Rattle.modeller_cmd.specs.Asking.{asked, asks_nothing, reads_nothing}
-use Rattle.modeller_cmd.specs.Forging.{forge_part, forge_text, forged_clauses}
 use Rattle.modeller_cmd.specs.Endings.{CountsForSome, Ends, IsAnswer, Makes, status_after}
-use Rattle.modeller_cmd.specs.Output.{count_part, input_limit, made, model_bytes, outcome, output_as, output_of, parts_of}
-use Rattle.modeller_cmd.specs.Parts.{Part, bytes_of_parts, heights_part, image_part, mesh_part, text_part, work_of_parts}
+use Rattle.modeller_cmd.specs.Output.{input_limit, made, of_model, of_solid, outcome, output_as, output_of}
+use Rattle.model_frames.specs.Frames.{Part}
+use Rattle.modeller_cmd.specs.Parts.{bytes_of_parts, work_of_parts}
 use Rattle.modeller_cmd.specs.Statuses.{status_of}
 use Rattle.modeller_cmd.specs.Stops.{status_at}
+use Rattle.modeller_cmd.specs.declared.bad_text.BadText.TheVariants as bad
 use Rattle.modeller_cmd.specs.declared.refusal.Refusal.{Refusal}
 use Rattle.modeller_cmd.specs.declared.refusal.Refusal.TheVariants as refusal
 use Rattle.modeller_cmd.specs.declared.status.Status.TheVariants as status
@@ -59,7 +54,7 @@ ok_done (Err why) p = absurd (grind (arith, p))
 refusal_answer : (why : Refusal) → IsAnswer (status_of why) (status_of why)
 refusal_answer (refusal.Words fault) = refl
 refusal_answer refusal.TooLong = refl
-refusal_answer (refusal.Model fault) = refl
+refusal_answer (refusal.Text fault) = refl
 refusal_answer (refusal.Script fault) = refl
 
 -- what ends a run is an answer to its output's status
@@ -83,7 +78,7 @@ status_of_refusal outcome stop.NoMemory p read write memory = absurd (memory ref
 other_status : (why : Refusal) → status_of why ≡ status.WriteFault → ⊥
 other_status (refusal.Words fault) e = grind (arith, e)
 other_status refusal.TooLong e = grind (arith, e)
-other_status (refusal.Model fault) e = grind (arith, e)
+other_status (refusal.Text fault) e = grind (arith, e)
 other_status (refusal.Script fault) e = grind (arith, e)
 
 -- only a fault of the sink has its status
@@ -97,7 +92,7 @@ write_fault_of stop.NoMemory e = absurd (grind (arith, e))
 other_read : (why : Refusal) → status_of why ≡ status.ReadFault → ⊥
 other_read (refusal.Words fault) e = grind (arith, e)
 other_read refusal.TooLong e = grind (arith, e)
-other_read (refusal.Model fault) e = grind (arith, e)
+other_read (refusal.Text fault) e = grind (arith, e)
 other_read (refusal.Script fault) e = grind (arith, e)
 
 pub read_fault_of : (why : Stop) → status_at why ≡ status.ReadFault → why ≡ stop.ReadFault
@@ -106,19 +101,42 @@ read_fault_of stop.ReadFault e = refl
 read_fault_of stop.WriteFault e = absurd (grind (arith, e))
 read_fault_of stop.NoMemory e = absurd (grind (arith, e))
 
+-- only want of memory has its own status, and no stop has that of work that is done
+other_memory : (why : Refusal) → status_of why ≡ status.NoMemory → ⊥
+other_memory (refusal.Words fault) e = grind (arith, e)
+other_memory refusal.TooLong e = grind (arith, e)
+other_memory (refusal.Text fault) e = grind (arith, e)
+other_memory (refusal.Script fault) e = grind (arith, e)
+
+pub no_memory_of : (why : Stop) → status_at why ≡ status.NoMemory → why ≡ stop.NoMemory
+no_memory_of (stop.Refused why) e = absurd (other_memory why e)
+no_memory_of stop.ReadFault e = absurd (grind (arith, e))
+no_memory_of stop.WriteFault e = absurd (grind (arith, e))
+no_memory_of stop.NoMemory e = refl
+
+refusal_not_done : (why : Refusal) → status_of why ≡ status.Done → ⊥
+refusal_not_done (refusal.Words fault) e = grind (arith, e)
+refusal_not_done refusal.TooLong e = grind (arith, e)
+refusal_not_done (refusal.Text fault) e = grind (arith, e)
+refusal_not_done (refusal.Script fault) e = grind (arith, e)
+
+pub not_done : (why : Stop) → status_at why ≡ status.Done → ⊥
+not_done (stop.Refused why) e = refusal_not_done why e
+not_done stop.ReadFault e = grind (arith, e)
+not_done stop.WriteFault e = grind (arith, e)
+not_done stop.NoMemory e = grind (arith, e)
+
 -- what is made of an input whose solid was read
-pub made_as : (job : Job) (input : List ℕ) (clauses : List Clause) → length input ≤ input_limit → text_read (model_bytes job input) ≡ Ok clauses
-    → made job input ≡ parts_of job input clauses
-made_as (Forge forge) input clauses few reads = refl
-made_as job input clauses few reads =
+pub solid_read : (input solid : List ℕ) (makes : List Clause → Result (List Part) Refusal) (clauses : List Clause) → length input ≤ input_limit → text_read solid ≡ Ok clauses
+    → of_solid input solid makes ≡ makes clauses
+solid_read input solid makes clauses few reads =
     let short : nat_lt input_limit (length input) ≡ false = le-ltb input_limit (length input) few in
     rw (short, reads) refl
 
 -- of one whose solid is refused
-pub made_refused : (job : Job) (input : List ℕ) (fault : TextFault) → reads_nothing job ≡ false → length input ≤ input_limit
-    → text_read (model_bytes job input) ≡ Err fault → made job input ≡ Err (refusal.Model fault)
-made_refused (Forge forge) input fault asks few reads = cc
-made_refused job input fault asks few reads =
+pub solid_refused : (input solid : List ℕ) (makes : List Clause → Result (List Part) Refusal) (fault : TextFault) → length input ≤ input_limit → text_read solid ≡ Err fault
+    → of_solid input solid makes ≡ Err (refusal.Text (bad.Model fault))
+solid_refused input solid makes fault few reads =
     let short : nat_lt input_limit (length input) ≡ false = le-ltb input_limit (length input) few in
     rw (short, reads) refl
 
@@ -129,104 +147,14 @@ made_long job input asks long =
     let longer : nat_lt input_limit (length input) ≡ true = lt-ltb input_limit (length input) long in
     rw longer refl
 
--- what is forged is one part, whatever the input is
-pub made_forge : (job : Job) (forge : Forged) (input : List ℕ) → job ≡ Forge forge → made job input ≡ Ok (forge_part forge ∷ [])
-made_forge job forge input is = ap (λ j. made j input) is
+-- one part that is made of a solid that was read
+pub model_read : (input : List ℕ) (part : List Clause → Part) (clauses : List Clause) → length input ≤ input_limit → text_read input ≡ Ok clauses
+    → of_model input part ≡ Ok (part clauses ∷ [])
+model_read input part clauses few reads = solid_read input input (λ solid. Ok (part solid ∷ [])) clauses few reads
 
--- all of the input is the text of a solid where no script is asked for
-pub model_alone : (job : Job) (input : List ℕ) → job ≢ Replay → model_bytes job input ≡ input
-model_alone Replay input other = absurd (other refl)
-model_alone job input other = refl
-
--- an image, one that is counted, a height map, a mesh, and a text
-pub made_render : (job : Job) (view : Window) (input : List ℕ) (clauses : List Clause) → job ≡ Render view → length input ≤ input_limit → text_read input ≡ Ok clauses
-    → made job input ≡ Ok (image_part view clauses ∷ [])
-made_render job view input clauses is few reads =
-    ap (λ j. made j input) is ∙ made_as (Render view) input clauses few reads
-
-pub made_count : (job : Job) (view : Window) (input : List ℕ) (clauses : List Clause) → job ≡ Count view → length input ≤ input_limit → text_read input ≡ Ok clauses
-    → made job input ≡ Ok (count_part view clauses ∷ [])
-made_count job view input clauses is few reads =
-    ap (λ j. made j input) is ∙ made_as (Count view) input clauses few reads
-
-pub made_height : (job : Job) (view : Window) (input : List ℕ) (clauses : List Clause) → job ≡ Height view → length input ≤ input_limit → text_read input ≡ Ok clauses
-    → made job input ≡ Ok (heights_part view clauses ∷ [])
-made_height job view input clauses is few reads =
-    ap (λ j. made j input) is ∙ made_as (Height view) input clauses few reads
-
-pub made_mesh : (job : Job) (view : Window) (input : List ℕ) (clauses : List Clause) → job ≡ Mesh view → length input ≤ input_limit → text_read input ≡ Ok clauses
-    → made job input ≡ Ok (mesh_part view clauses ∷ [])
-made_mesh job view input clauses is few reads =
-    ap (λ j. made j input) is ∙ made_as (Mesh view) input clauses few reads
-
-pub made_text : (job : Job) (input : List ℕ) (clauses : List Clause) → job ≡ Text → length input ≤ input_limit → text_read input ≡ Ok clauses
-    → made job input ≡ Ok (text_part clauses ∷ [])
-made_text job input clauses is few reads =
-    ap (λ j. made j input) is ∙ made_as Text input clauses few reads
-
--- the work of what is made where its parts are one, and its bytes
+-- the work of what is made where its parts are one
 pub work_of_one : (outcome : Result (List Part) Refusal) (part : Part) → outcome ≡ Ok (part ∷ []) → work_of_parts (output_as outcome).parts ≡ part.work
 work_of_one outcome part is = ap (λ o. work_of_parts (output_as o).parts) is ∙ both-none part.work
-
-pub bytes_of_one : (outcome : Result (List Part) Refusal) (part : Part) (bytes : List ℕ) → outcome ≡ Ok (part ∷ []) → bytes ≡ part.bytes → Makes outcome (λ whole. bytes ≡ whole)
-bytes_of_one outcome part bytes is same =
-    subst (λ o. Makes o (λ whole. bytes ≡ whole)) (sym is) (same ∙ sym (append-nil part.bytes))
-
--- the work of what is forged, and its text
-pub forge_work : (job : Job) (forge : Forged) (input : List ℕ) → job ≡ Forge forge
-    → work_of_parts (output_as (made job input)).parts ≡ frame_work forge.view (forged_clauses forge)
-forge_work job forge input is =
-    work_of_one (made job input) (forge_part forge) (made_forge job forge input is)
-
-pub forge_bytes : (job : Job) (forge : Forged) (input bytes : List ℕ) → job ≡ Forge forge → bytes ≡ forge_text forge.view (forged_clauses forge)
-    → Makes (made job input) (λ whole. bytes ≡ whole)
-forge_bytes job forge input bytes is same =
-    bytes_of_one (made job input) (forge_part forge) bytes (made_forge job forge input is) same
-
--- the work of an image, of one that is counted, of a height map, of a mesh, and of a text
-pub render_work : (job : Job) (view : Window) (input : List ℕ) (clauses drawn : List Clause) → job ≡ Render view → length input ≤ input_limit
-    → text_read input ≡ Ok clauses → drawn ≡ clauses → work_of_parts (output_as (made job input)).parts ≡ frame_work view drawn
-render_work job view input clauses drawn is few reads same =
-    work_of_one (made job input) (image_part view clauses) (made_render job view input clauses is few reads) ∙ ap (frame_work view) (sym same)
-
-pub count_work : (job : Job) (view : Window) (input : List ℕ) (clauses : List Clause) → job ≡ Count view → length input ≤ input_limit → text_read input ≡ Ok clauses
-    → work_of_parts (output_as (made job input)).parts ≡ frame_work view clauses
-count_work job view input clauses is few reads =
-    work_of_one (made job input) (count_part view clauses) (made_count job view input clauses is few reads)
-
-pub height_work_of : (job : Job) (view : Window) (input : List ℕ) (clauses drawn : List Clause) → job ≡ Height view → length input ≤ input_limit
-    → text_read input ≡ Ok clauses → drawn ≡ clauses → work_of_parts (output_as (made job input)).parts ≡ height_work view drawn
-height_work_of job view input clauses drawn is few reads same =
-    work_of_one (made job input) (heights_part view clauses) (made_height job view input clauses is few reads) ∙ ap (height_work view) (sym same)
-
-pub mesh_work_of : (job : Job) (view : Window) (input : List ℕ) (clauses drawn : List Clause) → job ≡ Mesh view → length input ≤ input_limit
-    → text_read input ≡ Ok clauses → drawn ≡ clauses → work_of_parts (output_as (made job input)).parts ≡ mesh_work view drawn
-mesh_work_of job view input clauses drawn is few reads same =
-    work_of_one (made job input) (mesh_part view clauses) (made_mesh job view input clauses is few reads) ∙ ap (mesh_work view) (sym same)
-
-pub text_work : (job : Job) (input : List ℕ) (clauses : List Clause) → job ≡ Text → length input ≤ input_limit → text_read input ≡ Ok clauses
-    → work_of_parts (output_as (made job input)).parts ≡ no_work
-text_work job input clauses is few reads =
-    work_of_one (made job input) (text_part clauses) (made_text job input clauses is few reads)
-
--- the bytes of an image, a height map and a mesh are those that their jobs make
-pub image_bytes : (job : Job) (view : Window) (input : List ℕ) (clauses drawn : List Clause) (bytes : List ℕ) → job ≡ Render view
-    → length input ≤ input_limit → text_read input ≡ Ok clauses → drawn ≡ clauses → bytes ≡ image_of view drawn
-    → Makes (made job input) (λ whole. bytes ≡ whole)
-image_bytes job view input clauses drawn bytes is few reads same drawing =
-    bytes_of_one (made job input) (image_part view clauses) bytes (made_render job view input clauses is few reads) (drawing ∙ ap (image_of view) same)
-
-pub height_bytes : (job : Job) (view : Window) (input : List ℕ) (clauses drawn : List Clause) (bytes : List ℕ) → job ≡ Height view
-    → length input ≤ input_limit → text_read input ≡ Ok clauses → drawn ≡ clauses → bytes ≡ heights_of view drawn
-    → Makes (made job input) (λ whole. bytes ≡ whole)
-height_bytes job view input clauses drawn bytes is few reads same drawing =
-    bytes_of_one (made job input) (heights_part view clauses) bytes (made_height job view input clauses is few reads) (drawing ∙ ap (heights_of view) same)
-
-pub mesh_bytes : (job : Job) (view : Window) (input : List ℕ) (clauses drawn : List Clause) (bytes : List ℕ) → job ≡ Mesh view
-    → length input ≤ input_limit → text_read input ≡ Ok clauses → drawn ≡ clauses → bytes ≡ mesh_text view drawn
-    → Makes (made job input) (λ whole. bytes ≡ whole)
-mesh_bytes job view input clauses drawn bytes is few reads same drawing =
-    bytes_of_one (made job input) (mesh_part view clauses) bytes (made_mesh job view input clauses is few reads) (drawing ∙ ap (mesh_text view) same)
 
 -- the output of words that ask for nothing of the source is the same for every input
 pub forged_alike : (words : List (List ℕ)) (a b : List ℕ) → asks_nothing words ≡ true → output_of words a ≡ output_of words b

@@ -5,8 +5,8 @@ use Rattle.std.proofs.Math.Seq.{take-append-add}
 use Rattle.std.proofs.lemmas.List.{take-append-le}
 use Rattle.edit_script.specs.declared.command.Command.{Command as Given}
 use Rattle.edit_script.specs.declared.command.Command.TheVariants as Command
-use Rattle.edit_session.specs.Work.{CountsWithin, CountsWork, PointsRiseAtMost, both, no_work}
-use Rattle.edit_session.specs.Laws.{FramesAddUp}
+use Rattle.model_frames.specs.Work.{CountsWithin, CountsWork, PointsRiseAtMost, both, no_work}
+use Rattle.model_frames.specs.Laws.{FramesAddUp}
 use Rattle.fixed_ops.specs.Counts.{Counts}
 use Rattle.modeller_io.specs.Count.{RoseBy, Stands}
 use Rattle.modeller_io.specs.Held.{Gains, GainsPrefix}
@@ -15,12 +15,13 @@ use Rattle.solid_model.specs.declared.clause.Clause.{Clause}
 use Rattle.solid_model.specs.declared.edit.Edit.{Edit}
 use Rattle.solid_model.specs.declared.edit.EditFault.{EditFault as Fault}
 use Rattle.solid_model.specs.declared.edit.EditFault.TheVariants as EditFault
-use Rattle.modeller_cmd.specs.Endings.{GainsParts, IsWorkStop}
-use Rattle.modeller_cmd.specs.Parts.{Part, bytes_of_parts, work_of_parts}
+use Rattle.modeller_cmd.specs.Endings.{GainsParts}
+use Rattle.model_frames.specs.Frames.{Part}
+use Rattle.modeller_cmd.specs.Parts.{bytes_of_parts, work_of_parts}
 use Rattle.modeller_cmd.specs.Playing.{Played, Stopped}
 use Rattle.modeller_cmd.specs.Replays.{clauses_after, parts_at, refusal}
 use Rattle.modeller_cmd.specs.declared.stop.Stop.{Stop}
-use Rattle.modeller_cmd.specs.declared.stop.Stop.TheVariants.{Refused, ReadFault, WriteFault, NoMemory}
+use Rattle.modeller_cmd.specs.declared.stop.Stop.TheVariants.{WriteFault, NoMemory}
 use Rattle.modeller_cmd.proofs.Gaining.{Extends-none, Gains-then, GainsPrefix-after, Grew-after, Grew-gains, Grew-prefix, RoseBy-after, on-ok}
 use Rattle.modeller_cmd.proofs.WorkSums.{both-none, bytes-append, work-append}
 
@@ -117,13 +118,6 @@ stopped-at-once frames held faults out counts parts stop other =
 -- want of memory is no fault of a sink
 pub memory-other : (stop : Stop) → stop ≡ NoMemory → stop ≢ WriteFault
 memory-other stop is fault = cc
-
--- nor is what stops the work before anything is written
-pub work-other : (stop : Stop) → IsWorkStop stop → stop ≢ WriteFault
-work-other (Refused why) is fault = cc
-work-other ReadFault is fault = cc
-work-other WriteFault is fault = absurd is
-work-other NoMemory is fault = cc
 
 -- one part, written whole after its work was counted, and what stops that
 module _ {K : Type 0} (held : K → Option (List ℕ)) (faults : K → ℕ) (before after : K) (s t : Counts) (part : Part) (bytes : List ℕ) (is : bytes ≡ part.bytes) where

@@ -12,7 +12,8 @@ use Rattle.modeller_cmd.specs.Endings.{Ends, IsServeStop, IsTold, IsWorked, Make
 use Rattle.modeller_cmd.specs.Notes.{line_of, refusal_line}
 use Rattle.modeller_cmd.specs.Output.{made, outcome, output_as, output_of}
 use Rattle.modeller_cmd.specs.Stops.{status_at}
-use Rattle.modeller_cmd.specs.Parts.{Part, bytes_of_parts}
+use Rattle.model_frames.specs.Frames.{Part}
+use Rattle.modeller_cmd.specs.Parts.{bytes_of_parts}
 use Rattle.modeller_cmd.specs.declared.refusal.Refusal.{Refusal}
 use Rattle.modeller_cmd.specs.declared.refusal.Refusal.TheVariants as refusal
 use Rattle.modeller_cmd.specs.declared.status.Status.{Status}
@@ -57,7 +58,7 @@ module _ (words : List (List ℕ)) (told : Option (List ℕ)) (input : List ℕ)
   served-told (Ok x) ends is = tt
   served-told (Err (Refused (refusal.Words fault))) ends is = absurd is
   served-told (Err (Refused refusal.TooLong)) ends is = tt
-  served-told (Err (Refused (refusal.Model fault))) ends is = as-told (λ o. o ≡ Err (refusal.Model fault)) ends
+  served-told (Err (Refused (refusal.Text fault))) ends is = as-told (λ o. o ≡ Err (refusal.Text fault)) ends
   served-told (Err (Refused (refusal.Script fault))) ends is = as-told (λ o. o ≡ Err (refusal.Script fault)) ends
   served-told (Err ReadFault) ends is = tt
   served-told (Err WriteFault) ends is = tt
@@ -79,7 +80,7 @@ module _ (words : List (List ℕ)) (told : Option (List ℕ)) (input : List ℕ)
       as-told (λ o. P (output_as o).parts) (fault (λ is. worked (sym asks ∙ ap (λ j. Ok j) is)) refl)
   served-counted (Err (Refused (refusal.Words fault))) P worked done other = absurd worked
   served-counted (Err (Refused refusal.TooLong)) P worked done other = absurd worked
-  served-counted (Err (Refused (refusal.Model fault))) P worked done other = absurd worked
+  served-counted (Err (Refused (refusal.Text fault))) P worked done other = absurd worked
   served-counted (Err (Refused (refusal.Script fault))) P worked done other = absurd worked
   served-counted (Err ReadFault) P worked done other = absurd worked
   served-counted (Err NoMemory) P worked done other = absurd worked
@@ -94,7 +95,7 @@ pub tells : (words : List (List ℕ)) (told : Option (List ℕ)) (stop : Stop) (
     → Tells words told (status_at stop) takes
 tells words told (Refused (refusal.Words fault)) takes is line = rw is line
 tells words told (Refused refusal.TooLong) takes is line = line
-tells words told (Refused (refusal.Model fault)) takes is line = record { fault = fault; told = line; given = is }
+tells words told (Refused (refusal.Text fault)) takes is line = record { fault = fault; told = line; given = is }
 tells words told (Refused (refusal.Script fault)) takes is line = record { fault = fault; told = line; given = is }
 tells words told ReadFault takes is line = line
 tells words told WriteFault takes is line = line
@@ -123,9 +124,9 @@ noted words (Some input) status takes usage line = by (outcome words input) refl
     by (Err (refusal.Words fault)) is same other =
         words_told (asked words) fault refl is (usage (sym same)) (subst (λ s. Tells words (Some input) s takes) (sym same) line)
     by (Err refusal.TooLong) is same other = subst (λ s. Tells words (Some input) s takes) (sym same) line
-    by (Err (refusal.Model fault)) is same other =
-        let says : TellsRefusal refusal.Model words (Some input) takes = subst (λ s. Tells words (Some input) s takes) (sym same) line in
-        let one : refusal.Model says.fault ≡ refusal.Model fault = err-same (outcome words input) (refusal.Model says.fault) (refusal.Model fault) says.given is in
+    by (Err (refusal.Text fault)) is same other =
+        let says : TellsRefusal refusal.Text words (Some input) takes = subst (λ s. Tells words (Some input) s takes) (sym same) line in
+        let one : refusal.Text says.fault ≡ refusal.Text fault = err-same (outcome words input) (refusal.Text says.fault) (refusal.Text fault) says.given is in
         subst (λ w. takes (refusal_line w)) one says.told
     by (Err (refusal.Script fault)) is same other =
         let says : TellsRefusal refusal.Script words (Some input) takes = subst (λ s. Tells words (Some input) s takes) (sym same) line in

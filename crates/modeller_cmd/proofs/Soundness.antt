@@ -8,8 +8,8 @@ use Rattle.edit_script.specs.Marks.{before_mark}
 use Rattle.edit_script.specs.Scripts.{script_read}
 use Rattle.edit_script.specs.declared.command.Command.{Command}
 use Rattle.edit_script.specs.declared.command.Command.TheVariants as commands
-use Rattle.edit_session.specs.Meshes.{mesh_text}
-use Rattle.edit_session.specs.SoundTexts.{IsSoundText, MeshTextsAreSound}
+use Rattle.model_frames.specs.Meshes.{mesh_text}
+use Rattle.model_frames.specs.SoundTexts.{IsSoundText, MeshTextsAreSound}
 use Rattle.view_settings.specs.Settings.{IsJob}
 use Rattle.view_settings.specs.declared.job.Job.{Job}
 use Rattle.view_settings.specs.declared.job.Job.TheVariants.{Mesh, Replay}
@@ -17,17 +17,18 @@ use Rattle.modeller_cmd.specs.Asking.{asked}
 use Rattle.view_settings.specs.Window.{Window}
 use Rattle.solid_model.specs.declared.clause.Clause.{Clause}
 use Rattle.modeller_cmd.specs.Endings.{IsRead, status_after}
-use Rattle.modeller_cmd.specs.Output.{input_limit, made, outcome, output_as, parts_after, parts_played}
-use Rattle.modeller_cmd.specs.Parts.{Part, bytes_of_parts, mesh_part}
+use Rattle.modeller_cmd.specs.Output.{input_limit, made, of_solid, outcome, output_as, parts_played}
+use Rattle.model_frames.specs.Frames.{Part, frame_part}
+use Rattle.modeller_cmd.specs.Parts.{bytes_of_parts}
 use Rattle.modeller_cmd.specs.Replays.{clauses_after, framed, replayed, standing}
 use Rattle.modeller_cmd.specs.SoundTexts.{HasSoundFrame, MeshFramesAreSound, MeshesAreSound}
-use Rattle.modeller_cmd.specs.declared.frame_kind.FrameKind.TheVariants as frames
+use Rattle.model_frames.specs.declared.frame.Frame.TheVariants as frames
 use Rattle.modeller_cmd.specs.declared.refusal.Refusal.{Refusal}
 use Rattle.modeller_cmd.specs.declared.refusal.Refusal.TheVariants as refusal
 use Rattle.modeller_cmd.specs.declared.stop.Stop.{Stop}
 use Rattle.modeller_cmd.specs.declared.stop.Stop.TheVariants.{NoMemory}
 use Rattle.modeller_cmd.specs.declared.status.Status.TheVariants.{Done}
-use Rattle.modeller_cmd.proofs.Outcomes.{made_as, made_mesh}
+use Rattle.modeller_cmd.proofs.Outcomes.{model_read, solid_read}
 use Rattle.modeller_cmd.proofs.Playback.{replayed-between}
 use Rattle.modeller_cmd.proofs.WorkSums.{All-between}
 
@@ -39,9 +40,8 @@ outcome_of : (words : List (List ℕ)) (input : List ℕ) (job : Job) → asked 
 outcome_of words input job is = rw is refl
 
 -- an input of which something is made is no longer than is accepted
-few_of : (input : List ℕ) (after : Result (List Part) Refusal) → (output_as (if nat_lt input_limit (length input) then Err refusal.TooLong else after)).status ≡ Done
-    → length input ≤ input_limit
-few_of input after done = by (nat_lt input_limit (length input)) refl
+few_of : (input solid : List ℕ) (makes : List Clause → Result (List Part) Refusal) → (output_as (of_solid input solid makes)).status ≡ Done → length input ≤ input_limit
+few_of input solid makes done = by (nat_lt input_limit (length input)) refl
   where
     by : (long : Bool) → nat_lt input_limit (length input) ≡ long → length input ≤ input_limit
     by true is = let refused = rw is at done in absurd (grind (arith, refused))
@@ -52,8 +52,8 @@ pub run_is_sound : (words : List (List ℕ)) (input : List ℕ) (r : Result Job 
 run_is_sound words input r is keeps texts view clauses asks reads done =
     let job = job_kept r (Mesh view) (is ∙ asks) keeps in
     let made_of = outcome_of words input (Mesh view) asks in
-    let few = few_of input (parts_after (Mesh view) input (text_read input)) (ap (λ o. (output_as o).status) (sym made_of) ∙ done) in
-    let parts = ap (λ o. (output_as o).parts) (made_of ∙ made_mesh (Mesh view) view input clauses refl few reads) in
+    let few = few_of input input (λ solid. Ok (frame_part (frames.Mesh view) solid ∷ [])) (ap (λ o. (output_as o).status) (sym made_of) ∙ done) in
+    let parts = ap (λ o. (output_as o).parts) (made_of ∙ model_read input (frame_part (frames.Mesh view)) clauses few reads) in
     let one : mesh_text view clauses ++ [] ≡ mesh_text view clauses = append-nil (mesh_text view clauses) in
     let bytes = ap bytes_of_parts parts ∙ one in
     subst (IsSoundText view clauses) (sym bytes) (texts view clauses job.0 job.1)
@@ -63,7 +63,7 @@ done_ok : (outcome : Result (List Part) Refusal) → (output_as outcome).status 
 done_ok (Ok parts) done = search rules
 done_ok (Err (refusal.Words fault)) done = absurd (grind (arith, done))
 done_ok (Err refusal.TooLong) done = absurd (grind (arith, done))
-done_ok (Err (refusal.Model fault)) done = absurd (grind (arith, done))
+done_ok (Err (refusal.Text fault)) done = absurd (grind (arith, done))
 done_ok (Err (refusal.Script fault)) done = absurd (grind (arith, done))
 
 -- what the commands of a script write for a mesh is the frame of the text of a sound one
@@ -74,12 +74,12 @@ script_frames clauses before after view input texts few reads says keeps =
     let shown = standing clauses before in
     let all = subst (λ r. IfOk r (All IsCommand)) says keeps in
     let fits = All-between IsCommand before (commands.Mesh view) after all in
-    let played = made_as Replay input clauses few reads ∙ ap (parts_played clauses) says in
+    let played = solid_read input (before_mark input) (λ solid. parts_played solid (script_read input)) clauses few reads ∙ ap (parts_played clauses) says in
     let after_it = replayed (clauses_after shown (commands.Mesh view)) after in
     record {
       text = mesh_text view shown;
       sound = texts view shown fits.0 fits.1;
-      frame = framed frames.Mesh (mesh_part view shown);
+      frame = framed (frames.Mesh view) shown;
       bytes = refl;
       after = after_it;
       stands = ap (λ o. (output_as o).parts) played ∙ replayed-between clauses before (commands.Mesh view) after;
@@ -94,7 +94,7 @@ frames_are_sound {T} words input job r asks texts keeps read clauses before afte
     let made_of = outcome_of words input Replay replays in
     let finished = ap (λ o. (output_as o).status) (sym made_of) ∙ done in
     let ok = done_ok (made Replay input) finished in
-    let few = few_of input (parts_after Replay input (text_read (before_mark input))) finished in
+    let few = few_of input (before_mark input) (λ solid. parts_played solid (script_read input)) finished in
     let commands_kept = keeps same (subst (λ j. IsOk (made j input)) (sym same) ok) (λ memory. read_no_memory r read memory) in
     subst (HasSoundFrame view (standing clauses before) (replayed clauses before)) (ap (λ o. (output_as o).parts) (sym made_of))
     (script_frames clauses before after view input texts few reads says commands_kept)

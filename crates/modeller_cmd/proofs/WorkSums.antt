@@ -2,9 +2,10 @@
 use Rattle.std.proofs.Common.{◌≡◌, ◌+◌, List, [], ◌∷◌, ◌++◌, length, refl, sym, ap, subst, ◌∙◌, append_assoc, length-append, arith}
 use Rattle.std.specs.Prelude.{All}
 use Rattle.std.proofs.lemmas.List.{get_or-append-add}
-use Rattle.edit_session.specs.Work.{Work, both, no_work}
+use Rattle.model_frames.specs.Work.{Work, both, no_work}
 use Rattle.fixed_ops.specs.Counts.{Counts, no_counts, plus}
-use Rattle.modeller_cmd.specs.Parts.{Part, bytes_of_parts, work_of_parts}
+use Rattle.model_frames.specs.Frames.{Part}
+use Rattle.modeller_cmd.specs.Parts.{bytes_of_parts, work_of_parts}
 
 -- the bytes of some parts and of others
 pub bytes-append : (ps qs : List Part) → bytes_of_parts (ps ++ qs) ≡ bytes_of_parts ps ++ bytes_of_parts qs

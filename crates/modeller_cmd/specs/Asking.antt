@@ -2,7 +2,7 @@
 use Rattle.std.specs.Prelude.{◌≢◌, ℕ, List, [], Bool, true, false, Option, Some, Result, Ok, Err, if◌then◌else◌}
 use Rattle.view_settings.specs.Words.{job_of}
 use Rattle.view_settings.specs.declared.job.Job.{Job}
-use Rattle.view_settings.specs.declared.job.Job.TheVariants.{Forge, Replay}
+use Rattle.view_settings.specs.declared.job.Job.TheVariants as jobs
 use Rattle.view_settings.specs.declared.word_fault.WordFault.{WordFault}
 use Rattle.modeller_cmd.specs.declared.refusal.Refusal.{Refusal}
 use Rattle.modeller_cmd.specs.declared.refusal.Refusal.TheVariants.{Words}
@@ -18,12 +18,17 @@ asked words = by (job_of words)
 -- the words ask for no script, of which each part is written before the next one is made: all work
 -- is done, and all memory is taken, before the first byte is written
 abbrev pub WritesAtOnce : List (List ℕ) → Type 0
-WritesAtOnce words = asked words ≢ Ok Replay
+WritesAtOnce words = asked words ≢ Ok jobs.Replay
 
 -- a job that makes its own solid, and has no input
 abbrev pub reads_nothing : Job → Bool
-reads_nothing (Forge forge) = true
-reads_nothing other = false
+reads_nothing (jobs.Render view) = false
+reads_nothing (jobs.Height view) = false
+reads_nothing (jobs.Mesh view) = false
+reads_nothing (jobs.Count view) = false
+reads_nothing jobs.Text = false
+reads_nothing jobs.Replay = false
+reads_nothing (jobs.Forge forge) = true
 
 -- the words ask for nothing of the source
 abbrev pub asks_nothing : List (List ℕ) → Bool

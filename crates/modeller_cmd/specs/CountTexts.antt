@@ -1,6 +1,6 @@
 -- What `count` writes of the work of an image.
 use Rattle.std.specs.Prelude.{ℕ, List, ◌++◌, codes, decimal}
-use Rattle.edit_session.specs.Work.{Work}
+use Rattle.model_frames.specs.Work.{Work}
 
 -- the three lines that tell the work of an image, of which as many evaluations and traced steps are
 -- done at least as at most

@@ -5,10 +5,11 @@ use Rattle.modeller_io.specs.Count.{last_count}
 use Rattle.modeller_io.specs.Held.{Gains, GainsPrefix}
 use Rattle.modeller_cmd.specs.Notes.{line_of, refusal_line}
 use Rattle.modeller_cmd.specs.Output.{input_limit, outcome, output_of}
-use Rattle.modeller_cmd.specs.Parts.{Part, bytes_of_parts, work_of_parts}
+use Rattle.model_frames.specs.Frames.{Part}
+use Rattle.modeller_cmd.specs.Parts.{bytes_of_parts, work_of_parts}
 use Rattle.modeller_cmd.specs.Stops.{status_at}
 use Rattle.modeller_cmd.specs.Asking.{WritesAtOnce, asked}
-use Rattle.edit_session.specs.Work.{CountsWithin, PointsRiseAtMost}
+use Rattle.model_frames.specs.Work.{CountsWithin, PointsRiseAtMost}
 use Rattle.modeller_cmd.specs.declared.refusal.Refusal.{Refusal}
 use Rattle.modeller_cmd.specs.declared.refusal.Refusal.TheVariants as refusal
 use Rattle.modeller_cmd.specs.declared.status.Status.{Status}
@@ -95,7 +96,7 @@ pub record TellsRefusal {F : Type 0} (refused : F → Refusal) (words : List (Li
 abbrev pub Tells : List (List ℕ) → Option (List ℕ) → Status → (List ℕ → Type 0) → Type 0
 Tells words input Done takes = ⊤
 Tells words input Usage takes = IfErr (asked words) (λ why. takes (refusal_line why))
-Tells words input BadModel takes = TellsRefusal refusal.Model words input takes
+Tells words input BadModel takes = TellsRefusal refusal.Text words input takes
 Tells words input BadScript takes = TellsRefusal refusal.Script words input takes
 Tells words input TooLong takes = takes (line_of (stop.Refused refusal.TooLong))
 Tells words input ReadFault takes = takes (line_of stop.ReadFault)
@@ -120,10 +121,10 @@ abbrev pub Makes : Result (List Part) Refusal → (List ℕ → Type 0) → Type
 Makes (Ok parts) P = P (bytes_of_parts parts)
 Makes (Err why) P = ⊥
 
--- what may stop the work on an input that was read, before anything of it is written: its solid or
+-- what may stop the work on an input that was read, before anything of it is written: its text or
 -- its script is refused, or memory
 abbrev pub IsWorkStop : Stop → Type 0
-IsWorkStop (stop.Refused (refusal.Model fault)) = ⊤
+IsWorkStop (stop.Refused (refusal.Text bad)) = ⊤
 IsWorkStop (stop.Refused (refusal.Script fault)) = ⊤
 IsWorkStop stop.NoMemory = ⊤
 IsWorkStop other = ⊥
@@ -141,8 +142,8 @@ IsServeStop other = IsWorkStop other
 
 -- what a stop that is a refusal says is so of the words and the input
 abbrev pub IsTold : List (List ℕ) → Option (List ℕ) → Stop → Type 0
-IsTold words input (stop.Refused (refusal.Model fault)) =
-    IfSome input (λ bytes. outcome words bytes ≡ Err (refusal.Model fault))
+IsTold words input (stop.Refused (refusal.Text bad)) =
+    IfSome input (λ bytes. outcome words bytes ≡ Err (refusal.Text bad))
 IsTold words input (stop.Refused (refusal.Script fault)) =
     IfSome input (λ bytes. outcome words bytes ≡ Err (refusal.Script fault))
 IsTold words input (stop.Refused refusal.TooLong) = ⊤

@@ -1,14 +1,14 @@
 -- What `forge` writes of the solid that it makes.
 use Rattle.std.specs.Prelude.{ℕ, ◌==◌, List, ◌++◌, length, codes, count_by, decimal}
-use Rattle.edit_session.specs.Images.{pixels_of}
-use Rattle.edit_session.specs.Work.{frame_work}
+use Rattle.model_frames.specs.Images.{pixels_of}
+use Rattle.model_frames.specs.Work.{frame_work}
 use Rattle.model_forge.specs.Forged.{forged}
 use Rattle.solid_model.specs.Named.{placed}
 use Rattle.solid_model.specs.declared.clause.Clause.{Clause}
 use Rattle.view_settings.specs.Window.{Window}
 use Rattle.view_settings.specs.declared.forge.Forge.{Forge}
 use Rattle.modeller_cmd.specs.CountTexts.{count_text}
-use Rattle.modeller_cmd.specs.Parts.{Part}
+use Rattle.model_frames.specs.Frames.{Part}
 
 -- the solid that is forged
 unfoldable pub forged_clauses : Forge → List Clause

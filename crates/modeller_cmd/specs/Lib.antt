@@ -9,6 +9,7 @@ pub mod Parts
 pub mod Playing
 pub mod Replays
 pub mod Runs
+pub mod Serving
 pub mod SoundTexts
 pub mod Statuses
 pub mod Stopping

@@ -6,8 +6,10 @@ use Rattle.edit_script.specs.declared.script_reason.ScriptReason.{ScriptReason}
 use Rattle.edit_script.specs.declared.script_reason.ScriptReason.TheVariants as script
 use Rattle.view_settings.specs.declared.word_fault.WordReason.{WordReason}
 use Rattle.view_settings.specs.declared.word_fault.WordReason.TheVariants as word
+use Rattle.modeller_cmd.specs.declared.bad_text.BadText.{BadText}
+use Rattle.modeller_cmd.specs.declared.bad_text.BadText.TheVariants.{Model}
 use Rattle.modeller_cmd.specs.declared.refusal.Refusal.{Refusal}
-use Rattle.modeller_cmd.specs.declared.refusal.Refusal.TheVariants.{Words, TooLong, Model, Script}
+use Rattle.modeller_cmd.specs.declared.refusal.Refusal.TheVariants.{Words, TooLong, Text, Script}
 use Rattle.modeller_cmd.specs.declared.stop.Stop.{Stop}
 use Rattle.modeller_cmd.specs.declared.stop.Stop.TheVariants.{Refused, ReadFault, WriteFault, NoMemory}
 
@@ -52,11 +54,16 @@ abbrev pub fault_line : List ℕ → ℕ → List ℕ → List ℕ
 fault_line place number reason =
     codes "modeller: " ++ place ++ codes " " ++ decimal number ++ codes ": " ++ reason ++ codes "\n"
 
+-- the line that is written for a text that is refused
+abbrev pub bad_text_line : BadText → List ℕ
+bad_text_line (Model fault) =
+    fault_line (codes "line") fault.line (text_reason_name fault.reason)
+
 -- the line that is written for a refusal
 abbrev pub refusal_line : Refusal → List ℕ
 refusal_line (Words fault) = fault_line (codes "word") fault.at (word_reason_name fault.reason)
 refusal_line TooLong = codes "modeller: input too long\n"
-refusal_line (Model fault) = fault_line (codes "line") fault.line (text_reason_name fault.reason)
+refusal_line (Text bad) = bad_text_line bad
 refusal_line (Script fault) =
     fault_line (codes "script line") fault.line (script_reason_name fault.reason)
 

@@ -1,26 +1,27 @@
 -- What a run gives for its words and its input: a status, the bytes in their parts, and a note
 -- line.
 use Rattle.std.specs.Prelude.{ℕ, nat_lt, List, [], ◌∷◌, length, Option, Result, Ok, Err, IfSome, if◌then◌else◌}
-use Rattle.clause_reader.specs.Reading.{text_read}
-use Rattle.clause_reader.specs.declared.text_fault.TextFault.{TextFault}
+use Rattle.clause_reader.specs.Reading.{on_result, text_read}
 use Rattle.edit_script.specs.Marks.{before_mark}
 use Rattle.edit_script.specs.Scripts.{script_read}
 use Rattle.edit_script.specs.declared.command.Command.{Command}
 use Rattle.edit_script.specs.declared.script_fault.ScriptFault.{ScriptFault}
-use Rattle.edit_session.specs.Work.{frame_work}
+use Rattle.model_frames.specs.Frames.{Part, frame_part}
+use Rattle.model_frames.specs.Work.{frame_work}
+use Rattle.model_frames.specs.declared.frame.Frame.TheVariants as frames
 use Rattle.solid_model.specs.declared.clause.Clause.{Clause}
 use Rattle.view_settings.specs.Window.{Window}
 use Rattle.view_settings.specs.declared.job.Job.{Job}
-use Rattle.view_settings.specs.declared.job.Job.TheVariants.{Count, Forge, Height, Mesh, Render, Replay, Text}
+use Rattle.view_settings.specs.declared.job.Job.TheVariants as jobs
 use Rattle.modeller_cmd.specs.Asking.{asked, asks_nothing, input_told}
 use Rattle.modeller_cmd.specs.CountTexts.{count_text}
 use Rattle.modeller_cmd.specs.Forging.{forge_part}
 use Rattle.modeller_cmd.specs.Notes.{refusal_line}
-use Rattle.modeller_cmd.specs.Parts.{Part, heights_part, image_part, mesh_part, text_part}
 use Rattle.modeller_cmd.specs.Replays.{replayed}
 use Rattle.modeller_cmd.specs.Statuses.{status_of}
+use Rattle.modeller_cmd.specs.declared.bad_text.BadText.TheVariants.{Model}
 use Rattle.modeller_cmd.specs.declared.refusal.Refusal.{Refusal}
-use Rattle.modeller_cmd.specs.declared.refusal.Refusal.TheVariants.{Model, Script, TooLong}
+use Rattle.modeller_cmd.specs.declared.refusal.Refusal.TheVariants.{Script, Text, TooLong}
 use Rattle.modeller_cmd.specs.declared.status.Status.{Status}
 use Rattle.modeller_cmd.specs.declared.status.Status.TheVariants as status
 
@@ -41,34 +42,29 @@ count_part view clauses = record {
   work = frame_work view clauses;
 }
 
--- the parts that a job makes of an input and of the solid that it holds, or why it makes none
-abbrev pub parts_of : Job → List ℕ → List Clause → Result (List Part) Refusal
-parts_of (Render view) input clauses = Ok (image_part view clauses ∷ [])
-parts_of (Height view) input clauses = Ok (heights_part view clauses ∷ [])
-parts_of (Mesh view) input clauses = Ok (mesh_part view clauses ∷ [])
-parts_of (Count view) input clauses = Ok (count_part view clauses ∷ [])
-parts_of Text input clauses = Ok (text_part clauses ∷ [])
-parts_of Replay input clauses = parts_played clauses (script_read input)
-parts_of (Forge forge) input clauses = Ok (forge_part forge ∷ [])
-
--- the text of the solid in the input of a job: what stands before the mark of a script, and else
--- all of it
-abbrev pub model_bytes : Job → List ℕ → List ℕ
-model_bytes Replay input = before_mark input
-model_bytes other input = input
-
--- the parts that a job makes of an input whose text of a solid was read, or its refusal
-abbrev pub parts_after : Job → List ℕ → Result (List Clause) TextFault → Result (List Part) Refusal
-parts_after job input (Ok clauses) = parts_of job input clauses
-parts_after job input (Err fault) = Err (Model fault)
-
--- The parts that a job makes of an input, or why it makes none: its length, its solid and its
--- script are looked at in this order. What is forged is the same for every input.
-abbrev pub made : Job → List ℕ → Result (List Part) Refusal
-made (Forge forge) input = Ok (forge_part forge ∷ [])
-made job input =
+-- What is made of an input of whose bytes these are the text of a solid: the input is refused where
+-- it is too long, and else the text where it is none, and else what is made of the solid is.
+abbrev pub of_solid : List ℕ → List ℕ → (List Clause → Result (List Part) Refusal)
+    → Result (List Part) Refusal
+of_solid input solid makes =
     if nat_lt input_limit (length input) then Err TooLong
-    else parts_after job input (text_read (model_bytes job input))
+    else on_result (text_read solid) makes (λ fault. Err (Text (Model fault)))
+
+-- one part that is made of the solid of which an input is the text
+abbrev pub of_model : List ℕ → (List Clause → Part) → Result (List Part) Refusal
+of_model input part = of_solid input input (λ clauses. Ok (part clauses ∷ []))
+
+-- The parts that a job makes of an input, or why it makes none. What is forged is the same for every
+-- input.
+abbrev pub made : Job → List ℕ → Result (List Part) Refusal
+made (jobs.Render view) input = of_model input (frame_part (frames.Render view))
+made (jobs.Height view) input = of_model input (frame_part (frames.Height view))
+made (jobs.Mesh view) input = of_model input (frame_part (frames.Mesh view))
+made (jobs.Count view) input = of_model input (count_part view)
+made jobs.Text input = of_model input (frame_part frames.Text)
+made jobs.Replay input =
+    of_solid input (before_mark input) (λ clauses. parts_played clauses (script_read input))
+made (jobs.Forge forge) input = Ok (forge_part forge ∷ [])
 
 -- the parts that a run writes, or why it writes none
 abbrev pub outcome : List (List ℕ) → List ℕ → Result (List Part) Refusal

@@ -1,11 +1,12 @@
 -- What playing commands does to a sink and to a tally.
 use Rattle.std.specs.Prelude.{◌≡◌, ◌≢◌, ℕ, List, Option}
-use Rattle.edit_session.specs.Work.{CountsWithin, CountsWork, PointsRiseAtMost}
+use Rattle.model_frames.specs.Work.{CountsWithin, CountsWork, PointsRiseAtMost}
 use Rattle.fixed_ops.specs.Counts.{Counts}
 use Rattle.modeller_io.specs.Count.{RoseBy, Stands}
 use Rattle.modeller_io.specs.Held.{Gains, GainsPrefix, Grew}
 use Rattle.modeller_cmd.specs.Endings.{GainsParts}
-use Rattle.modeller_cmd.specs.Parts.{Part, bytes_of_parts, work_of_parts}
+use Rattle.model_frames.specs.Frames.{Part}
+use Rattle.modeller_cmd.specs.Parts.{bytes_of_parts, work_of_parts}
 use Rattle.modeller_cmd.specs.declared.stop.Stop.{Stop}
 use Rattle.modeller_cmd.specs.declared.stop.Stop.TheVariants.{WriteFault, NoMemory}
 

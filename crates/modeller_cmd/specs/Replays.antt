@@ -3,19 +3,21 @@ use Rattle.std.specs.Prelude.{ℕ, List, [], ◌∷◌, ◌++◌, fold}
 use Rattle.clause_reader.specs.Reading.{on_result}
 use Rattle.edit_script.specs.declared.command.Command.{Command}
 use Rattle.edit_script.specs.declared.command.Command.TheVariants as commands
-use Rattle.edit_session.specs.Work.{no_work}
+use Rattle.model_frames.specs.Frames.{Part, frame_part}
+use Rattle.model_frames.specs.Work.{no_work}
+use Rattle.model_frames.specs.declared.frame.Frame.{Frame}
+use Rattle.model_frames.specs.declared.frame.Frame.TheVariants as frames
 use Rattle.solid_model.specs.Edits.{edited}
 use Rattle.solid_model.specs.declared.clause.Clause.{Clause}
 use Rattle.solid_model.specs.declared.edit.EditFault.{EditFault}
 use Rattle.solid_model.specs.declared.edit.EditFault.TheVariants.{UnknownName}
 use Rattle.modeller_cmd.specs.Frames.{frame_of, refused_line}
-use Rattle.modeller_cmd.specs.Parts.{Part, heights_part, image_part, mesh_part, text_part}
-use Rattle.modeller_cmd.specs.declared.frame_kind.FrameKind.{FrameKind}
-use Rattle.modeller_cmd.specs.declared.frame_kind.FrameKind.TheVariants.{Render, Height, Mesh, Text}
 
--- a part as a frame of this kind, which takes the same work
-abbrev pub framed : FrameKind → Part → Part
-framed kind part = record part { bytes = frame_of kind part.bytes }
+-- a frame of a solid behind the line that tells of it, which takes no work
+abbrev pub framed : Frame → List Clause → Part
+framed frame clauses =
+    let part = frame_part frame clauses in
+    record { bytes = frame_of frame part.bytes; work = part.work }
 
 -- the line of an edit that is refused, which takes no work
 abbrev pub refusal : ℕ → EditFault → Part
@@ -28,10 +30,10 @@ abbrev pub parts_at : List Clause → Command → List Part
 parts_at clauses (commands.Edit line edit) =
     on_result (edited clauses edit) (λ new. []) (λ fault. refusal line fault ∷ [])
 parts_at clauses (commands.Stray line) = refusal line UnknownName ∷ []
-parts_at clauses (commands.Render view) = framed Render (image_part view clauses) ∷ []
-parts_at clauses (commands.Height view) = framed Height (heights_part view clauses) ∷ []
-parts_at clauses (commands.Mesh view) = framed Mesh (mesh_part view clauses) ∷ []
-parts_at clauses commands.Text = framed Text (text_part clauses) ∷ []
+parts_at clauses (commands.Render view) = framed (frames.Render view) clauses ∷ []
+parts_at clauses (commands.Height view) = framed (frames.Height view) clauses ∷ []
+parts_at clauses (commands.Mesh view) = framed (frames.Mesh view) clauses ∷ []
+parts_at clauses commands.Text = framed frames.Text clauses ∷ []
 
 -- the clauses that stand after a command: those of an edit that is accepted, and else those before
 -- it

@@ -1,7 +1,7 @@
 -- A run, and what is so of each run, however it ends.
 use Rattle.std.specs.Prelude.{◌≡◌, ◌≢◌, ◌↔◌, ℕ, ◌+◌, ◌<◌, ◌≤◌, true, false, List, Option, Ok, IfSome, IsErr}
 use Rattle.fixed_ops.specs.Counts.{Counts}
-use Rattle.edit_session.specs.Work.{CountsWithin, CountsWork, PointsRiseAtMost}
+use Rattle.model_frames.specs.Work.{CountsWithin, CountsWork, PointsRiseAtMost}
 use Rattle.modeller_io.specs.Count.{last_count, RoseAtMost, RoseBy, Stands}
 use Rattle.modeller_io.specs.Held.{Gains, GainsPrefix, Grew}
 use Rattle.modeller_io.specs.Took.{LosesAtMost}

@@ -5,16 +5,17 @@ use Rattle.edit_script.specs.Marks.{before_mark}
 use Rattle.edit_script.specs.Scripts.{script_read}
 use Rattle.edit_script.specs.declared.command.Command.{Command}
 use Rattle.edit_script.specs.declared.command.Command.TheVariants as commands
-use Rattle.edit_session.specs.SoundTexts.{IsSoundText}
+use Rattle.model_frames.specs.SoundTexts.{IsSoundText}
 use Rattle.solid_model.specs.declared.clause.Clause.{Clause}
 use Rattle.view_settings.specs.declared.job.Job.TheVariants.{Mesh, Replay}
 use Rattle.view_settings.specs.Window.{Window}
 use Rattle.modeller_cmd.specs.Asking.{asked}
 use Rattle.modeller_cmd.specs.Frames.{frame_of}
 use Rattle.modeller_cmd.specs.Output.{output_of}
-use Rattle.modeller_cmd.specs.Parts.{Part, bytes_of_parts}
+use Rattle.model_frames.specs.Frames.{Part}
+use Rattle.modeller_cmd.specs.Parts.{bytes_of_parts}
 use Rattle.modeller_cmd.specs.Replays.{replayed, standing}
-use Rattle.modeller_cmd.specs.declared.frame_kind.FrameKind.TheVariants as frames
+use Rattle.model_frames.specs.declared.frame.Frame.TheVariants as frames
 use Rattle.modeller_cmd.specs.declared.status.Status.TheVariants.{Done}
 
 -- where the words of a run ask for a mesh and its input is that of a solid, what it writes is the
@@ -32,7 +33,7 @@ pub record HasSoundFrame (view : Window) (clauses : List Clause)
   pub text : List ℕ
   pub sound : IsSoundText view clauses text
   pub frame : Part
-  pub bytes : frame.bytes ≡ frame_of frames.Mesh text
+  pub bytes : frame.bytes ≡ frame_of (frames.Mesh view) text
   pub after : List Part
   pub stands : parts ≡ before ++ frame ∷ after
 

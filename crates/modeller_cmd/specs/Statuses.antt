@@ -20,5 +20,5 @@ number_of NoMemory = 8
 abbrev pub status_of : Refusal → Status
 status_of (refusal.Words fault) = Usage
 status_of refusal.TooLong = TooLong
-status_of (refusal.Model fault) = BadModel
+status_of (refusal.Text bad) = BadModel
 status_of (refusal.Script fault) = BadScript

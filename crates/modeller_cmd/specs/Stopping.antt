@@ -5,7 +5,7 @@ use Rattle.edit_script.specs.Marks.{before_mark}
 use Rattle.edit_script.specs.Scripts.{script_read}
 use Rattle.edit_script.specs.declared.command.Command.{Command}
 use Rattle.edit_script.specs.declared.command.Command.TheVariants as commands
-use Rattle.edit_session.specs.Work.{CountsWork}
+use Rattle.model_frames.specs.Work.{CountsWork}
 use Rattle.fixed_ops.specs.Counts.{Counts}
 use Rattle.solid_model.specs.Edits.{MakesClause, edited}
 use Rattle.solid_model.specs.declared.clause.Clause.{Clause}

@@ -8,6 +8,7 @@ use Rattle.edit_script.specs.declared.script_reason.ScriptReason.TheVariants as 
 use Rattle.modeller_io.specs.declared.read_end.ReadEnd.{ReadEnd}
 use Rattle.modeller_io.specs.declared.read_end.ReadEnd.TheVariants as end
 use Rattle.modeller_cmd.specs.Statuses.{status_of}
+use Rattle.modeller_cmd.specs.declared.bad_text.BadText.TheVariants as bad
 use Rattle.modeller_cmd.specs.declared.refusal.Refusal.TheVariants as refusal
 use Rattle.modeller_cmd.specs.declared.status.Status.{Status}
 use Rattle.modeller_cmd.specs.declared.status.Status.TheVariants as status
@@ -33,7 +34,7 @@ stop_of_text fault = by fault.reason
   where
     by : TextReason → Stop
     by reason.NoMemory = NoMemory
-    by reason = Refused (refusal.Model fault)
+    by reason = Refused (refusal.Text (bad.Model fault))
 
 -- why a script stops a run
 abbrev pub stop_of_script : ScriptFault → Stop

@@ -18,3 +18,14 @@ pub fn read_job(words: &[String]) -> Result<Job, Refusal>
         Err(fault) => Err(Refusal::Words(fault)),
     }
 }
+
+/// A job makes its own solid, and nothing is read for it.
+pub fn reads_nothing(job: &Job) -> bool
+    ensures { result ≡ reads_nothing job.now }
+{
+    match job {
+        Job::Render(_) | Job::Height(_) | Job::Mesh(_) | Job::Count(_) | Job::Text | Job::Replay =>
+            false,
+        Job::Forge(_) => true,
+    }
+}

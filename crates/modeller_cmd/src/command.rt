@@ -1,34 +1,31 @@
 // The modeller's one call.
-ghost use Rattle.std.specs.Prelude.{◌≡◌, ◌≢◌, ◌+◌, ◌<◌, ◌≤◌, ◌↔◌, [], ℕ, length, vec_len, false, true, All, Some, None, Ok, Err, IfOk, IfErr, IsOk, IsErr, IfSome, OnOk};
-ghost use Rattle.edit_script.specs.Commands.{IsCommand};
-ghost use Rattle.edit_script.specs.Scripts.{script_read};
+ghost use Rattle.std.specs.Prelude.{◌≡◌, ◌≢◌, ◌+◌, ◌<◌, ◌≤◌, ◌↔◌, [], length, vec_len, false, true, Ok, Err, IfOk, IfErr, IsOk, IsErr, IfSome, OnOk};
 ghost use Rattle.modeller_io.specs.Count.{last_count, RoseAtMost, RoseBy, Stands};
 ghost use Rattle.modeller_io.specs.Held.{Gains, GainsPrefix, Grew};
 ghost use Rattle.modeller_io.specs.Took.{LosesAtMost};
 ghost use Rattle.view_settings.specs.Settings.{IsJob};
-ghost use Rattle.view_settings.specs.Window.{Window};
 ghost use Rattle.view_settings.specs.Words.{bytes_of};
-ghost use Rattle.modeller_cmd.specs.Endings.{CountsForSome, Ends, GainsParts, IsAnswer, IsRead, IsRefusal, IsServeStop, IsTold, IsUnwritten, IsWorkStop, IsWorked, Makes, NoFault, ReadsWhole, TakesLine, Tells, status_after};
+ghost use Rattle.modeller_cmd.specs.Endings.{CountsForSome, Ends, GainsParts, IsAnswer, IsRead, IsRefusal, IsTold, IsUnwritten, IsWorked, Makes, NoFault, ReadsWhole, TakesLine, Tells, status_after};
 ghost use Rattle.modeller_cmd.specs.Notes.{line_of};
-ghost use Rattle.modeller_cmd.specs.Output.{WithOutput, input_limit, made, outcome, output_as};
+ghost use Rattle.modeller_cmd.specs.Output.{WithOutput, input_limit, outcome};
 ghost use Rattle.modeller_cmd.specs.Parts.{bytes_of_parts, work_of_parts};
-ghost use Rattle.modeller_cmd.specs.Playing.{Played, Stopped};
 ghost use Rattle.modeller_cmd.specs.Asking.{asked, asks_nothing, input_told, reads_nothing};
+ghost use Rattle.modeller_cmd.specs.Runs.{EndsSo};
+ghost use Rattle.modeller_cmd.specs.Serving.{Served};
 ghost use Rattle.modeller_cmd.specs.SoundTexts.{MeshFramesAreSound, MeshesAreSound};
 ghost use Rattle.modeller_cmd.specs.Stopping.{StopsPlay, StopsRun};
-ghost use Rattle.edit_session.specs.Work.{CountsWithin, CountsWork, PointsRiseAtMost};
+ghost use Rattle.model_frames.specs.Work.{CountsWithin, CountsWork, PointsRiseAtMost};
 
 use crate::Status;
-use crate::asking::read_job;
+use crate::asking::{read_job, reads_nothing};
 use crate::count::count;
+use crate::drawing::draw;
 use crate::forge::forge;
-use crate::mesh::serve_mesh;
 use crate::note::note_of;
 use crate::replay::replay;
 use crate::stop::Stop;
-use clause_reader::{read_model, write_model};
-use edit_session::{Session, frames_add_up, mesh_texts_are_sound};
 use fixed_ops::Tally;
+use model_frames::{Frame, frames_add_up, mesh_texts_are_sound};
 use modeller_io::{ReadEnd, Sink, Source, read_all, write_all};
 use std::alloc::Global;
 use view_settings::Job;
@@ -130,7 +127,39 @@ pub fn run<S: Source, K: Sink, N: Sink>(
     ensures gained { Grew K.held out.old out.new }
     ensures untold { CountsForSome (bytes_of words.now) tally.old tally.new }
 {
-    match perform(alloc, words, source, out, tally) {
+    perform(alloc, words, source, out, notes, tally)
+}
+
+/// Reads, works and writes, and tells the notes why there is nothing.
+pub(crate) fn perform<S: Source, K: Sink, N: Sink>(
+    alloc: Global,
+    words: &[String],
+    source: &mut S,
+    out: &mut K,
+    notes: &mut N,
+    tally: &mut Tally,
+) -> Status
+    ensures { EndsSo (record {
+      rest = S.rest;
+      taken = S.taken;
+      read_faults = S.faults;
+      held = K.held;
+      write_faults = K.faults;
+      notes_held = N.held;
+      note_faults = N.faults;
+      source = source.old;
+      source_after = source.new;
+      out = out.old;
+      out_after = out.new;
+      notes = notes.old;
+      notes_after = notes.new;
+      first = tally.old;
+      last = tally.new;
+      words = bytes_of words.now;
+      status = result;
+    }) }
+{
+    match work(alloc, words, source, out, tally) {
         Ok(()) => Status::Done,
         Err(stop) => {
             tell(notes, stop);
@@ -149,7 +178,7 @@ fn tell<N: Sink>(notes: &mut N, stop: Stop)
 }
 
 // Reads, works and writes, up to what ends the run.
-fn perform<S: Source, K: Sink>(
+fn work<S: Source, K: Sink>(
     alloc: Global,
     words: &[String],
     source: &mut S,
@@ -215,8 +244,7 @@ fn perform<S: Source, K: Sink>(
     serve(alloc, &job, &input, out, tally)
 }
 
-// The input of a job, which is all that the source has. What is forged has none, and nothing is
-// read for it.
+// The input of a job, which is all that the source has, where the job reads any.
 fn read_input<S: Source>(alloc: Global, job: &Job, source: &mut S) -> Result<Vec<u8>, ReadEnd>
     // Ok: the whole input, which is within the limit.
     ensures within { IfOk result (λ input. vec_len input ≤ input_limit) }
@@ -239,17 +267,16 @@ fn read_input<S: Source>(alloc: Global, job: &Job, source: &mut S) -> Result<Vec
         → S.taken source.new < last_count → result ≡ Err ReadEnd.TooLong }
     ensures lost { LosesAtMost S.rest S.taken source.old source.new (input_limit + 1) }
 {
-    match job {
-        Job::Forge(_) => Ok(Vec::new(alloc)),
-        _ => {
-            let input = read_all(alloc, source, INPUT_LIMIT)?;
-            Ok(input)
-        }
+    if reads_nothing(job) {
+        return Ok(Vec::new(alloc));
     }
+    let input = read_all(alloc, source, INPUT_LIMIT)?;
+    Ok(input)
 }
 
-// Does a job on an input, and writes what it makes: of a script each part as soon as it is made, of
-// a mesh its text piece by piece, and else all bytes when the last is made.
+// Does a job on an input, and writes what it makes: the table of the verbs. All memory is taken
+// before the first byte is written, but by a script, of which each part is written as soon as it is
+// made.
 fn serve<K: Sink>(
     alloc: Global,
     job: &Job,
@@ -259,114 +286,15 @@ fn serve<K: Sink>(
 ) -> Result<(), Stop>
     requires keeps { IsJob job.now }
     requires limit { length input.now ≤ input_limit }
-    ensures ends { Ends (made job.now input.now) result }
-    ensures stop { IfErr result IsServeStop }
-    ensures played { OnOk result (Played K.held K.faults out.old out.new tally.old tally.new
-        (output_as (made job.now input.now)).parts) }
-    ensures stopped { IfErr result (Stopped K.held K.faults out.old out.new tally.old tally.new
-        (output_as (made job.now input.now)).parts) }
-    ensures unwritten { job.now ≢ Job.Replay → result ≡ Err Stop.NoMemory → out.new ≡ out.old }
-    ensures counted { job.now ≢ Job.Replay → result ≡ Err Stop.WriteFault
-        → CountsWork tally.old tally.new
-        (work_of_parts (output_as (made job.now input.now)).parts) }
-    ensures refused { IsRefusal (status_after result)
-        → (out.new ≡ out.old) × (tally.new ≡ tally.old) }
-    ensures script { status_after result ≡ Status.BadScript → job.now ≡ Job.Replay }
-    ensures commands { job.now ≡ Job.Replay → IsOk (made job.now input.now)
-        → result ≢ Err Stop.NoMemory → IfOk (script_read input.now) (All IsCommand) }
-    ensures stops { job.now ≡ Job.Replay → IfErr result
-        (StopsPlay K.held K.faults out.old out.new tally.old tally.new input.now) }
+    ensures { Served K.held K.faults out.old out.new tally.old tally.new job.now input.now result }
 {
     match job {
+        Job::Render(view) => draw(alloc, &Frame::Render(*view), input, out, tally),
+        Job::Height(view) => draw(alloc, &Frame::Height(*view), input, out, tally),
+        Job::Mesh(view) => draw(alloc, &Frame::Mesh(*view), input, out, tally),
+        Job::Text => draw(alloc, &Frame::Text, input, out, tally),
+        Job::Count(view) => count(alloc, view, input, out, tally),
+        Job::Forge(wanted) => forge(alloc, wanted, out, tally),
         Job::Replay => replay(alloc, input, out, tally),
-        Job::Mesh(view) => serve_mesh(alloc, view, input, out, tally),
-        _ => serve_at_once(alloc, job, input, out, tally),
-    }
-}
-
-// Does a job on an input, and writes what it makes when all of it is made.
-fn serve_at_once<K: Sink>(
-    alloc: Global,
-    job: &Job,
-    input: &[u8],
-    out: &mut K,
-    tally: &mut Tally,
-) -> Result<(), Stop>
-    requires at_once { job.now ≢ Job.Replay }
-    requires whole { (view : Window) → job.now ≢ Job.Mesh view }
-    requires keeps { IsJob job.now }
-    requires limit { length input.now ≤ input_limit }
-    ensures ends { Ends (made job.now input.now) result }
-    ensures stop { IfErr result IsServeStop }
-    ensures played { OnOk result (Played K.held K.faults out.old out.new tally.old tally.new
-        (output_as (made job.now input.now)).parts) }
-    ensures stopped { IfErr result (Stopped K.held K.faults out.old out.new tally.old tally.new
-        (output_as (made job.now input.now)).parts) }
-    ensures unwritten { result ≡ Err Stop.NoMemory → out.new ≡ out.old }
-    ensures counted { result ≡ Err Stop.WriteFault
-        → CountsWork tally.old tally.new
-        (work_of_parts (output_as (made job.now input.now)).parts) }
-    ensures refused { IsRefusal (status_after result)
-        → (out.new ≡ out.old) × (tally.new ≡ tally.old) }
-    ensures script { status_after result ≢ Status.BadScript }
-{
-    let bytes = work(alloc, job, input, tally)?;
-    Ok(write_all(out, &bytes)?)
-}
-
-// What a job makes whole before any of it is written, of an input where it reads one.
-fn work(alloc: Global, job: &Job, input: &[u8], tally: &mut Tally) -> Result<Vec<u8>, Stop>
-    requires at_once { job.now ≢ Job.Replay }
-    requires whole { (view : Window) → job.now ≢ Job.Mesh view }
-    requires keeps { IsJob job.now }
-    requires limit { length input.now ≤ input_limit }
-    ensures bytes { IfOk result (λ bytes.
-        Makes (made job.now input.now) (λ whole. bytes.items ≡ whole)) }
-    ensures ends { Ends (made job.now input.now) result }
-    ensures stop { IfErr result IsWorkStop }
-    ensures script { status_after result ≢ Status.BadScript }
-    ensures counted { OnOk result (CountsWork tally.old tally.new
-        (work_of_parts (output_as (made job.now input.now)).parts)) }
-    ensures uncounted { IsRefusal (status_after result) → tally.new ≡ tally.old }
-    ensures at_most { CountsWithin tally.old tally.new
-        (work_of_parts (output_as (made job.now input.now)).parts) }
-    ensures plain { PointsRiseAtMost tally.old tally.new
-        (work_of_parts (output_as (made job.now input.now)).parts).plain }
-{
-    frames_add_up();
-    match job {
-        Job::Forge(wanted) => Ok(forge(alloc, wanted, tally)?),
-        _ => work_on_input(alloc, job, input, tally),
-    }
-}
-
-// What a job makes of the model that it reads: the table of the verbs that read one.
-fn work_on_input(alloc: Global, job: &Job, input: &[u8], tally: &mut Tally) -> Result<Vec<u8>, Stop>
-    requires at_once { job.now ≢ Job.Replay }
-    requires whole { (view : Window) → job.now ≢ Job.Mesh view }
-    requires reads { reads_nothing job.now ≡ false }
-    requires keeps { IsJob job.now }
-    requires limit { length input.now ≤ input_limit }
-    ensures bytes { IfOk result (λ bytes.
-        Makes (made job.now input.now) (λ whole. bytes.items ≡ whole)) }
-    ensures ends { Ends (made job.now input.now) result }
-    ensures stop { IfErr result IsWorkStop }
-    ensures script { status_after result ≢ Status.BadScript }
-    ensures counted { OnOk result (CountsWork tally.old tally.new
-        (work_of_parts (output_as (made job.now input.now)).parts)) }
-    ensures uncounted { IsRefusal (status_after result) → tally.new ≡ tally.old }
-    ensures at_most { CountsWithin tally.old tally.new
-        (work_of_parts (output_as (made job.now input.now)).parts) }
-    ensures plain { PointsRiseAtMost tally.old tally.new
-        (work_of_parts (output_as (made job.now input.now)).parts).plain }
-{
-    frames_add_up();
-    let model = read_model(alloc, input)?;
-    match job {
-        Job::Render(view) => Ok(Session::start(alloc, model).render(view, tally)?),
-        Job::Height(view) => Ok(Session::start(alloc, model).height(view, tally)?),
-        Job::Count(view) => Ok(count(alloc, &model, view, tally)?),
-        Job::Text => Ok(write_model(alloc, &model)?),
-        Job::Mesh(_) | Job::Replay | Job::Forge(_) => unreachable!(),
     }
 }

@@ -1,18 +1,42 @@
 // The work of an image, as text.
-ghost use Rattle.std.specs.Prelude.{◌≡◌, length, IfOk, OnOk};
-ghost use Rattle.edit_session.specs.Images.{plain_points as plain_points_of};
-ghost use Rattle.edit_session.specs.Work.{CountsWithin, CountsWork, PointsRiseAtMost, exactly, frame_work};
+ghost use Rattle.std.specs.Prelude.{◌≡◌, ◌≤◌, length, IfOk, OnOk};
+ghost use Rattle.model_frames.specs.Images.{plain_points as plain_points_of};
+ghost use Rattle.model_frames.specs.Work.{CountsWithin, CountsWork, PointsRiseAtMost, exactly, frame_work};
 ghost use Rattle.modeller_cmd.specs.CountTexts.{count_text};
+ghost use Rattle.modeller_cmd.specs.Output.{count_part, input_limit, of_model};
+ghost use Rattle.modeller_cmd.specs.Serving.{ServedAtOnce};
 
-use edit_session::{draw_tree, frames_add_up};
+use crate::send::send;
+use crate::stop::Stop;
+use clause_reader::read_model;
 use fixed_ops::Tally;
+use model_frames::{Drawn, draw_tree, frames_add_up};
+use modeller_io::Sink;
 use solid_model::Model;
 use std::alloc::{AllocError, Global};
 use view_settings::View;
 
-/// The work that a fresh image of a model over a view takes, as text: the image is drawn, and no
-/// pixel of it is written. What the tally counted before is not told.
-pub fn count(
+/// Writes the work that a fresh image of the model that an input holds takes.
+pub fn count<K: Sink>(
+    alloc: Global,
+    view: &View,
+    input: &[u8],
+    out: &mut K,
+    tally: &mut Tally,
+) -> Result<(), Stop>
+    requires { length input.now ≤ input_limit }
+    ensures { ServedAtOnce K.held K.faults out.old out.new tally.old tally.new
+        (of_model input.now (count_part view.now)) result }
+{
+    frames_add_up();
+    let model = read_model(alloc, input)?;
+    let text = count_image(alloc, &model, view, tally)?;
+    send(alloc, &Drawn::Bytes(text), out)
+}
+
+// The work that a fresh image of a model over a view takes, as text: the image is drawn, and no
+// pixel of it is written. What the tally counted before is not told.
+fn count_image(
     alloc: Global,
     model: &Model,
     view: &View,

@@ -1,27 +1,46 @@
 // A model that is made from a seed, and what its image takes, as text.
-ghost use Rattle.std.specs.Prelude.{◌≡◌, ◌==◌, ◌++◌, codes, count_by, decimal, length, IfOk, OnOk};
-ghost use Rattle.edit_session.specs.Images.{plain_points as plain_points_of};
-ghost use Rattle.edit_session.specs.Work.{CountsWithin, CountsWork, PointsRiseAtMost, exactly, frame_work};
+ghost use Rattle.std.specs.Prelude.{◌≡◌, ◌==◌, ◌++◌, [], ◌∷◌, Ok, codes, count_by, decimal, length, IfOk, OnOk};
+ghost use Rattle.model_frames.specs.Images.{plain_points as plain_points_of};
+ghost use Rattle.model_frames.specs.Work.{CountsWithin, CountsWork, PointsRiseAtMost, exactly, frame_work};
 ghost use Rattle.quad_descent.specs.Pixels.{pixels_of};
 ghost use Rattle.view_settings.specs.Settings.{IsJob};
 ghost use Rattle.view_settings.specs.declared.job.Job.TheVariants as jobs;
 ghost use Rattle.modeller_cmd.specs.CountTexts.{count_text};
-ghost use Rattle.modeller_cmd.specs.Forging.{forge_text, forged_clauses, inside_of};
+ghost use Rattle.modeller_cmd.specs.Forging.{forge_part, forge_text, forged_clauses};
+ghost use Rattle.modeller_cmd.specs.Serving.{ServedAtOnce};
 
 use crate::count::plain_points;
-use edit_session::{draw_tree, frames_add_up};
+use crate::send::send;
+use crate::stop::Stop;
 use fixed_ops::Tally;
 use model_forge::forge_model;
+use model_frames::{Drawn, draw_tree, frames_add_up};
+use modeller_io::Sink;
 use quad_descent::{QuadTree, image};
 use solid_model::Model;
 use std::alloc::{AllocError, Global};
 use view_settings::{Forge, View};
 
-/// The model that a seed and a number of discs make, drawn over a view, as five lines: how many
-/// clauses it has, how many pixels are inside, and the work of the image. AllocError: memory was
-/// refused.
+/// Makes a model from a seed, and writes the five lines that tell of it and of its image.
+pub fn forge<K: Sink>(
+    alloc: Global,
+    wanted: &Forge,
+    out: &mut K,
+    tally: &mut Tally,
+) -> Result<(), Stop>
+    requires { IsJob (jobs.Forge wanted.now) }
+    ensures { ServedAtOnce K.held K.faults out.old out.new tally.old tally.new
+        (Ok (forge_part wanted.now ∷ [])) result }
+{
+    frames_add_up();
+    let text = forge_text(alloc, wanted, tally)?;
+    send(alloc, &Drawn::Bytes(text), out)
+}
+
+// The model that a seed and a number of discs make, drawn over a view, as five lines: how many
+// clauses it has, how many pixels are inside, and the work of the image.
 #[tactic(auto, unfolding(crate::specs::Forging::forged_clauses))]
-pub fn forge(alloc: Global, wanted: &Forge, tally: &mut Tally) -> Result<Vec<u8>, AllocError>
+fn forge_text(alloc: Global, wanted: &Forge, tally: &mut Tally) -> Result<Vec<u8>, AllocError>
     requires { IsJob (jobs.Forge wanted.now) }
     ensures ok { IfOk result (λ text. text.items
         ≡ forge_text wanted.now.view (forged_clauses wanted.now)) }

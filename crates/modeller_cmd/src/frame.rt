@@ -1,24 +1,25 @@
 // The blocks that a script writes: frames, and the lines of edits that are refused.
-ghost use Rattle.std.specs.Prelude.{◌≡◌, ◌≢◌, ◌≤◌, length, OnErr, OnOk};
+ghost use Rattle.std.specs.Prelude.{◌≡◌, ◌≤◌, length, OnErr, OnOk};
 ghost use Rattle.modeller_io.specs.Count.{RoseBy, Stands};
 ghost use Rattle.modeller_io.specs.Held.{Gains, GainsPrefix};
 ghost use Rattle.modeller_cmd.specs.Frames.{fault_name, frame_header, frame_of, refused_line};
 
-use crate::frame_kind::FrameKind;
 use crate::line::Line;
-use modeller_io::{Failed, Sink, write_all};
+use crate::send::write_pieces;
+use model_frames::{Frame, Pieces};
+use modeller_io::{Failed, Sink};
 use solid_model::EditFault;
 
-/// Writes a frame: a line with its kind and how many bytes it has, and then these bytes. After
+/// Writes a frame: a line with the word for its kind and how many bytes it has, and then these bytes. After
 /// `Failed` some of all this was taken, from its front.
-pub fn write_frame<K: Sink>(out: &mut K, kind: FrameKind, bytes: &[u8]) -> Result<(), Failed>
-    ensures ok { OnOk result (Gains K.held out.old out.new (frame_of kind bytes.now)) }
-    ensures err { OnErr result (GainsPrefix K.held out.old out.new (frame_of kind bytes.now)) }
+pub fn write_frame<K: Sink>(out: &mut K, frame: &Frame, bytes: &[u8]) -> Result<(), Failed>
+    ensures ok { OnOk result (Gains K.held out.old out.new (frame_of frame.now bytes.now)) }
+    ensures err { OnErr result (GainsPrefix K.held out.old out.new (frame_of frame.now bytes.now)) }
     ensures no_fault { OnOk result (Stands K.faults out.old out.new) }
     ensures cause { OnErr result (RoseBy K.faults out.old out.new 1) }
 {
-    write_all(out, header(kind, bytes.len()).bytes())?;
-    write_all(out, bytes)
+    let line = header(frame, bytes.len());
+    write_pieces(out, Pieces::of(line.bytes(), bytes))
 }
 
 /// Writes the line of an edit that is refused: the number of its line in the script, and why. After
@@ -29,16 +30,17 @@ pub fn write_refused<K: Sink>(out: &mut K, line: u32, fault: EditFault) -> Resul
     ensures no_fault { OnOk result (Stands K.faults out.old out.new) }
     ensures cause { OnErr result (RoseBy K.faults out.old out.new 1) }
 {
-    write_all(out, refused(line, fault).bytes())
+    let line = refused(line, fault);
+    write_pieces(out, Pieces::of(line.bytes(), b""))
 }
 
-// The line before the bytes of a frame of this kind, which are so many.
-fn header(kind: FrameKind, count: usize) -> Line
-    ensures { result ≡ frame_header kind count }
+// The line before the bytes of a frame, which are so many.
+fn header(frame: &Frame, count: usize) -> Line
+    ensures { result ≡ frame_header frame.now count }
 {
     let mut line = Line::new();
     line.push(b"@ ");
-    line.push(kind.name());
+    line.push(frame.name());
     line.push(b" ");
     line.push_number(count as u64);
     line.push(b"\n");

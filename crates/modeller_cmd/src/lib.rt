@@ -2,16 +2,17 @@
 #![tactic(auto)]
 
 mod asking;
+mod bad_text;
 mod command;
 mod count;
+mod drawing;
 mod forge;
 mod frame;
-mod frame_kind;
 mod line;
-mod mesh;
 mod note;
 mod refusal;
 mod replay;
+mod send;
 mod status;
 mod stop;
 mod sure;

@@ -1,8 +1,9 @@
 // The one line that says why a run has not done its work.
-ghost use Rattle.std.specs.Prelude.{◌≡◌, ◌≤◌, length, codes, ◌++◌};
+ghost use Rattle.std.specs.Prelude.{◌≡◌, ◌≤◌, length};
 ghost use Rattle.modeller_cmd.specs.declared.line.TheConstants.{LINE_LIMIT};
-ghost use Rattle.modeller_cmd.specs.Notes.{fault_line, line_of, refusal_line, script_reason_name, text_reason_name, word_reason_name};
+ghost use Rattle.modeller_cmd.specs.Notes.{bad_text_line, fault_line, line_of, refusal_line, script_reason_name, text_reason_name, word_reason_name};
 
+use crate::bad_text::BadText;
 use crate::line::Line;
 use crate::refusal::Refusal;
 use crate::stop::Stop;
@@ -29,8 +30,17 @@ fn refusal_note(refusal: Refusal) -> Line
     match refusal {
         Refusal::Words(fault) => placed(b"word", fault.at, word_reason(fault.reason)),
         Refusal::TooLong => whole(b"modeller: input too long\n"),
-        Refusal::Model(fault) => placed(b"line", fault.line, text_reason(fault.reason)),
+        Refusal::Text(bad) => bad_text_note(bad),
         Refusal::Script(fault) => placed(b"script line", fault.line, script_reason(fault.reason)),
+    }
+}
+
+// The line that is written for a text that is refused.
+fn bad_text_note(bad: BadText) -> Line
+    ensures { result ≡ bad_text_line bad }
+{
+    match bad {
+        BadText::Model(fault) => placed(b"line", fault.line, text_reason(fault.reason)),
     }
 }
 

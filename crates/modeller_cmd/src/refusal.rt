@@ -1,7 +1,7 @@
 // Why a run does nothing.
 
 use crate::Status;
-use clause_reader::TextFault;
+use crate::bad_text::BadText;
 use edit_script::ScriptFault;
 use view_settings::WordFault;
 
@@ -12,8 +12,8 @@ pub enum Refusal {
     Words(WordFault),
     /// The input has more bytes than are accepted.
     TooLong,
-    /// The model's text is refused.
-    Model(TextFault),
+    /// The text of the job is refused.
+    Text(BadText),
     /// The script is refused.
     Script(ScriptFault),
 }
@@ -29,7 +29,7 @@ impl Refusal {
         match self {
             Refusal::Words(_) => Status::Usage,
             Refusal::TooLong => Status::TooLong,
-            Refusal::Model(_) => Status::BadModel,
+            Refusal::Text(_) => Status::BadModel,
             Refusal::Script(_) => Status::BadScript,
         }
     }

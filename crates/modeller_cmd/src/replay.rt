@@ -7,19 +7,20 @@ ghost use Rattle.fixed_ops.specs.Counts.{Counts};
 ghost use Rattle.modeller_cmd.specs.Endings.{Ends, IsPlayStop, IsRefusal, IsServeStop, status_after};
 ghost use Rattle.modeller_cmd.specs.Output.{input_limit, made, output_as};
 ghost use Rattle.modeller_cmd.specs.Playing.{Played, Stopped};
-ghost use Rattle.modeller_cmd.specs.Replays.{clauses_after, parts_at, refusal, replayed};
+ghost use Rattle.modeller_cmd.specs.Replays.{clauses_after, framed, parts_at, refusal, replayed};
 ghost use Rattle.modeller_cmd.specs.Stopping.{StopsAt, StopsPlay, WantsMemory, WritesSomething};
 ghost use Rattle.modeller_cmd.specs.Parts.{work_of_parts};
-ghost use Rattle.edit_session.specs.Work.{CountsWork};
+ghost use Rattle.model_frames.specs.Frames.{CanDraw};
+ghost use Rattle.model_frames.specs.Work.{CountsWork};
 ghost use Rattle.solid_model.specs.Edits.{MakesClause, edited};
 
 use crate::frame::{write_frame, write_refused};
-use crate::frame_kind::FrameKind;
 use crate::stop::Stop;
 use clause_reader::read_model;
 use edit_script::{Command, read_script, split_input};
-use edit_session::{Session, frames_add_up};
+use edit_session::Session;
 use fixed_ops::Tally;
+use model_frames::{Frame, frames_add_up};
 use modeller_io::Sink;
 use solid_model::{Edit, EditFault};
 use std::alloc::Global;
@@ -90,7 +91,7 @@ fn play<K: Sink>(
     Ok(())
 }
 
-// Plays one command. A frame is drawn whole before its first byte is written.
+// Plays one command.
 fn step<K: Sink>(
     session: &mut Session,
     command: Command,
@@ -114,23 +115,33 @@ fn step<K: Sink>(
     match command {
         Command::Edit(line, edit) => change(session, line, edit, out),
         Command::Stray(line) => refuse(out, line, EditFault::UnknownName),
-        Command::Render(view) => {
-            let image = session.render(&view, tally)?;
-            Ok(write_frame(out, FrameKind::Render, &image)?)
-        }
-        Command::Height(view) => {
-            let map = session.height(&view, tally)?;
-            Ok(write_frame(out, FrameKind::Height, &map)?)
-        }
-        Command::Mesh(view) => {
-            let mesh = session.mesh(&view, tally)?;
-            Ok(write_frame(out, FrameKind::Mesh, &mesh)?)
-        }
-        Command::Text => {
-            let text = session.text()?;
-            Ok(write_frame(out, FrameKind::Text, &text)?)
-        }
+        Command::Render(view) => show(session, &Frame::Render(view), out, tally),
+        Command::Height(view) => show(session, &Frame::Height(view), out, tally),
+        Command::Mesh(view) => show(session, &Frame::Mesh(view), out, tally),
+        Command::Text => show(session, &Frame::Text, out, tally),
     }
+}
+
+// Draws a frame and writes it. It is drawn whole before its first byte is written.
+fn show<K: Sink>(
+    session: &mut Session,
+    frame: &Frame,
+    out: &mut K,
+    tally: &mut Tally,
+) -> Result<(), Stop>
+    requires { CanDraw frame.now }
+    ensures stop { IfErr result IsPlayStop }
+    ensures model { session.new ≡ session.old }
+    ensures played { OnOk result (Played K.held K.faults out.old out.new tally.old tally.new
+        (framed frame.now session.old ∷ [])) }
+    ensures stopped { IfErr result (Stopped K.held K.faults out.old out.new tally.old tally.new
+        (framed frame.now session.old ∷ [])) }
+    ensures unwritten { result ≡ Err Stop.NoMemory → out.new ≡ out.old }
+    ensures counted { result ≡ Err Stop.WriteFault
+        → CountsWork tally.old tally.new (work_of_parts (framed frame.now session.old ∷ [])) }
+{
+    let bytes = session.frame(frame, tally)?;
+    Ok(write_frame(out, frame, &bytes)?)
 }
 
 // Makes the edit of the line of this number, or writes why it is refused. Nothing is counted.

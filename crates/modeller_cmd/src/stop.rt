@@ -1,6 +1,7 @@
 // What ends a run before its work is written whole.
 
 use crate::Status;
+use crate::bad_text::BadText;
 use crate::refusal::Refusal;
 use clause_reader::{TextFault, TextReason};
 use edit_script::{ScriptFault, ScriptReason};
@@ -72,7 +73,7 @@ impl From<TextFault> for Stop {
     fn from(fault: TextFault) -> Stop {
         match fault.reason {
             TextReason::NoMemory => Stop::NoMemory,
-            _ => Stop::Refused(Refusal::Model(fault)),
+            _ => Stop::Refused(Refusal::Text(BadText::Model(fault))),
         }
     }
 }

@@ -1,174 +1,124 @@
-use Rattle.std.proofs.Common.{◌≡◌, Ok, Err, refl, ap, ◌∙◌, arith}
-use Rattle.modeller_io.specs.Held.{Gains, GainsPrefix}
-use Rattle.edit_session.specs.Work.{CountsWithin, CountsWork, PointsRiseAtMost}
+-- What work comes to, and the line that tells why there is nothing, are all that is so of a run.
+use Rattle.std.proofs.Common.{◌≡◌, refl, sym, ap, subst, Err, arith}
 use Rattle.view_settings.specs.Words.{bytes_of}
-use Rattle.modeller_cmd.specs.Asking.{asked, asks_nothing, input_told, reads_nothing}
-use Rattle.modeller_cmd.specs.Endings.{Ends, GainsParts}
-use Rattle.modeller_cmd.specs.Output.{made, output_as, output_of}
-use Rattle.modeller_cmd.specs.Parts.{bytes_of_parts, work_of_parts}
-use Rattle.modeller_cmd.specs.Playing.{Played, Stopped}
-use Rattle.modeller_cmd.specs.Stopping.{IsUnbegun}
-use Rattle.modeller_cmd.specs.Stops.{stop_of_end}
-use Rattle.modeller_cmd.specs.declared.stop.Stop.TheVariants.{NoMemory, Refused, WriteFault}
-use Rattle.modeller_cmd.proofs.Inputs.{frames-told, read-ends, reads-some, told-by-words}
-use Rattle.modeller_cmd.proofs.Outcomes.{some-none, some_all, some_follows}
-use Rattle.modeller_cmd.proofs.Plays.{parts-none, stops-with}
-use Rattle.modeller_cmd.proofs.Serving.{as-told, done-or-stopped, err-follows, ok-follows, served, served-counted, served-front, served-told, served-whole}
-use Rattle.modeller_cmd.proofs.Soundness.{frames_are_sound, run_is_sound}
-use Rattle.view_settings.specs.declared.job.Job.TheVariants.{Replay}
-use Rattle.modeller_cmd.proofs.Stops.{asks-none, served-stops, unplayed, unread}
+use Rattle.modeller_cmd.specs.Asking.{asks_nothing, input_told}
+use Rattle.modeller_cmd.specs.Endings.{TakesLine, status_after}
+use Rattle.modeller_cmd.specs.Output.{outcome}
+use Rattle.modeller_cmd.specs.Runs.{EndsSo}
+use Rattle.modeller_cmd.specs.Stopping.{StopsRun}
+use Rattle.modeller_cmd.specs.Stops.{status_at}
+use Rattle.modeller_cmd.specs.declared.status.Status.TheVariants.{ReadFault, WriteFault}
+use Rattle.modeller_cmd.proofs.Inputs.{either-bool}
+use Rattle.modeller_cmd.proofs.Outcomes.{answer_of, made_bytes, made_done, no_memory_of, not_done, ok_done, read_fault_of, some_all, some_follows, status_of_refusal, write_fault_of}
+use Rattle.modeller_cmd.proofs.Serving.{noted, rose-fault, tells}
 use Rattle.modeller_cmd.proofs.command.perform.Goals as goal
 
-pub returns-in_err-job-clause-work : goal.returns-in_err-job-clause-work
-returns-in_err-job-clause-work g c =
-    some_all (input_told g.S.Source.rest c.args.source.now (asks_nothing (bytes_of c.args.words.now))) _ (λ input. c.frames_add_up.ensures.within_none c.args.tally.now (work_of_parts (output_of (bytes_of c.args.words.now) input).parts))
-
-pub returns-in_err-input-clause-work : goal.returns-in_err-input-clause-work
-returns-in_err-input-clause-work g c =
-    some_all (input_told g.S.Source.rest c.args.source.now (asks_nothing (bytes_of c.args.words.now))) _ (λ input. c.frames_add_up.ensures.within_none c.args.tally.now (work_of_parts (output_of (bytes_of c.args.words.now) input).parts))
-
-pub returns-in_err-job-clause-untold : goal.returns-in_err-job-clause-untold
-returns-in_err-job-clause-untold g c = some-none c.frames_add_up.ensures (bytes_of c.args.words.now) c.args.tally.now
-
-pub returns-in_err-input-clause-untold : goal.returns-in_err-input-clause-untold
-returns-in_err-input-clause-untold g c = some-none c.frames_add_up.ensures (bytes_of c.args.words.now) c.args.tally.now
-
-pub returns-in_err-job-clause-sound : goal.returns-in_err-job-clause-sound
-returns-in_err-job-clause-sound g c =
-    some_all (g.S.Source.rest c.args.source.now) _ (λ input.
-    run_is_sound (bytes_of c.args.words.now) input c.read_job.result c.read_job.ensures.job c.read_job.ensures.keeps c.mesh_texts_are_sound.ensures)
-
-pub returns-in_err-input-clause-sound : goal.returns-in_err-input-clause-sound
-returns-in_err-input-clause-sound g c =
-    some_all (g.S.Source.rest c.args.source.now) _ (λ input.
-    run_is_sound (bytes_of c.args.words.now) input c.read_job.result c.read_job.ensures.job c.read_job.ensures.keeps c.mesh_texts_are_sound.ensures)
-
-pub returns-clause-sound : goal.returns-clause-sound
-returns-clause-sound g c =
-    some_all (g.S.Source.rest c.args.source.now) _ (λ input.
-    run_is_sound (bytes_of c.args.words.now) input c.read_job.result c.read_job.ensures.job c.read_job.ensures.keeps c.mesh_texts_are_sound.ensures)
-
-pub returns-in_err-input-clause-whole : goal.returns-in_err-input-clause-whole
-returns-in_err-input-clause-whole g c = λ _.
-    some_all (input_told g.S.Source.rest c.args.source.now (asks_nothing (bytes_of c.args.words.now))) _ (λ input.
-    parts-none g.K.Sink.held c.args.out.now (output_of (bytes_of c.args.words.now) input).parts)
-
-pub returns-clause-done : goal.returns-clause-done
-returns-clause-done g c =
-    let told = input_told g.S.Source.rest c.args.source.now (asks_nothing (bytes_of c.args.words.now)) in
-    let all = some_follows told _ (λ bytes. c.deref.result.now ≡ bytes) (λ bytes same. c.deref.ensures.value ∙ same)
-    (told-by-words g.S.Source.rest c.args.source.now (reads_nothing c.in_ok-job.job) (asks_nothing (bytes_of c.args.words.now)) _ c.in_ok-job.ensures.nothing c.in_ok-input.ensures.all) in
-    served (bytes_of c.args.words.now) told c.deref.result.now all c.in_ok-job.job c.in_ok-job.ensures.job c.serve.result (Gains g.K.Sink.held c.args.out.now c.serve.new.out) c.serve.ensures.ends
-    (ok-follows c.serve.result
-    (Played g.K.Sink.held g.K.Sink.faults c.args.out.now c.serve.new.out c.args.tally.now c.serve.new.tally (output_as (made c.in_ok-job.job c.deref.result.now)).parts)
-    (Gains g.K.Sink.held c.args.out.now c.serve.new.out (bytes_of_parts (output_as (made c.in_ok-job.job c.deref.result.now)).parts)) (λ played. played.gained) c.serve.ensures.played)
-
-pub returns-clause-front : goal.returns-clause-front
-returns-clause-front g c = λ is.
-    let told = input_told g.S.Source.rest c.args.source.now (asks_nothing (bytes_of c.args.words.now)) in
-    let all = some_follows told _ (λ bytes. c.deref.result.now ≡ bytes) (λ bytes same. c.deref.ensures.value ∙ same)
-    (told-by-words g.S.Source.rest c.args.source.now (reads_nothing c.in_ok-job.job) (asks_nothing (bytes_of c.args.words.now)) _ c.in_ok-job.ensures.nothing c.in_ok-input.ensures.all) in
-    served-front (bytes_of c.args.words.now) told c.deref.result.now all c.in_ok-job.job c.in_ok-job.ensures.job c.serve.result (GainsPrefix g.K.Sink.held c.args.out.now c.serve.new.out) is c.serve.ensures.ends
-    (err-follows c.serve.result
-    (Stopped g.K.Sink.held g.K.Sink.faults c.args.out.now c.serve.new.out c.args.tally.now c.serve.new.tally (output_as (made c.in_ok-job.job c.deref.result.now)).parts)
-    (λ stop. stop ≡ WriteFault → GainsPrefix g.K.Sink.held c.args.out.now c.serve.new.out (bytes_of_parts (output_as (made c.in_ok-job.job c.deref.result.now)).parts)) (λ stop stopped. stopped.front)
-    c.serve.ensures.stopped)
-
-pub returns-clause-ends : goal.returns-clause-ends
-returns-clause-ends g c =
-    let told = input_told g.S.Source.rest c.args.source.now (asks_nothing (bytes_of c.args.words.now)) in
-    let all = some_follows told _ (λ bytes. c.deref.result.now ≡ bytes) (λ bytes same. c.deref.ensures.value ∙ same)
-    (told-by-words g.S.Source.rest c.args.source.now (reads_nothing c.in_ok-job.job) (asks_nothing (bytes_of c.args.words.now)) _ c.in_ok-job.ensures.nothing c.in_ok-input.ensures.all) in
-    as-told (bytes_of c.args.words.now) told c.deref.result.now all c.in_ok-job.job c.in_ok-job.ensures.job (λ o. Ends o c.serve.result) c.serve.ensures.ends
-
-pub returns-clause-refused : goal.returns-clause-refused
-returns-clause-refused g c =
-    let told = input_told g.S.Source.rest c.args.source.now (asks_nothing (bytes_of c.args.words.now)) in
-    let all = some_follows told _ (λ bytes. c.deref.result.now ≡ bytes) (λ bytes same. c.deref.ensures.value ∙ same)
-    (told-by-words g.S.Source.rest c.args.source.now (reads_nothing c.in_ok-job.job) (asks_nothing (bytes_of c.args.words.now)) _ c.in_ok-job.ensures.nothing c.in_ok-input.ensures.all) in
-    served-told (bytes_of c.args.words.now) told c.deref.result.now all c.in_ok-job.job c.in_ok-job.ensures.job c.serve.result c.serve.ensures.ends c.serve.ensures.stop
-
-pub returns-clause-whole : goal.returns-clause-whole
-returns-clause-whole g c = λ is.
-    let told = input_told g.S.Source.rest c.args.source.now (asks_nothing (bytes_of c.args.words.now)) in
-    let all = some_follows told _ (λ bytes. c.deref.result.now ≡ bytes) (λ bytes same. c.deref.ensures.value ∙ same)
-    (told-by-words g.S.Source.rest c.args.source.now (reads_nothing c.in_ok-job.job) (asks_nothing (bytes_of c.args.words.now)) _ c.in_ok-job.ensures.nothing c.in_ok-input.ensures.all) in
-    served-whole (bytes_of c.args.words.now) told c.deref.result.now all c.in_ok-job.job c.in_ok-job.ensures.job c.serve.result (GainsParts g.K.Sink.held c.args.out.now c.serve.new.out) is
-    (err-follows c.serve.result
-    (Stopped g.K.Sink.held g.K.Sink.faults c.args.out.now c.serve.new.out c.args.tally.now c.serve.new.tally (output_as (made c.in_ok-job.job c.deref.result.now)).parts)
-    (λ stop. stop ≡ NoMemory → GainsParts g.K.Sink.held c.args.out.now c.serve.new.out (output_as (made c.in_ok-job.job c.deref.result.now)).parts) (λ stop stopped. stopped.whole)
-    c.serve.ensures.stopped)
-
-pub returns-clause-counted : goal.returns-clause-counted
-returns-clause-counted g c = λ worked.
-    let told = input_told g.S.Source.rest c.args.source.now (asks_nothing (bytes_of c.args.words.now)) in
-    let all = some_follows told _ (λ bytes. c.deref.result.now ≡ bytes) (λ bytes same. c.deref.ensures.value ∙ same)
-    (told-by-words g.S.Source.rest c.args.source.now (reads_nothing c.in_ok-job.job) (asks_nothing (bytes_of c.args.words.now)) _ c.in_ok-job.ensures.nothing c.in_ok-input.ensures.all) in
-    served-counted (bytes_of c.args.words.now) told c.deref.result.now all c.in_ok-job.job c.in_ok-job.ensures.job c.serve.result
-    (λ parts. CountsWork c.args.tally.now c.serve.new.tally (work_of_parts parts)) worked
-    (ok-follows c.serve.result
-    (Played g.K.Sink.held g.K.Sink.faults c.args.out.now c.serve.new.out c.args.tally.now c.serve.new.tally (output_as (made c.in_ok-job.job c.deref.result.now)).parts)
-    (CountsWork c.args.tally.now c.serve.new.tally (work_of_parts (output_as (made c.in_ok-job.job c.deref.result.now)).parts))
-    (λ played. played.counted) c.serve.ensures.played) c.serve.ensures.counted
-
-pub returns-clause-work : goal.returns-clause-work
-returns-clause-work g c =
-    let told = input_told g.S.Source.rest c.args.source.now (asks_nothing (bytes_of c.args.words.now)) in
-    let all = some_follows told _ (λ bytes. c.deref.result.now ≡ bytes) (λ bytes same. c.deref.ensures.value ∙ same)
-    (told-by-words g.S.Source.rest c.args.source.now (reads_nothing c.in_ok-job.job) (asks_nothing (bytes_of c.args.words.now)) _ c.in_ok-job.ensures.nothing c.in_ok-input.ensures.all) in
-    as-told (bytes_of c.args.words.now) told c.deref.result.now all c.in_ok-job.job c.in_ok-job.ensures.job (λ o. CountsWithin c.args.tally.now c.serve.new.tally (work_of_parts (output_as o).parts))
-    (done-or-stopped c.serve.result (CountsWithin c.args.tally.now c.serve.new.tally (work_of_parts (output_as (made c.in_ok-job.job c.deref.result.now)).parts))
-    (Played g.K.Sink.held g.K.Sink.faults c.args.out.now c.serve.new.out c.args.tally.now c.serve.new.tally (output_as (made c.in_ok-job.job c.deref.result.now)).parts)
-    (Stopped g.K.Sink.held g.K.Sink.faults c.args.out.now c.serve.new.out c.args.tally.now c.serve.new.tally (output_as (made c.in_ok-job.job c.deref.result.now)).parts)
-    (λ played. played.at_most) (λ stop stopped. stopped.at_most) c.serve.ensures.played c.serve.ensures.stopped)
-
-pub returns-clause-plain : goal.returns-clause-plain
-returns-clause-plain g c =
-    let told = input_told g.S.Source.rest c.args.source.now (asks_nothing (bytes_of c.args.words.now)) in
-    let all = some_follows told _ (λ bytes. c.deref.result.now ≡ bytes) (λ bytes same. c.deref.ensures.value ∙ same)
-    (told-by-words g.S.Source.rest c.args.source.now (reads_nothing c.in_ok-job.job) (asks_nothing (bytes_of c.args.words.now)) _ c.in_ok-job.ensures.nothing c.in_ok-input.ensures.all) in
-    as-told (bytes_of c.args.words.now) told c.deref.result.now all c.in_ok-job.job c.in_ok-job.ensures.job (λ o. PointsRiseAtMost c.args.tally.now c.serve.new.tally (work_of_parts (output_as o).parts).plain)
-    (done-or-stopped c.serve.result (PointsRiseAtMost c.args.tally.now c.serve.new.tally (work_of_parts (output_as (made c.in_ok-job.job c.deref.result.now)).parts).plain)
-    (Played g.K.Sink.held g.K.Sink.faults c.args.out.now c.serve.new.out c.args.tally.now c.serve.new.tally (output_as (made c.in_ok-job.job c.deref.result.now)).parts)
-    (Stopped g.K.Sink.held g.K.Sink.faults c.args.out.now c.serve.new.out c.args.tally.now c.serve.new.tally (output_as (made c.in_ok-job.job c.deref.result.now)).parts)
-    (λ played. played.plain) (λ stop stopped. stopped.plain) c.serve.ensures.played c.serve.ensures.stopped)
-
-pub returns-in_err-input-clause-ends : goal.returns-in_err-input-clause-ends
-returns-in_err-input-clause-ends g c =
-    let why = c.in_err-input.field-0.0 in
-    let reads = reads-some (reads_nothing c.in_ok-job.job) (λ nothing. grind (arith, (c.in_err-input.ensures.unasked nothing).0)) in
-    read-ends (bytes_of c.args.words.now) c.in_ok-job.job g.S.Source.rest c.args.source.now why c.from_residual-in_err-input.result c.in_ok-job.ensures.job c.in_ok-job.ensures.nothing reads
-    c.from_residual-in_err-input.ensures.1 (λ is. c.in_err-input.ensures.too_long (ap (λ e. Err e) is))
-
-pub returns-in_err-input-clause-plain : goal.returns-in_err-input-clause-plain
-returns-in_err-input-clause-plain g c =
-    some_all (input_told g.S.Source.rest c.args.source.now (asks_nothing (bytes_of c.args.words.now))) _ (λ input. c.frames_add_up.ensures.plain_none c.args.tally.now (work_of_parts (output_of (bytes_of c.args.words.now) input).parts).plain)
-
-pub returns-clause-sound_frames : goal.returns-clause-sound_frames
-returns-clause-sound_frames g c = λ read.
+pub returns-in-Ok : goal.returns-in-Ok
+returns-in-Ok g c =
     let words = bytes_of c.args.words.now in
-    frames-told words g.S.Source.rest c.args.source.now c.in_ok-job.job c.deref.result.now c.in_ok-job.ensures.job (reads_nothing c.in_ok-job.job) refl
-    (some_follows (input_told g.S.Source.rest c.args.source.now (reads_nothing c.in_ok-job.job)) _ (λ bytes. c.deref.result.now ≡ bytes) (λ bytes same. c.deref.ensures.value ∙ same) c.in_ok-input.ensures.all)
-    (frames_are_sound words c.deref.result.now c.in_ok-job.job c.serve.result c.in_ok-job.ensures.job c.mesh_texts_are_sound.ensures c.serve.ensures.commands read)
+    let told = input_told g.S.Source.rest c.args.source.now (asks_nothing words) in
+    let r = c.in-Ok.ensures in
+    record {
+      done = λ _. some_follows told _ _ (λ input. made_done (outcome words input) _) r.done;
+      silent = λ _. refl;
+      sound = r.sound;
+      sound_frames = r.sound_frames;
+      answer = some_follows told _ _ (λ input. ok_done (outcome words input)) r.ends;
+      usage = r.usage;
+      read = r.read;
+      script = r.script;
+      too_long = r.too_long;
+      too_long_there = r.too_long_there;
+      read_fault = λ is. cc;
+      no_read_fault = λ _. r.no_read_fault (λ is. cc);
+      write_fault = λ is. cc;
+      no_write_fault = λ _. r.no_write_fault (λ is. cc);
+      complete = λ source out memory. some_follows told _ _ (λ input ok. sym (ok_done (outcome words input) ok)) r.ends;
+      unread = r.unread;
+      unasked = λ nothing. ((r.unasked nothing).0, λ is. cc);
+      lost = r.lost;
+      unwritten = r.unwritten;
+      front = λ is. cc;
+      whole = λ is. cc;
+      stops = λ other. absurd (other refl);
+      note = tt;
+      noted = some_all told _ (λ input same other. absurd (other refl));
+      never_falls = omega arith;
+      fails_once = record { by = 0; within = omega arith; rose = omega arith };
+      counted = r.counted;
+      uncounted = r.uncounted;
+      work = r.work;
+      plain = r.plain;
+      gained = r.gained;
+      untold = r.untold;
+    }
 
-pub returns-in_err-job-clause-stops : goal.returns-in_err-job-clause-stops
-returns-in_err-job-clause-stops g c =
-    unplayed g.K.Sink.held g.K.Sink.faults c.args.out.now c.args.tally.now c.from_residual.result (input_told g.S.Source.rest c.args.source.now (asks_nothing (bytes_of c.args.words.now)))
-    (asked (bytes_of c.args.words.now) ≡ Ok Replay)
-    (stops-with c.from_residual.result (Refused c.in_err-job.field-0.0) (λ stop. asked (bytes_of c.args.words.now) ≡ Ok Replay → IsUnbegun stop) c.from_residual.ensures.1
-    (λ replays. absurd (asks-none (asked (bytes_of c.args.words.now)) c.in_err-job.field-0.0 Replay c.in_err-job.ensures.job replays)))
-
-pub returns-in_err-input-clause-stops : goal.returns-in_err-input-clause-stops
-returns-in_err-input-clause-stops g c =
-    unplayed g.K.Sink.held g.K.Sink.faults c.args.out.now c.args.tally.now c.from_residual-in_err-input.result (input_told g.S.Source.rest c.args.source.now (asks_nothing (bytes_of c.args.words.now)))
-    (asked (bytes_of c.args.words.now) ≡ Ok Replay)
-    (stops-with c.from_residual-in_err-input.result (stop_of_end c.in_err-input.field-0.0) (λ stop. asked (bytes_of c.args.words.now) ≡ Ok Replay → IsUnbegun stop) c.from_residual-in_err-input.ensures.1
-    (λ replays. unread c.in_err-input.field-0.0))
-
-pub returns-clause-stops : goal.returns-clause-stops
-returns-clause-stops g c =
-    let told = input_told g.S.Source.rest c.args.source.now (asks_nothing (bytes_of c.args.words.now)) in
-    let all = some_follows told _ (λ bytes. c.deref.result.now ≡ bytes) (λ bytes same. c.deref.ensures.value ∙ same)
-    (told-by-words g.S.Source.rest c.args.source.now (reads_nothing c.in_ok-job.job) (asks_nothing (bytes_of c.args.words.now)) _ c.in_ok-job.ensures.nothing c.in_ok-input.ensures.all) in
-    served-stops g.K.Sink.held g.K.Sink.faults c.args.out.now c.serve.new.out c.args.tally.now c.serve.new.tally c.deref.result.now c.serve.result (bytes_of c.args.words.now) told all
-    c.in_ok-job.job c.in_ok-job.ensures.job c.serve.ensures.stops
+pub returns-in-Err : goal.returns-in-Err
+returns-in-Err g c =
+    let words = bytes_of c.args.words.now in
+    let told = input_told g.S.Source.rest c.args.source.now (asks_nothing words) in
+    let takes = TakesLine g.N.Sink.faults g.N.Sink.held c.args.notes.now c.tell.new.notes in
+    let stop = c.in-Err.stop in
+    let r = c.in-Err.ensures in
+    let line = tells words told stop takes r.refused c.tell.ensures.line in
+    let read : status_at stop ≡ ReadFault → _ = λ is. r.read_fault (ap (λ s. Err s) (read_fault_of stop is)) in
+    let write : status_at stop ≡ WriteFault → _ = λ is. r.write_fault (ap (λ s. Err s) (write_fault_of stop is)) in
+    subst (λ status. EndsSo (record {
+      rest = g.S.Source.rest;
+      taken = g.S.Source.taken;
+      read_faults = g.S.Source.faults;
+      held = g.K.Sink.held;
+      write_faults = g.K.Sink.faults;
+      notes_held = g.N.Sink.held;
+      note_faults = g.N.Sink.faults;
+      source = c.args.source.now;
+      source_after = c.work.new.source;
+      out = c.args.out.now;
+      out_after = c.work.new.out;
+      notes = c.args.notes.now;
+      notes_after = c.tell.new.notes;
+      first = c.args.tally.now;
+      last = c.work.new.tally;
+      words = words;
+      status = status;
+    })) (sym c.status.ensures) (record {
+      done = λ is. absurd (not_done stop is);
+      silent = λ is. absurd (not_done stop is);
+      sound = r.sound;
+      sound_frames = r.sound_frames;
+      answer = some_follows told _ _ (λ input. answer_of {T = Unit {0}} (outcome words input) (Err stop)) r.ends;
+      usage = r.usage;
+      read = r.read;
+      script = r.script;
+      too_long = r.too_long;
+      too_long_there = r.too_long_there;
+      read_fault = read;
+      no_read_fault = λ other. r.no_read_fault (λ is. other (ap (λ s. status_after {T = Unit {0}} s) is));
+      write_fault = write;
+      no_write_fault = λ other. r.no_write_fault (λ is. other (ap (λ s. status_after {T = Unit {0}} s) is));
+      complete = λ source out memory. some_follows told _ _
+          (λ input ends. status_of_refusal (outcome words input) stop ends
+          (λ is. either-bool (asks_nothing words) ⊥ (λ nothing. (r.unasked nothing).1 (ap (λ s. Err s) (read_fault_of stop is)))
+          (λ asks. rose-fault g.S.Source.faults c.args.source.now c.work.new.source (read is) (source asks)))
+          (λ is. rose-fault g.K.Sink.faults c.args.out.now c.work.new.out (write is) out) memory)
+          r.ends;
+      unread = r.unread;
+      unasked = λ nothing. ((r.unasked nothing).0, λ is. (r.unasked nothing).1 (ap (λ s. Err s) (read_fault_of stop is)));
+      lost = r.lost;
+      unwritten = r.unwritten;
+      front = λ is. some_follows told _ _ (λ input. made_bytes (outcome words input) _) (r.front (ap (λ s. Err s) (write_fault_of stop is)));
+      whole = λ is. r.whole (ap (λ s. Err s) (no_memory_of stop is));
+      stops = λ other. some_follows told _
+          (λ input. StopsRun g.K.Sink.held g.K.Sink.faults c.args.out.now c.work.new.out c.args.tally.now c.work.new.tally words input (status_at stop))
+          (λ input play. record { stop = stop; is = refl; play = play }) r.stops;
+      note = line;
+      noted = noted words told (status_at stop) takes (λ is. r.usage.0 is) line;
+      never_falls = c.tell.ensures.never_falls;
+      fails_once = c.tell.ensures.fails_once;
+      counted = r.counted;
+      uncounted = r.uncounted;
+      work = r.work;
+      plain = r.plain;
+      gained = r.gained;
+      untold = r.untold;
+    })

@@ -1,20 +1,24 @@
-use Rattle.std.proofs.Common.{◌≡◌, ◌∙◌, length, subst}
-use Rattle.std.proofs.lemmas.Result.{IfOk-weaker}
-use Rattle.edit_session.specs.Images.{plain_points}
-use Rattle.edit_session.specs.Work.{CountsWork, exactly, frame_work}
-use Rattle.live_clauses.specs.Live.{root_of}
-use Rattle.quad_descent.specs.Raster.{fresh_points, fresh_spans}
-use Rattle.modeller_cmd.specs.CountTexts.{count_text}
-use Rattle.modeller_cmd.proofs.Counting.{told-text}
+use Rattle.modeller_cmd.specs.Output.{count_part, of_model}
+use Rattle.modeller_cmd.proofs.AtOnce.{refused-at-once, sent-at-once, undrawn-at-once}
+use Rattle.modeller_cmd.proofs.Outcomes.{model_read}
 use Rattle.modeller_cmd.proofs.count.count.Goals as goal
 
-pub returns-clause-ok : goal.returns-clause-ok
-returns-clause-ok c =
-    let view = c.args.view.now in
-    let clauses = c.args.model.now in
-    IfOk-weaker c.count_lines.result (λ text. text.items ≡ count_text (exactly c.points.result c.spans.result c.plain_points-plain.result))
-    (λ text. text.items ≡ count_text (frame_work view clauses))
-    (λ text told. told ∙ told-text c.draw_tree-drawn.new.tally (fresh_points view (root_of clauses)) (fresh_spans view (root_of clauses)) (plain_points view (length clauses))
-    c.in_ok-drawn.ensures.fits (subst (λ start. CountsWork start c.draw_tree-drawn.new.tally (frame_work view clauses)) c.new-frame.ensures c.in_ok-drawn.ensures.counted)
-    c.points.result c.spans.result c.plain_points-plain.result c.points.ensures c.spans.ensures c.plain_points-plain.ensures)
-    c.count_lines.ensures
+pub returns-in_err-model : goal.returns-in_err-model
+returns-in_err-model g c =
+    let fault = c.in_err-model.field-0.0 in
+    refused-at-once g.K.Sink.held g.K.Sink.faults c.frames_add_up.ensures c.args.out.now c.args.tally.now c.args.input.now (count_part c.args.view.now) fault.line fault.reason c.from_residual.result
+    c.requires c.in_err-model.ensures.0 c.from_residual.ensures.1
+
+pub returns-in_err-text : goal.returns-in_err-text
+returns-in_err-text g c =
+    let part = count_part c.args.view.now c.in_ok-model.model in
+    undrawn-at-once g.K.Sink.held g.K.Sink.faults c.args.out.now c.args.tally.now c.count_image.new.tally (of_model c.args.input.now (count_part c.args.view.now)) part c.from_residual-in_err-text.result
+    (model_read c.args.input.now (count_part c.args.view.now) c.in_ok-model.model c.requires c.in_ok-model.ensures)
+    c.in_err-text.ensures.at_most c.in_err-text.ensures.plain c.from_residual-in_err-text.ensures.1
+
+pub returns : goal.returns
+returns g c =
+    let part = count_part c.args.view.now c.in_ok-model.model in
+    sent-at-once g.K.Sink.held g.K.Sink.faults c.args.out.now c.send.new.out c.args.tally.now c.count_image.new.tally (of_model c.args.input.now (count_part c.args.view.now)) part c.in_ok-text.text.items c.send.result
+    (model_read c.args.input.now (count_part c.args.view.now) c.in_ok-model.model c.requires c.in_ok-model.ensures)
+    c.in_ok-text.ensures.ok c.send.ensures c.in_ok-text.ensures.counted c.in_ok-text.ensures.at_most c.in_ok-text.ensures.plain

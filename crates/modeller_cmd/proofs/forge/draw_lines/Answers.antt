@@ -1,5 +1,5 @@
 use Rattle.std.proofs.Common.{rules}
-use Rattle.edit_session.specs.Work.{CountsWithin, CountsWork}
+use Rattle.model_frames.specs.Work.{CountsWithin, CountsWork}
 use Rattle.modeller_cmd.proofs.Forging.{inside-same}
 use Rattle.modeller_cmd.proofs.forge.draw_lines.Goals as goal
 

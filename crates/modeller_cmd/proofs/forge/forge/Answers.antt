@@ -1,17 +1,16 @@
-use Rattle.std.proofs.Common.{◌≡◌, ◌∙◌, ap}
-use Rattle.std.proofs.lemmas.Result.{IfOk-weaker}
-use Rattle.edit_session.specs.Work.{frame_work}
-use Rattle.modeller_cmd.specs.Forging.{forge_text, forged_clauses}
+use Rattle.std.proofs.Common.{Ok, [], ◌∷◌, refl}
+use Rattle.modeller_cmd.specs.Forging.{forge_part}
+use Rattle.modeller_cmd.proofs.AtOnce.{sent-at-once, undrawn-at-once}
 use Rattle.modeller_cmd.proofs.forge.forge.Goals as goal
 
-pub returns-in_err-model-clause-at_most : goal.returns-in_err-model-clause-at_most
-returns-in_err-model-clause-at_most c =
-    c.frames_add_up.ensures.within_none c.args.tally.now (frame_work c.args.wanted.now.view (forged_clauses c.args.wanted.now))
+pub returns-in_err-text : goal.returns-in_err-text
+returns-in_err-text g c =
+    let part = forge_part c.args.wanted.now in
+    undrawn-at-once g.K.Sink.held g.K.Sink.faults c.args.out.now c.args.tally.now c.forge_text.new.tally (Ok (part ∷ [])) part c.from_residual.result refl
+    c.in_err-text.ensures.at_most c.in_err-text.ensures.plain c.from_residual.ensures.1
 
-pub returns-clause-ok : goal.returns-clause-ok
-unfolding forged_clauses
-returns-clause-ok c =
-    let wanted = c.args.wanted.now in
-    let made : c.in_ok-model.model ≡ forged_clauses wanted = c.in_ok-model.ensures.by_places in
-    IfOk-weaker c.draw_lines.result (λ text. text.items ≡ forge_text wanted.view c.in_ok-model.model)
-    (λ text. text.items ≡ forge_text wanted.view (forged_clauses wanted)) (λ text told. told ∙ ap (forge_text wanted.view) made) c.draw_lines.ensures.ok
+pub returns : goal.returns
+returns g c =
+    let part = forge_part c.args.wanted.now in
+    sent-at-once g.K.Sink.held g.K.Sink.faults c.args.out.now c.send.new.out c.args.tally.now c.forge_text.new.tally (Ok (part ∷ [])) part c.in_ok-text.text.items c.send.result refl
+    c.in_ok-text.ensures.ok c.send.ensures c.in_ok-text.ensures.counted c.in_ok-text.ensures.at_most c.in_ok-text.ensures.plain

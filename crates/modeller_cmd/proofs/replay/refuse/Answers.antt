@@ -1,5 +1,5 @@
 use Rattle.std.proofs.Common.{[], ◌∷◌, refl}
-use Rattle.edit_session.specs.Work.{no_work}
+use Rattle.model_frames.specs.Work.{no_work}
 use Rattle.fixed_ops.specs.Counts.{Counts}
 use Rattle.modeller_cmd.specs.Frames.{refused_line}
 use Rattle.modeller_cmd.specs.Playing.{Stopped}

@@ -1,5 +1,0 @@
-use Rattle.edit_session.proofs.WorkLaws.{frames_add_up_is}
-use Rattle.edit_session.proofs.laws.frames_add_up.Goals as goal
-
-pub returns : goal.returns
-returns c = frames_add_up_is

@@ -1,0 +1,169 @@
+-- The definitions of frames, computed on models and views that were worked out by hand.
+use Rattle.std.proofs.Common.{◌≡◌, ℕ, pos, negsuc, List, [], ◌∷◌, ◌++◌, Result, Ok, Err, refl, arith}
+use Rattle.std.specs.Prelude.{codes, replicate, take}
+use Rattle.std.specs.Fmt.{digits}
+use Rattle.box_chains.specs.Chains.{chain_within}
+use Rattle.box_chains.specs.Counts.{points_in, spans_in}
+use Rattle.clause_reader.specs.Reading.{text_read}
+use Rattle.clause_reader.specs.declared.text_fault.TextFault.{TextFault}
+use Rattle.box_chains.specs.Tested.{points_where, spans_where}
+use Rattle.oct_descent.specs.Bound.{long_spans_in, mesh_least, mesh_points, spans_in as spans_of_cells}
+use Rattle.oct_descent.specs.Ways.{way_within}
+use Rattle.fixed_ops.specs.Numerals.{cut_magnitude, is_unsigned_numeral, nearest_raw, unsigned_raw}
+use Rattle.kuhn_cells.specs.Faces.{all_triangles, faces}
+use Rattle.kuhn_cells.specs.Grids.{vertices}
+use Rattle.solid_model.specs.declared.clause.Clause.{Clause}
+use Rattle.view_settings.specs.Window.{Window}
+use Rattle.model_frames.specs.Heights.{heights_of, plain_depths}
+use Rattle.model_frames.specs.Images.{image_of, plain_points}
+use Rattle.model_frames.specs.Meshes.{grid_of, mesh_text, plain_grid}
+use Rattle.fixed_ops.specs.Counts.{no_counts, points_of, spans_of}
+use Rattle.model_frames.specs.Work.{CountsWithin, CountsWork, FitsCounts, PointsRiseAtMost, Work, both, exactly, frame_work, height_work, mesh_work, no_work}
+
+-- the clauses of a text that is read
+abbrev solid : List ℕ → List Clause
+solid text = by (text_read text)
+  where
+    by : Result (List Clause) TextFault → List Clause
+    by (Ok clauses) = clauses
+    by (Err fault) = []
+
+-- the window from -1 to 1 with so many columns, rows and layers, one cell along each axis, and its raster at 0
+abbrev window : ℕ → ℕ → ℕ → Window
+window columns rows layers = record {
+  x0 = negsuc 4294967295;
+  x1 = pos 4294967296;
+  y0 = negsuc 4294967295;
+  y1 = pos 4294967296;
+  z0 = negsuc 4294967295;
+  z1 = pos 4294967296;
+  z = pos 0;
+  w = columns;
+  h = rows;
+  d = layers;
+  n = 1;
+}
+
+-- x * x + y * y is below 0.5 in the middle alone
+disc_image : image_of (window 3 3 1) (solid (codes "a var-x\nb var-y\nc mul a a\nd mul b b\ne add c d\nr const 0.5\nf sub e r\n"))
+    ≡ codes "P5\n3 3\n255\n" ++ 0 ∷ 0 ∷ 0 ∷ 0 ∷ 255 ∷ 0 ∷ 0 ∷ 0 ∷ 0 ∷ []
+unfolding digits cut_magnitude is_unsigned_numeral nearest_raw unsigned_raw
+disc_image = refl
+
+-- Of two columns and three rows from the top on, the left one of the last row alone lies below 0 along both axes, and of
+-- its two samples the far one along the third axis too.
+corner_image : image_of (window 2 3 1) (solid (codes "x var-x\ny var-y\nm max x y\n"))
+    ≡ codes "P5\n2 3\n255\n" ++ 0 ∷ 0 ∷ 0 ∷ 0 ∷ 255 ∷ 0 ∷ []
+unfolding digits
+corner_image = refl
+
+corner_map : heights_of (window 2 3 2) (solid (codes "x var-x\ny var-y\nz var-z\nm max x y\nk max m z\n"))
+    ≡ codes "P5\n2 3\n2\n" ++ 0 ∷ 0 ∷ 0 ∷ 0 ∷ 1 ∷ 0 ∷ []
+unfolding digits heights_of
+corner_map = refl
+
+-- plain evaluation goes over all pixels, samples or points
+plain_pixels : plain_points (window 2 3 5) 7 ≡ 42
+plain_pixels = refl
+
+plain_samples : plain_depths (window 2 3 5) 7 ≡ 210
+plain_samples = refl
+
+plain_corners : plain_grid (record (window 2 3 5) { n = 3 }) 7 ≡ 448
+plain_corners = refl
+
+-- The left one of two boxes holds five samples, of which the middle one is 0, and so stays undecided.
+undecided_half : frame_work (window 9 1 1) (solid (codes "x var-x\n"))
+    ≡ exactly 5 3 9
+unfolding points_in spans_in chain_within
+undecided_half = refl
+
+-- what is decided at once takes no evaluation
+decided_at_once : frame_work (window 8 8 1) (solid (codes "a const -1\n"))
+    ≡ exactly 0 1 64
+unfolding points_in spans_in chain_within cut_magnitude is_unsigned_numeral nearest_raw unsigned_raw
+decided_at_once = refl
+
+-- of three samples of a column the one below 0 is the far one, whose top is 1
+far_top : heights_of (window 1 1 3) (solid (codes "z var-z\n")) ≡ codes "P5\n1 1\n3\n" ++ 1 ∷ []
+unfolding digits heights_of
+far_top = refl
+
+-- of 300 samples the lower 150 are below 0, and each top has two bytes
+two_bytes : heights_of (window 1 1 300) (solid (codes "z var-z\n")) ≡ codes "P5\n1 1\n300\n" ++ 0 ∷ 150 ∷ []
+unfolding digits heights_of
+two_bytes = refl
+
+-- one cell has no point but those of the outermost layer, which are outside
+one_cell : mesh_text (window 1 1 1) (solid (codes "a const -1\n"))
+    ≡ codes "ply\nformat ascii 1.0\nelement vertex 0\nproperty double x\nproperty double y\nproperty double z\nelement face 0\nproperty list uchar int vertex_indices\nend_header\n"
+unfolding digits grid_of mesh_text vertices faces all_triangles cut_magnitude is_unsigned_numeral nearest_raw unsigned_raw
+one_cell = refl
+
+-- two cells along each axis have 27 points, by z, then by y, then by x, of which the middle one alone keeps what is below 0
+abbrev two_cells : Window
+two_cells = record (window 1 1 1) { n = 2 }
+
+inner_point : (grid_of two_cells (λ p. negsuc 0)).values ≡ replicate 13 (pos 0) ++ negsuc 0 ∷ replicate 13 (pos 0)
+unfolding grid_of
+inner_point = refl
+
+along_x : take 4 (grid_of two_cells (λ p. p.x)).values ≡ pos 0 ∷ pos 0 ∷ pos 4294967296 ∷ pos 0 ∷ []
+unfolding grid_of
+along_x = refl
+
+along_y : take 7 (grid_of two_cells (λ p. p.y)).values ≡ replicate 6 (pos 0) ++ pos 4294967296 ∷ []
+unfolding grid_of
+along_y = refl
+
+along_z : take 19 (grid_of two_cells (λ p. p.z)).values ≡ replicate 18 (pos 0) ++ pos 4294967296 ∷ []
+unfolding grid_of
+along_z = refl
+
+-- the work of two frames is the sum, number by number
+sum_of_work : both (exactly 1 20 300) (exactly 4 50 600) ≡ exactly 5 70 900
+sum_of_work = refl
+
+nothing_adds_nothing : both no_work (exactly 1 20 300) ≡ exactly 1 20 300
+nothing_adds_nothing = refl
+
+-- a count has at most 64 bits
+points_beyond_a_count : FitsCounts (exactly 18446744073709551616 0 0) → ⊥
+points_beyond_a_count fits = absurd (omega (arith, fits.points))
+
+spans_beyond_a_count : FitsCounts (exactly 0 18446744073709551616 0) → ⊥
+spans_beyond_a_count fits = absurd (omega (arith, fits.spans))
+
+-- of a clause that the last one does not need, a map and a mesh take no work, but plain evaluation of it does
+map_of_two_clauses : height_work (window 1 1 3) (solid (codes "u var-x\nz var-z\n")) ≡ exactly 3 1 6
+unfolding points_in spans_in points_where spans_where chain_within
+map_of_two_clauses = refl
+
+-- a mesh of one cell is traced at no box of more than one
+mesh_of_two_clauses : mesh_work (window 1 1 1) (solid (codes "u var-x\na const -1\n"))
+    ≡ record (exactly 8 1 16) { least = points_of 8 }
+unfolding mesh_points mesh_least long_spans_in spans_of_cells way_within cut_magnitude is_unsigned_numeral nearest_raw unsigned_raw
+mesh_of_two_clauses = refl
+
+-- exact work is counted neither more nor less, and evaluations are no hulls
+abbrev two_points : Work
+two_points = exactly 2 0 0
+
+one_for_two : CountsWork no_counts (points_of 1) two_points → ⊥
+unfolding CountsWork
+one_for_two counts = (grind (arith, counts.enough.points, counts.rises))
+
+none_for_two : CountsWork no_counts no_counts two_points → ⊥
+unfolding CountsWork
+none_for_two counts = (grind (arith, counts.enough.points, counts.rises))
+
+three_for_two : CountsWithin no_counts (points_of 3) two_points → ⊥
+unfolding CountsWithin
+three_for_two counts = (grind (arith, counts.within.points, counts.rises))
+
+hull_for_two : CountsWithin no_counts (spans_of 1) two_points → ⊥
+unfolding CountsWithin
+hull_for_two counts = (grind (arith, counts.within.spans, counts.rises))
+
+three_above_two : PointsRiseAtMost no_counts (points_of 3) 2 → ⊥
+three_above_two rises = (grind (arith, rises.few, rises.rises))

@@ -1,0 +1,96 @@
+-- The grid of a view has the values of its points.
+use Rattle.std.proofs.Common.{◌≡◌, ℕ, zero, suc, ◌+◌, ◌*◌, ◌<◌, ◌≤◌, false, List, [], ◌∷◌, ◌++◌, length, get_or, refl, ap, ◌∙◌, arith, zero-add}
+use Rattle.std.specs.Prelude.{ℤ, pos, negsuc, flat_map, if◌then◌else◌}
+use Rattle.std.specs.Int.{int_max}
+use Rattle.std.specs.List.{range_with_len}
+use Rattle.std.proofs.lemmas.Bool.{and_parts, le-leb, le-ltb, leb-true}
+use Rattle.std.proofs.lemmas.List.{get_or-append-add, get_or_append_left, length-append}
+use Rattle.std.proofs.lemmas.Nat.{mul-add-lt}
+use Rattle.fixed_ops.specs.Points.{Point}
+use Rattle.fixed_ops.specs.Raw.{is_inside}
+use Rattle.kuhn_cells.specs.Cells.{IsBordered}
+use Rattle.kuhn_cells.specs.Grids.{over_block, value_at}
+use Rattle.kuhn_cells.specs.Triangles.{GridPoint, point}
+use Rattle.view_settings.specs.Places.{point_of}
+use Rattle.view_settings.specs.Window.{Window}
+use Rattle.view_settings.specs.declared.lattice.Lattice.TheVariants as lattices
+use Rattle.model_frames.specs.Meshes.{grid_of, grid_value}
+
+-- ---- pieces of one length, joined end to end
+
+pub flat_length : {A : Type 0} (f : ℕ → List A) (a n size : ℕ) → ((k : ℕ) → length (f k) ≡ size) → length (flat_map f (range_with_len a n)) ≡ n * size
+flat_length f a zero size each = omega arith
+flat_length f a (suc n) size each =
+    omega (arith, length-append (f a) (flat_map f (range_with_len (a + 1) n)), each a, flat_length f (a + 1) n size each)
+
+pub flat_item : {A : Type 0} (f : ℕ → List A) (a n size k i : ℕ) (d : A) → ((k : ℕ) → length (f k) ≡ size) → k < n → i < size
+    → get_or (flat_map f (range_with_len a n)) (k * size + i) d ≡ get_or (f (a + k)) i d
+flat_item f a zero size k i d each few within = absurd (omega (arith, few))
+flat_item f a (suc n) size zero i d each few within =
+    let first = each a in
+    let here : 0 * size + i ≡ i = omega arith in
+    let at : a + 0 ≡ a = omega arith in
+    rw (here, at) (get_or_append_left (f a) (flat_map f (range_with_len (a + 1) n)) d i (omega (arith, first, within)))
+flat_item f a (suc n) size (suc k) i d each few within =
+    let first = each a in
+    let there : suc k * size + i ≡ length (f a) + (k * size + i) = omega (arith, first) in
+    let at : (a + 1) + k ≡ a + suc k = omega arith in
+    ap (λ m. get_or (f a ++ flat_map f (range_with_len (a + 1) n)) m d) there
+    ∙ get_or-append-add (f a) (flat_map f (range_with_len (a + 1) n)) (k * size + i) d
+    ∙ flat_item f (a + 1) n size k i d each (omega (arith, few)) within
+    ∙ ap (λ m. get_or (f m) i d) at
+
+-- ---- the values of a grid
+
+one_each : (at : GridPoint → ℤ) (y z n : ℕ) → length (flat_map (λ x. at (point x y z) ∷ []) (range_with_len 0 n)) ≡ n * 1
+one_each at y z n = flat_length (λ x. at (point x y z) ∷ []) 0 n 1 (λ x. refl)
+
+row_each : (at : GridPoint → ℤ) (z n m : ℕ) → length (flat_map (λ y. flat_map (λ x. at (point x y z) ∷ []) (range_with_len 0 n)) (range_with_len 0 m)) ≡ m * (n * 1)
+row_each at z n m = flat_length (λ y. flat_map (λ x. at (point x y z) ∷ []) (range_with_len 0 n)) 0 m (n * 1) (λ y. one_each at y z n)
+
+-- the item of a block at the place of a point
+block_item : (at : GridPoint → ℤ) (n x y z : ℕ) (d : ℤ) → x < n → y < n → z < n
+    → get_or (over_block n n n (λ p. at p ∷ [])) ((z * n + y) * n + x) d ≡ at (point x y z)
+block_item at n x y z d fx fy fz =
+    let place : (z * n + y) * n + x ≡ z * (n * (n * 1)) + (y * (n * 1) + (x * 1 + 0)) = grind arith in
+    let one : n * 1 ≡ n = omega arith in
+    let column : x * 1 + 0 < n * 1 = omega (arith, fx) in
+    let row : y * (n * 1) + (x * 1 + 0) < n * (n * 1) = let h = mul-add-lt y (n * 1) (x * 1 + 0) n fy column in let e : n * 1 * n ≡ n * (n * 1) = grind arith in omega (arith, h, e) in
+    ap (λ m. get_or (over_block n n n (λ p. at p ∷ [])) m d) place
+    ∙ flat_item (λ z. flat_map (λ y. flat_map (λ x. at (point x y z) ∷ []) (range_with_len 0 n)) (range_with_len 0 n)) 0 n (n * (n * 1)) z (y * (n * 1) + (x * 1 + 0)) d (λ z. row_each at z n n) fz row
+    ∙ flat_item (λ y. flat_map (λ x. at (point x y (0 + z)) ∷ []) (range_with_len 0 n)) 0 n (n * 1) y (x * 1 + 0) d (λ y. one_each at y (0 + z) n) fy column
+    ∙ flat_item (λ x. at (point x (0 + y) (0 + z)) ∷ []) 0 n 1 x 0 d (λ x. refl) fx (omega arith)
+    ∙ ap (λ x. at (point x (0 + y) (0 + z))) (zero-add x)
+    ∙ ap (λ y. at (point x y (0 + z))) (zero-add y)
+    ∙ ap (λ z. at (point x y z)) (zero-add z)
+
+-- a grid has the value of each of its points
+pub grid_at : (view : Window) (value : Point → ℤ) (p : GridPoint) → p.x ≤ view.n → p.y ≤ view.n → p.z ≤ view.n
+    → value_at (grid_of view value) p ≡ grid_value view value p
+unfolding grid_of
+grid_at view value p fx fy fz =
+    block_item (grid_value view value) (view.n + 1) p.x p.y p.z (pos 0) (omega (arith, fx)) (omega (arith, fy)) (omega (arith, fz))
+
+-- no border is inside
+border_outside : (v : ℤ) → is_inside (int_max v (pos 0)) ≡ false
+border_outside (pos zero) = refl
+border_outside (pos (suc n)) = rw (le-leb 1 (suc n) (omega arith), le-ltb (suc n) 0 (omega arith)) refl
+border_outside (negsuc n) = refl
+
+pub grid_bordered : (view : Window) (value : Point → ℤ) → IsBordered (grid_of view value)
+unfolding grid_of
+grid_bordered view value = record {
+  whole = let n = view.n + 1 in
+      let size = flat_length (λ z. flat_map (λ y. flat_map (λ x. grid_value view value (point x y z) ∷ []) (range_with_len 0 n)) (range_with_len 0 n)) 0 n (n * (n * 1)) (λ z. row_each (grid_value view value) z n n) in
+      let same : n * (n * (n * 1)) ≡ n * (n * n) = grind arith in
+      size ∙ same;
+  outside = λ p within outer.
+      let x = and_parts _ _ within in
+      let yz = and_parts _ _ x.1 in
+      ap is_inside (grid_at view value p (leb-true p.x view.n x.0) (leb-true p.y view.n yz.0) (leb-true p.z view.n yz.1)
+      ∙ ap (λ t. if t then int_max (own p) (pos 0) else own p) outer)
+      ∙ border_outside (own p);
+}
+  where
+    own : GridPoint → ℤ
+    own p = value (point_of view lattices.Grid p.x p.y p.z)

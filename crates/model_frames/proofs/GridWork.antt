@@ -1,0 +1,92 @@
+-- What looking into the boxes of a grid takes.
+use Rattle.std.proofs.Common.{◌≡◌, ℕ, ◌+◌, ◌*◌, ◌≤◌, List, length, max, ap, refl, subst, arith, mul-le-mul_left}
+use Rattle.std.specs.Prelude.{IfOk, OnOk, Result}
+use Rattle.box_chains.specs.Tallied.{CountsAtMost, work_of}
+use Rattle.fixed_ops.specs.Counts.{Counts, risen}
+use Rattle.kuhn_cells.specs.declared.cell_list.CellList.{CellList}
+use Rattle.kuhn_cells.specs.Grids.{Grid}
+use Rattle.kuhn_cells.specs.Lists.{ListsCells}
+use Rattle.live_clauses.specs.Live.{root_of}
+use Rattle.live_clauses.specs.Steps.{IsTape, tape_value}
+use Rattle.live_clauses.specs.declared.step.Step.{Step}
+use Rattle.oct_descent.specs.Bound.{CountsAtLeast, CountsHullsAtLeast, mesh_least, mesh_long_spans, mesh_points, mesh_spans}
+use Rattle.oct_descent.specs.GridValues.{grid_of as list_grid}
+use Rattle.oct_descent.specs.Laws.{MeshPointsAreBounded}
+use Rattle.oct_descent.specs.Trees.{Gridding}
+use Rattle.solid_model.specs.declared.clause.Clause.{Clause}
+use Rattle.tetra_mesh.specs.Sizes.{size_of}
+use Rattle.view_settings.specs.Window.{IsWindow, Window}
+use Rattle.model_frames.specs.Meshes.{grid_of, plain_grid}
+use Rattle.model_frames.specs.Work.{CountsWithin, CountsWork, PointsRiseAtMost, mesh_work}
+use Rattle.model_frames.proofs.Frames.{on_ok, plain-within, root-few}
+use Rattle.model_frames.proofs.LeastWork.{least-most, long-all}
+
+-- the grid of a list is that of its values
+pub list_grid_is : (view : Window) (list : List Step) → list_grid view list ≡ grid_of view (λ p. tape_value p list)
+unfolding list_grid grid_of
+list_grid_is view list = refl
+
+-- what is counted of a list is counted of its root list
+pub mesh_within : (before after : Counts) (view : Window) (clauses : List Clause) (list : List Step) → list ≡ root_of clauses
+    → CountsAtMost (mesh_points view list) (mesh_spans view list) before after → CountsWithin before after (mesh_work view clauses)
+unfolding CountsWithin
+mesh_within before after view clauses list is h =
+    let root = subst (λ l. CountsAtMost (mesh_points view l) (mesh_spans view l) before after) is h in
+    record { by = root.by; within = root.few; rises = root.rises }
+
+-- A count that rises by some number and by another, too, rises by any between them.
+risen-between : (before after few many low : ℕ) → after ≡ risen before few → after ≡ risen before many → low ≤ many → after ≡ risen before (max few low)
+risen-between before after few many low a b less = omega (arith, a, b, less)
+
+counts-same : (counts : Counts) (points spans corners : ℕ) → counts.points ≡ points → counts.spans ≡ spans → counts.corners ≡ corners
+    → counts ≡ work_of points spans corners
+counts-same counts points spans corners p s c = λ k. record { points = p k; spans = s k; corners = c k }
+
+-- what is counted of a mesh that is made lies between its least and its most
+mesh-done : (before after : Counts) (view : Window) (clauses : List Clause)
+    → CountsAtMost (mesh_points view (root_of clauses)) (mesh_spans view (root_of clauses)) before after
+    → CountsAtLeast (mesh_least view (root_of clauses)) before after → CountsHullsAtLeast (mesh_long_spans view (root_of clauses)) before after
+    → CountsWork before after (mesh_work view clauses)
+unfolding CountsWork
+mesh-done before after view clauses h points spans =
+    let p = mesh_least view (root_of clauses) in
+    let s = mesh_long_spans view (root_of clauses) in
+    record {
+      by = work_of (max h.by.points p) (max h.by.spans s) h.by.corners;
+      enough = record { points = omega arith; spans = omega arith; corners = omega arith };
+      within = record {
+        points = omega (arith, h.few.points, least-most view (root_of clauses));
+        spans = omega (arith, h.few.spans, long-all view (root_of clauses));
+        corners = h.few.corners;
+      };
+      rises = counts-same after (risen before.points (max h.by.points p)) (risen before.spans (max h.by.spans s)) (risen before.corners h.by.corners)
+          (risen-between before.points after.points h.by.points points.by.points p (ap (λ c. c.points) h.rises) (ap (λ c. c.points) points.rises) points.many)
+          (risen-between before.spans after.spans h.by.spans spans.by.spans s (ap (λ c. c.spans) h.rises) (ap (λ c. c.spans) spans.rises) spans.many)
+          (ap (λ c. c.corners) h.rises);
+    }
+
+pub mesh_counted : {T E : Type 0} (r : Result T E) (before after : Counts) (view : Window) (clauses : List Clause) (list : List Step) → list ≡ root_of clauses
+    → CountsAtMost (mesh_points view list) (mesh_spans view list) before after → CountsAtLeast (mesh_least view list) before after
+    → CountsHullsAtLeast (mesh_long_spans view list) before after → OnOk r (CountsWork before after (mesh_work view clauses))
+mesh_counted r before after view clauses list is h points spans =
+    on_ok r _ (mesh-done before after view clauses
+    (subst (λ l. CountsAtMost (mesh_points view l) (mesh_spans view l) before after) is h)
+    (subst (λ l. CountsAtLeast (mesh_least view l) before after) is points)
+    (subst (λ l. CountsHullsAtLeast (mesh_long_spans view l) before after) is spans))
+
+-- a mesh takes no more evaluations than evaluating each clause at each point of the grid
+pub mesh_plain : (before after : Counts) (view : Window) (clauses : List Clause) (list : List Step) → list ≡ root_of clauses → IsWindow view → IsTape list
+    → MeshPointsAreBounded → CountsWithin before after (mesh_work view clauses) → PointsRiseAtMost before after (plain_grid view (length clauses))
+mesh_plain before after view clauses list is window tape points h =
+    let n = view.n + 1 in
+    let most = points view (root_of clauses) window (subst IsTape is tape) in
+    let less : n * (n * (n * length (root_of clauses))) ≤ plain_grid view (length clauses) = mul-le-mul_left n (mul-le-mul_left n (mul-le-mul_left n (root-few clauses))) in
+    let same : n * (n * n) * length (root_of clauses) ≡ n * (n * (n * length (root_of clauses))) = grind arith in
+    plain-within before after (mesh_work view clauses) (plain_grid view (length clauses)) (omega (arith, most, same, less)) h
+
+-- the cells that a tree of a list lists are those of the list's grid
+pub cells-same : {E : Type 0} (r : Result CellList E) (view : Window) (list : List Step) (tree : Gridding) → tree ≡ record { view = view; list = list }
+    → IfOk r (λ cells. ListsCells (size_of tree.view) cells (list_grid tree.view tree.list)) → IfOk r (λ cells. ListsCells (size_of view) cells (grid_of view (λ p. tape_value p list)))
+cells-same r view list tree is =
+    subst (λ (g : Grid). IfOk r (λ cells. ListsCells (size_of tree.view) cells (list_grid tree.view tree.list)) → IfOk r (λ cells. ListsCells (size_of view) cells g)) (list_grid_is view list)
+    (λ h. subst (λ (t : Gridding). IfOk r (λ cells. ListsCells (size_of t.view) cells (list_grid t.view t.list))) is h)

@@ -1,0 +1,32 @@
+use Rattle.std.proofs.Common.{length, subst}
+use Rattle.live_clauses.specs.Steps.{IsTape}
+use Rattle.model_frames.specs.Images.{plain_points}
+use Rattle.model_frames.specs.Work.{frame_work}
+use Rattle.model_frames.proofs.WorkLaws.{within-none}
+use Rattle.model_frames.proofs.Frames.{drawn_counted, drawn_few, drawn_fits, drawn_within, on_ok, plain-within}
+use Rattle.model_frames.proofs.render.draw_tree.Goals as goal
+
+pub returns-in_err-list-clause-at_most : goal.returns-in_err-list-clause-at_most
+returns-in_err-list-clause-at_most c = within-none c.args.tally.now (frame_work c.args.view.now c.args.model.now)
+
+pub returns-clause-counted : goal.returns-clause-counted
+returns-clause-counted c =
+    drawn_counted c.draw.result c.args.tally.now c.draw.new.tally c.args.view.now c.args.model.now c.in_ok-list.list c.in_ok-list.ensures.live c.draw.ensures.counted
+
+pub returns-clause-at_most : goal.returns-clause-at_most
+returns-clause-at_most c =
+    drawn_within c.draw.result c.args.tally.now c.draw.new.tally c.args.view.now c.args.model.now c.in_ok-list.list c.in_ok-list.ensures.live c.draw.ensures.counted c.draw.ensures.at_most
+
+pub returns-clause-fits : goal.returns-clause-fits
+returns-clause-fits c =
+    on_ok _ _ (drawn_fits c.args.view.now c.args.model.now c.in_ok-list.list c.in_ok-list.ensures.live c.window_holds.ensures
+    (subst IsTape c.list.view_is c.list.invariant) c.fresh_work_is_bounded.ensures.points c.fresh_work_is_bounded.ensures.spans)
+
+pub returns-clause-plain : goal.returns-clause-plain
+returns-clause-plain c =
+    let view = c.args.view.now in
+    let clauses = c.args.model.now in
+    let few = drawn_few view clauses c.in_ok-list.list c.in_ok-list.ensures.live c.window_holds.ensures
+    (subst IsTape c.list.view_is c.list.invariant) c.fresh_work_is_bounded.ensures.points in
+    plain-within c.args.tally.now c.draw.new.tally (frame_work view clauses) (plain_points view (length clauses)) few
+    (drawn_within c.draw.result c.args.tally.now c.draw.new.tally view clauses c.in_ok-list.list c.in_ok-list.ensures.live c.draw.ensures.counted c.draw.ensures.at_most)

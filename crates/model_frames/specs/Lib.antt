@@ -1,0 +1,9 @@
+pub mod Drawn
+pub mod Frames
+pub mod Heights
+pub mod Images
+pub mod Laws
+pub mod Meshes
+pub mod Pieces
+pub mod SoundTexts
+pub mod Work

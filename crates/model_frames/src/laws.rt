@@ -1,0 +1,8 @@
+// What always holds of the work of frames.
+ghost use Rattle.model_frames.specs.Laws.{FramesAddUp};
+
+/// The work of two frames is that of one after the other: exactly, at most, and in plain evaluations.
+#[inline]
+pub fn frames_add_up()
+    ensures { FramesAddUp }
+{}

@@ -1,0 +1,20 @@
+//! What can be drawn of a model over a view: its image, its height map, its mesh and its text.
+#![tactic(auto)]
+
+mod drawn;
+mod frame;
+mod height;
+mod laws;
+mod mesh;
+mod pieces;
+mod render;
+
+pub use drawn::Drawn;
+pub use frame::Frame;
+pub use laws::frames_add_up;
+pub use mesh::{mesh_texts_are_sound, solid_mesh};
+pub use pieces::Pieces;
+pub use render::draw_tree;
+
+#[cfg(test)]
+mod tests;

@@ -1,0 +1,10 @@
+// Why the text of a job is refused.
+
+use clause_reader::TextFault;
+
+/// Why the text of a job is refused: a fault for each kind of text.
+#[derive(Clone, Copy, Debug, PartialEq, Eq)]
+pub enum BadText {
+    /// The text of a model.
+    Model(TextFault),
+}

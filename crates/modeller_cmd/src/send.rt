@@ -1,0 +1,35 @@
+// How bytes go out: piece by piece.
+ghost use Rattle.std.specs.Prelude.{◌++◌, OnErr, OnOk};
+ghost use Rattle.model_frames.specs.Drawn.{HasText, drawn_bytes};
+ghost use Rattle.modeller_io.specs.Count.{RoseBy, Stands};
+ghost use Rattle.modeller_io.specs.Held.{Gains, GainsPrefix};
+ghost use Rattle.modeller_cmd.specs.Serving.{Sent};
+
+use crate::stop::Stop;
+use model_frames::{Drawn, Pieces};
+use modeller_io::{Failed, Sink, write_all};
+use std::alloc::Global;
+
+/// Writes the bytes of what is drawn. All memory is taken before the first byte is written.
+pub fn send<K: Sink>(alloc: Global, drawn: &Drawn, out: &mut K) -> Result<(), Stop>
+    requires { HasText drawn.now }
+    ensures { Sent K.held K.faults out.old out.new (drawn_bytes drawn.now) result }
+{
+    let pieces = drawn.pieces(alloc)?;
+    Ok(write_pieces(out, pieces)?)
+}
+
+/// Writes pieces, one after the other. After `Failed` some of all this was taken, from its front.
+pub fn write_pieces<K: Sink>(out: &mut K, mut text: Pieces) -> Result<(), Failed>
+    ensures ok { OnOk result (Gains K.held out.old out.new (text.entry.piece ++ text.entry.rest)) }
+    ensures err { OnErr result (GainsPrefix K.held out.old out.new
+        (text.entry.piece ++ text.entry.rest)) }
+    ensures no_fault { OnOk result (Stands K.faults out.old out.new) }
+    ensures cause { OnErr result (RoseBy K.faults out.old out.new 1) }
+{
+    write_all(out, text.piece())?;
+    while text.advance() {
+        write_all(out, text.piece())?;
+    }
+    Ok(())
+}
