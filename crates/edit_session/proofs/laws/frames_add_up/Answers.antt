@@ -2,4 +2,4 @@ use Rattle.edit_session.proofs.WorkLaws.{frames_add_up_is}
 use Rattle.edit_session.proofs.laws.frames_add_up.Goals as goal
 
 pub returns : goal.returns
-returns c = frames_add_up_is
+returns c = frames_add_up_is c.tallies_add_up.ensures
