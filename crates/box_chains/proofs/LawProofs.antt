@@ -1,6 +1,7 @@
 -- The laws of chains, from those of the layers below.
 use Rattle.std.proofs.Common.{◌≡◌, ◌+◌, ◌*◌, Bool, true, false, cond, [], ◌∷◌, length, refl, sym, ap, ◌∙◌, arith}
 use Rattle.std.specs.List.{sum_by}
+use Rattle.fixed_ops.specs.Laws.{TalliesAddUp}
 use Rattle.fixed_ops.specs.Raw.{is_inside}
 use Rattle.view_settings.specs.Boxes.{halves_of}
 use Rattle.view_settings.specs.Laws.{HalvesPart}
@@ -101,28 +102,28 @@ visits_hold_is laws = record {
   halves = half-is_visit laws;
 }
 
-work_adds_up_is : WorkAddsUp
-work_adds_up_is = record {
-  none = exactly-none;
-  sum = exactly-then;
+work_adds_up_is : TalliesAddUp → WorkAddsUp
+work_adds_up_is tallies = record {
+  none = exactly-none tallies;
+  sum = exactly-then tallies;
   hulls = exactly-hulls;
   points = exactly-points;
 }
 
-bounds_add_up_is : BoundsAddUp
-bounds_add_up_is = record {
-  none = most-none;
+bounds_add_up_is : TalliesAddUp → BoundsAddUp
+bounds_add_up_is tallies = record {
+  none = most-none tallies;
   exact = most-exactly;
   more = most-more;
-  sum = most-then;
-  after = most-after;
+  sum = most-then tallies;
+  after = most-after tallies;
   hulls = most-hulls;
   points = most-points;
 }
 
 -- all laws, from those of the layers below
-pub lawful : LayersHold → Lawful
-lawful laws = record {
+pub lawful : TalliesAddUp → LayersHold → Lawful
+lawful tallies laws = record {
   layers = laws;
   parts = halves_are_parts_is laws.halves;
   sums = sums_add_up_is;
@@ -134,6 +135,7 @@ lawful laws = record {
   spans = spans_add_up_is laws;
   tested = tested_work_adds_up_is laws;
   redrawn = redrawn_work_adds_up_is laws;
-  work = work_adds_up_is;
-  bounds = bounds_add_up_is;
+  work = work_adds_up_is tallies;
+  bounds = bounds_add_up_is tallies;
+  tallies = tallies;
 }

@@ -1,21 +1,22 @@
 -- How exact work and bounds of work add up.
 use Rattle.std.proofs.Common.{◌≡◌, ℕ, ◌+◌, ◌≤◌, subst, arith}
-use Rattle.fixed_ops.specs.CountLaws.{RisesBy-none, RisesBy-then}
 use Rattle.fixed_ops.specs.Counts.{Counts, RisesBy, plus, points_of}
+use Rattle.fixed_ops.specs.Laws.{TalliesAddUp}
 use Rattle.interval_ops.specs.HullCounts.{CountsHulls}
 use Rattle.box_chains.specs.Tallied.{CountsAtMost, CountsExactly, work_of}
 
-pub exactly-none : (counts : Counts) → CountsExactly 0 0 counts counts
-exactly-none counts = record { corners = 0; few = omega arith; rises = RisesBy-none counts }
+pub exactly-none : TalliesAddUp → (counts : Counts) → CountsExactly 0 0 counts counts
+exactly-none tallies counts =
+    record { corners = 0; few = omega arith; rises = tallies.none counts }
 
 -- work after other work
-pub exactly-then : (before mid after : Counts) (p s q t : ℕ) → CountsExactly p s before mid
-    → CountsExactly q t mid after
+pub exactly-then : TalliesAddUp → (before mid after : Counts) (p s q t : ℕ)
+    → CountsExactly p s before mid → CountsExactly q t mid after
     → CountsExactly (p + q) (s + t) before after
-exactly-then before mid after p s q t first second = record {
+exactly-then tallies before mid after p s q t first second = record {
   corners = first.corners + second.corners;
   few = omega (arith, first.few, second.few);
-  rises = RisesBy-then before mid after (work_of p s first.corners)
+  rises = tallies.sum before mid after (work_of p s first.corners)
       (work_of q t second.corners) first.rises second.rises;
 }
 
@@ -56,30 +57,30 @@ most-more before after p s q t few less h = record {
   rises = h.rises;
 }
 
-pub most-none : (counts : Counts) (p s : ℕ) → CountsAtMost p s counts counts
-most-none counts p s =
-    most-exactly counts counts 0 0 p s (omega arith) (omega arith) (exactly-none counts)
+pub most-none : TalliesAddUp → (counts : Counts) (p s : ℕ) → CountsAtMost p s counts counts
+most-none tallies counts p s =
+    most-exactly counts counts 0 0 p s (omega arith) (omega arith) (exactly-none tallies counts)
 
 -- bounded work after bounded work
-pub most-then : (before mid after : Counts) (p s q t r u : ℕ) → p + q ≤ r → s + t ≤ u
-    → CountsAtMost p s before mid
+pub most-then : TalliesAddUp → (before mid after : Counts) (p s q t r u : ℕ) → p + q ≤ r
+    → s + t ≤ u → CountsAtMost p s before mid
     → CountsAtMost q t mid after → CountsAtMost r u before after
-most-then before mid after p s q t r u few less first second = record {
+most-then tallies before mid after p s q t r u few less first second = record {
   by = plus first.by second.by;
   few = record {
     points = omega (arith, few, first.few.points, second.few.points);
     spans = omega (arith, less, first.few.spans, second.few.spans);
     corners = omega (arith, less, first.few.corners, second.few.corners);
   };
-  rises = RisesBy-then before mid after first.by second.by first.rises second.rises;
+  rises = tallies.sum before mid after first.by second.by first.rises second.rises;
 }
 
 -- bounded work after exact work
-pub most-after : (before mid after : Counts) (p s q t r u : ℕ) → p + q ≤ r → s + t ≤ u
-    → CountsExactly p s before mid
+pub most-after : TalliesAddUp → (before mid after : Counts) (p s q t r u : ℕ) → p + q ≤ r
+    → s + t ≤ u → CountsExactly p s before mid
     → CountsAtMost q t mid after → CountsAtMost r u before after
-most-after before mid after p s q t r u few less first second =
-    most-then before mid after p s q t r u few less (most-exactly before mid p s p s (omega arith)
+most-after tallies before mid after p s q t r u few less first second =
+    most-then tallies before mid after p s q t r u few less (most-exactly before mid p s p s (omega arith)
     (omega arith) first) second
 
 pub most-hulls : (before after : Counts) (n : ℕ) → CountsHulls n before after

@@ -3,6 +3,7 @@ use Rattle.std.proofs.Common.{ℕ, ◌+◌, ◌*◌, ◌≤◌, sym, subst, arit
 use Rattle.std.proofs.Math.Nat.{add-mul, mul-le-mul_right}
 use Rattle.std.specs.Prelude.{Result, Ok, Err, OnErr, OnOk}
 use Rattle.fixed_ops.specs.Counts.{Counts}
+use Rattle.fixed_ops.specs.Laws.{TalliesAddUp}
 use Rattle.interval_ops.specs.Laws.{HullCountsAdd}
 use Rattle.interval_ops.specs.HullCounts.{CountsHulls}
 use Rattle.box_chains.proofs.TallyLaws.{exactly-hulls, most-after, most-exactly}
@@ -16,10 +17,10 @@ hulls-more add before mid after i n len first second =
     (add before mid after (i * len) (n * len) first second)
 
 -- and the traces of the rest are begun
-pub hulls-begun : (before mid after : Counts) (i n m len : ℕ) → i + n ≤ m → CountsHulls (i * len) before mid
+pub hulls-begun : TalliesAddUp → (before mid after : Counts) (i n m len : ℕ) → i + n ≤ m → CountsHulls (i * len) before mid
     → CountsAtMost 0 (n * len) mid after → CountsAtMost 0 (m * len) before after
-hulls-begun before mid after i n m len few first second =
-    most-after before mid after 0 (i * len) 0 (n * len) 0 (m * len) (omega arith)
+hulls-begun tallies before mid after i n m len few first second =
+    most-after tallies before mid after 0 (i * len) 0 (n * len) 0 (m * len) (omega arith)
     (omega (arith, add-mul i n len, mul-le-mul_right len few)) (exactly-hulls before mid (i * len) first) second
 
 -- the traces of some boxes are among those of all

@@ -4,6 +4,7 @@ use Rattle.std.specs.List.{All, AllPairs, Contains, range_with_len, sum_by}
 use Rattle.choice_trace.specs.Laws.{AreRanges}
 use Rattle.choice_trace.specs.PointLaws.{ChoicesAreOfSteps, ChoicesAreRight, ValuesAreHeld}
 use Rattle.fixed_ops.specs.Counts.{Counts, RisesBy, points_of}
+use Rattle.fixed_ops.specs.Laws.{TalliesAddUp}
 use Rattle.fixed_ops.specs.Raw.{is_inside}
 use Rattle.interval_ops.specs.HullCounts.{CountsHulls}
 use Rattle.live_clauses.specs.Laws.{ChoicesKeepTheValue, ListsAreToldApart, LiveListsAreTapes}
@@ -247,3 +248,4 @@ pub record Lawful : Type 0 where
   pub redrawn : RedrawnWorkAddsUp
   pub work : WorkAddsUp
   pub bounds : BoundsAddUp
+  pub tallies : TalliesAddUp

@@ -2,15 +2,17 @@
 ghost use Rattle.box_chains.specs.Laws.{BoxesAreCountedOnce, ChainsGoOn, Lawful, PointsAddUp, PointsAreBounded, RedrawnWorkAddsUp, SamplesAreTold, SpansAddUp, SpansAreBounded, TestedWorkAddsUp};
 
 use choice_trace::traces_are_right;
+use fixed_ops::tallies_add_up;
 use live_clauses::{choices_keep_the_value, lists_are_told_apart, live_steps_are_the_least};
 use view_settings::{halves_part, ranges_hold};
 
-/// What the layers below promise of boxes, lists and points, and what follows from it of boxes and
-/// their halves, of chains and of work, in one place.
+/// What the layers below promise of tallies, boxes, lists and points, and what follows from it of
+/// boxes and their halves, of chains and of work, in one place.
 #[inline]
 pub fn layers_hold()
     ensures { Lawful }
 {
+    tallies_add_up();
     halves_part();
     ranges_hold();
     live_steps_are_the_least();

@@ -15,7 +15,7 @@ use crate::rows::{Rows, held_open};
 use crate::{AskedBox, Outcome, Places};
 use arrayvec::ArrayVec;
 use choice_trace::{trace, traces_are_right};
-use fixed_ops::{Fx, Tally};
+use fixed_ops::{Fx, Tally, tallies_add_up};
 use interval_ops::{Choice, Region, Span, decided, hull_counts};
 use live_clauses::{Tape, live_lists_are_whole, live_steps_are_the_least, prune_with};
 use std::alloc::{AllocError, Global};
@@ -160,6 +160,7 @@ impl Workspace {
         ensures at_most { OnErr result
             (CountsAtMost 0 (length asked.now * length tape.now) tally.old tally.new) }
     {
+        tallies_add_up();
         hull_counts();
         let mut outcomes = ArrayVec::new();
         let mut at = 0;

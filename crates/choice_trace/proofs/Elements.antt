@@ -2,8 +2,8 @@
 use Rattle.std.proofs.Common.{◌≡◌, ℕ, ◌+◌, ◌<◌, ℤ, pos, ◌⊎◌, inl, inr, List, length, set, get_or, Some, slice_get, sym, subst, arith}
 use Rattle.std.proofs.lemmas.Bool.{cases_eq}
 use Rattle.std.proofs.lemmas.List.{get_or-set_same, get_or-set_other}
-use Rattle.fixed_ops.specs.Counts.{Counts, RisesBy, RisesWithin, no_counts, plus, times}
-use Rattle.fixed_ops.specs.CountLaws.{IsAtMost-plus, RisesBy-apart, RisesBy-none, RisesBy-then, plus-times}
+use Rattle.fixed_ops.specs.Counts.{Counts, RisesWithin, no_counts, plus, times}
+use Rattle.fixed_ops.specs.Laws.{TalliesAddUp}
 use Rattle.fixed_ops.specs.Points.{Point}
 use Rattle.live_clauses.specs.Steps.{AreSteps, value_after, value_at, values}
 use Rattle.live_clauses.specs.Laws.{ValuesAreOfOperands}
@@ -37,32 +37,28 @@ step_stands of_operands stands_for p steps at step a b new stand is operands res
     (subst (λ v. stands_for new v) operands.is (results operands.left operands.right operands.for_a operands.for_b))
 
 -- a tally that stands rises by no work
-pub within_none : (counts least most : Counts) → RisesWithin counts counts (times 0 least) (times 0 most)
-within_none counts least most = record {
+pub within_none : TalliesAddUp → (counts least most : Counts) → RisesWithin counts counts (times 0 least) (times 0 most)
+within_none tallies counts least most = record {
   by = no_counts;
   enough = record { points = omega arith; spans = omega arith; corners = omega arith };
   within = record { points = omega arith; spans = omega arith; corners = omega arith };
-  rises = RisesBy-none counts;
+  rises = tallies.none counts;
 }
 
 -- one more piece of work
-pub within_more : (before mid after least most : Counts) (n : ℕ) → RisesWithin before mid (times n least) (times n most) → RisesWithin mid after least most
+pub within_more : TalliesAddUp → (before mid after least most : Counts) (n : ℕ) → RisesWithin before mid (times n least) (times n most) → RisesWithin mid after least most
     → RisesWithin before after (times (n + 1) least) (times (n + 1) most)
-within_more before mid after least most n first second =
-    subst (λ c. RisesWithin before after c (times (n + 1) most)) (plus-times n least)
-    (subst (λ c. RisesWithin before after (plus (times n least) least) c) (plus-times n most)
-    (record {
-      by = plus first.by second.by;
-      enough = IsAtMost-plus (times n least) least first.by second.by first.enough second.enough;
-      within = IsAtMost-plus first.by second.by (times n most) most first.within second.within;
-      rises = RisesBy-then before mid after first.by second.by first.rises second.rises;
-    }))
-
--- a tally that takes in work within bounds rises within them
-pub RisesWithin-apart : (before after work least most : Counts) → RisesWithin no_counts work least most → RisesBy before after work → RisesWithin before after least most
-RisesWithin-apart before after work least most counted joins = record {
-  by = counted.by;
-  enough = counted.enough;
-  within = counted.within;
-  rises = RisesBy-apart before after work counted.by counted.rises joins;
+within_more tallies before mid after least most n first second = record {
+  by = plus first.by second.by;
+  enough = record {
+    points = omega (arith, first.enough.points, second.enough.points);
+    spans = omega (arith, first.enough.spans, second.enough.spans);
+    corners = omega (arith, first.enough.corners, second.enough.corners);
+  };
+  within = record {
+    points = omega (arith, first.within.points, second.within.points);
+    spans = omega (arith, first.within.spans, second.within.spans);
+    corners = omega (arith, first.within.corners, second.within.corners);
+  };
+  rises = tallies.sum before mid after first.by second.by first.rises second.rises;
 }

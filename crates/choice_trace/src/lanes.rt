@@ -6,7 +6,7 @@ ghost use Rattle.live_clauses.specs.Steps.{IsStepAt, tape_value};
 ghost use Rattle.choice_trace.specs.Lanes.{in_lane, lane_value, number_at, point_in};
 
 use crate::Inputs;
-use fixed_ops::{Fx, Op, Tally, apply, count_points};
+use fixed_ops::{Fx, Op, Tally, apply, count_points, steps_read_their_operands};
 use live_clauses::{Step, Tape, values_are_of_operands};
 
 /// The values of a list at the points of the first L lanes of the inputs, each in its lane. The
@@ -26,6 +26,7 @@ pub fn evaluate_lanes<const L: usize>(
     ensures rest { drop (length tape.now) regs.new ≡ drop (length tape.now) regs.old }
     ensures counted { RisesBy tally.old tally.new (points_of (L * length tape.now)) }
 {
+    steps_read_their_operands();
     values_are_of_operands();
     let steps = tape.steps();
     let len = steps.len();

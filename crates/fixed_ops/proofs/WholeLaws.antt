@@ -1,11 +1,10 @@
 -- The floor of a raw number is what inequalities say of it, and nothing else is.
-use Rattle.std.proofs.Common.{◌≡◌, ◌+◌, ◌^◌, ◌<◌, ℕ, ℤ, pos, ◌*ℤ◌, ◌+ℤ◌, arith, sym, ◌∙◌}
-use Rattle.std.specs.Prelude.{◌<ℤ◌, ◌≤ℤ◌}
+use Rattle.std.proofs.Common.{◌≡◌, ◌^◌, ℤ, arith, sym, ◌∙◌}
 use Rattle.std.proofs.lemmas.Int.{ints, clamps, by_lt_z}
 use Rattle.fixed_ops.specs.Laws.{IsWhole, IsWholeBelow, OnlyWholeHolds, WholeHolds, least_whole}
 use Rattle.fixed_ops.specs.Operations.{whole_of}
-use Rattle.fixed_ops.specs.Raw.{IsRaw, floor_div, least}
-use Rattle.fixed_ops.specs.RoundingLaws.{floor_div_is_floor}
+use Rattle.fixed_ops.specs.Raw.{IsRaw, floor_div}
+use Rattle.fixed_ops.proofs.RoundingLaws.{floor_div_is_floor}
 
 pub whole_of_is : (a : ℤ) → IsRaw a → IsWhole a (whole_of a)
 whole_of_is a raw =

@@ -1,5 +1,4 @@
 pub mod Arity
-pub mod CountLaws
 pub mod Counts
 pub mod Cut
 pub mod Floor
@@ -8,11 +7,8 @@ pub mod NumberTexts
 pub mod Numerals
 pub mod OpNames
 pub mod Operations
-pub mod PointLaws
 pub mod Points
 pub mod Quotient
 pub mod Raw
-pub mod ResultLaws
 pub mod Root
-pub mod RoundingLaws
 pub mod Spelling

@@ -13,7 +13,7 @@ use crate::{Fx, Op, Tally};
 /// The result of an operation on two numbers, counted as one evaluation at a point. A coordinate
 /// or a constant is handed in as `a` and comes back as it is.
 #[inline]
-#[tactic(auto, using(crate::specs::ResultLaws::root_of_is_root))]
+#[tactic(auto, using(crate::proofs::ResultLaws::root_of_is_root))]
 pub fn apply(op: Op, a: Fx, b: Fx, tally: &mut Tally) -> Fx
     ensures value { result ≡ op_result op a b }
     ensures root { op ≡ Op.Sqrt → IsRawRoot a result }
@@ -26,7 +26,7 @@ pub fn apply(op: Op, a: Fx, b: Fx, tally: &mut Tally) -> Fx
 /// The result of an operation on two numbers, counted as one corner of a hull. It is the number that
 /// `apply` gives.
 #[inline]
-#[tactic(auto, using(crate::specs::ResultLaws::root_of_is_root))]
+#[tactic(auto, using(crate::proofs::ResultLaws::root_of_is_root))]
 pub fn corner(op: Op, a: Fx, b: Fx, tally: &mut Tally) -> Fx
     ensures value { result ≡ op_result op a b }
     ensures root { op ≡ Op.Sqrt → IsRawRoot a result }

@@ -1,8 +1,9 @@
 // What always holds of the definitions that the contracts cite.
-ghost use Rattle.fixed_ops.specs.Laws.{ClampHolds, FloorHolds, NumberTextsAreRead, OnlyFloorHolds, OnlyQuotientHolds, OnlyWholeHolds, QuotientByZeroHolds, QuotientHolds, ResultsAreRaw, SpellingsAreRead, WholeHolds};
+ghost use Rattle.fixed_ops.specs.Laws.{ClampHolds, FloorHolds, NumberTextsAreRead, OnlyFloorHolds, OnlyQuotientHolds, OnlyRootHolds, OnlyWholeHolds, OwnOperandsAreRead, QuotientByZeroHolds, QuotientHolds, ResultsAreRaw, RootHolds, SpellingsAreRead, StepsAreRaw, TalliesAddUp, WholeHolds};
 
 /// A whole number divided by one above 0 is rounded down: the quotient is the greatest whole number
 /// that is at most the exact one.
+#[inline]
 pub fn floors()
     ensures hold { FloorHolds }
     ensures only { OnlyFloorHolds }
@@ -30,9 +31,33 @@ pub fn whole_numbers()
     ensures only { OnlyWholeHolds }
 {}
 
+/// The root of a natural number is the greatest one whose square is not above it, and nothing else
+/// is.
+#[inline]
+pub fn roots()
+    ensures hold { RootHolds }
+    ensures only { OnlyRootHolds }
+{}
+
 /// The result of an operation on raw numbers is a raw number.
+#[inline]
 pub fn raw_results()
     ensures { ResultsAreRaw }
+{}
+
+/// What a step makes of its operands: it reads only those that its operation has, and gives a raw
+/// number from raw numbers.
+#[inline]
+pub fn steps_read_their_operands()
+    ensures read { OwnOperandsAreRead }
+    ensures raw { StepsAreRaw }
+{}
+
+/// Rises of a tally, exact ones and bounded ones, add up: one after another, counted apart and then
+/// joined, and where nothing is counted.
+#[inline]
+pub fn tallies_add_up()
+    ensures { TalliesAddUp }
 {}
 
 /// A numeral has the value of the parts that spell it.

@@ -22,7 +22,8 @@ pub use crossing::cut;
 pub use digits::read_digits;
 pub use fixed::{Fx, border, is_inside, le, lt, raw_range};
 pub use laws::{
-    clamps, floors, number_texts, quotients, raw_results, spelled_values, whole_numbers,
+    clamps, floors, number_texts, quotients, raw_results, roots, spelled_values,
+    steps_read_their_operands, tallies_add_up, whole_numbers,
 };
 pub use number_text::{write_number, write_raw};
 pub use numeral::{BadNumeral, read_numeral, read_raw};

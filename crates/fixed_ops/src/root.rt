@@ -21,7 +21,7 @@ pub(crate) fn root(a: i64) -> i64
 
 // The square root of n * 2^32, rounded down. An even shift first brings n to 63 or 64 bits, and
 // half of it brings the root back.
-#[tactic(auto, using(crate::specs::ResultLaws::root_is))]
+#[tactic(auto, using(crate::proofs::ResultLaws::root_is))]
 fn root_of_size(n: u64) -> u64
     requires positive { 0 < n }
     requires size { n < 2 ^ 62 }

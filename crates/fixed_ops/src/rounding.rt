@@ -75,7 +75,7 @@ fn rounded(v: i128) -> i64
 
 // The high 64 bits of v.
 #[inline]
-#[tactic(auto, using(crate::specs::RoundingLaws::floor_div_is_floor))]
+#[tactic(auto, using(crate::proofs::RoundingLaws::floor_div_is_floor))]
 fn high_word(v: i128) -> i64
     ensures { IsFloor v (2 ^ 64) result }
 {
@@ -84,7 +84,7 @@ fn high_word(v: i128) -> i64
 
 // The whole number of 2^-32 below a whole number of 2^-64.
 #[inline]
-#[tactic(auto, using(crate::specs::RoundingLaws::floor_div_is_floor))]
+#[tactic(auto, using(crate::proofs::RoundingLaws::floor_div_is_floor))]
 fn floored(v: i128) -> i128
     ensures value { result ≡ floor_div v (2 ^ 32) }
     ensures floor { IsFloor v (2 ^ 32) result }

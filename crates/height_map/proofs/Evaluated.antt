@@ -7,7 +7,6 @@ use Rattle.box_chains.specs.Counts.{cost, end_cost}
 use Rattle.box_chains.specs.Sums.{LiesIn, Sample, sum_in}
 use Rattle.box_chains.specs.Visits.{IsVisit}
 use Rattle.box_chains.specs.Laws.{Lawful}
-use Rattle.fixed_ops.specs.CountLaws.{risen-risen, risen-zero}
 use Rattle.fixed_ops.specs.Counts.{Counts, RisesBy, points_of, risen}
 use Rattle.interval_ops.specs.HullCounts.{CountsHulls}
 use Rattle.live_clauses.specs.declared.step.Step.{Step}
@@ -29,7 +28,7 @@ use Rattle.height_map.proofs.WorkLaws.{decided-split, points-end, points-open}
 
 -- no evaluation
 pub points-none : (counts : Counts) (n : ℕ) → n ≡ 0 → CountsPoints n counts counts
-points-none counts n none = sym (ap (risen counts.points) none ∙ risen-zero counts.points)
+points-none counts n none = omega (arith, none)
 
 -- the same number of them
 pub points-are : (before after : Counts) (m n : ℕ) → m ≡ n → CountsPoints m before after → CountsPoints n before after
@@ -37,8 +36,7 @@ points-are before after m n same h = h ∙ ap (risen before.points) same
 
 -- evaluations after others
 pub points-then : (before mid after : Counts) (m n k : ℕ) → m + n ≡ k → CountsPoints m before mid → CountsPoints n mid after → CountsPoints k before after
-points-then before mid after m n k same first second =
-    second ∙ ap (λ p. risen p n) first ∙ risen-risen before.points m n ∙ ap (risen before.points) same
+points-then before mid after m n k same first second = omega (arith, same, first, second)
 
 -- hulls are no evaluations
 pub points-hulls : (before after : Counts) (n : ℕ) → CountsHulls n before after → CountsPoints 0 before after

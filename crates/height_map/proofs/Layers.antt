@@ -5,8 +5,8 @@ use Rattle.std.proofs.lemmas.List.{length-drop, take_all}
 use Rattle.std.proofs.lemmas.List.Folds.{list_any-append, list_any_more}
 use Rattle.std.proofs.lemmas.Nat.{div-mul-add, mod-mul-add}
 use Rattle.std.proofs.Math.Seq.{take-add}
-use Rattle.fixed_ops.specs.CountLaws.{RisesBy-then}
 use Rattle.fixed_ops.specs.Counts.{Counts, RisesBy, points_of}
+use Rattle.fixed_ops.specs.Laws.{TalliesAddUp}
 use Rattle.fixed_ops.specs.Raw.{is_inside}
 use Rattle.live_clauses.specs.Steps.{tape_value}
 use Rattle.live_clauses.specs.declared.step.Step.{Step}
@@ -76,10 +76,10 @@ pub column-outside : (view : Window) (list : List Step) (k place : ℕ) (xs : Li
 column-outside view list k place xs is = Changes-keep (layer_top view list k) xs place (ap (λ t. cond t (k + 1) (get_or xs place 0)) is)
 
 -- so many more are counted
-pub lanes-counted : (before mid after : Counts) (at more len : ℕ) → RisesBy before mid (points_of (at * len)) → RisesBy mid after (points_of (more * len)) → RisesBy before after (points_of ((at + more) * len))
-lanes-counted before mid after at more len first second =
+pub lanes-counted : TalliesAddUp → (before mid after : Counts) (at more len : ℕ) → RisesBy before mid (points_of (at * len)) → RisesBy mid after (points_of (more * len)) → RisesBy before after (points_of ((at + more) * len))
+lanes-counted tallies before mid after at more len first second =
     let both : at * len + more * len ≡ (at + more) * len = grind arith in
-    subst (λ n. RisesBy before after (points_of n)) both (RisesBy-then before mid after (points_of (at * len)) (points_of (more * len)) first second)
+    subst (λ n. RisesBy before after (points_of n)) both (tallies.sum before mid after (points_of (at * len)) (points_of (more * len)) first second)
 
 -- whether the sample of a column is inside
 pub sample-inside : (view : Window) (list : List Step) (k len : ℕ) (column : Column) (value : ℤ) (test : Bool) → IsColumn view len column → value ≡ tape_value (point_at view k column) list

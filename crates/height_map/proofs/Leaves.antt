@@ -14,7 +14,6 @@ use Rattle.std.proofs.lemmas.Map.Views.{any-filter_same}
 use Rattle.std.proofs.lemmas.Nat.{div-mul-add, mod-mul-add}
 use Rattle.box_chains.specs.Sums.{LiesIn, Sample, size, sum_along, sum_in}
 use Rattle.box_chains.specs.Laws.{Lawful}
-use Rattle.fixed_ops.specs.CountLaws.{RisesBy-none, RisesBy-then}
 use Rattle.fixed_ops.specs.Counts.{Counts, RisesBy, points_of}
 use Rattle.live_clauses.specs.declared.step.Step.{Step}
 use Rattle.view_settings.specs.Boxes.{Indices, IsBox}
@@ -308,7 +307,7 @@ deeper-counted laws view list b w k len columns xs ys before mid after width amo
     let cost : length columns * length list ≡ sum_in (layer_of b k) (leaf_cost view list b xs) =
     ap (λ l. length l * length list) all ∙ layer-cost laws view list b ys w k width ∙ layer-same laws view list b w k len xs ys width among there above below changed in
     let parts = laws.axes.parts k (k + 1) b.z1 (λ k. sum_along b.y0 b.y1 (λ j. sum_along b.x0 b.x1 (λ i. leaf_cost view list b xs (record { i = i; j = j; k = k })))) (omega arith) (omega (arith, below)) in
-    subst (λ n. RisesBy before after (points_of n)) (omega (arith, parts, cost)) (RisesBy-then before mid after (points_of nearer) (points_of layer) first second)
+    subst (λ n. RisesBy before after (points_of n)) (omega (arith, parts, cost)) (laws.tallies.sum before mid after (points_of nearer) (points_of layer) first second)
 
 -- before any layer is drawn nothing has changed, and nothing is counted
 pub none-drawn : (view : Window) (list : List Step) (b : Indices) (w high : ℕ) (tops : List ℕ) → high ≡ b.z1 → Changes (covers w b) (leaf_top view list (record b { z0 = high })) tops tops
@@ -319,7 +318,7 @@ none-drawn view list b w high tops all =
 
 pub none-counted : (laws : Lawful) (b : Indices) (high : ℕ) (g : Sample → ℕ) (counts : Counts) → high ≡ b.z1 → RisesBy counts counts (points_of (sum_in (record b { z0 = high }) g))
 none-counted laws b high g counts all =
-    subst (λ n. RisesBy counts counts (points_of n)) (sym (sum-nothing laws (record b { z0 = high }) g (λ s lies. absurd (omega (arith, all, lies.z))))) (RisesBy-none counts)
+    subst (λ n. RisesBy counts counts (points_of n)) (sym (sum-nothing laws (record b { z0 = high }) g (λ s lies. absurd (omega (arith, all, lies.z))))) (laws.tallies.none counts)
 
 -- a column that is there is the same by any default
 any-default : (xs : List Column) (n : ℕ) (d e : Column) → n < length xs → get_or xs n d ≡ get_or xs n e

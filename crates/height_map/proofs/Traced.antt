@@ -11,7 +11,6 @@ use Rattle.box_chains.specs.Parts.{IsPart}
 use Rattle.box_chains.specs.Sums.{LiesIn, Sample, size, sum_along, sum_in}
 use Rattle.box_chains.specs.Visits.{IsVisit}
 use Rattle.box_chains.specs.Laws.{Lawful}
-use Rattle.fixed_ops.specs.CountLaws.{risen-risen, risen-zero}
 use Rattle.fixed_ops.specs.Counts.{Counts, RisesBy, points_of, risen}
 use Rattle.interval_ops.specs.HullCounts.{CountsHulls}
 use Rattle.live_clauses.specs.declared.step.Step.{Step}
@@ -115,7 +114,7 @@ open-some laws view list b w tops width is open' = lt-ltb 0 (sum_in b passed) (o
 
 -- no hull
 spans-none : (counts : Counts) (n : ℕ) → n ≡ 0 → CountsSpans n counts counts
-spans-none counts n none = sym (ap (risen counts.spans) none ∙ risen-zero counts.spans)
+spans-none counts n none = omega (arith, none)
 
 -- the same number of them
 pub spans-are : (before after : Counts) (m n : ℕ) → m ≡ n → CountsSpans m before after → CountsSpans n before after
@@ -123,8 +122,7 @@ spans-are before after m n same h = h ∙ ap (risen before.spans) same
 
 -- hulls after others
 pub spans-then : (before mid after : Counts) (m n k : ℕ) → m + n ≡ k → CountsSpans m before mid → CountsSpans n mid after → CountsSpans k before after
-spans-then before mid after m n k same first second =
-    second ∙ ap (λ p. risen p n) first ∙ risen-risen before.spans m n ∙ ap (risen before.spans) same
+spans-then before mid after m n k same first second = omega (arith, same, first, second)
 
 pub spans-hulls : (before after : Counts) (n : ℕ) → CountsHulls n before after → CountsSpans n before after
 spans-hulls before after n h = ap (λ (c : Counts). c.spans) h.rises

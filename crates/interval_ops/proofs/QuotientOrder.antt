@@ -5,9 +5,8 @@ use Rattle.std.proofs.lemmas.Int.{ints}
 use Rattle.std.proofs.Math.Nat.{div-le_self}
 use Rattle.fixed_ops.specs.Quotient.{quotient_of}
 use Rattle.fixed_ops.specs.Raw.{floor_div, is_inside}
-use Rattle.fixed_ops.specs.RoundingLaws.{product_le}
 use Rattle.interval_ops.specs.Hulls.{hull_above, hull_below}
-use Rattle.interval_ops.proofs.Monotone.{clamp_le, div_ge, floor_div_le}
+use Rattle.interval_ops.proofs.Monotone.{clamp_le, div_ge, floor_div_le, product_le}
 use Rattle.interval_ops.specs.Spans.{Interval, Holds}
 
 -- a greater divisor takes a dividend from 0 up towards 0

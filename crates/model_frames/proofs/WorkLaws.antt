@@ -1,29 +1,38 @@
 -- How work that is done, work that may have stopped and no work go together.
-use Rattle.std.proofs.Common.{◌≡◌, ℕ, ◌+◌, sym, ap, ◌∙◌, arith}
-use Rattle.fixed_ops.specs.CountLaws.{IsAtMost-plus, IsAtMost-refl, IsAtMost-trans, RisesAtMost-more, RisesAtMost-none, RisesAtMost-then, RisesBy-apart, RisesBy-none, RisesBy-then, risen-risen, risen-zero}
+use Rattle.std.proofs.Common.{◌≡◌, ℕ, ◌+◌, ap, ◌∙◌, arith}
 use Rattle.fixed_ops.specs.Counts.{Counts, IsAtMost, RisesBy, no_counts, plus, risen}
+use Rattle.fixed_ops.specs.Laws.{TalliesAddUp}
 use Rattle.model_frames.specs.Laws.{FramesAddUp}
 use Rattle.model_frames.specs.Work.{CountsWithin, CountsWork, PointsRiseAtMost, Work, both, no_work}
 
+-- counts that are at most greater ones
+at_most-trans : (a b c : Counts) → IsAtMost a b → IsAtMost b c → IsAtMost a c
+at_most-trans a b c p q =
+    record { points = omega arith; spans = omega arith; corners = omega arith }
+
+at_most-plus : (a b c d : Counts) → IsAtMost a c → IsAtMost b d → IsAtMost (plus a b) (plus c d)
+at_most-plus a b c d p q =
+    record { points = omega arith; spans = omega arith; corners = omega arith }
+
 -- no work is exactly none, and within any
-pub work-none : (counts : Counts) → CountsWork counts counts no_work
+work-none : TalliesAddUp → (counts : Counts) → CountsWork counts counts no_work
 unfolding CountsWork
-work-none counts = record {
+work-none tallies counts = record {
   by = no_counts;
-  enough = IsAtMost-refl no_counts;
-  within = IsAtMost-refl no_counts;
-  rises = RisesBy-none counts;
+  enough = record { points = omega arith; spans = omega arith; corners = omega arith };
+  within = record { points = omega arith; spans = omega arith; corners = omega arith };
+  rises = tallies.none counts;
 }
 
-pub within-none : (counts : Counts) (work : Work) → CountsWithin counts counts work
+pub within-none : TalliesAddUp → (counts : Counts) (work : Work) → CountsWithin counts counts work
 unfolding CountsWithin
-within-none counts work = RisesAtMost-none counts work.bound
+within-none tallies counts work = tallies.most_none counts work.bound
 
-pub plain-none : (counts : Counts) (most : ℕ) → PointsRiseAtMost counts counts most
+plain-none : (counts : Counts) (most : ℕ) → PointsRiseAtMost counts counts most
 plain-none counts most = record {
   by = 0;
   few = omega arith;
-  rises = sym (risen-zero counts.points);
+  rises = omega arith;
 }
 
 -- work that is done is within its bound
@@ -32,30 +41,30 @@ within-done : (before after : Counts) (work : Work) → IsAtMost work.most work.
 unfolding CountsWork CountsWithin
 within-done before after work less h = record {
   by = h.by;
-  within = IsAtMost-trans h.by work.most work.bound h.within less;
+  within = at_most-trans h.by work.most work.bound h.within less;
   rises = h.rises;
 }
 
 -- work after work
-done-then : (before mid after : Counts) (a b : Work) → CountsWork before mid a → CountsWork mid after b → CountsWork before after (both a b)
+done-then : TalliesAddUp → (before mid after : Counts) (a b : Work) → CountsWork before mid a → CountsWork mid after b → CountsWork before after (both a b)
 unfolding CountsWork
-done-then before mid after a b first next = record {
+done-then tallies before mid after a b first next = record {
   by = plus first.by next.by;
-  enough = IsAtMost-plus a.least b.least first.by next.by first.enough next.enough;
-  within = IsAtMost-plus first.by next.by a.most b.most first.within next.within;
-  rises = RisesBy-then before mid after first.by next.by first.rises next.rises;
+  enough = at_most-plus a.least b.least first.by next.by first.enough next.enough;
+  within = at_most-plus first.by next.by a.most b.most first.within next.within;
+  rises = tallies.sum before mid after first.by next.by first.rises next.rises;
 }
 
-within-then : (before mid after : Counts) (a b : Work) → CountsWithin before mid a → CountsWithin mid after b → CountsWithin before after (both a b)
+within-then : TalliesAddUp → (before mid after : Counts) (a b : Work) → CountsWithin before mid a → CountsWithin mid after b → CountsWithin before after (both a b)
 unfolding CountsWithin
-within-then before mid after a b first next =
-    RisesAtMost-then before mid after a.bound b.bound first next
+within-then tallies before mid after a b first next =
+    tallies.most_sum before mid after a.bound b.bound first next
 
 -- what is within a bound is within more
-within-more : (before after : Counts) (a b : Work) → CountsWithin before after a → CountsWithin before after (both a b)
+within-more : TalliesAddUp → (before after : Counts) (a b : Work) → CountsWithin before after a → CountsWithin before after (both a b)
 unfolding CountsWithin
-within-more before after a b few =
-    RisesAtMost-more before after a.bound (plus a.bound b.bound) few
+within-more tallies before after a b few =
+    tallies.most_more before after a.bound (plus a.bound b.bound) few
     (record { points = omega arith; spans = omega arith; corners = omega arith })
 
 -- evaluations after evaluations
@@ -63,7 +72,7 @@ plain-then : (before mid after : Counts) (m n : ℕ) → PointsRiseAtMost before
 plain-then before mid after m n first next = record {
   by = first.by + next.by;
   few = omega (arith, first.few, next.few);
-  rises = next.rises ∙ ap (λ count. risen count next.by) first.rises ∙ risen-risen before.points first.by next.by;
+  rises = omega (arith, first.rises, next.rises);
 }
 
 plain-more : (before after : Counts) (m n : ℕ) → PointsRiseAtMost before after m → PointsRiseAtMost before after (m + n)
@@ -71,21 +80,21 @@ plain-more before after m n rise =
     record { by = rise.by; few = omega (arith, rise.few); rises = rise.rises }
 
 -- what another tally has counted from nothing
-done-joined : (before after counts : Counts) (work : Work) → CountsWork no_counts counts work → RisesBy before after counts → CountsWork before after work
+done-joined : TalliesAddUp → (before after counts : Counts) (work : Work) → CountsWork no_counts counts work → RisesBy before after counts → CountsWork before after work
 unfolding CountsWork
-done-joined before after counts work h joined = record {
+done-joined tallies before after counts work h joined = record {
   by = h.by;
   enough = h.enough;
   within = h.within;
-  rises = RisesBy-apart before after counts h.by h.rises joined;
+  rises = tallies.joined before after counts h.by h.rises joined;
 }
 
-within-joined : (before after counts : Counts) (work : Work) → CountsWithin no_counts counts work → RisesBy before after counts → CountsWithin before after work
+within-joined : TalliesAddUp → (before after counts : Counts) (work : Work) → CountsWithin no_counts counts work → RisesBy before after counts → CountsWithin before after work
 unfolding CountsWithin
-within-joined before after counts work h joined = record {
+within-joined tallies before after counts work h joined = record {
   by = h.by;
   within = h.within;
-  rises = RisesBy-apart before after counts h.by h.rises joined;
+  rises = tallies.joined before after counts h.by h.rises joined;
 }
 
 -- a count that takes in one that rose from nothing
@@ -100,18 +109,18 @@ plain-joined before after counts most h joined = record {
 }
 
 -- so the work of frames adds up
-pub frames_add_up_is : FramesAddUp
-frames_add_up_is = record {
-  none = work-none;
-  within_none = within-none;
+pub frames_add_up_is : TalliesAddUp → FramesAddUp
+frames_add_up_is tallies = record {
+  none = work-none tallies;
+  within_none = within-none tallies;
   plain_none = plain-none;
   within = within-done;
-  within_more = within-more;
+  within_more = within-more tallies;
   plain_more = plain-more;
-  sum = done-then;
-  within_sum = within-then;
+  sum = done-then tallies;
+  within_sum = within-then tallies;
   plain_sum = plain-then;
-  joined = done-joined;
-  within_joined = within-joined;
+  joined = done-joined tallies;
+  within_joined = within-joined tallies;
   plain_joined = plain-joined;
 }

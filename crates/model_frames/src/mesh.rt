@@ -15,7 +15,7 @@ ghost use Rattle.model_frames.specs.SoundTexts.{MeshTextsAreSound};
 ghost use Rattle.model_frames.specs.Work.{CountsWithin, CountsWork, PointsRiseAtMost, mesh_work};
 
 use crate::render::window_holds;
-use fixed_ops::Tally;
+use fixed_ops::{Tally, tallies_add_up};
 use kuhn_cells::{CellList, vertices_are_mixed_edges};
 use live_clauses::{Tape, root_tape};
 use oct_descent::{cell_list, cells, grid_work_is_bounded};
@@ -66,6 +66,7 @@ pub fn solid_mesh(
     ensures at_most { CountsWithin tally.old tally.new (mesh_work view.now model.now) }
     ensures plain { PointsRiseAtMost tally.old tally.new (plain_grid view.now (length model.now)) }
 {
+    tallies_add_up();
     grid_work_is_bounded();
     vertices_are_mixed_edges();
     window_holds(view);

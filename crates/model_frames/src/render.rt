@@ -8,7 +8,7 @@ ghost use Rattle.view_settings.specs.Window.{IsWindow};
 ghost use Rattle.model_frames.specs.Images.{image_of, plain_points};
 ghost use Rattle.model_frames.specs.Work.{CountsWithin, CountsWork, FitsCounts, PointsRiseAtMost, frame_work};
 
-use fixed_ops::Tally;
+use fixed_ops::{Tally, tallies_add_up};
 use live_clauses::root_tape;
 use quad_descent::{QuadTree, draw as draw_list, fresh_work_is_bounded, push_pixels};
 use raster_pgm::pgm_header;
@@ -53,6 +53,7 @@ pub fn draw_tree(
     ensures plain { PointsRiseAtMost tally.old tally.new
         (plain_points view.now (length model.now)) }
 {
+    tallies_add_up();
     fresh_work_is_bounded();
     window_holds(view);
     let list = root_tape(alloc, model)?;

@@ -12,8 +12,8 @@ use Rattle.std.proofs.lemmas.List.Elements.{All-get_or, All-head, All-nil, All-p
 use Rattle.std.proofs.lemmas.List.Folds.{list_any-append, list_any_more, list_any_none}
 use Rattle.std.proofs.lemmas.List.Quantifiers.{all_pairs_push}
 use Rattle.box_chains.specs.Laws.{Lawful}
-use Rattle.fixed_ops.specs.CountLaws.{RisesBy-then}
 use Rattle.fixed_ops.specs.Counts.{Counts, RisesBy, points_of}
+use Rattle.fixed_ops.specs.Laws.{TalliesAddUp}
 use Rattle.kuhn_cells.specs.Triangles.{GridPoint, further, point}
 use Rattle.live_clauses.specs.declared.step.Step.{Step}
 use Rattle.view_settings.specs.Boxes.{Indices}
@@ -148,10 +148,10 @@ pub rest-is : (gaps : List Gap) (at : ℕ) → take (length gaps - at) (drop at 
 rest-is gaps at = take_all (length gaps - at) (drop at gaps) (omega (arith, length-drop at gaps))
 
 -- so many more are counted
-pub lanes-counted : (before mid after : Counts) (at more len : ℕ) → RisesBy before mid (points_of (at * len)) → RisesBy mid after (points_of (more * len)) → RisesBy before after (points_of ((at + more) * len))
-lanes-counted before mid after at more len first second =
+pub lanes-counted : TalliesAddUp → (before mid after : Counts) (at more len : ℕ) → RisesBy before mid (points_of (at * len)) → RisesBy mid after (points_of (more * len)) → RisesBy before after (points_of ((at + more) * len))
+lanes-counted tallies before mid after at more len first second =
     let both : at * len + more * len ≡ (at + more) * len = grind arith in
-    subst (λ n. RisesBy before after (points_of n)) both (RisesBy-then before mid after (points_of (at * len)) (points_of (more * len)) first second)
+    subst (λ n. RisesBy before after (points_of n)) both (tallies.sum before mid after (points_of (at * len)) (points_of (more * len)) first second)
 
 -- points that stand in a table stand in one that keeps its places
 pub stands-kept : (before after : PointValues) (gap : Gap) → KeepsPlaces before after → StandsIn before gap → StandsIn after gap

@@ -16,7 +16,6 @@ use Rattle.box_chains.specs.Visits.{IsVisit}
 use Rattle.box_chains.specs.Laws.{Lawful}
 use Rattle.box_chains.specs.Tallied.{CountsAtMost}
 use Rattle.choice_trace.specs.Hulls.{choices_over, tape_hull}
-use Rattle.fixed_ops.specs.CountLaws.{RisesBy-none, RisesBy-then}
 use Rattle.fixed_ops.specs.Counts.{Counts, no_counts, plus}
 use Rattle.interval_ops.specs.Decided.{decided_of}
 use Rattle.interval_ops.specs.HullCounts.{CountsHulls, hulls_of}
@@ -206,10 +205,10 @@ cell-charged laws view v before after told since now is open' short hulls corner
     (charges-most f (length v.list) before told since hulls) (corners f (cell-corners view v (λ n p. n ≤ f p) is open' short enough))
 
 -- and what it takes is paid
-pub cell-paid : (view : Window) (v : Visit) (before after : PointValues) (told since now : Counts) → IsVisit (gridded view).boxes v → is_open (gridded view) v ≡ true → is_long 1 v.box ≡ false
+pub cell-paid : (laws : Lawful) (view : Window) (v : Visit) (before after : PointValues) (told since now : Counts) → IsVisit (gridded view).boxes v → is_open (gridded view) v ≡ true → is_long 1 v.box ≡ false
     → CountsAtMost 0 (length v.list) told since → PaysCorners v.box (length v.list) before after since now → PaysBox (gridded view) v before after told now
-cell-paid view v before after told since now is open' short hulls corners f due =
-    pays-then f before before after told since now (pays-most f 0 (length v.list) before told since hulls) (corners f (cell-corners view v (λ n p. f p ≤ n) is open' short due))
+cell-paid laws view v before after told since now is open' short hulls corners f due =
+    pays-then laws f before before after told since now (pays-most f 0 (length v.list) before told since hulls) (corners f (cell-corners view v (λ n p. f p ≤ n) is open' short due))
 
 -- the corners of a cell of a box are known where all points that the box covers are
 pub known-settled : (view : Window) (g : GridPoint → ℤ) (b : Indices) (t : PointValues) → AllKnown t b → AreSettled (gridded view) g b t
@@ -263,7 +262,7 @@ below-charged laws view v before after told since now is long hulls below f enou
 
 pub below-paid : (laws : Lawful) (d : CellDescent) (v : Visit) (before after : PointValues) (told since now : Counts) → CountsHulls (length v.list) told since → PaysBox d v before after since now → PaysBox d v before after told now
 below-paid laws d v before after told since now hulls paid f due =
-    pays-then f before before after told since now (pays-most f 0 (length v.list) before told since (laws.bounds.hulls told since (length v.list) hulls)) (paid f due)
+    pays-then laws f before before after told since now (pays-most f 0 (length v.list) before told since (laws.bounds.hulls told since (length v.list) hulls)) (paid f due)
 
 -- a cell takes as much
 pub cell-below : (laws : Lawful) (d : CellDescent) (v : Visit) (before after : PointValues) (told now : Counts) → is_long 1 v.box ≡ false → ChargesBox d v before after told now → ChargesBelow d v before after told now
@@ -500,10 +499,10 @@ next-worked view other list b half halves i before after same within read grows 
     P h = AreWorked (gridded view) (visit h list) after
 
 -- and paid
-pub next-paid : (view other : Window) (list : List Step) (half : Indices) (halves : List Indices) (i : ℕ) (before mid after : PointValues) (told since now : Counts) → other ≡ view → i < length halves → half ≡ get_or halves i half
+pub next-paid : (laws : Lawful) (view other : Window) (list : List Step) (half : Indices) (halves : List Indices) (i : ℕ) (before mid after : PointValues) (told since now : Counts) → other ≡ view → i < length halves → half ≡ get_or halves i half
     → PaysHalves (gridded view) list halves before mid told since → PaysBox (gridded other) (visit half list) mid after since now → PaysHalves (gridded view) list halves before after told now
-next-paid view other list half halves i before mid after told since now same within read earlier here f due =
-    pays-then f before mid after told since now (earlier f due)
+next-paid laws view other list half halves i before mid after told since now same within read earlier here f due =
+    pays-then laws f before mid after told since now (earlier f due)
     (subst (λ v. PaysBox (gridded v) (visit half list) mid after since now) same here f
     (subst (λ h. IsDue f (gridded view) (visit h list)) (sym read) (All-get_or (λ h. IsDue f (gridded view) (visit h list)) halves i half within due)))
 
@@ -542,16 +541,16 @@ all-settled laws d g b t each s lies =
 hulls-least : (told now : Counts) (n : ℕ) → CountsHulls n told now → CountsHullsAtLeast n told now
 hulls-least told now n h = record { by = hulls_of n h.corners; many = omega arith; rises = h.rises }
 
-hulls-then : (told since now : Counts) (m n k : ℕ) → k ≤ m + n → CountsHullsAtLeast m told since → CountsHullsAtLeast n since now → CountsHullsAtLeast k told now
-hulls-then told since now m n k enough first second = record {
+hulls-then : (laws : Lawful) (told since now : Counts) (m n k : ℕ) → k ≤ m + n → CountsHullsAtLeast m told since → CountsHullsAtLeast n since now → CountsHullsAtLeast k told now
+hulls-then laws told since now m n k enough first second = record {
   by = plus first.by second.by;
   many = omega (arith, enough, first.many, second.many);
-  rises = RisesBy-then told since now first.by second.by first.rises second.rises;
+  rises = laws.tallies.sum told since now first.by second.by first.rises second.rises;
 }
 
 -- before any half is looked into
-pub traced-none : (counts : Counts) → CountsHullsAtLeast 0 counts counts
-traced-none counts = record { by = no_counts; many = omega arith; rises = RisesBy-none counts }
+traced-none : (laws : Lawful) (counts : Counts) → CountsHullsAtLeast 0 counts counts
+traced-none laws counts = record { by = no_counts; many = omega arith; rises = laws.tallies.none counts }
 
 pub first-traced : (d : CellDescent) (list : List Step) (halves : List Indices) (n : GridSize) (told now : Counts) → CountsHulls (length (longer n halves) * length list) told now
     → CountsHullsAtLeast (owned list halves + halves_long_below d list (take 0 halves)) told now
@@ -585,10 +584,10 @@ cell-traced laws d v before after told now is short pays =
     uncut = ap (λ l. is_open d v && l) short ∙ closed (is_open d v)
 
 -- what is traced over a box before it is looked into and while it is
-pub below-traced : (view : Window) (v : Visit) (told since now : Counts) → is_long 1 v.box ≡ true → CountsHulls (length v.list) told since
+pub below-traced : (laws : Lawful) (view : Window) (v : Visit) (told since now : Counts) → is_long 1 v.box ≡ true → CountsHulls (length v.list) told since
     → CountsHullsAtLeast (long_spans_below (gridded view) v) since now → CountsHullsAtLeast (long_spans_in (gridded view) v) told now
-below-traced view v told since now long hulls below =
-    hulls-then told since now (length v.list) (long_spans_below (gridded view) v) (long_spans_in (gridded view) v) (omega (arith, own-long v long)) (hulls-least told since (length v.list) hulls) below
+below-traced laws view v told since now long hulls below =
+    hulls-then laws told since now (length v.list) (long_spans_below (gridded view) v) (long_spans_in (gridded view) v) (omega (arith, own-long v long)) (hulls-least told since (length v.list) hulls) below
 
 -- a cell is traced no more
 pub cell-traced_below : (d : CellDescent) (v : Visit) (told now : Counts) → CountsHullsAtLeast (long_spans_in d v) told now → CountsHullsAtLeast (long_spans_below d v) told now
@@ -598,7 +597,7 @@ cell-traced_below d v told now least = record { by = least.by; many = omega (ari
 pub closed-traced : (laws : Lawful) (view : Window) (v : Visit) (told : Counts) → IsBox v.box → is_open (gridded view) v ≡ false → CountsHullsAtLeast (long_spans_below (gridded view) v) told told
 closed-traced laws view v told is closed =
     let uncut : is_cut (gridded view) v ≡ false = rw closed refl in
-    let none = traced-none told in
+    let none = traced-none laws told in
     record { by = none.by; many = omega (arith, long-end laws (gridded view) v is uncut); rises = none.rises }
 
 -- but the halves of one that is split are
@@ -618,11 +617,11 @@ halves-traced laws view v live told now is open' long same halves = record {
     cut = rw (open', long) refl
 
 -- one more half is traced
-pub next-traced : (view other : Window) (list : List Step) (half : Indices) (halves : List Indices) (i own : ℕ) (told since now : Counts) → other ≡ view → i < length halves → half ≡ get_or halves i half
+pub next-traced : (laws : Lawful) (view other : Window) (list : List Step) (half : Indices) (halves : List Indices) (i own : ℕ) (told since now : Counts) → other ≡ view → i < length halves → half ≡ get_or halves i half
     → CountsHullsAtLeast (own + halves_long_below (gridded view) list (take i halves)) told since → CountsHullsAtLeast (long_spans_below (gridded other) (visit half list)) since now
     → CountsHullsAtLeast (own + halves_long_below (gridded view) list (take (i + 1) halves)) told now
-next-traced view other list half halves i own told since now same within read earlier here =
-    hulls-then told since now (own + halves_long_below d list (take i halves)) (long_spans_below d (visit half list)) (own + halves_long_below d list (take (i + 1) halves))
+next-traced laws view other list half halves i own told since now same within read earlier here =
+    hulls-then laws told since now (own + halves_long_below d list (take i halves)) (long_spans_below d (visit half list)) (own + halves_long_below d list (take (i + 1) halves))
     (omega (arith, sum_by_more (λ h. long_spans_below d (visit h list)) halves i half within, ap (λ h. long_spans_below d (visit h list)) read))
     earlier (subst (λ v. CountsHullsAtLeast (long_spans_below (gridded v) (visit half list)) since now) same here)
   where

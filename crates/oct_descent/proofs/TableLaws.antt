@@ -6,7 +6,6 @@ use Rattle.box_chains.specs.Sums.{LiesIn, Sample, sum_along, sum_in}
 use Rattle.box_chains.specs.Tallied.{CountsAtMost}
 use Rattle.box_chains.specs.Laws.{Lawful}
 use Rattle.fixed_ops.specs.Counts.{Counts, plus}
-use Rattle.fixed_ops.specs.CountLaws.{RisesBy-then}
 use Rattle.fixed_ops.specs.Raw.{is_inside}
 use Rattle.interval_ops.specs.HullCounts.{CountsHulls}
 use Rattle.kuhn_cells.specs.Triangles.{GridPoint, point}
@@ -225,14 +224,14 @@ pays-none laws f t now = record { points = 0; due = omega arith; counts = least-
 pub pays-most : (f : GridPoint → ℕ) (p s : ℕ) (t : PointValues) (told now : Counts) → CountsAtMost p s told now → Pays f t t told now
 pays-most f p s t told now h = record { points = 0; due = omega arith; counts = least-most told now p s h }
 
-pub pays-then : (f : GridPoint → ℕ) (before mid after : PointValues) (told since now : Counts) → Pays f before mid told since → Pays f mid after since now → Pays f before after told now
-pays-then f before mid after told since now first second = record {
+pub pays-then : (laws : Lawful) (f : GridPoint → ℕ) (before mid after : PointValues) (told since now : Counts) → Pays f before mid told since → Pays f mid after since now → Pays f before after told now
+pays-then laws f before mid after told since now first second = record {
   points = first.points + second.points;
   due = omega (arith, first.due, second.due);
   counts = record {
     by = plus first.counts.by second.counts.by;
     many = omega (arith, first.counts.many, second.counts.many);
-    rises = RisesBy-then told since now first.counts.by second.counts.by first.counts.rises second.counts.rises;
+    rises = laws.tallies.sum told since now first.counts.by second.counts.by first.counts.rises second.counts.rises;
   };
 }
 

@@ -6,8 +6,8 @@ use Rattle.std.proofs.lemmas.Bool.{ltb-true}
 use Rattle.std.proofs.lemmas.Nat.{div-add-mod', div-mul-add, div_below, mod-mul-add, shr_high, mod_low}
 use Rattle.std.proofs.Math.Pow.{pow_mono}
 use Rattle.std.proofs.lemmas.List.FromFn.{length-map-range_with_len, map-range_with_len_more}
-use Rattle.fixed_ops.specs.CountLaws.{RisesBy-then}
 use Rattle.fixed_ops.specs.Counts.{Counts, RisesBy, points_of}
+use Rattle.fixed_ops.specs.Laws.{TalliesAddUp}
 use Rattle.fixed_ops.specs.Raw.{is_inside}
 use Rattle.live_clauses.specs.Steps.{tape_value}
 use Rattle.live_clauses.specs.declared.step.Step.{Step}
@@ -140,12 +140,12 @@ more-told f n bits digit is one =
     omega (arith, is, one, more)
 
 -- so many more samples are counted
-pub more-counted : (before mid after : Counts) (first told more next len : ℕ) → first ≤ told → next ≡ told + more → RisesBy before mid (points_of ((told - first) * len)) → RisesBy mid after (points_of (more * len))
+pub more-counted : TalliesAddUp → (before mid after : Counts) (first told more next len : ℕ) → first ≤ told → next ≡ told + more → RisesBy before mid (points_of ((told - first) * len)) → RisesBy mid after (points_of (more * len))
     → RisesBy before after (points_of ((next - first) * len))
-more-counted before mid after first told more next len onward is one two =
+more-counted tallies before mid after first told more next len onward is one two =
     let sum : next - first ≡ (told - first) + more = omega (arith, onward, is) in
     subst (λ n. RisesBy before after (points_of n)) (sym (ap (λ k. k * len) sum ∙ both (told - first) more len))
-    (RisesBy-then before mid after (points_of ((told - first) * len)) (points_of (more * len)) one two)
+    (tallies.sum before mid after (points_of ((told - first) * len)) (points_of (more * len)) one two)
   where
     both : (a b len : ℕ) → (a + b) * len ≡ a * len + b * len
     both a b len = grind arith

@@ -2,7 +2,7 @@ use Rattle.box_chains.proofs.LawProofs.{lawful}
 use Rattle.box_chains.proofs.laws.layers_hold.Goals as goal
 
 pub returns : goal.returns
-returns c = lawful (record {
+returns c = lawful c.tallies_add_up.ensures (record {
   equal = c.lists_are_told_apart.ensures;
   halves = c.halves_part.ensures;
   ranges = c.ranges_hold.ensures.ends;

@@ -1,5 +1,5 @@
 -- The law of clamps is a lemma.
-use Rattle.fixed_ops.specs.RoundingLaws.{clamp_is}
+use Rattle.fixed_ops.proofs.RoundingLaws.{clamp_is}
 use Rattle.fixed_ops.proofs.laws.clamps.Goals as goal
 
 pub returns : goal.returns

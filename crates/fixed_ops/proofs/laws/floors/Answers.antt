@@ -1,6 +1,6 @@
 -- The laws of floors are lemmas.
-use Rattle.fixed_ops.specs.RoundingLaws.{floor_div_is_floor}
-use Rattle.fixed_ops.specs.RoundingLaws.{floor_is}
+use Rattle.fixed_ops.proofs.RoundingLaws.{floor_div_is_floor}
+use Rattle.fixed_ops.proofs.RoundingLaws.{floor_is}
 use Rattle.fixed_ops.proofs.laws.floors.Goals as goal
 
 pub returns-clause-hold : goal.returns-clause-hold

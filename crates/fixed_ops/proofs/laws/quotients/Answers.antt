@@ -1,5 +1,5 @@
 -- The laws of quotients are lemmas.
-use Rattle.fixed_ops.specs.RoundingLaws.{rounded_is_clamped, rounded_down_once, over_zero_is}
+use Rattle.fixed_ops.proofs.RoundingLaws.{rounded_is_clamped, rounded_down_once, over_zero_is}
 use Rattle.fixed_ops.proofs.laws.quotients.Goals as goal
 
 pub returns-clause-hold : goal.returns-clause-hold

@@ -1,5 +1,5 @@
 -- The law of results is a lemma.
-use Rattle.fixed_ops.specs.ResultLaws.{IsRaw-op_result}
+use Rattle.fixed_ops.proofs.ResultLaws.{IsRaw-op_result}
 use Rattle.fixed_ops.proofs.laws.raw_results.Goals as goal
 
 pub returns : goal.returns

@@ -1,6 +1,6 @@
 use Rattle.std.proofs.Common.{sym, arith}
 use Rattle.std.proofs.lemmas.Int.{ints}
-use Rattle.fixed_ops.specs.ResultLaws.{root_of_low}
+use Rattle.fixed_ops.proofs.ResultLaws.{root_of_low}
 use Rattle.fixed_ops.proofs.root.root.Goals as goal
 
 pub returns-then-a-le0-clause-value : goal.returns-then-a-le0-clause-value

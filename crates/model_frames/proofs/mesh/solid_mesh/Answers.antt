@@ -12,7 +12,7 @@ use Rattle.model_frames.proofs.MeshLaws.{mesh_same, of_mesh, solid_faces, solid_
 use Rattle.model_frames.proofs.mesh.solid_mesh.Goals as goal
 
 pub returns-in_err-list-clause-at_most : goal.returns-in_err-list-clause-at_most
-returns-in_err-list-clause-at_most c = within-none c.args.tally.now _
+returns-in_err-list-clause-at_most c = within-none c.tallies_add_up.ensures c.args.tally.now _
 
 pub returns-in_err-cells-clause-at_most : goal.returns-in_err-cells-clause-at_most
 returns-in_err-cells-clause-at_most c =

@@ -270,7 +270,7 @@ look_into_halves-returns-in_err-look_into_told-clause-paid t c =
     let half = c.half-item.result in
     let same = ap (λ d. d.view) c.loop-half.invariant.kept in
     subst (λ hs. PaysHalves (gridded view) c.args.live.now hs c.args.values.now c.look_into_told.new.values c.args.tally.now c.look_into_told.new.tally) all
-    (next-paid view c.loop-half.desk.view c.args.live.now half halves c.loop-half.half-index c.args.values.now c.loop-half.values c.look_into_told.new.values c.args.tally.now c.loop-half.tally c.look_into_told.new.tally
+    (next-paid c.layers_hold.ensures view c.loop-half.desk.view c.args.live.now half halves c.loop-half.half-index c.args.values.now c.loop-half.values c.look_into_told.new.values c.args.tally.now c.loop-half.tally c.look_into_told.new.tally
     same c.loop-half-test.true c.half-item.is c.loop-half.invariant.paid c.in_err-look_into_told.ensures.paid)
 
 pub look_into_halves-loop-half-preserved : goal.look_into_halves-loop-half-preserved
@@ -298,9 +298,9 @@ look_into_halves-loop-half-preserved t c =
       counted = next-charged c.layers_hold.ensures view c.loop-half.desk.view live half halves c.loop-half.half-index _ c.args.values.now c.loop-half.values c.look_into_told.new.values c.args.tally.now c.loop-half.tally c.look_into_told.new.tally
           same c.loop-half-test.true c.half-item.is before.counted after.counted;
       worked = next-worked view c.loop-half.desk.view live c.args.b half halves c.loop-half.half-index c.loop-half.values c.look_into_told.new.values same c.loop-half-test.true c.half-item.is grown after.worked before.worked;
-      paid = next-paid view c.loop-half.desk.view live half halves c.loop-half.half-index c.args.values.now c.loop-half.values c.look_into_told.new.values c.args.tally.now c.loop-half.tally c.look_into_told.new.tally
+      paid = next-paid c.layers_hold.ensures view c.loop-half.desk.view live half halves c.loop-half.half-index c.args.values.now c.loop-half.values c.look_into_told.new.values c.args.tally.now c.loop-half.tally c.look_into_told.new.tally
           same c.loop-half-test.true c.half-item.is before.paid after.paid;
-      traced = next-traced view c.loop-half.desk.view live half halves c.loop-half.half-index _ c.args.tally.now c.loop-half.tally c.look_into_told.new.tally same c.loop-half-test.true c.half-item.is
+      traced = next-traced c.layers_hold.ensures view c.loop-half.desk.view live half halves c.loop-half.half-index _ c.args.tally.now c.loop-half.tally c.look_into_told.new.tally same c.loop-half-test.true c.half-item.is
           before.traced after.traced;
     }
 

@@ -40,7 +40,7 @@ returns-clause-paid c =
 pub returns-clause-traced : goal.returns-clause-traced
 returns-clause-traced c =
     on_ok-then c.look_into_told.result _ _
-    (below-traced c.args.desk.now.view (visit c.args.b c.args.received.now) c.args.tally.now c.trace_asked_box.new.tally c.look_into_told.new.tally
+    (below-traced c.layers_hold.ensures c.args.desk.now.view (visit c.args.b c.args.received.now) c.args.tally.now c.trace_asked_box.new.tally c.look_into_told.new.tally
     (sym c.is_long.ensures ∙ c.if-not-is_long.false) c.trace_asked_box.ensures.counted)
     (subst (λ d. OnOk c.look_into_told.result (CountsHullsAtLeast (long_spans_below (gridded d.view) (visit c.args.b c.args.received.now)) c.trace_asked_box.new.tally c.look_into_told.new.tally)) c.in_ok-told.ensures.kept c.look_into_told.ensures.traced)
 

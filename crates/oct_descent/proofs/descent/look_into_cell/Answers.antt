@@ -58,7 +58,7 @@ returns-clause-worked c =
 
 pub returns-clause-paid : goal.returns-clause-paid
 returns-clause-paid c =
-    cell-paid c.args.desk.now.view (visit c.args.b c.args.received.now) c.args.values.now c.fill_cell.new.values c.args.tally.now c.is_working.new.tally c.fill_cell.new.tally c.requires.may.visit_is
+    cell-paid c.layers_hold.ensures c.args.desk.now.view (visit c.args.b c.args.received.now) c.args.values.now c.fill_cell.new.values c.args.tally.now c.is_working.new.tally c.fill_cell.new.tally c.requires.may.visit_is
     (sym c.is_working.ensures.open ∙ c.if-not-is_working.false) c.requires.one c.is_working.ensures.counted c.fill_cell.ensures.paid
 
 pub returns-then-seen-clause-untraced : goal.returns-then-seen-clause-untraced

@@ -12,6 +12,6 @@ loop-scan-preserved g c =
       whole = omega (arith, size, c.loop-scan-test.true, c.tell.ensures.more);
       onward = omega (arith, was.onward, c.tell.ensures.more);
       room = c.tell.auto.values ∙ was.room;
-      counted = more-counted c.args.tally.now c.loop-scan.tally c.tell.new.tally c.args.scan.now.told c.loop-scan.scan.told g.row.L c.tell.new.scan.told (length c.args.list.now)
+      counted = more-counted c.tallies_add_up.ensures c.args.tally.now c.loop-scan.tally c.tell.new.tally c.args.scan.now.told c.loop-scan.scan.told g.row.L c.tell.new.scan.told (length c.args.list.now)
           was.onward c.tell.ensures.more was.counted c.tell.ensures.counted;
     }

@@ -8,7 +8,7 @@ use Rattle.box_chains.proofs.workspace.Workspace.trace_asked_boxes.Goals as goal
 
 pub returns-in_err-at-clause-at_most : goal.returns-in_err-at-clause-at_most
 returns-in_err-at-clause-at_most c =
-    on_err _ _ (hulls-begun c.args.tally.now c.loop-at.tally c.trace_some.new.tally c.loop-at.at (length c.args.asked.now - c.loop-at.at) (length c.args.asked.now) (length c.args.tape.now)
+    on_err _ _ (hulls-begun c.tallies_add_up.ensures c.args.tally.now c.loop-at.tally c.trace_some.new.tally c.loop-at.at (length c.args.asked.now - c.loop-at.at) (length c.args.asked.now) (length c.args.tape.now)
     (omega (arith, c.loop-at.invariant.within)) c.loop-at.invariant.counted
     (subst (λ n. CountsAtMost 0 (n * length c.args.tape.now) c.loop-at.tally c.trace_some.new.tally) (ap length (rest-is c.args.asked.now c.loop-at.at) ∙ length-drop c.loop-at.at c.args.asked.now) c.in_err-at.ensures.at_most))
 

@@ -5,7 +5,7 @@ use Rattle.fixed_ops.specs.declared.operation.Op.TheVariants.{X, Y, Z, Const, Ne
 use Rattle.fixed_ops.specs.Arity.{arity_of}
 use Rattle.fixed_ops.specs.Points.{Point, IsRawPoint, step_value}
 use Rattle.fixed_ops.specs.Raw.{IsRaw}
-use Rattle.fixed_ops.specs.ResultLaws.{IsRaw-op_result}
+use Rattle.fixed_ops.proofs.ResultLaws.{IsRaw-op_result}
 
 -- an operation reads only the operands that it has
 pub step_value-same : (op : Op) (p : Point) (value a b x y : ℤ) → (0 < arity_of op → a ≡ x)

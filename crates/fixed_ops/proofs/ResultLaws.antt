@@ -11,7 +11,7 @@ use Rattle.fixed_ops.specs.Operations.{op_result, root_of}
 use Rattle.fixed_ops.specs.Quotient.{quotient_of, over_zero}
 use Rattle.fixed_ops.specs.Raw.{IsRaw, floor_div}
 use Rattle.fixed_ops.specs.Root.{IsRoot, IsRawRoot, root_up_to, floor_root}
-use Rattle.fixed_ops.specs.RoundingLaws.{IsRaw-clamp}
+use Rattle.fixed_ops.proofs.RoundingLaws.{IsRaw-clamp}
 
 -- the choice of a root, as it is written in the definition
 chosen : (n k r : ℕ) (b : Bool) → b ≡ nat_le (suc k * suc k) n → n < (suc k + 1) * (suc k + 1)
