@@ -112,6 +112,15 @@ impl<'a> Model for Steps<'a> {
 }
 
 impl<'a> Steps<'a> {
+    // These steps.
+    #[inline]
+    pub(crate) fn from_packed(packed: &'a [PackedStep]) -> Steps<'a>
+        requires { IsTape (map unpacked packed.now) }
+        ensures { result ≡ map unpacked packed.now }
+    {
+        Steps { packed }
+    }
+
     /// How many steps there are.
     #[inline]
     pub fn len(&self) -> u32
