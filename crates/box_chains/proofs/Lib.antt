@@ -5,6 +5,7 @@ pub mod HalfLaws
 pub mod Lanes
 pub mod LawProofs
 pub mod Placed
+pub mod Seen
 pub mod SumLaws
 pub mod TallyLaws
 pub mod TestedLaws

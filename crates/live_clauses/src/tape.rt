@@ -121,6 +121,17 @@ impl<'a> Steps<'a> {
         Steps { packed }
     }
 
+    /// The same steps once more. A loop that reads its own of them keeps them in registers.
+    #[inline]
+    pub fn again(&self) -> Steps<'_>
+        ensures steps { result ≡ self.now }
+        ensures tape { IsTape self.now }
+    {
+        Steps {
+            packed: self.packed,
+        }
+    }
+
     /// How many steps there are.
     #[inline]
     pub fn len(&self) -> u32
