@@ -273,7 +273,7 @@ fn at_quarters<const L: usize>(
         y: zeros,
         z: zeros,
     };
-    let row = evaluate_lanes::<L>(tape, &inputs, regs, &mut tally);
+    let row = evaluate_lanes::<L>(&tape.steps(), &inputs, regs, &mut tally);
     Some((row, tally.points()))
 }
 

@@ -1,14 +1,13 @@
 -- Boxes whose lists are traced side by side, each in its lane.
-use Rattle.std.proofs.Common.{Bool, false, ◌≡◌, ℕ, ◌+◌, ◌-◌, ◌<◌, ◌≤◌, List, ◌++◌, length, get_or, take, drop, map, ap, sym, ◌∙◌, arith}
-use Rattle.std.proofs.lemmas.List.{ext_get_or, get_or-map, get_or_read, length-drop, length-map, length-take, map-append, take-append-le, take-map, take_all}
+use Rattle.std.proofs.Common.{Bool, false, ◌≡◌, ℕ, ◌+◌, ◌-◌, ◌<◌, List, [], ◌∷◌, ◌++◌, length, get_or, take, drop, map, ap, sym, ◌∙◌, arith}
+use Rattle.std.proofs.lemmas.List.{ext_get_or, get_or-map, get_or_read, length-drop, length-map, map-append, take_all}
 use Rattle.std.proofs.lemmas.Simd.{map-map}
 use Rattle.std.proofs.lemmas.List.Elements.{All-map}
 use Rattle.std.proofs.Math.Seq.{take-add}
 use Rattle.interval_ops.specs.Decided.{decided_of}
 use Rattle.interval_ops.specs.Spans.{Interval, all_numbers}
 use Rattle.interval_ops.specs.declared.choice.Choice.{Choice}
-use Rattle.interval_ops.specs.declared.choice.Choice.TheVariants.{Both}
-use Rattle.live_clauses.specs.Choices.{choice_at}
+use Rattle.live_clauses.specs.Choices.{lane}
 use Rattle.live_clauses.specs.Live.{live_of}
 use Rattle.live_clauses.specs.declared.step.Step.{Step}
 use Rattle.view_settings.specs.Boxes.{Indices}
@@ -16,7 +15,7 @@ use Rattle.std.specs.List.{All, range_with_len}
 use Rattle.std.proofs.lemmas.List.FromFn.{get_or-map-range_with_len, length-range_with_len}
 use Rattle.interval_ops.specs.declared.region.Region.{Region}
 use Rattle.view_settings.specs.Spans.{IsInRoot, region_of}
-use Rattle.choice_trace.specs.Halves.{lane, region_in}
+use Rattle.choice_trace.specs.Halves.{region_in}
 use Rattle.choice_trace.specs.Hulls.{choices_over, hull_in, tape_hull}
 use Rattle.box_chains.specs.Outcomes.{AreInRoot, asked_outcome, asked_outcomes, held_decision, held_in, lane_outcome, outcome_by, outcomes_of, plain_box}
 use Rattle.box_chains.specs.Placing.{Sampling}
@@ -24,35 +23,21 @@ use Rattle.box_chains.specs.declared.asked_box.AskedBox.{AskedBox}
 use Rattle.box_chains.specs.declared.outcome.Outcome.{Outcome}
 use Rattle.box_chains.specs.declared.outcome.Outcome.TheVariants.{Outside}
 
--- the choices of a lane that were copied to the front of others
-pub copied-lane : (l : ℕ) (rows : List (List Choice)) (copied rest : List Choice) (len : ℕ) → len ≤ length rows
-    → copied ≡ lane l (take len rows) → take len (copied ++ rest) ≡ take len (lane l rows)
-copied-lane l rows copied rest len few are =
-    let f : List Choice → Choice = λ row. choice_at row l in
-    let count : length copied ≡ len =
-    omega (arith, ap length are, length-map (take len rows) f, length-take len rows) in
-    take-append-le len copied rest (omega (arith, count)) ∙ take_all len copied (omega (arith, count)) ∙ are
-    ∙ sym (take-map f len rows)
-
--- choices that are those of a lane one by one
-pub lane-read : (l : ℕ) (rows : List (List Choice)) (choices : List Choice) → length choices ≡ length rows
-    → ((k : ℕ) → k < length rows → get_or choices k Both ≡ get_or (lane l rows) k Both) → choices ≡ lane l rows
-lane-read l rows choices same each =
-    let f : List Choice → Choice = λ row. choice_at row l in
-    ext_get_or Both choices (lane l rows) (same ∙ sym (length-map rows f)) (λ k h. each k (omega (arith, h, same)))
-
--- some more boxes are traced
 -- what stands behind a place
 pub rest-is : {X : Type 0} (xs : List X) (i : ℕ) → take (length xs - i) (drop i xs) ≡ drop i xs
 rest-is xs i = take_all (length xs - i) (drop i xs) (omega (arith, length-drop i xs))
 
-pub outcomes-join : (places : Sampling) (list : List Step) (boxes : List AskedBox) (i n : ℕ) (done new : List Outcome)
-    → done ≡ asked_outcomes places list (take i boxes) → new ≡ done ++ asked_outcomes places list (take n (drop i boxes))
-    → new ≡ asked_outcomes places list (take (i + n) boxes)
-outcomes-join places list boxes i n done new before added =
-    let f : AskedBox → Outcome = asked_outcome places list in
-    added ∙ ap (λ l. l ++ map f (take n (drop i boxes))) before ∙ sym (map-append f (take i boxes) (take n (drop i boxes)))
-    ∙ sym (ap (map f) (take-add i n boxes))
+-- the first of some boxes
+pub take-one : {X : Type 0} (xs : List X) (x : X) → 0 < length xs → x ≡ get_or xs 0 x → take 1 xs ≡ x ∷ []
+take-one [] x some is = absurd (omega (arith, some))
+take-one (y ∷ ys) x some is = ap (λ a. a ∷ []) (sym is)
+
+-- what some boxes tell, and then some more
+pub outcomes-join : (places : Sampling) (list : List Step) (boxes : List AskedBox) (i n : ℕ)
+    → asked_outcomes places list (take i boxes) ++ asked_outcomes places list (take n (drop i boxes)) ≡ asked_outcomes places list (take (i + n) boxes)
+outcomes-join places list boxes i n =
+    let f : AskedBox → Outcome (List Step) = asked_outcome places list in
+    sym (map-append f (take i boxes) (take n (drop i boxes))) ∙ sym (ap (map f) (take-add i n boxes))
 
 -- where no box is held open, this is what tracing the boxes alone tells
 pub plain-told : (places : Sampling) (list : List Step) (boxes : List Indices) → asked_outcomes places list (map plain_box boxes) ≡ outcomes_of places list boxes
@@ -62,7 +47,7 @@ pub plain-in_root : (places : Sampling) (boxes : List Indices) → All (IsInRoot
 plain-in_root places boxes h = All-map (λ (a : AskedBox). IsInRoot places.view places.lattice a.range) plain_box boxes h
 
 -- what is told in a lane
-pub outcome-read : (list : List Step) (asked : List AskedBox) (hulls : List Interval) (rows : List (List Choice)) (l : ℕ) (hull : Interval) (box : AskedBox) (o : Outcome)
+pub outcome-read : (list : List Step) (asked : List AskedBox) (hulls : List Interval) (rows : List (List Choice)) (l : ℕ) (hull : Interval) (box : AskedBox) (o : Outcome (List Step))
     → l < length hulls → hull ≡ get_or hulls l hull → l < length asked → box ≡ get_or asked l box
     → o ≡ outcome_by (held_decision box.held (decided_of hull)) (live_of list (take (length list) (lane l rows)))
     → o ≡ lane_outcome list asked hulls rows l
@@ -83,16 +68,16 @@ lanes-told places list asked regions hulls rows n placed count hull chosen =
     (length-map (range_with_len 0 n) f ∙ length-range_with_len 0 n ∙ sym count ∙ sym (length-map asked g))
     (λ l h. by l (omega (arith, h, length-map (range_with_len 0 n) f, length-range_with_len 0 n)))
   where
-    f : ℕ → Outcome
+    f : ℕ → Outcome (List Step)
     f = lane_outcome list asked hulls rows
 
-    g : AskedBox → Outcome
+    g : AskedBox → Outcome (List Step)
     g = asked_outcome places list
 
     nothing : AskedBox
     nothing = plain_box (record { x0 = 0; x1 = 0; y0 = 0; y1 = 0; z0 = 0; z1 = 0 })
 
-    over : Bool → Region → Outcome
+    over : Bool → Region → Outcome (List Step)
     over held r = outcome_by (held_decision held (decided_of (tape_hull r list))) (live_of list (choices_over r list))
 
     by : (l : ℕ) → l < n → get_or (map f (range_with_len 0 n)) l Outside ≡ get_or (map g asked) l Outside

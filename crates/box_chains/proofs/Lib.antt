@@ -7,6 +7,7 @@ pub mod LawProofs
 pub mod Placed
 mod RedrawnExamples
 pub mod RedrawnLaws
+pub mod Seen
 pub mod SumLaws
 pub mod TallyLaws
 pub mod TestedLaws

@@ -15,12 +15,12 @@ abbrev pub sampling : Descent → Sampling
 sampling d = record { view = d.view; lattice = d.lattice }
 
 -- the evaluations that the box takes, and the steps that are traced below it
-abbrev pub outcome_points : Descent → Indices → Outcome → ℕ
+abbrev pub outcome_points : Descent → Indices → Outcome (List Step) → ℕ
 outcome_points d b Inside = 0
 outcome_points d b Outside = 0
 outcome_points d b (Open list) = open_points d b list
 
-abbrev pub outcome_spans : Descent → Indices → Outcome → ℕ
+abbrev pub outcome_spans : Descent → Indices → Outcome (List Step) → ℕ
 outcome_spans d b Inside = 0
 outcome_spans d b Outside = 0
 outcome_spans d b (Open list) = open_spans d b list

@@ -1,13 +1,14 @@
 -- What tracing a list over boxes tells.
-use Rattle.std.specs.Prelude.{◌≡◌, ◌≤◌, ℕ, Bool, true, false, List, length, map, take, Option, Some, None}
+use Rattle.std.specs.Prelude.{◌≡◌, ◌<◌, ◌≤◌, ℕ, Bool, true, false, List, length, map, take, Option, Some, None}
 use Rattle.std.specs.List.{All}
-use Rattle.choice_trace.specs.Halves.{flag_in, lane}
+use Rattle.choice_trace.specs.Halves.{flag_in}
 use Rattle.choice_trace.specs.Hulls.{choices_over, hull_in, tape_hull}
 use Rattle.interval_ops.specs.Spans.{Interval}
 use Rattle.interval_ops.specs.declared.choice.Choice.{Choice}
 use Rattle.interval_ops.specs.declared.choice.Choice.TheVariants.{Both}
-use Rattle.live_clauses.specs.Choices.{choice_at}
+use Rattle.live_clauses.specs.Choices.{choice_at, lane}
 use Rattle.interval_ops.specs.Decided.{decided_of}
+use Rattle.live_clauses.specs.Blocks.{list_at}
 use Rattle.live_clauses.specs.Live.{IsWhole, live_of}
 use Rattle.live_clauses.specs.declared.step.Step.{Step}
 use Rattle.view_settings.specs.Boxes.{Indices}
@@ -18,13 +19,13 @@ use Rattle.box_chains.specs.declared.outcome.Outcome.{Outcome}
 use Rattle.box_chains.specs.declared.outcome.Outcome.TheVariants.{Inside, Outside, Open}
 
 -- a decision as an outcome, where an undecided box hands on a list
-abbrev pub outcome_by : Option Bool → List Step → Outcome
+abbrev pub outcome_by : Option Bool → List Step → Outcome (List Step)
 outcome_by (Some true) live = Inside
 outcome_by (Some false) live = Outside
 outcome_by None live = Open live
 
 -- what tracing a list over a box tells: what its hull decides, or the live list
-abbrev pub outcome_of : Sampling → List Step → Indices → Outcome
+abbrev pub outcome_of : Sampling → List Step → Indices → Outcome (List Step)
 outcome_of places list b =
     outcome_by (decided_of (tape_hull (region_of places.view places.lattice b) list))
     (live_of list (choices_over (region_of places.view places.lattice b) list))
@@ -37,7 +38,7 @@ held_decision true (Some true) = None
 held_decision true (Some false) = Some false
 
 -- what tracing a list over a box tells that may be held open
-abbrev pub asked_outcome : Sampling → List Step → AskedBox → Outcome
+abbrev pub asked_outcome : Sampling → List Step → AskedBox → Outcome (List Step)
 asked_outcome places list asked =
     outcome_by
     (held_decision asked.held
@@ -45,7 +46,7 @@ asked_outcome places list asked =
     (live_of list (choices_over (region_of places.view places.lattice asked.range) list))
 
 -- and over some such boxes
-abbrev pub asked_outcomes : Sampling → List Step → List AskedBox → List Outcome
+abbrev pub asked_outcomes : Sampling → List Step → List AskedBox → List (Outcome (List Step))
 asked_outcomes places list asked = map (asked_outcome places list) asked
 
 -- a box that is not held open
@@ -57,19 +58,40 @@ abbrev pub AreInRoot : Sampling → List AskedBox → Type 0
 AreInRoot places asked = All (λ a. IsInRoot places.view places.lattice a.range) asked
 
 -- what tracing a list over some boxes tells of each
-abbrev pub outcomes_of : Sampling → List Step → List Indices → List Outcome
+abbrev pub outcomes_of : Sampling → List Step → List Indices → List (Outcome (List Step))
 outcomes_of places list boxes = map (outcome_of places list) boxes
 
--- a list that a box may hand on: each of its steps is needed, and it has at most so many
-pub record IsHandedOn (most : ℕ) (list : List Step) : Type 0 where
-  pub few : length list ≤ most
-  pub whole : IsWhole list
+-- the number of a list that a box may hand on: each of its steps is needed, and it has at most so many
+pub record IsHandedOn (most : ℕ) (lists : List (List Step)) (at : ℕ) : Type 0 where
+  pub among : at < length lists
+  pub few : length (list_at lists at) ≤ most
+  pub whole : IsWhole (list_at lists at)
 
 -- a box that hands on a list hands on such a one
-abbrev pub HandsOn : ℕ → Outcome → Type 0
-HandsOn most Inside = Unit {0}
-HandsOn most Outside = Unit {0}
-HandsOn most (Open list) = IsHandedOn most list
+abbrev pub HandsOn : ℕ → List (List Step) → Outcome ℕ → Type 0
+HandsOn most lists Inside = Unit {0}
+HandsOn most lists Outside = Unit {0}
+HandsOn most lists (Open at) = IsHandedOn most lists at
+
+-- an outcome that has a list by its number among some, with the list itself
+abbrev pub seen : List (List Step) → Outcome ℕ → Outcome (List Step)
+seen lists Inside = Inside
+seen lists Outside = Outside
+seen lists (Open at) = Open (list_at lists at)
+
+-- the same of some outcomes
+abbrev pub all_seen : List (List Step) → List (Outcome ℕ) → List (Outcome (List Step))
+all_seen lists outcomes = map (seen lists) outcomes
+
+-- outcomes that have lists by their numbers are these ones, and hand on lists of at most so many steps
+pub record AreSeen (most : ℕ) (lists : List (List Step)) (outcomes : List (Outcome ℕ))
+    (told : List (Outcome (List Step))) : Type 0 where
+  pub are : all_seen lists outcomes ≡ told
+  pub hand : All (HandsOn most lists) outcomes
+
+-- lists that stand first among others
+abbrev pub AreFirst : List (List Step) → List (List Step) → Type 0
+AreFirst first all = take (length first) all ≡ first
 
 -- whether the box of a lane is held open
 abbrev pub held_in : List AskedBox → ℕ → Bool
@@ -77,7 +99,7 @@ held_in asked l = flag_in (map (λ a. a.held) asked) l
 
 -- what a hull in a lane tells of a list, with the choices in that lane of some rows
 abbrev pub lane_outcome : List Step → List AskedBox → List Interval → List (List Choice) → ℕ
-    → Outcome
+    → Outcome (List Step)
 lane_outcome list asked hulls rows l =
     outcome_by (held_decision (held_in asked l) (decided_of (hull_in hulls l)))
     (live_of list (take (length list) (lane l rows)))

@@ -1,31 +1,34 @@
 // What looking into boxes needs.
 ghost use Rattle.std.specs.List.{All};
-ghost use Rattle.std.specs.Prelude.{◌≡◌, ◌*◌, ◌≤◌, length, IfOk, OnErr, OnOk};
+ghost use Rattle.std.specs.Prelude.{◌≡◌, ◌*◌, ◌<◌, ◌≤◌, [], ◌∷◌, length, take, IfOk, OnErr, OnOk};
 ghost use Rattle.choice_trace.specs.Hulls.{tape_hull};
 ghost use Rattle.interval_ops.specs.Decided.{decided_of};
 ghost use Rattle.interval_ops.specs.HullCounts.{CountsHulls};
 ghost use Rattle.live_clauses.specs.Live.{IsWhole};
 ghost use Rattle.view_settings.specs.Spans.{IsInRoot, region_of, root_of};
-ghost use Rattle.box_chains.specs.Desks.{samples};
-ghost use Rattle.box_chains.specs.Outcomes.{AreInRoot, HandsOn, asked_outcome, asked_outcomes, outcome_of, outcomes_of};
+ghost use Rattle.box_chains.specs.Desks.{HasMore, Tracing, list_of, samples};
+ghost use Rattle.box_chains.specs.Outcomes.{AreInRoot, HandsOn, all_seen, asked_outcome, asked_outcomes, outcome_of, outcomes_of, seen};
 ghost use Rattle.box_chains.specs.Tallied.{CountsAtMost};
 
 use crate::{AskedBox, Outcome, Places, Workspace};
 use arrayvec::ArrayVec;
 use fixed_ops::{Fx, Tally};
-use live_clauses::Tape;
+use live_clauses::{Lists, Tape};
 use std::alloc::{AllocError, Global};
 use std::marker::Model;
 use view_settings::{IndexBox, Lattice, View};
 
-/// What looking into the boxes of a lattice over a view needs, made once for lists of at most so
-/// many steps: the places of the samples, memory for tracing lists over boxes, and rows of eight
-/// numbers for evaluating them. Contracts see the samples and how many steps a list may have.
+/// What looking into the boxes of a lattice over a view with a list needs, made once: the places of the
+/// samples, the list and the shorter ones that boxes receive, each with a number, memory for tracing
+/// lists over boxes, and rows of eight numbers for evaluating them. Contracts see the samples, the
+/// lists and how many steps a list may have.
 #[derive(Debug, Drop)]
 pub struct Desk {
     /// The places of the samples.
     pub places: Places,
     room: Workspace,
+    /// The lists that boxes receive, those of a box behind those of the boxes above it.
+    pub lists: Lists,
     /// A row of numbers for each step of the lists that were evaluated: `make_rows` makes more.
     pub rows: Vec<[Fx; 8]>,
 }
@@ -40,21 +43,34 @@ impl Model for Desk {
       view = d.places.view;
       lattice = d.places.lattice;
       room = length d.room;
+      lists = d.lists;
     } };
 }
 
 impl Desk {
-    /// What looking into the boxes of a lattice over a view with lists of at most `len` steps
-    /// needs. AllocError: there is no memory for it.
-    pub fn new(alloc: Global, view: &View, lattice: Lattice, len: u32) -> Result<Desk, AllocError>
-        ensures { IfOk result
-            (λ desk. desk ≡ record { view = view.now; lattice = lattice; room = len }) }
+    /// What looking into the boxes of a lattice over a view needs, with a list, which has the number 0.
+    /// AllocError: there is no memory for it.
+    pub fn new(
+        alloc: Global,
+        view: &View,
+        lattice: Lattice,
+        list: &Tape,
+    ) -> Result<Desk, AllocError>
+        ensures { IfOk result (λ desk. desk ≡ record {
+          view = view.now;
+          lattice = lattice;
+          room = length list.now;
+          lists = list.now ∷ [];
+        }) }
     {
         let places = Places::new(alloc, view, lattice)?;
-        let room = Workspace::new(alloc, len)?;
+        let room = Workspace::new(alloc, list.len())?;
+        let mut lists = Lists::new(alloc);
+        lists.push(list)?;
         Ok(Desk {
             places,
             room,
+            lists,
             rows: Vec::new(alloc),
         })
     }
@@ -75,115 +91,134 @@ impl Desk {
         self.places.w()
     }
 
-    /// What tracing a list over a box that receives it tells. AllocError: there is no memory for a
-    /// shorter list.
+    /// What tracing a list over a box that receives it tells. The list is given by its number, and a
+    /// shorter one that the box hands on is put behind the others. AllocError: there is no memory for
+    /// it.
     #[inline]
     pub fn trace_box(
         &mut self,
-        alloc: Global,
-        tape: &Tape,
+        list: usize,
         b: IndexBox,
         tally: &mut Tally,
-    ) -> Result<Outcome, AllocError>
-        requires room { length tape.now ≤ self.old.room }
+    ) -> Result<Outcome<usize>, AllocError>
+        requires among { list < length self.old.lists }
+        requires room { length (list_of self.old list) ≤ self.old.room }
         requires within { IsInRoot self.old.view self.old.lattice b }
-        ensures outcome { IfOk result
-            (λ outcome. outcome ≡ outcome_of (samples self.old) tape.now b) }
-        ensures shorter { IfOk result (HandsOn (length tape.now)) }
-        ensures kept { self.new ≡ self.old }
-        ensures counted { CountsHulls (length tape.now) tally.old tally.new }
+        ensures outcome { IfOk result (λ outcome. seen self.new.lists outcome
+            ≡ outcome_of (samples self.old) (list_of self.old list) b) }
+        ensures shorter { IfOk result
+            (HandsOn (length (list_of self.old list)) self.new.lists) }
+        ensures more { HasMore self.old self.new }
+        ensures counted { CountsHulls (length (list_of self.old list)) tally.old tally.new }
     {
-        self.room.trace_box(alloc, tape, &self.places, b, tally)
+        self.room
+            .trace_box(&mut self.lists, list, &self.places, b, tally)
     }
 
     /// The same of a box that may be held open.
     #[inline]
     pub fn trace_asked_box(
         &mut self,
-        alloc: Global,
-        tape: &Tape,
+        list: usize,
         asked: AskedBox,
         tally: &mut Tally,
-    ) -> Result<Outcome, AllocError>
-        requires room { length tape.now ≤ self.old.room }
+    ) -> Result<Outcome<usize>, AllocError>
+        requires among { list < length self.old.lists }
+        requires room { length (list_of self.old list) ≤ self.old.room }
         requires within { IsInRoot self.old.view self.old.lattice asked.range }
-        ensures outcome { IfOk result
-            (λ outcome. outcome ≡ asked_outcome (samples self.old) tape.now asked) }
-        ensures shorter { IfOk result (HandsOn (length tape.now)) }
-        ensures kept { self.new ≡ self.old }
-        ensures counted { CountsHulls (length tape.now) tally.old tally.new }
+        ensures outcome { IfOk result (λ outcome. seen self.new.lists outcome
+            ≡ asked_outcome (samples self.old) (list_of self.old list) asked) }
+        ensures shorter { IfOk result
+            (HandsOn (length (list_of self.old list)) self.new.lists) }
+        ensures more { HasMore self.old self.new }
+        ensures counted { CountsHulls (length (list_of self.old list)) tally.old tally.new }
     {
         self.room
-            .trace_asked_box(alloc, tape, &self.places, asked, tally)
+            .trace_asked_box(&mut self.lists, list, &self.places, asked, tally)
     }
 
-    /// What tracing a list over boxes that receive it tells of each of them, in their order.
-    /// AllocError: there is no memory for a shorter list, and no more was traced than that.
+    /// What tracing a list over boxes that receive it tells of each of them, in their order. The list
+    /// is given by its number, and shorter ones that boxes hand on are put behind the others.
+    /// AllocError: there is no memory for one, and no more was traced than that.
     #[inline]
     pub fn trace_boxes(
         &mut self,
-        alloc: Global,
-        tape: &Tape,
+        list: usize,
         boxes: &[IndexBox],
         tally: &mut Tally,
-    ) -> Result<ArrayVec<Outcome, 8>, AllocError>
-        requires whole { IsWhole tape.now }
-        requires room { length tape.now ≤ self.old.room }
+    ) -> Result<ArrayVec<Outcome<usize>, 8>, AllocError>
+        requires among { list < length self.old.lists }
+        requires whole { IsWhole (list_of self.old list) }
+        requires room { length (list_of self.old list) ≤ self.old.room }
         requires few { length boxes.now ≤ 8 }
         requires within { All (IsInRoot self.old.view self.old.lattice) boxes.now }
-        ensures outcomes { IfOk result (λ outcomes. outcomes.items
-            ≡ outcomes_of (samples self.old) tape.now boxes.now) }
-        ensures shorter { IfOk result
-            (λ outcomes. All (HandsOn (length tape.now)) outcomes.items) }
-        ensures kept { self.new ≡ self.old }
-        ensures counted { OnOk result
-            (CountsHulls (length boxes.now * length tape.now) tally.old tally.new) }
-        ensures at_most { OnErr result
-            (CountsAtMost 0 (length boxes.now * length tape.now) tally.old tally.new) }
+        ensures outcomes { IfOk result (λ outcomes. all_seen self.new.lists outcomes.items
+            ≡ outcomes_of (samples self.old) (list_of self.old list) boxes.now) }
+        ensures shorter { IfOk result (λ outcomes.
+            All (HandsOn (length (list_of self.old list)) self.new.lists) outcomes.items) }
+        ensures more { HasMore self.old self.new }
+        ensures counted { OnOk result (CountsHulls
+            (length boxes.now * length (list_of self.old list)) tally.old tally.new) }
+        ensures at_most { OnErr result (CountsAtMost 0
+            (length boxes.now * length (list_of self.old list)) tally.old tally.new) }
     {
         self.room
-            .trace_boxes(alloc, tape, &self.places, boxes, tally)
+            .trace_boxes(&mut self.lists, list, &self.places, boxes, tally)
     }
 
     /// The same of boxes that may be held open.
     #[inline]
     pub fn trace_asked_boxes(
         &mut self,
-        alloc: Global,
-        tape: &Tape,
+        list: usize,
         asked: &[AskedBox],
         tally: &mut Tally,
-    ) -> Result<ArrayVec<Outcome, 8>, AllocError>
-        requires whole { IsWhole tape.now }
-        requires room { length tape.now ≤ self.old.room }
+    ) -> Result<ArrayVec<Outcome<usize>, 8>, AllocError>
+        requires among { list < length self.old.lists }
+        requires whole { IsWhole (list_of self.old list) }
+        requires room { length (list_of self.old list) ≤ self.old.room }
         requires few { length asked.now ≤ 8 }
         requires within { AreInRoot (samples self.old) asked.now }
-        ensures outcomes { IfOk result (λ outcomes. outcomes.items
-            ≡ asked_outcomes (samples self.old) tape.now asked.now) }
-        ensures shorter { IfOk result
-            (λ outcomes. All (HandsOn (length tape.now)) outcomes.items) }
-        ensures kept { self.new ≡ self.old }
-        ensures counted { OnOk result
-            (CountsHulls (length asked.now * length tape.now) tally.old tally.new) }
-        ensures at_most { OnErr result
-            (CountsAtMost 0 (length asked.now * length tape.now) tally.old tally.new) }
+        ensures outcomes { IfOk result (λ outcomes. all_seen self.new.lists outcomes.items
+            ≡ asked_outcomes (samples self.old) (list_of self.old list) asked.now) }
+        ensures shorter { IfOk result (λ outcomes.
+            All (HandsOn (length (list_of self.old list)) self.new.lists) outcomes.items) }
+        ensures more { HasMore self.old self.new }
+        ensures counted { OnOk result (CountsHulls
+            (length asked.now * length (list_of self.old list)) tally.old tally.new) }
+        ensures at_most { OnErr result (CountsAtMost 0
+            (length asked.now * length (list_of self.old list)) tally.old tally.new) }
     {
         self.room
-            .trace_asked_boxes(alloc, tape, &self.places, asked, tally)
+            .trace_asked_boxes(&mut self.lists, list, &self.places, asked, tally)
     }
 
-    /// Traces a list over a box, and hands nothing on: whether all of the box is inside, or
-    /// outside, or neither is decided. It is a call, for callers that have much beside it.
+    /// Traces a list, given by its number, over a box, and hands nothing on: whether all of the box is
+    /// inside, or outside, or neither is decided. It is a call, for callers that have much beside it.
     #[inline]
-    pub fn look_apart(&mut self, tape: &Tape, b: IndexBox, tally: &mut Tally) -> Option<bool>
-        requires room { length tape.now ≤ self.old.room }
+    pub fn look_apart(&mut self, list: usize, b: IndexBox, tally: &mut Tally) -> Option<bool>
+        requires among { list < length self.old.lists }
+        requires room { length (list_of self.old list) ≤ self.old.room }
         requires within { IsInRoot self.old.view self.old.lattice b }
-        ensures decision { result
-            ≡ decided_of (tape_hull (region_of self.old.view self.old.lattice b) tape.now) }
+        ensures decision { result ≡ decided_of
+            (tape_hull (region_of self.old.view self.old.lattice b) (list_of self.old list)) }
         ensures kept { self.new ≡ self.old }
-        ensures counted { CountsHulls (length tape.now) tally.old tally.new }
+        ensures counted { CountsHulls (length (list_of self.old list)) tally.old tally.new }
     {
-        self.room.look_apart(tape, self.places.region(b), tally)
+        let region = self.places.region(b);
+        self.room.look_apart(&self.lists.list(list), region, tally)
+    }
+
+    /// Gives up the lists behind the first `count` ones. Where those alone stood before, the desk is as
+    /// it was then.
+    #[inline]
+    pub fn cut(&mut self, count: usize)
+        requires { count ≤ length self.old.lists }
+        ensures cut { self.new ≡ record self.old { lists = take count self.old.lists } }
+        ensures back { (before : Tracing) → HasMore before self.old
+            → count ≡ length before.lists → self.new ≡ before }
+    {
+        self.lists.cut(count);
     }
 }
 

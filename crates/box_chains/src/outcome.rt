@@ -1,20 +1,19 @@
 // What tracing a list over a box tells.
 
-use live_clauses::Tape;
-
-/// What tracing a list over a box tells of the box's samples. The default is `Outside`.
-#[derive(Debug, Drop)]
-pub enum Outcome {
+/// What tracing a list over a box tells of the box's samples, with what stands for the list that it
+/// hands on. The default is `Outside`.
+#[derive(Clone, Copy, Debug, PartialEq, Eq)]
+pub enum Outcome<T> {
     /// Each sample is inside.
     Inside,
     /// Each sample is outside.
     Outside,
     /// Neither is decided, and the box hands on this list.
-    Open(Tape),
+    Open(T),
 }
 
-impl Default for Outcome {
-    fn default() -> Outcome {
+impl<T> Default for Outcome<T> {
+    fn default() -> Outcome<T> {
         Outcome::Outside
     }
 }

@@ -1,21 +1,24 @@
 // Rows for boxes that are traced at once.
 ghost use Rattle.arrayvec.specs.ArrayVec.{array_vec_len};
-ghost use Rattle.std.specs.List.{All, range_with_len};
-ghost use Rattle.std.specs.Prelude.{◌≡◌, ◌+◌, ◌*◌, ◌<◌, ◌≤◌, ◌++◌, ℕ, false, length, map, min, take, IfOk, OnOk};
-ghost use Rattle.choice_trace.specs.Halves.{flag_in, lane};
+ghost use Rattle.std.specs.List.{range_with_len};
+ghost use Rattle.std.specs.Prelude.{◌≡◌, ◌+◌, ◌*◌, ◌<◌, ◌≤◌, ◌++◌, ℕ, false, List, length, map, min, take, IfOk, OnOk};
+ghost use Rattle.choice_trace.specs.Halves.{flag_in};
 ghost use Rattle.interval_ops.specs.Decided.{decided_of};
 ghost use Rattle.interval_ops.specs.HullCounts.{CountsHulls};
-ghost use Rattle.live_clauses.specs.Choices.{AreChoices};
+ghost use Rattle.live_clauses.specs.Choices.{AreChoices, lane};
+ghost use Rattle.live_clauses.specs.Blocks.{list_at};
 ghost use Rattle.live_clauses.specs.Live.{IsWhole, live_of};
+ghost use Rattle.live_clauses.specs.declared.step.Step.{Step};
 ghost use Rattle.view_settings.specs.Spans.{region_of};
-ghost use Rattle.box_chains.specs.Outcomes.{AreInRoot, ChoosesNone, HandsOn, IsHandedOn, asked_outcomes, held_decision, lane_outcome, outcome_by};
+ghost use Rattle.box_chains.specs.Outcomes.{AreFirst, AreInRoot, AreSeen, ChoosesNone, HandsOn, IsHandedOn, asked_outcomes, held_decision, lane_outcome, outcome_by, seen};
+ghost use Rattle.box_chains.specs.declared.outcome.Outcome.{Outcome};
 
 use crate::{AskedBox, Outcome, Places};
 use arrayvec::ArrayVec;
 use choice_trace::{Halves, trace_halves};
 use fixed_ops::{Fx, Tally};
 use interval_ops::{Choice, Region, Span, decided};
-use live_clauses::{Tape, live_lists_are_whole, live_steps_are_the_least, prune_with};
+use live_clauses::{Lane, Lists, live_lists_are_whole, live_steps_are_the_least};
 use std::alloc::{AllocError, Global};
 use std::marker::Model;
 
@@ -63,37 +66,37 @@ impl Rows {
         self.choices.len()
     }
 
-    // What tracing a list over L boxes at once tells of each, put behind some outcomes.
+    // What tracing a list over L boxes at once tells of each, put behind some outcomes. The list is
+    // given by its number, and so are those that the boxes hand on.
     pub(crate) fn trace<const L: usize>(
         &mut self,
-        alloc: Global,
-        tape: &Tape,
+        lists: &mut Lists,
+        at: usize,
         places: &Places,
         asked: &[AskedBox],
-        choices: &mut [Choice],
-        marks: &mut [u16],
-        outcomes: &mut ArrayVec<Outcome, 8>,
+        outcomes: &mut ArrayVec<Outcome<usize>, 8>,
         tally: &mut Tally,
     ) -> Result<(), AllocError>
         requires lanes { L ≤ 4 }
         requires boxes { length asked.now ≡ L }
-        requires whole { IsWhole tape.now }
-        requires room { length tape.now ≤ length self.old }
-        requires choices { length tape.now ≤ length choices.old }
-        requires marks { length tape.now ≤ length marks.old }
+        requires among { at < length lists.old }
+        requires whole { IsWhole (list_at lists.old at) }
+        requires room { length (list_at lists.old at) ≤ length self.old }
         requires few { array_vec_len outcomes.old + L ≤ 8 }
         requires within { AreInRoot places.now asked.now }
-        ensures outcomes { OnOk result (outcomes.new.items ≡ outcomes.old.items
-            ++ asked_outcomes places.now tape.now asked.now) }
-        ensures shorter { OnOk result (All (HandsOn (length tape.now)) outcomes.old.items
-            → All (HandsOn (length tape.now)) outcomes.new.items) }
+        ensures outcomes { OnOk result ((told : List (Outcome (List Step)))
+            → AreSeen (length (list_at lists.old at)) lists.old outcomes.old.items told
+            → AreSeen (length (list_at lists.old at)) lists.new outcomes.new.items
+            (told ++ asked_outcomes places.now (list_at lists.old at) asked.now)) }
+        ensures first { AreFirst lists.old lists.new }
+        ensures len { OnOk result (array_vec_len outcomes.new ≡ array_vec_len outcomes.old + L) }
         ensures room { length self.new ≡ length self.old }
-        ensures counted { CountsHulls (L * length tape.now) tally.old tally.new }
+        ensures counted { CountsHulls (L * length (list_at lists.old at)) tally.old tally.new }
     {
         let regions = regions_of::<L>(places, asked);
         let rows = self.choices.as_mut_slice();
-        let halves = trace_halves(tape, &regions, &mut self.hulls, rows, tally);
-        push_outcomes(alloc, tape, asked, &halves, rows, choices, marks, outcomes)
+        let halves = trace_halves(&lists.list(at), &regions, &mut self.hulls, rows, tally);
+        push_outcomes(lists, at, asked, &halves, rows, outcomes)
     }
 }
 
@@ -121,36 +124,35 @@ fn regions_of<const L: usize>(places: &Places, asked: &[AskedBox]) -> [Region; L
 // there is no memory for a shorter list.
 #[inline]
 fn push_outcomes<const L: usize>(
-    alloc: Global,
-    tape: &Tape,
+    lists: &mut Lists,
+    at: usize,
     asked: &[AskedBox],
     halves: &Halves<L>,
     rows: &[[Choice; 4]],
-    choices: &mut [Choice],
-    marks: &mut [u16],
-    outcomes: &mut ArrayVec<Outcome, 8>,
+    outcomes: &mut ArrayVec<Outcome<usize>, 8>,
 ) -> Result<(), AllocError>
     requires lanes { L ≤ 4 }
-    requires whole { IsWhole tape.now }
+    requires among { at < length lists.old }
+    requires whole { IsWhole (list_at lists.old at) }
     requires boxes { length asked.now ≡ L }
     requires chosen { (l : ℕ) → l < L → flag_in halves.now.chosen l ≡ false
-        → ChoosesNone (take (length tape.now) (lane l rows.now)) }
-    requires rows { length tape.now ≤ length rows.now }
-    requires choices { length tape.now ≤ length choices.old }
-    requires marks { length tape.now ≤ length marks.old }
+        → ChoosesNone (take (length (list_at lists.old at)) (lane l rows.now)) }
+    requires rows { length (list_at lists.old at) ≤ length rows.now }
     requires few { array_vec_len outcomes.old + L ≤ 8 }
-    requires only { (l : ℕ) → l < L
-        → AreChoices tape.now (take (length tape.now) (lane l rows.now)) }
-    ensures outcomes { OnOk result (outcomes.new.items ≡ outcomes.old.items
-        ++ map (lane_outcome tape.now asked.now halves.now.hulls rows.now)
-        (range_with_len 0 L)) }
-    ensures shorter { OnOk result (All (HandsOn (length tape.now)) outcomes.old.items
-        → All (HandsOn (length tape.now)) outcomes.new.items) }
+    requires only { (l : ℕ) → l < L → AreChoices (list_at lists.old at)
+        (take (length (list_at lists.old at)) (lane l rows.now)) }
+    ensures outcomes { OnOk result ((told : List (Outcome (List Step)))
+        → AreSeen (length (list_at lists.old at)) lists.old outcomes.old.items told
+        → AreSeen (length (list_at lists.old at)) lists.new outcomes.new.items (told
+        ++ map (lane_outcome (list_at lists.old at) asked.now halves.now.hulls rows.now)
+        (range_with_len 0 L))) }
+    ensures first { AreFirst lists.old lists.new }
+    ensures len { OnOk result (array_vec_len outcomes.new ≡ array_vec_len outcomes.old + L) }
 {
     for l in 0..L {
         let told = held_open(decided(halves.hulls[l]), asked[l].held);
         let chosen = halves.chosen[l];
-        let outcome = outcome_in_lane(alloc, tape, told, chosen, rows, l, choices, marks)?;
+        let outcome = outcome_in_lane(lists, at, told, chosen, rows, l)?;
         outcomes.push(outcome);
     }
     Ok(())
@@ -172,90 +174,82 @@ pub(crate) fn held_open(told: Option<bool>, held: bool) -> Option<bool>
 // operand. AllocError: there is no memory for a shorter list.
 #[inline]
 fn outcome_in_lane(
-    alloc: Global,
-    tape: &Tape,
+    lists: &mut Lists,
+    at: usize,
     told: Option<bool>,
     chosen: bool,
     rows: &[[Choice; 4]],
     l: usize,
-    choices: &mut [Choice],
-    marks: &mut [u16],
-) -> Result<Outcome, AllocError>
+) -> Result<Outcome<usize>, AllocError>
     requires lane { l < 4 }
-    requires rows { length tape.now ≤ length rows.now }
-    requires choices { length tape.now ≤ length choices.old }
-    requires marks { length tape.now ≤ length marks.old }
-    requires only { AreChoices tape.now (take (length tape.now) (lane l rows.now)) }
-    requires whole { IsWhole tape.now }
-    requires chosen { chosen ≡ false → ChoosesNone (take (length tape.now) (lane l rows.now)) }
-    ensures outcome { IfOk result (λ outcome. outcome ≡ outcome_by told
-        (live_of tape.now (take (length tape.now) (lane l rows.now)))) }
-    ensures shorter { IfOk result (HandsOn (length tape.now)) }
+    requires among { at < length lists.old }
+    requires rows { length (list_at lists.old at) ≤ length rows.now }
+    requires only { AreChoices (list_at lists.old at)
+        (take (length (list_at lists.old at)) (lane l rows.now)) }
+    requires whole { IsWhole (list_at lists.old at) }
+    requires chosen { chosen ≡ false
+        → ChoosesNone (take (length (list_at lists.old at)) (lane l rows.now)) }
+    ensures outcome { IfOk result (λ outcome. seen lists.new outcome ≡ outcome_by told
+        (live_of (list_at lists.old at) (take (length (list_at lists.old at)) (lane l rows.now)))) }
+    ensures shorter { IfOk result (HandsOn (length (list_at lists.old at)) lists.new) }
+    ensures first { AreFirst lists.old lists.new }
 {
     match told {
         Some(true) => Ok(Outcome::Inside),
         Some(false) => Ok(Outcome::Outside),
         None => {
             let live = if chosen {
-                hand_on_lane(alloc, tape, rows, l, choices, marks)?
+                hand_on_lane(lists, at, rows, l)?
             } else {
-                hand_on_whole(tape, rows, l)?
+                hand_on_whole(lists, at, rows, l)
             };
             Ok(Outcome::Open(live))
         }
     }
 }
 
-// What is live of a list under the choices in one lane of its rows. AllocError: there is no memory
-// for a shorter list.
+// What is live of a list under the choices in one lane of its rows, put behind the other lists. Gives
+// its number. AllocError: there is no memory for it.
 fn hand_on_lane(
-    alloc: Global,
-    tape: &Tape,
+    lists: &mut Lists,
+    at: usize,
     rows: &[[Choice; 4]],
     l: usize,
-    choices: &mut [Choice],
-    marks: &mut [u16],
-) -> Result<Tape, AllocError>
+) -> Result<usize, AllocError>
     requires lane { l < 4 }
-    requires rows { length tape.now ≤ length rows.now }
-    requires choices { length tape.now ≤ length choices.old }
-    requires marks { length tape.now ≤ length marks.old }
-    requires only { AreChoices tape.now (take (length tape.now) (lane l rows.now)) }
-    ensures list { IfOk result
-        (λ list. list ≡ live_of tape.now (take (length tape.now) (lane l rows.now))) }
-    ensures handed { IfOk result (IsHandedOn (length tape.now)) }
+    requires among { at < length lists.old }
+    requires rows { length (list_at lists.old at) ≤ length rows.now }
+    requires only { AreChoices (list_at lists.old at)
+        (take (length (list_at lists.old at)) (lane l rows.now)) }
+    ensures list { IfOk result (λ live. list_at lists.new live
+        ≡ live_of (list_at lists.old at) (take (length (list_at lists.old at)) (lane l rows.now))) }
+    ensures handed { IfOk result (IsHandedOn (length (list_at lists.old at)) lists.new) }
+    ensures first { AreFirst lists.old lists.new }
 {
     live_steps_are_the_least();
     live_lists_are_whole();
-    let len = tape.len() as usize;
-    copy_lane(&rows[..len], l, &mut choices[..len]);
-    prune_with(alloc, tape, &choices[..len], marks)
+    let len = lists.list(at).len() as usize;
+    let live = lists.len();
+    let choices = Lane {
+        rows: &rows[..len],
+        lane: l,
+    };
+    lists.push_live(at, choices)?;
+    Ok(live)
 }
 
-// What is live of a list where no step chooses an operand: the list itself. AllocError: it is
-// shared by too many.
+// What is live of a list where no step chooses an operand: the list itself.
 #[inline]
-fn hand_on_whole(tape: &Tape, rows: &[[Choice; 4]], l: usize) -> Result<Tape, AllocError>
-    requires whole { IsWhole tape.now }
-    requires chosen { ChoosesNone (take (length tape.now) (lane l rows.now)) }
-    ensures list { IfOk result
-        (λ list. list ≡ live_of tape.now (take (length tape.now) (lane l rows.now))) }
-    ensures handed { IfOk result (IsHandedOn (length tape.now)) }
+fn hand_on_whole(lists: &Lists, at: usize, rows: &[[Choice; 4]], l: usize) -> usize
+    requires among { at < length lists.now }
+    requires whole { IsWhole (list_at lists.now at) }
+    requires chosen { ChoosesNone (take (length (list_at lists.now at)) (lane l rows.now)) }
+    ensures list { list_at lists.now result
+        ≡ live_of (list_at lists.now at) (take (length (list_at lists.now at)) (lane l rows.now)) }
+    ensures handed { IsHandedOn (length (list_at lists.now at)) lists.now result }
 {
     live_lists_are_whole();
     // A list has a step.
-    let _len = tape.len();
-    tape.share()
-}
-
-// Copies the choices in one lane of some rows.
-#[inline]
-fn copy_lane(rows: &[[Choice; 4]], l: usize, choices: &mut [Choice])
-    requires lane { l < 4 }
-    requires room { length choices.old ≡ length rows.now }
-    ensures { choices.new ≡ lane l rows.now }
-{
-    for at in 0..rows.len() {
-        choices[at] = rows[at][l];
-    }
+    let _len = lists.list(at).len();
+    at
 }

@@ -1,23 +1,26 @@
 // Memory that looking at boxes needs.
 ghost use Rattle.std.specs.List.{All};
 ghost use Rattle.arrayvec.specs.ArrayVec.{array_vec_len};
-ghost use Rattle.std.specs.Prelude.{◌≡◌, ◌+◌, ◌*◌, ◌<◌, ◌≤◌, ◌++◌, drop, length, map, take, IfOk, OnErr, OnOk};
+ghost use Rattle.std.specs.Prelude.{◌≡◌, ◌+◌, ◌*◌, ◌<◌, ◌≤◌, ◌++◌, List, drop, length, map, take, IfOk, OnErr, OnOk};
 ghost use Rattle.choice_trace.specs.Hulls.{choices_over, tape_hull};
 ghost use Rattle.interval_ops.specs.Decided.{decided_of};
 ghost use Rattle.interval_ops.specs.HullCounts.{CountsHulls};
 ghost use Rattle.live_clauses.specs.Choices.{AreChoices};
+ghost use Rattle.live_clauses.specs.Blocks.{list_at};
 ghost use Rattle.live_clauses.specs.Live.{IsWhole, live_of};
+ghost use Rattle.live_clauses.specs.declared.step.Step.{Step};
 ghost use Rattle.view_settings.specs.Spans.{IsInRoot};
-ghost use Rattle.box_chains.specs.Outcomes.{AreInRoot, HandsOn, asked_outcome, asked_outcomes, outcome_of, outcomes_of, plain_box};
+ghost use Rattle.box_chains.specs.Outcomes.{AreFirst, AreInRoot, AreSeen, HandsOn, IsHandedOn, all_seen, asked_outcome, asked_outcomes, outcome_of, outcomes_of, plain_box, seen};
+ghost use Rattle.box_chains.specs.declared.outcome.Outcome.{Outcome};
 ghost use Rattle.box_chains.specs.Tallied.{CountsAtMost};
 
 use crate::rows::{Rows, held_open};
 use crate::{AskedBox, Outcome, Places};
 use arrayvec::ArrayVec;
-use choice_trace::{trace, traces_are_right};
+use choice_trace::{trace_steps, traces_are_right};
 use fixed_ops::{Fx, Tally, tallies_add_up};
 use interval_ops::{Choice, Region, Span, decided, hull_counts};
-use live_clauses::{Tape, live_lists_are_whole, live_steps_are_the_least, prune_with};
+use live_clauses::{Lists, Steps, live_lists_are_whole, live_steps_are_the_least};
 use std::alloc::{AllocError, Global};
 use std::marker::Model;
 use view_settings::IndexBox;
@@ -28,7 +31,6 @@ use view_settings::IndexBox;
 pub struct Workspace {
     hulls: Vec<Span>,
     choices: Vec<Choice>,
-    marks: Vec<u16>,
     rows: Rows,
 }
 
@@ -40,8 +42,7 @@ impl Model for Workspace {
 
     ghost view = { λ w. w.choices.items };
 
-    ghost invariant = { λ w. (length w.hulls.items ≡ length w.choices.items)
-        × (length w.marks.items ≡ length w.choices.items) };
+    ghost invariant = { λ w. length w.hulls.items ≡ length w.choices.items };
 }
 
 impl Workspace {
@@ -52,12 +53,10 @@ impl Workspace {
         let zero = Span::new(Fx::from_raw(0), Fx::from_raw(0));
         let hulls = vec![in alloc; zero; len as usize]?;
         let choices = vec![in alloc; Choice::Both; len as usize]?;
-        let marks = vec![in alloc; 0u16; len as usize]?;
         let rows = Rows::new(alloc, len)?;
         Ok(Workspace {
             hulls,
             choices,
-            marks,
             rows,
         })
     }
@@ -66,106 +65,121 @@ impl Workspace {
     /// choices of its steps are kept. Each caller gets the loop over the steps, which runs faster where
     /// little stands beside it.
     #[inline(always)]
-    pub fn look(&mut self, tape: &Tape, region: Region, tally: &mut Tally) -> Option<bool>
-        requires { length tape.now ≤ length self.old }
-        ensures decision { result ≡ decided_of (tape_hull region tape.now) }
-        ensures choices { take (length tape.now) self.new ≡ choices_over region tape.now }
-        ensures rest { drop (length tape.now) self.new ≡ drop (length tape.now) self.old }
+    pub fn look(&mut self, list: &Steps<'_>, region: Region, tally: &mut Tally) -> Option<bool>
+        requires { length list.now ≤ length self.old }
+        ensures decision { result ≡ decided_of (tape_hull region list.now) }
+        ensures choices { take (length list.now) self.new ≡ choices_over region list.now }
+        ensures rest { drop (length list.now) self.new ≡ drop (length list.now) self.old }
         ensures room { length self.new ≡ length self.old }
-        ensures counted { CountsHulls (length tape.now) tally.old tally.new }
+        ensures counted { CountsHulls (length list.now) tally.old tally.new }
     {
-        let hull = trace(tape, region, &mut self.hulls, &mut self.choices, tally);
+        let hull = trace_steps(list, region, &mut self.hulls, &mut self.choices, tally);
         decided(hull)
     }
 
     /// The same as a call, for callers that have much beside it.
     #[inline(never)]
-    pub fn look_apart(&mut self, tape: &Tape, region: Region, tally: &mut Tally) -> Option<bool>
-        requires { length tape.now ≤ length self.old }
-        ensures decision { result ≡ decided_of (tape_hull region tape.now) }
-        ensures choices { take (length tape.now) self.new ≡ choices_over region tape.now }
-        ensures rest { drop (length tape.now) self.new ≡ drop (length tape.now) self.old }
+    pub fn look_apart(
+        &mut self,
+        list: &Steps<'_>,
+        region: Region,
+        tally: &mut Tally,
+    ) -> Option<bool>
+        requires { length list.now ≤ length self.old }
+        ensures decision { result ≡ decided_of (tape_hull region list.now) }
+        ensures choices { take (length list.now) self.new ≡ choices_over region list.now }
+        ensures rest { drop (length list.now) self.new ≡ drop (length list.now) self.old }
         ensures room { length self.new ≡ length self.old }
-        ensures counted { CountsHulls (length tape.now) tally.old tally.new }
+        ensures counted { CountsHulls (length list.now) tally.old tally.new }
     {
-        self.look(tape, region, tally)
+        self.look(list, region, tally)
     }
 
-    /// What is live of the list that was looked at. AllocError: there is no memory for a shorter list.
+    // What is live of the list that was looked at, put behind the other lists. Gives its number.
+    // AllocError: there is no memory for it.
     #[inline]
-    pub fn hand_on(&mut self, alloc: Global, tape: &Tape) -> Result<Tape, AllocError>
-        requires room { length tape.now ≤ length self.old }
-        requires choices { AreChoices tape.now (take (length tape.now) self.old) }
-        ensures list { IfOk result (λ list. list ≡ live_of tape.now
-            (take (length tape.now) self.old)) }
-        ensures shorter { IfOk result (λ list. length list ≤ length tape.now) }
-        ensures whole { IfOk result IsWhole }
-        ensures same { self.new ≡ self.old }
+    fn hand_on(&self, lists: &mut Lists, at: usize) -> Result<usize, AllocError>
+        requires among { at < length lists.old }
+        requires room { length (list_at lists.old at) ≤ length self.now }
+        requires choices { AreChoices (list_at lists.old at)
+            (take (length (list_at lists.old at)) self.now) }
+        ensures list { IfOk result (λ live. list_at lists.new live ≡ live_of (list_at lists.old at)
+            (take (length (list_at lists.old at)) self.now)) }
+        ensures handed { IfOk result (IsHandedOn (length (list_at lists.old at)) lists.new) }
+        ensures first { AreFirst lists.old lists.new }
     {
         live_steps_are_the_least();
         live_lists_are_whole();
-        let len = tape.len() as usize;
-        prune_with(alloc, tape, &self.choices[..len], &mut self.marks)
+        let len = lists.list(at).len() as usize;
+        let live = lists.len();
+        lists.push_live(at, &self.choices[..len])?;
+        Ok(live)
     }
 
     /// What tracing a list over boxes that receive it tells of each of them, in their order. The list
-    /// is traced once over each box, and handed on as it is where no step chooses an operand.
+    /// is given by its number among some lists, which those that the boxes hand on are put behind. It
+    /// is traced once over each box. Where several boxes are traced at once, one that chooses no
+    /// operand hands on the number of the list that it received.
     /// AllocError: there is no memory for a shorter list, and no more was traced than that.
     pub fn trace_boxes(
         &mut self,
-        alloc: Global,
-        tape: &Tape,
+        lists: &mut Lists,
+        at: usize,
         places: &Places,
         boxes: &[IndexBox],
         tally: &mut Tally,
-    ) -> Result<ArrayVec<Outcome, 8>, AllocError>
-        requires whole { IsWhole tape.now }
-        requires room { length tape.now ≤ length self.old }
+    ) -> Result<ArrayVec<Outcome<usize>, 8>, AllocError>
+        requires among { at < length lists.old }
+        requires whole { IsWhole (list_at lists.old at) }
+        requires room { length (list_at lists.old at) ≤ length self.old }
         requires few { length boxes.now ≤ 8 }
         requires within { All (IsInRoot places.now.view places.now.lattice) boxes.now }
-        ensures outcomes { IfOk result (λ outcomes. outcomes.items
-            ≡ outcomes_of places.now tape.now boxes.now) }
-        ensures shorter { IfOk result
-            (λ outcomes. All (HandsOn (length tape.now)) outcomes.items) }
+        ensures outcomes { IfOk result (λ outcomes. all_seen lists.new outcomes.items
+            ≡ outcomes_of places.now (list_at lists.old at) boxes.now) }
+        ensures shorter { IfOk result (λ outcomes.
+            All (HandsOn (length (list_at lists.old at)) lists.new) outcomes.items) }
+        ensures first { AreFirst lists.old lists.new }
         ensures room { length self.new ≡ length self.old }
-        ensures counted { OnOk result
-            (CountsHulls (length boxes.now * length tape.now) tally.old tally.new) }
-        ensures at_most { OnErr result
-            (CountsAtMost 0 (length boxes.now * length tape.now) tally.old tally.new) }
+        ensures counted { OnOk result (CountsHulls
+            (length boxes.now * length (list_at lists.old at)) tally.old tally.new) }
+        ensures at_most { OnErr result (CountsAtMost 0
+            (length boxes.now * length (list_at lists.old at)) tally.old tally.new) }
     {
         let asked = plain_boxes(boxes);
-        self.trace_asked_boxes(alloc, tape, places, asked.as_slice(), tally)
+        self.trace_asked_boxes(lists, at, places, asked.as_slice(), tally)
     }
 
     /// The same of boxes that may be held open.
     pub fn trace_asked_boxes(
         &mut self,
-        alloc: Global,
-        tape: &Tape,
+        lists: &mut Lists,
+        at: usize,
         places: &Places,
         asked: &[AskedBox],
         tally: &mut Tally,
-    ) -> Result<ArrayVec<Outcome, 8>, AllocError>
-        requires whole { IsWhole tape.now }
-        requires room { length tape.now ≤ length self.old }
+    ) -> Result<ArrayVec<Outcome<usize>, 8>, AllocError>
+        requires among { at < length lists.old }
+        requires whole { IsWhole (list_at lists.old at) }
+        requires room { length (list_at lists.old at) ≤ length self.old }
         requires few { length asked.now ≤ 8 }
         requires within { AreInRoot places.now asked.now }
-        ensures outcomes { IfOk result (λ outcomes. outcomes.items
-            ≡ asked_outcomes places.now tape.now asked.now) }
-        ensures shorter { IfOk result
-            (λ outcomes. All (HandsOn (length tape.now)) outcomes.items) }
+        ensures outcomes { IfOk result (λ outcomes. all_seen lists.new outcomes.items
+            ≡ asked_outcomes places.now (list_at lists.old at) asked.now) }
+        ensures shorter { IfOk result (λ outcomes.
+            All (HandsOn (length (list_at lists.old at)) lists.new) outcomes.items) }
+        ensures first { AreFirst lists.old lists.new }
         ensures room { length self.new ≡ length self.old }
-        ensures counted { OnOk result
-            (CountsHulls (length asked.now * length tape.now) tally.old tally.new) }
-        ensures at_most { OnErr result
-            (CountsAtMost 0 (length asked.now * length tape.now) tally.old tally.new) }
+        ensures counted { OnOk result (CountsHulls
+            (length asked.now * length (list_at lists.old at)) tally.old tally.new) }
+        ensures at_most { OnErr result (CountsAtMost 0
+            (length asked.now * length (list_at lists.old at)) tally.old tally.new) }
     {
         tallies_add_up();
         hull_counts();
         let mut outcomes = ArrayVec::new();
-        let mut at = 0;
-        while at < asked.len() {
-            at += self.trace_some(alloc, tape, places, &asked[at..], &mut outcomes, tally)?;
+        let mut done = 0;
+        while done < asked.len() {
+            done += self.trace_some(lists, at, places, &asked[done..], &mut outcomes, tally)?;
         }
         Ok(outcomes)
     }
@@ -174,59 +188,47 @@ impl Workspace {
     #[inline]
     fn trace_some(
         &mut self,
-        alloc: Global,
-        tape: &Tape,
+        lists: &mut Lists,
+        at: usize,
         places: &Places,
         asked: &[AskedBox],
-        outcomes: &mut ArrayVec<Outcome, 8>,
+        outcomes: &mut ArrayVec<Outcome<usize>, 8>,
         tally: &mut Tally,
     ) -> Result<usize, AllocError>
-        requires whole { IsWhole tape.now }
-        requires room { length tape.now ≤ length self.old }
+        requires among { at < length lists.old }
+        requires whole { IsWhole (list_at lists.old at) }
+        requires room { length (list_at lists.old at) ≤ length self.old }
         requires some { 0 < length asked.now }
         requires few { array_vec_len outcomes.old + length asked.now ≤ 8 }
         requires within { AreInRoot places.now asked.now }
         ensures some { IfOk result (λ count. 0 < count) }
         ensures few { IfOk result (λ count. count ≤ length asked.now) }
-        ensures outcomes { IfOk result (λ count. outcomes.new.items ≡ outcomes.old.items
-            ++ asked_outcomes places.now tape.now (take count asked.now)) }
-        ensures shorter { OnOk result (All (HandsOn (length tape.now)) outcomes.old.items
-            → All (HandsOn (length tape.now)) outcomes.new.items) }
+        ensures outcomes { IfOk result (λ count. (told : List (Outcome (List Step)))
+            → AreSeen (length (list_at lists.old at)) lists.old outcomes.old.items told
+            → AreSeen (length (list_at lists.old at)) lists.new outcomes.new.items
+            (told ++ asked_outcomes places.now (list_at lists.old at) (take count asked.now))) }
+        ensures first { AreFirst lists.old lists.new }
+        ensures len { IfOk result
+            (λ count. array_vec_len outcomes.new ≡ array_vec_len outcomes.old + count) }
         ensures room { length self.new ≡ length self.old }
         ensures counted { IfOk result
-            (λ count. CountsHulls (count * length tape.now) tally.old tally.new) }
-        ensures at_most { OnErr result
-            (CountsAtMost 0 (length asked.now * length tape.now) tally.old tally.new) }
+            (λ count. CountsHulls (count * length (list_at lists.old at)) tally.old tally.new) }
+        ensures at_most { OnErr result (CountsAtMost 0
+            (length asked.now * length (list_at lists.old at)) tally.old tally.new) }
     {
-        let fits = tape.len() as usize <= self.rows.room();
+        let fits = lists.list(at).len() as usize <= self.rows.room();
         if fits && asked.len() >= 4 {
             let four = &asked[..4];
-            self.rows.trace::<4>(
-                alloc,
-                tape,
-                places,
-                four,
-                &mut self.choices,
-                &mut self.marks,
-                outcomes,
-                tally,
-            )?;
+            self.rows
+                .trace::<4>(lists, at, places, four, outcomes, tally)?;
             Ok(4)
         } else if fits && asked.len() >= 2 {
             let two = &asked[..2];
-            self.rows.trace::<2>(
-                alloc,
-                tape,
-                places,
-                two,
-                &mut self.choices,
-                &mut self.marks,
-                outcomes,
-                tally,
-            )?;
+            self.rows
+                .trace::<2>(lists, at, places, two, outcomes, tally)?;
             Ok(2)
         } else {
-            outcomes.push(self.trace_asked_box(alloc, tape, places, asked[0], tally)?);
+            outcomes.push(self.trace_asked_box(lists, at, places, asked[0], tally)?);
             Ok(1)
         }
     }
@@ -236,50 +238,55 @@ impl Workspace {
     #[inline]
     pub fn trace_box(
         &mut self,
-        alloc: Global,
-        tape: &Tape,
+        lists: &mut Lists,
+        at: usize,
         places: &Places,
         b: IndexBox,
         tally: &mut Tally,
-    ) -> Result<Outcome, AllocError>
-        requires room { length tape.now ≤ length self.old }
+    ) -> Result<Outcome<usize>, AllocError>
+        requires among { at < length lists.old }
+        requires room { length (list_at lists.old at) ≤ length self.old }
         requires within { IsInRoot places.now.view places.now.lattice b }
-        ensures outcome { IfOk result (λ outcome. outcome ≡ outcome_of places.now tape.now b) }
-        ensures shorter { IfOk result (HandsOn (length tape.now)) }
+        ensures outcome { IfOk result (λ outcome. seen lists.new outcome
+            ≡ outcome_of places.now (list_at lists.old at) b) }
+        ensures shorter { IfOk result (HandsOn (length (list_at lists.old at)) lists.new) }
+        ensures first { AreFirst lists.old lists.new }
         ensures room { length self.new ≡ length self.old }
-        ensures counted { CountsHulls (length tape.now) tally.old tally.new }
+        ensures counted { CountsHulls (length (list_at lists.old at)) tally.old tally.new }
     {
         let asked = AskedBox {
             range: b,
             held: false,
         };
-        self.trace_asked_box(alloc, tape, places, asked, tally)
+        self.trace_asked_box(lists, at, places, asked, tally)
     }
 
     /// The same of a box that may be held open.
     #[inline]
     pub fn trace_asked_box(
         &mut self,
-        alloc: Global,
-        tape: &Tape,
+        lists: &mut Lists,
+        at: usize,
         places: &Places,
         asked: AskedBox,
         tally: &mut Tally,
-    ) -> Result<Outcome, AllocError>
-        requires room { length tape.now ≤ length self.old }
+    ) -> Result<Outcome<usize>, AllocError>
+        requires among { at < length lists.old }
+        requires room { length (list_at lists.old at) ≤ length self.old }
         requires within { IsInRoot places.now.view places.now.lattice asked.range }
-        ensures outcome { IfOk result
-            (λ outcome. outcome ≡ asked_outcome places.now tape.now asked) }
-        ensures shorter { IfOk result (HandsOn (length tape.now)) }
+        ensures outcome { IfOk result (λ outcome. seen lists.new outcome
+            ≡ asked_outcome places.now (list_at lists.old at) asked) }
+        ensures shorter { IfOk result (HandsOn (length (list_at lists.old at)) lists.new) }
+        ensures first { AreFirst lists.old lists.new }
         ensures room { length self.new ≡ length self.old }
-        ensures counted { CountsHulls (length tape.now) tally.old tally.new }
+        ensures counted { CountsHulls (length (list_at lists.old at)) tally.old tally.new }
     {
         traces_are_right();
-        let told = self.look(tape, places.region(asked.range), tally);
+        let told = self.look(&lists.list(at), places.region(asked.range), tally);
         match held_open(told, asked.held) {
             Some(true) => Ok(Outcome::Inside),
             Some(false) => Ok(Outcome::Outside),
-            None => Ok(Outcome::Open(self.hand_on(alloc, tape)?)),
+            None => Ok(Outcome::Open(self.hand_on(lists, at)?)),
         }
     }
 }

@@ -8,7 +8,8 @@ use Rattle.interval_ops.specs.Spans.{all_numbers}
 use Rattle.interval_ops.specs.declared.choice.Choice.TheVariants.{Left, Right, Both}
 use Rattle.interval_ops.specs.declared.region.Region.{Region}
 use Rattle.live_clauses.specs.declared.step.Step.{Step}
-use Rattle.choice_trace.specs.Halves.{flag_in, lane, region_in}
+use Rattle.live_clauses.specs.Choices.{lane}
+use Rattle.choice_trace.specs.Halves.{flag_in, region_in}
 use Rattle.choice_trace.specs.Hulls.{choices_over, tape_hull}
 use Rattle.choice_trace.specs.Meaning.{StandForPoint, StandsForResults}
 

@@ -6,10 +6,10 @@ use Rattle.interval_ops.specs.Spans.{Interval, all_numbers}
 use Rattle.interval_ops.specs.declared.choice.Choice.{Choice}
 use Rattle.interval_ops.specs.declared.choice.Choice.TheVariants.{Left, Right, Both}
 use Rattle.interval_ops.specs.declared.region.Region.{Region}
-use Rattle.live_clauses.specs.Choices.{choice_at}
+use Rattle.live_clauses.specs.Choices.{choice_at, lane}
 use Rattle.live_clauses.specs.Steps.{AreSteps}
 use Rattle.live_clauses.specs.declared.step.Step.{Step}
-use Rattle.choice_trace.specs.Halves.{is_made, lane, row_in}
+use Rattle.choice_trace.specs.Halves.{is_made, row_in}
 use Rattle.choice_trace.specs.Hulls.{choices_over, hull_at, hull_in, step_hull}
 use Rattle.choice_trace.proofs.HullLists.{choice_of-same, hull_at-step, step_hull-same}
 use Rattle.choice_trace.proofs.Traces.{choice_there}

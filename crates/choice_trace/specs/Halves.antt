@@ -1,11 +1,10 @@
 -- Several regions that a list is traced over at once. Each has a lane, which is its place among
 -- them, and a row holds one element for each lane.
-use Rattle.std.specs.Prelude.{ℕ, Bool, true, false, List, [], map, slice_index_or}
+use Rattle.std.specs.Prelude.{ℕ, Bool, true, false, List, [], slice_index_or}
 use Rattle.interval_ops.specs.Spans.{Interval, all_numbers}
 use Rattle.interval_ops.specs.declared.choice.Choice.{Choice}
 use Rattle.interval_ops.specs.declared.choice.Choice.TheVariants.{Left, Right, Both}
 use Rattle.interval_ops.specs.declared.region.Region.{Region}
-use Rattle.live_clauses.specs.Choices.{choice_at}
 use Rattle.choice_trace.specs.Hulls.{hull_in}
 use Rattle.choice_trace.specs.declared.inputs.Inputs.{Inputs}
 
@@ -17,10 +16,6 @@ region_in regions l =
 -- the flag of a lane, which past the last is false
 abbrev pub flag_in : List Bool → ℕ → Bool
 flag_in flags l = slice_index_or flags l false
-
--- the choices of one lane: of each row the one that stands in it
-abbrev pub lane : ℕ → List (List Choice) → List Choice
-lane l rows = map (λ row. choice_at row l) rows
 
 -- whether a choice is of one operand
 abbrev pub is_made : Choice → Bool

@@ -5,8 +5,8 @@ ghost use Rattle.fixed_ops.specs.Points.{Point};
 ghost use Rattle.interval_ops.specs.Choices.{choice_of};
 ghost use Rattle.interval_ops.specs.HullCounts.{CountsHulls};
 ghost use Rattle.interval_ops.specs.Hulls.{hull_of};
-ghost use Rattle.live_clauses.specs.Choices.{AreChoices, AreRight, choice_at};
-ghost use Rattle.choice_trace.specs.Halves.{is_made, flag_in, lane, region_in, region_of, row_in};
+ghost use Rattle.live_clauses.specs.Choices.{AreChoices, AreRight, choice_at, lane};
+ghost use Rattle.choice_trace.specs.Halves.{is_made, flag_in, region_in, region_of, row_in};
 ghost use Rattle.choice_trace.specs.Hulls.{IsIn, choices_over, hull_in, step_hull, tape_hull};
 ghost use Rattle.choice_trace.specs.Laws.{AreRanges};
 
@@ -14,7 +14,7 @@ use crate::Inputs;
 use crate::laws::layers_hold;
 use fixed_ops::{Fx, Op, Tally};
 use interval_ops::{Choice, Region, Span, choose, hull_counts, span_apply};
-use live_clauses::{Step, Tape};
+use live_clauses::{Step, Steps};
 
 /// What a list is over some regions, one lane for each.
 #[derive(Clone, Copy, Debug, PartialEq, Eq)]
@@ -30,35 +30,35 @@ pub struct Halves<const L: usize> {
 /// `choices` for one row of choices; the lane of a region in a row is its place among the regions.
 #[inline]
 pub fn trace_halves<const L: usize>(
-    tape: &Tape,
+    list: &Steps<'_>,
     regions: &[Region; L],
     regs: &mut [[Span; 4]],
     choices: &mut [[Choice; 4]],
     tally: &mut Tally,
 ) -> Halves<L>
     requires lanes { L ≤ 4 }
-    requires regs { length tape.now ≤ length regs.old }
-    requires choices { length tape.now ≤ length choices.old }
+    requires regs { length list.now ≤ length regs.old }
+    requires choices { length list.now ≤ length choices.old }
     ensures hulls { (l : ℕ) → l < L
-        → hull_in result.hulls l ≡ tape_hull (region_in regions.now l) tape.now }
-    ensures choices { (l : ℕ) → l < L → take (length tape.now) (lane l choices.new)
-        ≡ choices_over (region_in regions.now l) tape.now }
-    ensures only { (l : ℕ) → l < L → AreChoices tape.now (lane l choices.new) }
+        → hull_in result.hulls l ≡ tape_hull (region_in regions.now l) list.now }
+    ensures choices { (l : ℕ) → l < L → take (length list.now) (lane l choices.new)
+        ≡ choices_over (region_in regions.now l) list.now }
+    ensures only { (l : ℕ) → l < L → AreChoices list.now (lane l choices.new) }
     ensures right { (l : ℕ) (p : Point) → l < L → IsIn (region_in regions.now l) p
-        → AreRight p tape.now (lane l choices.new) }
+        → AreRight p list.now (lane l choices.new) }
     ensures chosen { (l : ℕ) → l < L → (flag_in result.chosen l ≡ false)
-        ↔ ((place : ℕ) → choice_at (choices_over (region_in regions.now l) tape.now) place
+        ↔ ((place : ℕ) → choice_at (choices_over (region_in regions.now l) list.now) place
         ≡ Choice.Both) }
-    ensures regs_rest { drop (length tape.now) regs.new ≡ drop (length tape.now) regs.old }
-    ensures choices_rest { drop (length tape.now) choices.new
-        ≡ drop (length tape.now) choices.old }
-    ensures counted { CountsHulls (L * length tape.now) tally.old tally.new }
+    ensures regs_rest { drop (length list.now) regs.new ≡ drop (length list.now) regs.old }
+    ensures choices_rest { drop (length list.now) choices.new
+        ≡ drop (length list.now) choices.old }
+    ensures counted { CountsHulls (L * length list.now) tally.old tally.new }
 {
     layers_hold();
     hull_counts();
     in_order(regions);
     let inputs = ranges(regions);
-    let steps = tape.steps();
+    let steps = list.again();
     let len = steps.len();
     // Counts that no other call sees stay in registers.
     let mut work = Tally::new();

@@ -7,28 +7,28 @@ ghost use Rattle.choice_trace.specs.Lanes.{in_lane, lane_value, number_at, point
 
 use crate::Inputs;
 use fixed_ops::{Fx, Op, Tally, apply, count_points, steps_read_their_operands};
-use live_clauses::{Step, Tape, values_are_of_operands};
+use live_clauses::{Step, Steps, values_are_of_operands};
 
 /// The values of a list at the points of the first L lanes of the inputs, each in its lane. The
 /// other lanes of the answer mean nothing. Each step is applied once a lane, in order. `regs` has
 /// room for one row of numbers a step.
 #[inline]
 pub fn evaluate_lanes<const L: usize>(
-    tape: &Tape,
+    list: &Steps<'_>,
     inputs: &Inputs<[Fx; 8]>,
     regs: &mut [[Fx; 8]],
     tally: &mut Tally,
 ) -> [Fx; 8]
     requires lanes { L ≤ 8 }
-    requires room { length tape.now ≤ length regs.old }
+    requires room { length list.now ≤ length regs.old }
     ensures values { (lane : ℕ) → lane < L
-        → in_lane lane result ≡ tape_value (point_in lane inputs.now) tape.now }
-    ensures rest { drop (length tape.now) regs.new ≡ drop (length tape.now) regs.old }
-    ensures counted { RisesBy tally.old tally.new (points_of (L * length tape.now)) }
+        → in_lane lane result ≡ tape_value (point_in lane inputs.now) list.now }
+    ensures rest { drop (length list.now) regs.new ≡ drop (length list.now) regs.old }
+    ensures counted { RisesBy tally.old tally.new (points_of (L * length list.now)) }
 {
     steps_read_their_operands();
     values_are_of_operands();
-    let steps = tape.steps();
+    let steps = list.again();
     let len = steps.len();
     for at in 0..len {
         let (earlier, later) = regs.split_at_mut(at as usize);

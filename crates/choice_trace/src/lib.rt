@@ -17,4 +17,4 @@ pub use halves::{Halves, trace_halves};
 pub use inputs::Inputs;
 pub use lanes::evaluate_lanes;
 pub use laws::{hulls_of_steps, traces_are_right, work_of_steps};
-pub use tracer::trace;
+pub use tracer::{trace, trace_steps};

@@ -12,7 +12,7 @@ use crate::laws::layers_hold;
 use crate::operands::operands;
 use fixed_ops::Tally;
 use interval_ops::{Choice, Region, Span, choose, hull_counts, span_apply};
-use live_clauses::Tape;
+use live_clauses::{Steps, Tape};
 
 /// The hull of a list over a region, with the choice of each step, which is right at every point of
 /// the region. `regs` has room for one range a step, and `choices` for one choice.
@@ -36,6 +36,30 @@ pub fn trace(
         ≡ drop (length tape.now) choices.old }
     ensures counted { CountsHulls (length tape.now) tally.old tally.new }
 {
+    trace_steps(&tape.steps(), region, regs, choices, tally)
+}
+
+/// The same of a list that is given by its steps.
+#[inline]
+pub fn trace_steps(
+    list: &Steps<'_>,
+    region: Region,
+    regs: &mut [Span],
+    choices: &mut [Choice],
+    tally: &mut Tally,
+) -> Span
+    requires regs { length list.now ≤ length regs.old }
+    requires choices { length list.now ≤ length choices.old }
+    ensures hull { result ≡ tape_hull region list.now }
+    ensures holds { (p : Point) → IsIn region p → Holds result (tape_value p list.now) }
+    ensures choices { take (length list.now) choices.new ≡ choices_over region list.now }
+    ensures only { AreChoices list.now choices.new }
+    ensures right { (p : Point) → IsIn region p → AreRight p list.now choices.new }
+    ensures regs_rest { drop (length list.now) regs.new ≡ drop (length list.now) regs.old }
+    ensures choices_rest { drop (length list.now) choices.new
+        ≡ drop (length list.now) choices.old }
+    ensures counted { CountsHulls (length list.now) tally.old tally.new }
+{
     // The laws that the hulls, the choices and their counts rest on.
     layers_hold();
     hull_counts();
@@ -46,7 +70,7 @@ pub fn trace(
         y: region.y,
         z: region.z,
     };
-    let steps = tape.steps();
+    let steps = list.again();
     let len = steps.len();
     // Counts that no other call sees stay in registers.
     let mut work = Tally::new();

@@ -6,7 +6,7 @@ use Rattle.std.proofs.lemmas.Bool.{le-leb, lt-ltb}
 use Rattle.std.proofs.lemmas.Nat.{div-mul-add, mod-mul-add}
 use Rattle.std.specs.List.{All}
 use Rattle.std.proofs.lemmas.List.Elements.{All-drop, All-take, All-weaker}
-use Rattle.box_chains.specs.Desks.{Tracing}
+use Rattle.box_chains.specs.Desks.{HasMore, Tracing, list_of}
 use Rattle.box_chains.specs.Chains.{Visit, decision, handed_on, is_long, visit}
 use Rattle.box_chains.specs.Parts.{IsPart}
 use Rattle.box_chains.specs.Sums.{LiesIn, Sample, sum_in}
@@ -93,7 +93,7 @@ undecided-drawn laws view list live b w before after width is same changed =
     changed
 
 -- what a box changes by its outcome
-pub outcome-drawn : (laws : Lawful) (view : Window) (list : List Step) (b : Indices) (o : Outcome) (w : ℕ) (before after : List ℕ) → w ≡ view.w → IsVisit (layered view) (visit b list)
+pub outcome-drawn : (laws : Lawful) (view : Window) (list : List Step) (b : Indices) (o : Outcome (List Step)) (w : ℕ) (before after : List ℕ) → w ≡ view.w → IsVisit (layered view) (visit b list)
     → o ≡ outcome_of (sampling (layered view)) list b → Changes (covers w b) (outcome_top view b o) before after → Changes (covers w b) (leaf_top view list b) before after
 outcome-drawn laws view list b o w before after width is told changed =
     by (decision (layered view) (visit b list)) refl (subst (λ x. Changes (covers w b) (outcome_top view b x) before after) told changed)
@@ -199,8 +199,8 @@ columns-there view b w len window within width all =
     record { columns = omega (arith, width, within.x); rows = omega (arith, rows, same, all); few = omega (arith, width, window.w.few) }
 
 -- a half of a box of the map is one
-pub half-placed : (laws : Lawful) (desk : Tracing) (b half : Indices) (list : List Step) (len : ℕ) → IsPart 8 b half → MayDraw desk b list len → IsPlaced desk len half
-half-placed laws desk b half list len part may = record {
+pub half-placed : (laws : Lawful) (desk : Tracing) (b half : Indices) (at : ℕ) (len : ℕ) → IsPart 8 b half → MayDraw desk b at len → IsPlaced desk len half
+half-placed laws desk b half at len part may = record {
   lattice = may.lattice;
   window = may.visit_is.window;
   box = laws.parts.box 8 b half part;
@@ -213,11 +213,12 @@ half-placed laws desk b half list len part may = record {
 pub placed-visit : (desk : Tracing) (b : Indices) (list : List Step) (len : ℕ) → IsPlaced desk len b → IsTape list → IsVisit (layered desk.view) (visit b list)
 placed-visit desk b list len placed tape = record { window = placed.window; box = placed.box; within = placed.within; tape = tape }
 
-pub placed-may : (desk : Tracing) (b : Indices) (list : List Step) (len : ℕ) → IsPlaced desk len b → MayReceive desk list → MayDraw desk b list len
-placed-may desk b list len placed room = record {
+pub placed-may : (desk : Tracing) (b : Indices) (at : ℕ) (len : ℕ) → IsPlaced desk len b → MayReceive desk at → MayDraw desk b at len
+placed-may desk b at len placed room = record {
   lattice = placed.lattice;
-  visit_is = placed-visit desk b list len placed room.tape;
+  visit_is = placed-visit desk b (list_of desk at) len placed room.tape;
   tops = placed.tops;
+  among = room.room.among;
   room = room.room.room;
 }
 
@@ -231,5 +232,15 @@ placed-kept before after len other b kept same placed = record {
   tops = same ∙ placed.tops ∙ ap (λ d. d.view.h * d.view.w) (sym kept);
 }
 
-pub room-kept : (before after : Tracing) (list : List Step) → after ≡ before → MayReceive before list → MayReceive after list
-room-kept before after list kept may = subst (λ d. MayReceive d list) (sym kept) may
+-- and so does most where lists are put behind
+pub placed-more : (before after : Tracing) (len other : ℕ) (b : Indices) → HasMore before after → other ≡ len → IsPlaced before len b → IsPlaced after other b
+placed-more before after len other b more same placed = record {
+  lattice = more.lattice ∙ placed.lattice;
+  window = subst (λ v. IsWindow v) (sym more.view) placed.window;
+  box = placed.box;
+  within = subst (λ v. IsInRoot v Height b) (sym more.view) placed.within;
+  tops = same ∙ placed.tops ∙ ap (λ v. v.h * v.w) (sym more.view);
+}
+
+pub room-kept : (before after : Tracing) (at : ℕ) → after ≡ before → MayReceive before at → MayReceive after at
+room-kept before after at kept may = subst (λ d. MayReceive d at) (sym kept) may

@@ -5,7 +5,7 @@ use Rattle.std.specs.List.{All, filter, sum_by}
 use Rattle.std.proofs.lemmas.List.{drop_all, drop_more, get_or-map, length-drop, take_all}
 use Rattle.std.proofs.lemmas.List.Elements.{All-get_or, All-head, All-tail, All-weaker}
 use Rattle.std.proofs.lemmas.List.Sums.{sum_by-append, sum_by-cons}
-use Rattle.box_chains.specs.Desks.{Tracing, samples}
+use Rattle.box_chains.specs.Desks.{HasMore, Tracing, list_of, samples}
 use Rattle.box_chains.specs.Chains.{Descent, Visit, decision, handed_on, is_long, sides, visit}
 use Rattle.box_chains.specs.Counts.{halves_spans, spans_in}
 use Rattle.box_chains.specs.Parts.{IsPart}
@@ -14,7 +14,7 @@ use Rattle.box_chains.specs.declared.outcome.Outcome.TheVariants.{Inside as AllI
 use Rattle.live_clauses.specs.Steps.{IsTape}
 use Rattle.view_settings.specs.declared.lattice.Lattice.TheVariants.{Height}
 use Rattle.height_map.specs.Desks.{IsPlaced, MayDraw, MayOpen}
-use Rattle.box_chains.specs.Outcomes.{HandsOn, IsHandedOn, outcome_by, outcome_of, outcomes_of}
+use Rattle.box_chains.specs.Outcomes.{HandsOn, IsHandedOn, outcome_by, outcome_of, outcomes_of, all_seen, seen}
 use Rattle.box_chains.specs.Sums.{LiesIn, Sample}
 use Rattle.box_chains.specs.Tallied.{CountsAtMost}
 use Rattle.box_chains.specs.Visits.{IsVisit}
@@ -34,7 +34,7 @@ use Rattle.height_map.specs.Opened.{outcome_points, outcome_top, outcome_traced}
 use Rattle.height_map.specs.Tops.{greatest, top_among}
 use Rattle.height_map.proofs.Beside.{halves-parts}
 use Rattle.height_map.proofs.ChangeLaws.{covers-place, lifted-some, place-within}
-use Rattle.height_map.proofs.Drawn.{IsDrawnTo, half-open, columns-there, farther-drawn, half-placed, nearer-drawn, outcome-drawn, placed-kept, placed-visit}
+use Rattle.height_map.proofs.Drawn.{IsDrawnTo, half-open, columns-there, farther-drawn, half-placed, nearer-drawn, outcome-drawn, placed-kept, placed-more, placed-visit}
 use Rattle.height_map.proofs.Evaluated.{covered-closed, points-are, points-closed, points-hulls, points-outcome, points-then}
 use Rattle.height_map.proofs.Opens.{kept-top, rest-none, sum-kept, sum-kept_below, told-covered, told-open, untouched}
 use Rattle.height_map.proofs.Traced.{open-some, some-same, spans-are, spans-hulls, spans-then, traced-closed, traced-outcome}
@@ -68,7 +68,7 @@ spans-outcome laws view list b is = by (decision d v) refl
     by None e = spans-open laws d v (omega arith) is e
 
 -- a box that is traced, and then drawn by its outcome
-pub box-bounded : (laws : Lawful) (view : Window) (list : List Step) (b : Indices) (o : Outcome) (tops : List ℕ) (before mid after : Counts) → IsVisit (layered view) (visit b list)
+pub box-bounded : (laws : Lawful) (view : Window) (list : List Step) (b : Indices) (o : Outcome (List Step)) (tops : List ℕ) (before mid after : Counts) → IsVisit (layered view) (visit b list)
     → o ≡ outcome_of (sampling (layered view)) list b → CountsHulls (length list) before mid → CountsAtMost (outcome_points view tops b o) (outcome_spans (layered view) b o) mid after
     → CountsAtMost (points_where (is_open view list b tops) (layered view) (visit b list)) (spans_in (layered view) (visit b list)) before after
 box-bounded laws view list b o tops before mid after is told h below =
@@ -83,14 +83,14 @@ pub trace-bounded : (laws : Lawful) (view : Window) (list : List Step) (b : Indi
 trace-bounded laws view list b points before after is h =
     laws.bounds.more before after 0 (length list) points (spans_in (layered view) (visit b list)) (omega arith) (omega (arith, spans-outcome laws view list b is)) (laws.bounds.hulls before after (length list) h)
 
-pub box-points : (laws : Lawful) (view : Window) (list : List Step) (b : Indices) (o : Outcome) (tops : List ℕ) (before mid after : Counts) → IsVisit (layered view) (visit b list)
+pub box-points : (laws : Lawful) (view : Window) (list : List Step) (b : Indices) (o : Outcome (List Step)) (tops : List ℕ) (before mid after : Counts) → IsVisit (layered view) (visit b list)
     → o ≡ outcome_of (sampling (layered view)) list b → CountsHulls (length list) before mid → CountsPoints (outcome_points view tops b o) mid after
     → CountsPoints (points_where (is_open view list b tops) (layered view) (visit b list)) before after
 box-points laws view list b o tops before mid after is told h below =
     points-then before mid after 0 (outcome_points view tops b o) (points_where (is_open view list b tops) (layered view) (visit b list))
     (omega (arith, points-outcome laws view list b tops is, ap (outcome_points view tops b) told)) (points-hulls before mid (length list) h) below
 
-pub box-traced : (laws : Lawful) (view : Window) (list : List Step) (b : Indices) (o : Outcome) (tops : List ℕ) (before mid after : Counts) → IsVisit (layered view) (visit b list)
+pub box-traced : (laws : Lawful) (view : Window) (list : List Step) (b : Indices) (o : Outcome (List Step)) (tops : List ℕ) (before mid after : Counts) → IsVisit (layered view) (visit b list)
     → has_some (is_open view list b tops) b ≡ true → o ≡ outcome_of (sampling (layered view)) list b → CountsHulls (length list) before mid → CountsSpans (outcome_traced view tops b o) mid after
     → CountsSpans (spans_where (is_open view list b tops) (layered view) (visit b list)) before after
 box-traced laws view list b o tops before mid after is some told h below =
@@ -98,16 +98,16 @@ box-traced laws view list b o tops before mid after is some told h below =
     (omega (arith, traced-outcome laws view list b tops is some, ap (outcome_traced view tops b) told)) (spans-hulls before mid (length list) h) below
 
 -- what is told over the places of a height map
-pub told-by : (places : Sampling) (list : List Step) (b : Indices) (o : Outcome) → places.lattice ≡ Height → o ≡ outcome_of places list b → o ≡ outcome_of (sampling (layered places.view)) list b
+pub told-by : (places : Sampling) (list : List Step) (b : Indices) (o : Outcome (List Step)) → places.lattice ≡ Height → o ≡ outcome_of places list b → o ≡ outcome_of (sampling (layered places.view)) list b
 told-by places list b o is are = are ∙ ap (λ lattice. outcome_of (record { view = places.view; lattice = lattice }) list b) is
 
 -- the list that an outcome hands on
-abbrev opened : Outcome → List Step
+abbrev opened : Outcome (List Step) → List Step
 opened (Open list) = list
 opened AllInside = []
 opened AllOutside = []
 
-abbrev is_opened : Outcome → ℕ
+abbrev is_opened : Outcome (List Step) → ℕ
 is_opened (Open list) = 1
 is_opened AllInside = 0
 is_opened AllOutside = 0
@@ -118,16 +118,21 @@ other-in live e = absurd (omega (arith, ap is_opened e))
 other-out : (live : List Step) → AllOutside ≡ Open live → ⊥
 other-out live e = absurd (omega (arith, ap is_opened e))
 
+-- what an outcome that was read stands for
+pub seen-read : (lists : List (List Step)) (outcomes : List (Outcome ℕ)) (i : ℕ) (d : Outcome ℕ) → i < length outcomes
+    → seen lists (get_or outcomes i d) ≡ get_or (all_seen lists outcomes) i (seen lists (get_or outcomes i d))
+seen-read lists outcomes i d within = sym (get_or-map (seen lists) outcomes i d (seen lists (get_or outcomes i d)) within)
+
 -- what a box hands on can be drawn
-pub may-open : (laws : Lawful) (before desk : Tracing) (list : List Step) (b : Indices) (o : Outcome) (len other : ℕ) → desk ≡ before → other ≡ len → IsPlaced before len b → IsTape list
-    → length list ≤ before.room → o ≡ outcome_of (sampling (layered before.view)) list b → HandsOn (length list) o → MayOpen desk b o other
-may-open laws before desk list b o len other kept same placed tape room told hands = record {
-  placed = placed-kept before desk len other b kept same placed;
-  hands = λ live is.
-      let on : IsHandedOn (length list) live = subst (HandsOn (length list)) is hands in
+pub may-open : (laws : Lawful) (before desk : Tracing) (list : List Step) (b : Indices) (o : Outcome ℕ) (len other : ℕ) → HasMore before desk → other ≡ len → IsPlaced before len b → IsTape list
+    → length list ≤ before.room → seen desk.lists o ≡ outcome_of (sampling (layered before.view)) list b → HandsOn (length list) desk.lists o → MayOpen desk b o other
+may-open laws before desk list b o len other more same placed tape room told hands = record {
+  placed = placed-more before desk len other b more same placed;
+  hands = λ at is.
+      let on : IsHandedOn (length list) desk.lists at = subst (HandsOn (length list) desk.lists) is hands in
       record {
-        tape = handed live (sym told ∙ is);
-        room = record { room = omega (arith, on.few, room, ap (λ d. d.room) kept); whole = on.whole };
+        tape = handed (list_of desk at) (sym told ∙ ap (seen desk.lists) is);
+        room = record { among = on.among; room = omega (arith, on.few, room, more.room); whole = on.whole };
       };
 }
   where
@@ -148,7 +153,7 @@ may-open laws before desk list b o len other kept same placed tape room told han
 -- ---- one more of some boxes that lie beside each other
 
 -- the next one to draw, with its outcome: its columns are as they were
-pub record IsNext (view : Window) (list : List Step) (boxes : List Indices) (old mid : List ℕ) (i : ℕ) (b : Indices) (o : Outcome) : Type 0 where
+pub record IsNext (view : Window) (list : List Step) (boxes : List Indices) (old mid : List ℕ) (i : ℕ) (b : Indices) (o : Outcome (List Step)) : Type 0 where
   pub visit_is : IsVisit (layered view) (visit b list)
   pub among : IsAmong view.w (length old) b
   pub told : o ≡ outcome_of (sampling (layered view)) list b
@@ -158,7 +163,7 @@ pub record IsNext (view : Window) (list : List Step) (boxes : List Indices) (old
 drop-beside : (w i : ℕ) (boxes : List Indices) → LieBeside w boxes → LieBeside w (drop i boxes)
 drop-beside w i boxes apart p = omega (arith, sum-drop_below (λ b. cond {A = ℕ} (covers w b p) 1 0) boxes i, apart p)
 
-pub next-is : (view : Window) (list : List Step) (boxes : List Indices) (outcomes : List Outcome) (old mid : List ℕ) (n i : ℕ) (b : Indices) (o : Outcome) → n ≡ suc i → i < length boxes
+pub next-is : (view : Window) (list : List Step) (boxes : List Indices) (outcomes : List (Outcome (List Step))) (old mid : List ℕ) (n i : ℕ) (b : Indices) (o : Outcome (List Step)) → n ≡ suc i → i < length boxes
     → b ≡ get_or boxes i b → o ≡ get_or outcomes i o → outcomes ≡ outcomes_of (sampling (layered view)) list boxes → LieBeside view.w boxes → IsVisit (layered view) (visit b list)
     → IsAmong view.w (length old) b → Changes (λ p. true) (beside_top view list (drop n boxes)) old mid → IsNext view list boxes old mid i b o
 next-is view list boxes outcomes old mid n i b o left within read there are apart visit_is among changed = record {
@@ -178,7 +183,7 @@ next-is view list boxes outcomes old mid n i b o left within read there are apar
     more = drop_more boxes i b within ∙ ap (λ h. h ∷ drop (i + 1) boxes) (sym read) ∙ ap (λ m. b ∷ drop m boxes) next
 
 -- the same samples of it are open
-next-open : (view : Window) (list : List Step) (boxes : List Indices) (old mid : List ℕ) (i : ℕ) (b : Indices) (o : Outcome) → IsNext view list boxes old mid i b o
+next-open : (view : Window) (list : List Step) (boxes : List Indices) (old mid : List ℕ) (i : ℕ) (b : Indices) (o : Outcome (List Step)) → IsNext view list boxes old mid i b o
     → (s : Sample) → LiesIn b s → is_open view list b mid s ≡ is_open view list b old s
 next-open view list boxes old mid i b o is s lies =
     let narrow : s.i < view.w = omega (arith, lies.x, is.among.columns) in
@@ -186,7 +191,7 @@ next-open view list boxes old mid i b o is s lies =
     let there = place-within view.w (length old) s.i s.j b is.among lies.x.1 lies.y.1 in
     ap (λ n. n == 0 && nat_le (top_among view list b.z0 b.z1 s.i s.j) (s.k + 1)) (is.same (s.j * view.w + s.i) there here)
 
-pub next-top : (laws : Lawful) (view : Window) (list : List Step) (boxes : List Indices) (old mid new : List ℕ) (n i w : ℕ) (b : Indices) (o : Outcome) → n ≡ suc i → w ≡ view.w
+pub next-top : (laws : Lawful) (view : Window) (list : List Step) (boxes : List Indices) (old mid new : List ℕ) (n i w : ℕ) (b : Indices) (o : Outcome (List Step)) → n ≡ suc i → w ≡ view.w
     → IsNext view list boxes old mid i b o → Changes (λ p. true) (beside_top view list (drop n boxes)) old mid → Changes (covers w b) (outcome_top view b o) mid new
     → Changes (λ p. true) (beside_top view list (drop i boxes)) old new
 next-top laws view list boxes old mid new n i w b o left width is first second = record {
@@ -208,7 +213,7 @@ next-top laws view list boxes old mid new n i w b o left width is first second =
         ∙ ap (λ t. cond t (leaf_top view list b p (get_or old p 0)) (beside_top view list rest p (get_or old p 0))) (sym e)
 
 -- what it takes beside what those before it take
-more-points : (laws : Lawful) (view : Window) (list : List Step) (boxes : List Indices) (old mid : List ℕ) (i : ℕ) (b : Indices) (o : Outcome) → IsNext view list boxes old mid i b o
+more-points : (laws : Lawful) (view : Window) (list : List Step) (boxes : List Indices) (old mid : List ℕ) (i : ℕ) (b : Indices) (o : Outcome (List Step)) → IsNext view list boxes old mid i b o
     → beside_points view list old (drop i boxes) ≡ outcome_points view mid b o + beside_points view list old (drop (suc i) boxes)
 more-points laws view list boxes old mid i b o is =
     omega (
@@ -220,7 +225,7 @@ more-points laws view list boxes old mid i b o is =
       ap (outcome_points view mid b) is.told,
     )
 
-pub next-points : (laws : Lawful) (view : Window) (list : List Step) (boxes : List Indices) (old mid : List ℕ) (n i : ℕ) (b : Indices) (o : Outcome) (start between end : Counts) → n ≡ suc i
+pub next-points : (laws : Lawful) (view : Window) (list : List Step) (boxes : List Indices) (old mid : List ℕ) (n i : ℕ) (b : Indices) (o : Outcome (List Step)) (start between end : Counts) → n ≡ suc i
     → IsNext view list boxes old mid i b o → CountsPoints (beside_points view list old (drop n boxes)) start between → CountsPoints (outcome_points view mid b o) between end
     → CountsPoints (beside_points view list old (drop i boxes)) start end
 next-points laws view list boxes old mid n i b o start between end left is first second =
@@ -228,7 +233,7 @@ next-points laws view list boxes old mid n i b o start between end left is first
     (omega (arith, more-points laws view list boxes old mid i b o is, ap (λ m. beside_points view list old (drop m boxes)) left)) first second
 
 -- the traces of all boxes that are not drawn yet are counted, and all work of the others
-pub next-traced : (laws : Lawful) (view : Window) (list : List Step) (boxes : List Indices) (old mid : List ℕ) (n i : ℕ) (b : Indices) (o : Outcome) (start between end : Counts) → n ≡ suc i
+pub next-traced : (laws : Lawful) (view : Window) (list : List Step) (boxes : List Indices) (old mid : List ℕ) (n i : ℕ) (b : Indices) (o : Outcome (List Step)) (start between end : Counts) → n ≡ suc i
     → IsNext view list boxes old mid i b o → has_some (is_open view list b old) b ≡ true
     → CountsSpans (n * length list + beside_traced view list old (drop n boxes)) start between → CountsSpans (outcome_traced view mid b o) between end
     → CountsSpans (i * length list + beside_traced view list old (drop i boxes)) start end
@@ -254,7 +259,7 @@ next-traced laws view list boxes old mid n i b o start between end left is some 
     told : outcome_traced view mid b o ≡ outcome_traced view mid b (outcome_of (sampling (layered view)) list b)
     told = ap (outcome_traced view mid b) is.told
 
-pub next-bounded : (laws : Lawful) (view : Window) (list : List Step) (boxes : List Indices) (old mid : List ℕ) (n i : ℕ) (b : Indices) (o : Outcome) (start between end : Counts) → n ≡ suc i
+pub next-bounded : (laws : Lawful) (view : Window) (list : List Step) (boxes : List Indices) (old mid : List ℕ) (n i : ℕ) (b : Indices) (o : Outcome (List Step)) (start between end : Counts) → n ≡ suc i
     → IsNext view list boxes old mid i b o
     → CountsAtMost (beside_points view list old (drop n boxes)) (n * length list + halves_spans (layered view) list (drop n boxes)) start between
     → CountsAtMost (outcome_points view mid b o) (outcome_spans (layered view) b o) between end
@@ -309,7 +314,7 @@ traces-bounded laws view list boxes old start end are h =
     (omega (arith, rest-below laws view list boxes (length boxes) are (omega arith))) h
 
 -- the next box of some of the map, of a list that there is room for
-pub next-of : (desk : Tracing) (list : List Step) (boxes : List Indices) (outcomes : List Outcome) (old mid : List ℕ) (n : ℕ) (b : Indices) (o : Outcome) → 0 < n → n ≤ length boxes
+pub next-of : (desk : Tracing) (list : List Step) (boxes : List Indices) (outcomes : List (Outcome (List Step))) (old mid : List ℕ) (n : ℕ) (b : Indices) (o : Outcome (List Step)) → 0 < n → n ≤ length boxes
     → b ≡ get_or boxes (n - 1) b → o ≡ get_or outcomes (n - 1) o → outcomes ≡ outcomes_of (samples desk) list boxes → LieBeside desk.view.w boxes
     → All (IsPlaced desk (length old)) boxes → IsTape list → Changes (λ p. true) (beside_top desk.view list (drop n boxes)) old mid
     → IsNext desk.view list boxes old mid (n - 1) b o
@@ -479,10 +484,10 @@ pub group-shorter : (laws : Lawful) (b : Indices) (hs : List Indices) → IsBox 
 group-shorter laws b hs is long parts =
     longest-below (sides b) hs (box-has_sides b is) (All-weaker (IsPart 8 b) (λ h. sides h < sides b) (λ h part. laws.parts.shorter 8 b h long part) hs parts)
 
-pub group-placed : (laws : Lawful) (before after : Tracing) (b : Indices) (hs : List Indices) (list : List Step) (len other : ℕ) → after ≡ before → other ≡ len → MayDraw before b list len
+pub group-placed : (laws : Lawful) (before after : Tracing) (b : Indices) (hs : List Indices) (at : ℕ) (len other : ℕ) → after ≡ before → other ≡ len → MayDraw before b at len
     → All (IsPart 8 b) hs → All (IsPlaced after other) hs
-group-placed laws before after b hs list len other kept same may parts =
-    All-weaker (IsPart 8 b) (IsPlaced after other) (λ h part. placed-kept before after len other h kept same (half-placed laws before b h list len part may)) hs parts
+group-placed laws before after b hs at len other kept same may parts =
+    All-weaker (IsPart 8 b) (IsPlaced after other) (λ h part. placed-kept before after len other h kept same (half-placed laws before b h at len part may)) hs parts
 
 -- the two groups, one after the other
 pub record AreGroups (view : Window) (list : List Step) (b : Indices) (old mid : List ℕ) : Type 0 where
@@ -490,12 +495,12 @@ pub record AreGroups (view : Window) (list : List Step) (b : Indices) (old mid :
   pub near : All (IsDrawnTo view list b old old) (nearer 8 b)
   pub far : All (IsDrawnTo view list b old mid) (farther 8 b)
 
-pub groups-are : (laws : Lawful) (desk : Tracing) (list : List Step) (b : Indices) (old mid : List ℕ) → MayDraw desk b list (length old) → Changes (λ p. true) (beside_top desk.view list (nearer 8 b)) old mid
-    → AreGroups desk.view list b old mid
-groups-are laws desk list b old mid may first = record {
+pub groups-are : (laws : Lawful) (desk : Tracing) (at : ℕ) (b : Indices) (old mid : List ℕ) → MayDraw desk b at (length old) → Changes (λ p. true) (beside_top desk.view (list_of desk at) (nearer 8 b)) old mid
+    → AreGroups desk.view (list_of desk at) b old mid
+groups-are laws desk at b old mid may first = record {
   among = columns-there desk.view b desk.view.w (length old) may.visit_is.window may.visit_is.within refl may.tops;
-  near = nearer-drawn laws desk.view list b old may.visit_is.box;
-  far = farther-drawn laws desk.view list b old mid may.visit_is.box first;
+  near = nearer-drawn laws desk.view (list_of desk at) b old may.visit_is.box;
+  far = farther-drawn laws desk.view (list_of desk at) b old mid may.visit_is.box first;
 }
 
 pub groups-points : (laws : Lawful) (view : Window) (list : List Step) (b : Indices) (old mid : List ℕ) (start between end : Counts) → AreGroups view list b old mid

@@ -10,7 +10,7 @@ use crate::column::Column;
 use box_chains::Places;
 use choice_trace::{Inputs, evaluate_lanes};
 use fixed_ops::{Fx, Tally, is_inside, tallies_add_up};
-use live_clauses::Tape;
+use live_clauses::Steps;
 use view_settings::Lattice;
 
 /// Gives each of some columns whose sample in layer k is inside the top right above it. One
@@ -19,7 +19,7 @@ pub fn draw_layer(
     places: &Places,
     k: u32,
     columns: &[Column],
-    list: &Tape,
+    list: &Steps<'_>,
     values: &mut [[Fx; 8]],
     tops: &mut [u16],
     tally: &mut Tally,
@@ -47,7 +47,7 @@ fn draw_some(
     places: &Places,
     k: u32,
     columns: &[Column],
-    list: &Tape,
+    list: &Steps<'_>,
     values: &mut [[Fx; 8]],
     tops: &mut [u16],
     tally: &mut Tally,
@@ -84,7 +84,7 @@ fn draw_columns<const L: usize>(
     places: &Places,
     k: u32,
     columns: &[Column],
-    list: &Tape,
+    list: &Steps<'_>,
     values: &mut [[Fx; 8]],
     tops: &mut [u16],
     tally: &mut Tally,

@@ -12,7 +12,7 @@ use crate::layer::draw_layer;
 use arrayvec::ArrayVec;
 use box_chains::{Places, layers_hold};
 use fixed_ops::{Fx, Tally};
-use live_clauses::Tape;
+use live_clauses::Steps;
 use view_settings::IndexBox;
 
 /// Gives each column of a leaf that has no top the one that the samples of the leaf give it. One
@@ -22,7 +22,7 @@ pub fn draw_leaf(
     places: &Places,
     w: u32,
     b: IndexBox,
-    list: &Tape,
+    list: &Steps<'_>,
     values: &mut [[Fx; 8]],
     tops: &mut [u16],
     tally: &mut Tally,

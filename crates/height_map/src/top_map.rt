@@ -57,10 +57,13 @@ pub fn heights(
         (CountsSpans (near_spans view.now list.now) tally.old tally.new) }
 {
     layers_hold();
-    let mut desk = Desk::new(alloc, view, Lattice::Height, list.len())?;
+    // A list can be evaluated.
+    let _len = list.len();
+    let mut desk = Desk::new(alloc, view, Lattice::Height, list)?;
     let root = desk.root();
     let mut tops = vec![in alloc; 0u16; view.w as usize * view.h as usize]?;
-    draw_box(alloc, &mut desk, root, list, &mut tops, tally)?;
+    // The list that the desk was made with has the number 0.
+    draw_box(&mut desk, root, 0, &mut tops, tally)?;
     Ok(TopMap {
         w: view.w,
         h: view.h,

@@ -8,6 +8,7 @@ pub mod Links
 pub mod MeaningLaws
 pub mod Needs
 pub mod Numbering
+pub mod Parts
 pub mod Representatives
 pub mod Roots
 pub mod Sameness

@@ -4,7 +4,6 @@ use Rattle.std.proofs.lemmas.Bool.{false≢true, cases_lt}
 use Rattle.std.proofs.lemmas.Bool.Decides.{Decides-ltb}
 use Rattle.std.proofs.lemmas.List.{get_or-set_same, get_or-set_other, get_or_past, length-map, length-set}
 use Rattle.interval_ops.specs.declared.choice.Choice.{Choice}
-use Rattle.interval_ops.specs.declared.choice.Choice.TheVariants.{Left}
 use Rattle.live_clauses.specs.declared.packed_step.PackedStep.{PackedStep}
 use Rattle.live_clauses.specs.declared.step.Step.{Step}
 use Rattle.live_clauses.specs.Choices.{AreChoices, choice_at, step_at}
@@ -14,7 +13,7 @@ use Rattle.live_clauses.specs.Packed.{unpacked}
 use Rattle.live_clauses.specs.Steps.{IsTape}
 use Rattle.live_clauses.proofs.Needs.{hands_on-before}
 use Rattle.live_clauses.proofs.Numbering.{passed}
-use Rattle.live_clauses.proofs.Turns.{choice_at-read, step_at-unpacked}
+use Rattle.live_clauses.proofs.Turns.{step_at-unpacked}
 
 -- what holds a number above 0 is marked
 holds_marked : (marks : List ℕ) (place : ℕ) → 0 < slice_index marks place → is_marked marks place ≡ true
@@ -123,13 +122,12 @@ module _ (marks seen : List ℕ) (at next : ℕ) (these : ℕ → Bool) (room : 
 
 -- a step that is read needs none from its place on
 pub hands-before : (kept : List PackedStep) (choices : List Choice) (at : ℕ) (read : PackedStep) → IsTape (map unpacked kept) → AreChoices (map unpacked kept) choices
-    → length kept ≤ length choices → at < length kept → read ≡ get_or kept at read
-    → (place : ℕ) → at ≤ place → hands_on (unpacked read) (get_or choices at Left) place ≡ false
-hands-before kept choices at read tape choose enough within is place above =
+    → at < length kept → read ≡ get_or kept at read → (choice : Choice) → choice ≡ choice_at choices at
+    → (place : ℕ) → at ≤ place → hands_on (unpacked read) choice place ≡ false
+hands-before kept choices at read tape choose within is choice chosen_is place above =
     let step = step_at-unpacked kept at read within is in
-    let choice = choice_at-read choices at (omega (arith, within, enough)) in
-    subst (λ (s : Step). hands_on s (get_or choices at Left) place ≡ false) (sym step)
-    (subst (λ (c : Choice). hands_on (step_at (map unpacked kept) at) c place ≡ false) (sym choice)
+    subst (λ (s : Step). hands_on s choice place ≡ false) (sym step)
+    (subst (λ (c : Choice). hands_on (step_at (map unpacked kept) at) c place ≡ false) (sym chosen_is)
     (not_before (hands_on (step_at (map unpacked kept) at) (choice_at choices at) place)
     (λ handed. hands_on-before (map unpacked kept) choices tape.some tape.each choose at place (omega (arith, within, length-map kept unpacked)) handed)))
   where

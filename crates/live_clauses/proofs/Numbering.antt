@@ -16,7 +16,7 @@ use Rattle.live_clauses.specs.Steps.{IsTape}
 use Rattle.live_clauses.proofs.Representatives.{choice_cases, chosen_left, chosen_right, chosen_both, step_at-stands, choosing_operands, left_chooses, right_chooses, representative_left, representative_right, representative_both}
 use Rattle.live_clauses.proofs.Needs.{needed_on, hands_on_left, hands_on_right, hands_on_first, hands_on_second}
 use Rattle.live_clauses.proofs.Kept.{kept_below-le, length-live_below, live_below-dropped}
-use Rattle.live_clauses.proofs.Turns.{step_at-unpacked, choice_at-read, marked, unmarked}
+use Rattle.live_clauses.proofs.Turns.{step_at-unpacked, marked, unmarked}
 
 -- new numbers count only where an operand is
 renumbered-same : (step : Step) (f g : ℕ → ℕ) → (0 < arity_of step.op → f step.a ≡ g step.a) → (1 < arity_of step.op → f step.b ≡ g step.b) → renumbered f step ≡ renumbered g step
@@ -103,25 +103,24 @@ module _ (kept : List PackedStep) (choices : List Choice) (tape : IsTape (map un
   room-copied at numbers new within is =
       omega (arith, ap length is.copied, length-map new unpacked, length-live_below (map unpacked kept) choices at, kept_below-le (map unpacked kept) choices at, tape.few, length-map kept unpacked)
 
-  pub visited : (at next number : ℕ) (numbers : List ℕ) (new after : List PackedStep) (read : PackedStep) → at < length kept → next ≡ suc at
-      → read ≡ get_or kept at read → slice_index numbers at ≢ 0 → length numbers ≡ length kept
+  pub visited : (at next number : ℕ) (numbers : List ℕ) (new after : List PackedStep) (read : PackedStep) (choice : Choice) → at < length kept → next ≡ suc at
+      → read ≡ get_or kept at read → choice ≡ choice_at choices at → slice_index numbers at ≢ 0 → length numbers ≡ length kept
       → IsNumbered at (map unpacked kept) choices numbers (map unpacked new)
-      → number ≡ chosen (get_or choices at Left) (slice_index numbers read.a) (slice_index numbers read.b) (length new)
-      → map unpacked after ≡ map unpacked new ++ cond (is_both (get_or choices at Left)) (renumbered (λ k. slice_index numbers k) (unpacked read) ∷ []) []
+      → number ≡ chosen choice (slice_index numbers read.a) (slice_index numbers read.b) (length new)
+      → map unpacked after ≡ map unpacked new ++ cond (is_both choice) (renumbered (λ k. slice_index numbers k) (unpacked read) ∷ []) []
       → IsNumbered next (map unpacked kept) choices (set numbers at number) (map unpacked after)
-  visited at next number numbers new after read within more is here room so number_is after_is =
+  visited at next number numbers new after read choice within more is chosen_is here room so number_is after_is =
       let steps = map unpacked kept in
       let there : at < length steps = omega (arith, length-map kept unpacked) in
       let needed : is_needed steps choices at ≡ true = sym (so.marks at (omega arith) there) ∙ marked numbers at here in
       let step : unpacked read ≡ step_at steps at = step_at-unpacked kept at read within is in
-      let choice = choice_at-read choices at (omega arith) in
       let count : length new ≡ kept_below steps choices at = sym (length-map new unpacked) ∙ ap length so.copied ∙ length-live_below steps choices at in
       let number_at : number ≡ chosen (choice_at choices at) (slice_index numbers (step_at steps at).a) (slice_index numbers (step_at steps at).b) (length new) =
-      number_is ∙ ap (λ c. chosen c (slice_index numbers read.a) (slice_index numbers read.b) (length new)) choice
+      number_is ∙ ap (λ c. chosen c (slice_index numbers read.a) (slice_index numbers read.b) (length new)) chosen_is
       ∙ ap (λ s. chosen (choice_at choices at) (slice_index numbers s.a) (slice_index numbers s.b) (length new)) step in
       let after_at : map unpacked after ≡ live_below steps choices at ++ cond (is_both (choice_at choices at)) (renumbered (λ k. slice_index numbers k) (step_at steps at) ∷ []) [] =
-      after_is ∙ ap (λ l. l ++ cond (is_both (get_or choices at Left)) (renumbered (λ k. slice_index numbers k) (unpacked read) ∷ []) []) so.copied
-      ∙ ap (λ c. live_below steps choices at ++ cond (is_both c) (renumbered (λ k. slice_index numbers k) (unpacked read) ∷ []) []) choice
+      after_is ∙ ap (λ l. l ++ cond (is_both choice) (renumbered (λ k. slice_index numbers k) (unpacked read) ∷ []) []) so.copied
+      ∙ ap (λ c. live_below steps choices at ++ cond (is_both c) (renumbered (λ k. slice_index numbers k) (unpacked read) ∷ []) []) chosen_is
       ∙ ap (λ s. live_below steps choices at ++ cond (is_both (choice_at choices at)) (renumbered (λ k. slice_index numbers k) s ∷ []) []) step in
       subst (λ n. IsNumbered n steps choices (set numbers at number) (map unpacked after)) (sym more) (record {
         numbers = numbers-visited steps choices tape choose at numbers there needed so.numbers number (omega arith) (number_at ∙ number-chosen steps choices tape choose at numbers there needed so.numbers (length new) count);

@@ -1,9 +1,8 @@
 -- One step down a list: what it reads lies in the list, and its marks are those of one more turn.
 use Rattle.std.proofs.Common.{◌≡◌, ◌≢◌, ℕ, suc, ◌+◌, ◌-◌, ◌<◌, ◌≤◌, Bool, true, false, cond, ◌&&◌, ◌||◌, ltb, List, length, map, get_or, slice_index, inl, inr, refl, ap, sym, subst, ◌∙◌, arith}
-use Rattle.std.proofs.lemmas.List.{length-map, get_or-map, get_or_default}
+use Rattle.std.proofs.lemmas.List.{length-map, get_or-map}
 use Rattle.std.proofs.lemmas.Bool.Decides.{Decides-ltb}
 use Rattle.interval_ops.specs.declared.choice.Choice.{Choice}
-use Rattle.interval_ops.specs.declared.choice.Choice.TheVariants.{Left, Both}
 use Rattle.live_clauses.specs.declared.packed_step.PackedStep.{PackedStep}
 use Rattle.live_clauses.specs.declared.step.Step.{Step}
 use Rattle.live_clauses.specs.Choices.{step_at, choice_at, AreChoices}
@@ -17,10 +16,6 @@ use Rattle.live_clauses.proofs.Needs.{needed-settled}
 -- a step that is read from where it is kept
 pub step_at-unpacked : (kept : List PackedStep) (at : ℕ) (read : PackedStep) → at < length kept → read ≡ get_or kept at read → unpacked read ≡ step_at (map unpacked kept) at
 step_at-unpacked kept at read within is = ap unpacked is ∙ sym (get_or-map unpacked kept at read _ within)
-
--- a choice that is read
-pub choice_at-read : (choices : List Choice) (at : ℕ) → at < length choices → get_or choices at Left ≡ choice_at choices at
-choice_at-read choices at within = get_or_default choices at Left Both within
 
 -- a place is marked where it does not hold 0
 pub marked : (marks : List ℕ) (at : ℕ) → slice_index marks at ≢ 0 → is_marked marks at ≡ true
@@ -92,20 +87,21 @@ module _ (steps : List Step) (choices : List Choice) (tape : IsTape steps) (choo
 
 -- the same of steps as they are kept, at the place before `at`
 module _ (kept : List PackedStep) (choices : List Choice) (tape : IsTape (map unpacked kept)) (enough : length kept ≤ length choices) (choose : AreChoices (map unpacked kept) choices) where
-  pub read_below : (at bound : ℕ) (read : PackedStep) → at < length kept → at ≤ bound → read ≡ get_or kept at read → ReadsBelow bound (unpacked read) (get_or choices at Left)
-  read_below at bound read within less is =
-      rw (step_at-unpacked kept at read within is, choice_at-read choices at (omega arith))
+  pub read_below : (at bound : ℕ) (read : PackedStep) (choice : Choice) → at < length kept → at ≤ bound → read ≡ get_or kept at read → choice ≡ choice_at choices at
+      → ReadsBelow bound (unpacked read) choice
+  read_below at bound read choice within less is chosen_is =
+      rw (step_at-unpacked kept at read within is, chosen_is)
       (reads_below (map unpacked kept) choices tape choose at bound (omega (arith, length-map kept unpacked)) less)
 
   module _ (at : ℕ) (marks : List ℕ) (some : 0 < at) (within : at ≤ length kept) (are : AreMarksAfter (length kept - at) (map unpacked kept) choices marks) where
     abbrev many : length (map unpacked kept) ≡ length kept
     many = length-map kept unpacked
 
-    pub turn-visited : (new : List ℕ) (read : PackedStep) → length marks ≡ length kept → read ≡ get_or kept (at - 1) read → slice_index marks (at - 1) ≢ 0
-        → Marks marks new (hands_on (unpacked read) (get_or choices (at - 1) Left)) → AreMarksAfter (length kept - (at - 1)) (map unpacked kept) choices new
-    turn-visited new read room is here marks_them =
+    pub turn-visited : (new : List ℕ) (read : PackedStep) (choice : Choice) → length marks ≡ length kept → read ≡ get_or kept (at - 1) read → choice ≡ choice_at choices (at - 1)
+        → slice_index marks (at - 1) ≢ 0 → Marks marks new (hands_on (unpacked read) choice) → AreMarksAfter (length kept - (at - 1)) (map unpacked kept) choices new
+    turn-visited new read choice room is chosen_is here marks_them =
         let hands : Marks marks new (hands_on (step_at (map unpacked kept) (at - 1)) (choice_at choices (at - 1))) =
-        rw (← step_at-unpacked kept (at - 1) read (omega arith) is, ← choice_at-read choices (at - 1) (omega arith)) marks_them in
+        rw (← step_at-unpacked kept (at - 1) read (omega arith) is, ← chosen_is) marks_them in
         marks-visited (map unpacked kept) choices tape choose (length kept - at) (length kept - (at - 1)) (at - 1) marks new (omega (arith, many)) (omega (arith, many)) (omega arith) (omega (arith, many, room))
         are (marked marks (at - 1) here) hands
 
@@ -113,12 +109,12 @@ module _ (kept : List PackedStep) (choices : List Choice) (tape : IsTape (map un
     turn-passed here =
         marks-passed (map unpacked kept) choices tape choose (length kept - at) (length kept - (at - 1)) (at - 1) marks (omega (arith, many)) (omega (arith, many)) (omega arith) are (unmarked marks (at - 1) here)
 
-    pub turn-counted : (live more all : ℕ) → slice_index marks (at - 1) ≢ 0 → more ≡ cond (is_both (get_or choices (at - 1) Left)) 1 0
+    pub turn-counted : (live more all : ℕ) (choice : Choice) → choice ≡ choice_at choices (at - 1) → slice_index marks (at - 1) ≢ 0 → more ≡ cond (is_both choice) 1 0
         → live + kept_below (map unpacked kept) choices at ≡ all → live + more + kept_below (map unpacked kept) choices (at - 1) ≡ all
-    turn-counted live more all here is counted =
+    turn-counted live more all choice chosen_is here is counted =
         let next : suc (at - 1) ≡ at = omega arith in
         let grown = subst (λ n. kept_below (map unpacked kept) choices n ≡ kept_below (map unpacked kept) choices (at - 1) + cond (is_both (choice_at choices (at - 1))) 1 0) next (count-visited (map unpacked kept) choices tape choose (length kept - at) (at - 1) marks (omega (arith, many)) (omega (arith, many)) are (marked marks (at - 1) here)) in
-        let one : more ≡ cond (is_both (choice_at choices (at - 1))) 1 0 = rw (← choice_at-read choices (at - 1) (omega arith)) is in
+        let one : more ≡ cond (is_both (choice_at choices (at - 1))) 1 0 = rw (← chosen_is) is in
         omega (arith, grown, one)
 
     pub turn-uncounted : (live all : ℕ) → slice_index marks (at - 1) ≡ 0

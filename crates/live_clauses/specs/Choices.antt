@@ -1,5 +1,5 @@
 -- Choices between the operands of steps, and where they are right.
-use Rattle.std.specs.Prelude.{◌≡◌, ◌≢◌, ℕ, pos, List, slice_get, slice_index_or, Some}
+use Rattle.std.specs.Prelude.{◌≡◌, ◌≢◌, ℕ, pos, List, map, slice_get, slice_index_or, Some}
 use Rattle.fixed_ops.specs.declared.operation.Op.TheVariants.{X, Min, Max}
 use Rattle.fixed_ops.specs.Points.{Point}
 use Rattle.interval_ops.specs.declared.choice.Choice.{Choice}
@@ -14,6 +14,10 @@ step_at steps place = slice_index_or steps place (record { op = X; a = 0; b = 0;
 -- the choice of the step at a place, which past the end is neither operand
 abbrev pub choice_at : List Choice → ℕ → Choice
 choice_at choices place = slice_index_or choices place Both
+
+-- the choices in one lane of some rows: of each row the one that stands in it
+abbrev pub lane : ℕ → List (List Choice) → List Choice
+lane l rows = map (λ row. choice_at row l) rows
 
 -- choices of some steps: only a minimum and a maximum choose an operand
 abbrev pub AreChoices : List Step → List Choice → Type 0

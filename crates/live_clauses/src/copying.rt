@@ -6,35 +6,37 @@ ghost use Rattle.live_clauses.specs.Marks.{AreLinked, AreMarks, IsNextMarked, Re
 ghost use Rattle.live_clauses.specs.Packed.{unpacked};
 ghost use Rattle.live_clauses.specs.Steps.{IsTape};
 
+use crate::Choices;
 use crate::packed_step::PackedStep;
 use interval_ops::Choice;
 use std::alloc::{AllocError, Global};
 
 // The live steps, of which there are so many. Goes from the first marked place to the next. The marks
 // of the needed steps become their numbers.
-pub(crate) fn copy_live(
+pub(crate) fn copy_live<C: Choices>(
     alloc: Global,
     steps: &[PackedStep],
-    choices: &[Choice],
+    choices: C,
     marks: &mut [u16],
     first: usize,
     live: usize,
 ) -> Result<Vec<PackedStep>, AllocError>
     requires tape { IsTape (map unpacked steps.now) }
-    requires enough { length steps.now ≤ length choices.now }
-    requires choices { AreChoices (map unpacked steps.now) choices.now }
+    requires enough { length steps.now ≤ length (C.list choices) }
+    requires choices { AreChoices (map unpacked steps.now) (C.list choices) }
     requires room { length marks.old ≡ length steps.now }
     requires first { IsNextMarked marks.old 0 first }
-    requires marks { AreMarks 0 (map unpacked steps.now) choices.now marks.old }
+    requires marks { AreMarks 0 (map unpacked steps.now) (C.list choices) marks.old }
     requires links { AreLinked 0 marks.old }
     ensures { IfOk result (λ new. map unpacked new.items
-        ≡ live_of (map unpacked steps.now) choices.now) }
+        ≡ live_of (map unpacked steps.now) (C.list choices)) }
 {
     let mut new = Vec::with_capacity(alloc, live)?;
     let mut at = first;
     while at < steps.len() {
         let next = marks[at] as usize;
-        marks[at] = copy_step(steps[at], choices[at], marks, &mut new)?;
+        let choice = choices.at(at);
+        marks[at] = copy_step(steps[at], choice, marks, &mut new)?;
         at = next;
     }
     Ok(new)

@@ -1,18 +1,24 @@
 //! Lists of steps: the part of a solid that is live somewhere, without names.
 #![tactic(auto)]
 
+mod block;
+mod choices;
 mod copying;
 mod laws;
+mod lists;
 mod marking;
 mod packed_step;
+mod part;
 mod shortening;
 mod step;
 mod tape;
 
+pub use choices::{Choices, Lane};
 pub use laws::{
     choices_keep_the_value, lists_are_told_apart, live_lists_are_whole, live_lists_keep_meanings,
     live_steps_are_the_least, root_has_the_value, values_are_of_operands,
 };
+pub use lists::Lists;
 pub use shortening::{prune, prune_with, root_tape};
 pub use step::Step;
 pub use tape::{Steps, Tape, same};

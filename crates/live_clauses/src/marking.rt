@@ -6,6 +6,7 @@ ghost use Rattle.live_clauses.specs.Marks.{AreLinked, AreMarks, IsNextMarked, Le
 ghost use Rattle.live_clauses.specs.Packed.{unpacked};
 ghost use Rattle.live_clauses.specs.Steps.{IsTape};
 
+use crate::Choices;
 use crate::packed_step::PackedStep;
 use fixed_ops::Op;
 use interval_ops::Choice;
@@ -15,15 +16,19 @@ const MARK: u16 = 1;
 
 // Marks the steps that are needed. Each marked place holds the next one, or the length where it is
 // the last. Gives how many of the steps are live, and the first marked place.
-pub(crate) fn mark(steps: &[PackedStep], choices: &[Choice], marks: &mut [u16]) -> (usize, usize)
+pub(crate) fn mark<C: Choices>(
+    steps: &[PackedStep],
+    choices: C,
+    marks: &mut [u16],
+) -> (usize, usize)
     requires tape { IsTape (map unpacked steps.now) }
-    requires enough { length steps.now ≤ length choices.now }
-    requires choices { AreChoices (map unpacked steps.now) choices.now }
+    requires enough { length steps.now ≤ length (C.list choices) }
+    requires choices { AreChoices (map unpacked steps.now) (C.list choices) }
     requires room { length marks.old ≡ length steps.now }
     ensures live { result.0
-        ≡ kept_below (map unpacked steps.now) choices.now (length steps.now) }
+        ≡ kept_below (map unpacked steps.now) (C.list choices) (length steps.now) }
     ensures first { IsNextMarked marks.new 0 result.1 }
-    ensures marks { AreMarks 0 (map unpacked steps.now) choices.now marks.new }
+    ensures marks { AreMarks 0 (map unpacked steps.now) (C.list choices) marks.new }
     ensures links { AreLinked 0 marks.new }
 {
     let mut at = steps.len();
@@ -34,7 +39,8 @@ pub(crate) fn mark(steps: &[PackedStep], choices: &[Choice], marks: &mut [u16]) 
     while at > 0 {
         at -= 1;
         if marks[at] != 0 {
-            live += visit(steps[at], choices[at], marks);
+            let choice = choices.at(at);
+            live += visit(steps[at], choice, marks);
             marks[at] = next as u16;
             next = at;
         }

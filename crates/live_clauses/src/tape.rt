@@ -112,6 +112,26 @@ impl<'a> Model for Steps<'a> {
 }
 
 impl<'a> Steps<'a> {
+    // These steps.
+    #[inline]
+    pub(crate) fn from_packed(packed: &'a [PackedStep]) -> Steps<'a>
+        requires { IsTape (map unpacked packed.now) }
+        ensures { result ≡ map unpacked packed.now }
+    {
+        Steps { packed }
+    }
+
+    /// The same steps once more. A loop that reads its own of them keeps them in registers.
+    #[inline]
+    pub fn again(&self) -> Steps<'_>
+        ensures steps { result ≡ self.now }
+        ensures tape { IsTape self.now }
+    {
+        Steps {
+            packed: self.packed,
+        }
+    }
+
     /// How many steps there are.
     #[inline]
     pub fn len(&self) -> u32

@@ -4,11 +4,14 @@ use mir.Val.{bool_byte}
 use Rattle.std.specs.Prelude.{Option, Some, None}
 use Rattle.std.specs.List.{All}
 use Rattle.std.proofs.lemmas.Bool.{false≢true}
-use Rattle.std.proofs.lemmas.List.{drop_more, get_or_read, length-drop}
+use Rattle.std.proofs.Math.ListN.{get_or-map as get_or-map-same}
+use Rattle.std.proofs.lemmas.List.{drop_more, get_or-take, get_or_default, length-drop, length-map, length-take}
 use Rattle.std.proofs.lemmas.List.Concat.{flat_map-cons}
 use Rattle.std.proofs.lemmas.List.Elements.{All-get_or}
 use Rattle.box_chains.specs.Chains.{decision, handed_on, is_long, visit}
-use Rattle.box_chains.specs.Outcomes.{HandsOn, IsHandedOn, asked_outcome, asked_outcomes, held_decision, outcome_by}
+use Rattle.box_chains.specs.Outcomes.{HandsOn, IsHandedOn, all_seen, asked_outcome, asked_outcomes, held_decision, outcome_by, seen}
+use Rattle.box_chains.specs.Desks.{HasMore, Tracing, list_of, samples}
+use Rattle.live_clauses.specs.Blocks.{list_at}
 use Rattle.box_chains.specs.Placing.{Sampling}
 use Rattle.box_chains.specs.declared.asked_box.AskedBox.{AskedBox}
 use Rattle.box_chains.specs.declared.outcome.Outcome.{Outcome}
@@ -23,12 +26,12 @@ use Rattle.oct_descent.specs.Sizes.{size_of}
 use Rattle.oct_descent.specs.Ways.{gridded, is_open, is_open_by, meets_border}
 
 -- whether an outcome hands on a list, and which
-unfoldable pub opens : Outcome → Bool
+unfoldable pub opens : Outcome (List Step) → Bool
 opens Inside = false
 opens Outside = false
 opens (Open list) = true
 
-unfoldable pub list_in : Outcome → List Step
+unfoldable pub list_in : Outcome (List Step) → List Step
 list_in Inside = []
 list_in Outside = []
 list_in (Open list) = list
@@ -52,11 +55,11 @@ list-by (Some false) false live e = absurd (false≢true e)
 list-by (Some false) true live e = absurd (false≢true e)
 
 -- a box stays open where its outcome hands on a list, and that is the box's
-pub told-opens : (view : Window) (b : Indices) (list : List Step) (o : Outcome) → o ≡ asked_outcome (record { view = view; lattice = lattices.Grid }) list (asked_of (size_of view) b) → is_open (gridded view) (visit b list) ≡ opens o
+pub told-opens : (view : Window) (b : Indices) (list : List Step) (o : Outcome (List Step)) → o ≡ asked_outcome (record { view = view; lattice = lattices.Grid }) list (asked_of (size_of view) b) → is_open (gridded view) (visit b list) ≡ opens o
 told-opens view b list o is =
     sym (ap opens is ∙ opens-by (size_of view) b (decision (gridded view).boxes (visit b list)) (meets_border (size_of view) b) (handed_on (gridded view).boxes (visit b list)) refl)
 
-pub told-hands : (view : Window) (b : Indices) (list : List Step) (o : Outcome) → o ≡ asked_outcome (record { view = view; lattice = lattices.Grid }) list (asked_of (size_of view) b) → opens o ≡ true
+pub told-hands : (view : Window) (b : Indices) (list : List Step) (o : Outcome (List Step)) → o ≡ asked_outcome (record { view = view; lattice = lattices.Grid }) list (asked_of (size_of view) b) → opens o ≡ true
     → list_in o ≡ handed_on (gridded view).boxes (visit b list)
 told-hands view b list o is open' =
     ap list_in is ∙ list-by (decision (gridded view).boxes (visit b list)) (meets_border (size_of view) b) (handed_on (gridded view).boxes (visit b list)) (sym (ap opens is) ∙ open')
@@ -84,14 +87,14 @@ next-is xs at d y ys e =
 
 -- The outcomes from a place on are those of the longer halves from another on: so what is told of the
 -- first of these stands at that place, where it is longer than a cell, and the others behind it.
-pub record IsStep (places : Sampling) (list : List Step) (halves : List Indices) (half : Indices) (i : ℕ) (outcomes : List Outcome) (at next : ℕ) : Type 0 where
-  pub told : IsToldAt places list half outcomes at
-  pub rest : drop next outcomes ≡ asked_outcomes places list (longer (size_of places.view) (drop (i + 1) halves))
+pub record IsStep (places : Sampling) (list : List Step) (halves : List Indices) (half : Indices) (i : ℕ) (lists : List (List Step)) (outcomes : List (Outcome ℕ)) (at next : ℕ) : Type 0 where
+  pub told : IsToldAt places list half lists outcomes at
+  pub rest : drop next (all_seen lists outcomes) ≡ asked_outcomes places list (longer (size_of places.view) (drop (i + 1) halves))
 
-pub step-told : (places : Sampling) (list : List Step) (halves : List Indices) (half : Indices) (i : ℕ) (outcomes : List Outcome) (at next : ℕ) → i < length halves → half ≡ get_or halves i half
-    → All (HandsOn (length list)) outcomes → drop at outcomes ≡ asked_outcomes places list (longer (size_of places.view) (drop i halves))
-    → next ≡ at + cond (is_long 1 half) 1 0 → IsStep places list halves half i outcomes at next
-step-told places list halves half i outcomes at next within read hands are step = by (is_long 1 half) refl
+pub step-told : (places : Sampling) (list : List Step) (halves : List Indices) (half : Indices) (i : ℕ) (lists : List (List Step)) (outcomes : List (Outcome ℕ)) (at next : ℕ) → i < length halves → half ≡ get_or halves i half
+    → All (HandsOn (length list) lists) outcomes → drop at (all_seen lists outcomes) ≡ asked_outcomes places list (longer (size_of places.view) (drop i halves))
+    → next ≡ at + cond (is_long 1 half) 1 0 → IsStep places list halves half i lists outcomes at next
+step-told places list halves half i lists outcomes at next within read hands are step = by (is_long 1 half) refl
   where
     n : GridSize
     n = size_of places.view
@@ -102,58 +105,71 @@ step-told places list halves half i outcomes at next within read hands are step 
     after : List Indices
     after = drop (i + 1) halves
 
-    split : drop at outcomes ≡ asked_outcomes places list (piece half ++ longer n after)
+    split : drop at (all_seen lists outcomes) ≡ asked_outcomes places list (piece half ++ longer n after)
     split = are ∙ ap (λ hs. asked_outcomes places list (longer n hs)) (drop_more halves i half within ∙ ap (λ h. h ∷ after) (sym read))
         ∙ ap (asked_outcomes places list) (flat_map-cons piece half after)
 
-    by : (long : Bool) → is_long 1 half ≡ long → IsStep places list halves half i outcomes at next
+    by : (long : Bool) → is_long 1 half ≡ long → IsStep places list halves half i lists outcomes at next
     by true e =
-        let next' = next-is outcomes at Outside (asked_outcome places list (asked_of n half)) (asked_outcomes places list (longer n after))
+        let next' = next-is (all_seen lists outcomes) at Outside (asked_outcome places list (asked_of n half)) (asked_outcomes places list (longer n after))
         (split ∙ ap (λ (t : Bool). asked_outcomes places list (cond t (asked_of n half ∷ []) [] ++ longer n after)) e) in
+        let within' : at < length outcomes = omega (arith, next'.within, length-map outcomes (seen lists)) in
         record {
-          told = λ long. record { within = next'.within; is = next'.is; hands = All-get_or (HandsOn (length list)) outcomes at Outside next'.within hands };
-          rest = ap (λ k. drop k outcomes) (step ∙ ap (λ (t : Bool). at + cond {A = ℕ} t 1 0) e) ∙ next'.rest;
+          told = λ long. record { within = within'; is = sym (get_or-map-same (seen lists) outcomes at Outside) ∙ next'.is; hands = All-get_or (HandsOn (length list) lists) outcomes at Outside within' hands };
+          rest = ap (λ k. drop k (all_seen lists outcomes)) (step ∙ ap (λ (t : Bool). at + cond {A = ℕ} t 1 0) e) ∙ next'.rest;
         }
     by false e = record {
       told = λ long. absurd (false≢true (sym e ∙ long));
-      rest = ap (λ k. drop k outcomes) (step ∙ ap (λ (t : Bool). at + cond {A = ℕ} t 1 0) e ∙ omega arith) ∙ split ∙ ap (λ (t : Bool). asked_outcomes places list (cond t (asked_of n half ∷ []) [] ++ longer n after)) e;
+      rest = ap (λ k. drop k (all_seen lists outcomes)) (step ∙ ap (λ (t : Bool). at + cond {A = ℕ} t 1 0) e ∙ omega arith) ∙ split ∙ ap (λ (t : Bool). asked_outcomes places list (cond t (asked_of n half ∷ []) [] ++ longer n after)) e;
     }
 
 -- what is told of a box of a grid
-pub record IsLooked (view : Window) (b : Indices) (list : List Step) (o : Outcome) : Type 0 where
-  pub told : o ≡ asked_outcome (record { view = view; lattice = lattices.Grid }) list (asked_of (size_of view) b)
-  pub hands : HandsOn (length list) o
+pub record IsLooked (view : Window) (b : Indices) (list : List Step) (lists : List (List Step)) (o : Outcome ℕ) : Type 0 where
+  pub told : seen lists o ≡ asked_outcome (record { view = view; lattice = lattices.Grid }) list (asked_of (size_of view) b)
+  pub hands : HandsOn (length list) lists o
 
-pub at-told : (places : Sampling) (list : List Step) (b : Indices) (outcomes : List Outcome) (at : ℕ) (o : Outcome) → places.lattice ≡ lattices.Grid → IsAt places list b outcomes at → o ≡ get_or outcomes at o
-    → IsLooked places.view b list o
-at-told places list b outcomes at o placed told read =
-    let same = get_or_read outcomes at o told.within read Outside in
+pub at-told : (places : Sampling) (list : List Step) (b : Indices) (lists : List (List Step)) (outcomes : List (Outcome ℕ)) (at : ℕ) (d : Outcome ℕ) → places.lattice ≡ lattices.Grid → IsAt places list b lists outcomes at
+    → IsLooked places.view b list lists (get_or outcomes at d)
+at-told places list b lists outcomes at d placed told =
+    let same = get_or_default outcomes at d Outside told.within in
     record {
-      told = same ∙ told.is ∙ ap (λ l. asked_outcome (record { view = places.view; lattice = l }) list (asked_of (size_of places.view) b)) placed;
-      hands = subst (HandsOn (length list)) (sym same) told.hands;
+      told = ap (seen lists) same ∙ told.is ∙ ap (λ l. asked_outcome (record { view = places.view; lattice = l }) list (asked_of (size_of places.view) b)) placed;
+      hands = subst (HandsOn (length list) lists) (sym same) told.hands;
     }
 
 -- a box that hands on a list stays open, and it is that box's list
-pub record IsOpened (view : Window) (b : Indices) (list live : List Step) : Type 0 where
+pub record IsOpened (view : Window) (b : Indices) (list : List Step) (lists : List (List Step)) (at : ℕ) : Type 0 where
   pub open' : is_open (gridded view) (visit b list) ≡ true
-  pub same : live ≡ handed_on (gridded view).boxes (visit b list)
-  pub hands : IsHandedOn (length list) live
+  pub same : list_at lists at ≡ handed_on (gridded view).boxes (visit b list)
+  pub hands : IsHandedOn (length list) lists at
 
-pub opened-told : (view : Window) (b : Indices) (list live : List Step) (o : Outcome) → IsLooked view b list o → o ≡ Open live → IsOpened view b list live
+pub opened-told : (view : Window) (b : Indices) (list : List Step) (lists : List (List Step)) (at : ℕ) (o : Outcome ℕ) → IsLooked view b list lists o → o ≡ Open at → IsOpened view b list lists at
 unfolding opens list_in
-opened-told view b list live o looked is =
-    let open' = ap opens is in
+opened-told view b list lists at o looked is =
+    let open' = ap (λ x. opens (seen lists x)) is in
     record {
-      open' = told-opens view b list o looked.told ∙ open';
-      same = sym (ap list_in is) ∙ told-hands view b list o looked.told open';
-      hands = subst (HandsOn (length list)) is looked.hands;
+      open' = told-opens view b list (seen lists o) looked.told ∙ open';
+      same = sym (ap (λ x. list_in (seen lists x)) is) ∙ told-hands view b list (seen lists o) looked.told open';
+      hands = subst (HandsOn (length list) lists) is looked.hands;
     }
 
 -- any other does not
-pub closed-told : (view : Window) (b : Indices) (list : List Step) (o : Outcome) → IsLooked view b list o → (o ≡ Inside) ⊎ (o ≡ Outside) → is_open (gridded view) (visit b list) ≡ false
+pub closed-told : (view : Window) (b : Indices) (list : List Step) (lists : List (List Step)) (o : Outcome ℕ) → IsLooked view b list lists o → (o ≡ Inside) ⊎ (o ≡ Outside) → is_open (gridded view) (visit b list) ≡ false
 unfolding opens
-closed-told view b list o looked (inl is) = told-opens view b list o looked.told ∙ ap opens is
-closed-told view b list o looked (inr is) = told-opens view b list o looked.told ∙ ap opens is
+closed-told view b list lists o looked (inl is) = told-opens view b list (seen lists o) looked.told ∙ ap (λ x. opens (seen lists x)) is
+closed-told view b list lists o looked (inr is) = told-opens view b list (seen lists o) looked.told ∙ ap (λ x. opens (seen lists x)) is
+
+-- a list keeps its number where lists are put behind
+pub list-stays : (before after : Tracing) (at : ℕ) → HasMore before after → at < length before.lists → list_of after at ≡ list_of before at
+list-stays before after at more among =
+    sym (get_or-take (length before.lists) after.lists at [] among) ∙ ap (λ lists. list_at lists at) more.lists
+
+pub among-stays : (before after : Tracing) (at : ℕ) → HasMore before after → at < length before.lists → at < length after.lists
+among-stays before after at more among = omega (arith, among, ap length more.lists, length-take (length before.lists) after.lists)
+
+pub more-samples : (before after : Tracing) → HasMore before after → samples after ≡ samples before
+more-samples before after more =
+    ap (λ v. record { view = v; lattice = after.lattice }) more.view ∙ ap (λ l. record { view = before.view; lattice = l }) more.lattice
 
 -- a flag as a number
 pub byte-is : (b : Bool) → bool_byte b ≡ cond b 1 0

@@ -2,8 +2,8 @@
 use Rattle.std.specs.Prelude.{◌≡◌, ℕ, ◌-◌, ◌<◌, ◌≤◌, true, List, [], ◌∷◌, length, get_or, if◌then◌else◌}
 use Rattle.std.specs.List.{All, flat_map}
 use Rattle.box_chains.specs.Chains.{Visit, is_long, sum_over, visit}
-use Rattle.box_chains.specs.Desks.{Tracing}
-use Rattle.box_chains.specs.Outcomes.{HandsOn, asked_outcome}
+use Rattle.box_chains.specs.Desks.{Tracing, list_of}
+use Rattle.box_chains.specs.Outcomes.{HandsOn, asked_outcome, seen}
 use Rattle.box_chains.specs.Placing.{Sampling}
 use Rattle.box_chains.specs.declared.asked_box.AskedBox.{AskedBox}
 use Rattle.box_chains.specs.declared.outcome.Outcome.{Outcome}
@@ -22,14 +22,15 @@ use Rattle.oct_descent.specs.Sizes.{size_of}
 use Rattle.oct_descent.specs.Tables.{AreRight, Charges, IsDue, IsEnough, Pays, PointValues}
 use Rattle.oct_descent.specs.Ways.{CellDescent, gridded, meets_border}
 
--- The box is one of the grid's, whose points these are, and there is room for the list. What is
--- known of the points that the box covers are the list's grid values.
-pub record MayLook (desk : Tracing) (b : Indices) (list : List Step) (t : PointValues) : Type 0 where
+-- The box is one of the grid's, whose points these are, and there is room for the list of a number.
+-- What is known of the points that the box covers are the list's grid values.
+pub record MayLook (desk : Tracing) (b : Indices) (at : ℕ) (t : PointValues) : Type 0 where
   pub lattice : desk.lattice ≡ lattices.Grid
-  pub visit_is : IsVisit (gridded desk.view).boxes (visit b list)
+  pub visit_is : IsVisit (gridded desk.view).boxes (visit b (list_of desk at))
   pub n : SameSize t.n (size_of desk.view)
-  pub room : length list ≤ desk.room
-  pub right : AreRight (grid_value desk.view list) b t
+  pub among : at < length desk.lists
+  pub room : length (list_of desk at) ≤ desk.room
+  pub right : AreRight (grid_value desk.view (list_of desk at)) b t
 
 -- the steps that are traced over some halves of a box, which receive a list
 abbrev pub halves_spans : CellDescent → List Step → List Indices → ℕ
@@ -78,14 +79,16 @@ asked_of n b = record { range = b; held = meets_border n b }
 abbrev pub longer : GridSize → List Indices → List AskedBox
 longer n boxes = flat_map (λ b. if is_long 1 b then asked_of n b ∷ [] else []) boxes
 
--- what tracing a list over a box told stands at a place
-pub record IsAt (places : Sampling) (list : List Step) (b : Indices) (outcomes : List Outcome)
-    (at : ℕ) : Type 0 where
+-- what tracing a list over a box told stands at a place, with a list by its number among some
+pub record IsAt (places : Sampling) (list : List Step) (b : Indices) (lists : List (List Step))
+    (outcomes : List (Outcome ℕ)) (at : ℕ) : Type 0 where
   pub within : at < length outcomes
-  pub is : get_or outcomes at Outside ≡ asked_outcome places list (asked_of (size_of places.view) b)
-  pub hands : HandsOn (length list) (get_or outcomes at Outside)
+  pub is : seen lists (get_or outcomes at Outside)
+      ≡ asked_outcome places list (asked_of (size_of places.view) b)
+  pub hands : HandsOn (length list) lists (get_or outcomes at Outside)
 
 -- it does where the box is longer than a cell
-abbrev pub IsToldAt : Sampling → List Step → Indices → List Outcome → ℕ → Type 0
-IsToldAt places list b outcomes at =
-    is_long 1 b ≡ true → IsAt places list b outcomes at
+abbrev pub IsToldAt : Sampling → List Step → Indices → List (List Step) → List (Outcome ℕ) → ℕ
+    → Type 0
+IsToldAt places list b lists outcomes at =
+    is_long 1 b ≡ true → IsAt places list b lists outcomes at

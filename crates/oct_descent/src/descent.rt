@@ -1,9 +1,9 @@
 // Boxes of cells that are looked into.
-ghost use Rattle.std.specs.Prelude.{◌≡◌, ◌*◌, ◌+◌, ◌≤◌, ℕ, IfOk, OnErr, OnOk, IsTrue, false, length, true};
+ghost use Rattle.std.specs.Prelude.{◌≡◌, ◌*◌, ◌+◌, ◌<◌, ◌≤◌, ℕ, IfOk, OnErr, OnOk, IsTrue, false, length, true};
 ghost use Rattle.std.specs.List.{All};
 ghost use Rattle.box_chains.specs.Chains.{is_long as is_long_for, visit};
-ghost use Rattle.box_chains.specs.Desks.{samples};
-ghost use Rattle.box_chains.specs.Outcomes.{HandsOn, asked_outcomes};
+ghost use Rattle.box_chains.specs.Desks.{HasMore, list_of, samples};
+ghost use Rattle.box_chains.specs.Outcomes.{HandsOn, all_seen, asked_outcomes};
 ghost use Rattle.box_chains.specs.Tallied.{CountsAtMost};
 ghost use Rattle.interval_ops.specs.HullCounts.{CountsHulls};
 ghost use Rattle.kuhn_cells.specs.Triangles.{GridPoint, point};
@@ -27,8 +27,7 @@ use arrayvec::ArrayVec;
 use box_chains::{AskedBox, Desk, Outcome, is_long, layers_hold};
 use fixed_ops::Tally;
 use kuhn_cells::GridSize;
-use live_clauses::Tape;
-use std::alloc::{AllocError, Global};
+use std::alloc::AllocError;
 use view_settings::{IndexBox, split};
 
 /// The longest side of a box that is not split.
@@ -37,64 +36,68 @@ const LEAF: u32 = 1;
 /// Looks into a box, which receives a list: evaluates the corners of its working cells that are not
 /// known.
 pub fn look_into(
-    alloc: Global,
     desk: &mut Desk,
     b: IndexBox,
-    received: &Tape,
+    received: usize,
     values: &mut GridValues,
     tally: &mut Tally,
 ) -> Result<(), AllocError>
-    requires { MayLook desk.old b received.now values.old }
+    requires { MayLook desk.old b received values.old }
     ensures settled { OnOk result
-        (AreSettled (gridded desk.old.view) (grid_value desk.old.view received.now) b values.new) }
+        (AreSettled (gridded desk.old.view) (grid_value desk.old.view (list_of desk.old received)) b
+        values.new) }
     ensures worked { OnOk result
-        (AreWorked (gridded desk.old.view) (visit b received.now) values.new) }
-    ensures grows { Grows (grid_value desk.old.view received.now) b values.old values.new }
-    ensures counted { ChargesBox (gridded desk.old.view) (visit b received.now) values.old
-        values.new tally.old tally.new }
-    ensures paid { PaysBox (gridded desk.old.view) (visit b received.now) values.old
+        (AreWorked (gridded desk.old.view) (visit b (list_of desk.old received)) values.new) }
+    ensures grows { Grows (grid_value desk.old.view (list_of desk.old received)) b values.old
+        values.new }
+    ensures counted { ChargesBox (gridded desk.old.view) (visit b (list_of desk.old received))
+        values.old values.new tally.old tally.new }
+    ensures paid { PaysBox (gridded desk.old.view) (visit b (list_of desk.old received)) values.old
         values.new tally.old tally.new }
     ensures traced { OnOk result
-        (CountsHullsAtLeast (long_spans_in (gridded desk.old.view) (visit b received.now))
+        (CountsHullsAtLeast
+        (long_spans_in (gridded desk.old.view) (visit b (list_of desk.old received)))
         tally.old tally.new) }
-    ensures kept { desk.new ≡ desk.old }
+    ensures more { HasMore desk.old desk.new }
 {
     layers_hold();
     if !is_long(b, LEAF) {
         return look_into_cell(desk, b, received, values, tally);
     }
     let asked = asked_box(values.n(), b);
-    let told = desk.trace_asked_box(alloc, received, asked, tally)?;
-    look_into_told(alloc, desk, b, received, &[told], 0, values, tally)
+    let told = desk.trace_asked_box(received, asked, tally)?;
+    look_into_told(desk, b, received, &[told], 0, values, tally)
 }
 
 // Looks into a box. What tracing the list over it told, where it is longer than a cell, stands at a
 // place among some outcomes.
 #[cycle(looking)]
 fn look_into_told(
-    alloc: Global,
     desk: &mut Desk,
     b: IndexBox,
-    received: &Tape,
-    outcomes: &[Outcome],
+    received: usize,
+    outcomes: &[Outcome<usize>],
     at: usize,
     values: &mut GridValues,
     tally: &mut Tally,
 ) -> Result<(), AllocError>
-    requires may { MayLook desk.old b received.now values.old }
-    requires told { IsToldAt (samples desk.old) received.now b outcomes.now at }
+    requires may { MayLook desk.old b received values.old }
+    requires told { IsToldAt (samples desk.old) (list_of desk.old received) b desk.old.lists
+        outcomes.now at }
     ensures settled { OnOk result
-        (AreSettled (gridded desk.old.view) (grid_value desk.old.view received.now) b values.new) }
+        (AreSettled (gridded desk.old.view) (grid_value desk.old.view (list_of desk.old received)) b
+        values.new) }
     ensures worked { OnOk result
-        (AreWorked (gridded desk.old.view) (visit b received.now) values.new) }
-    ensures grows { Grows (grid_value desk.old.view received.now) b values.old values.new }
-    ensures counted { ChargesBelow (gridded desk.old.view) (visit b received.now) values.old
-        values.new tally.old tally.new }
-    ensures paid { PaysBox (gridded desk.old.view) (visit b received.now) values.old
+        (AreWorked (gridded desk.old.view) (visit b (list_of desk.old received)) values.new) }
+    ensures grows { Grows (grid_value desk.old.view (list_of desk.old received)) b values.old
+        values.new }
+    ensures counted { ChargesBelow (gridded desk.old.view) (visit b (list_of desk.old received))
+        values.old values.new tally.old tally.new }
+    ensures paid { PaysBox (gridded desk.old.view) (visit b (list_of desk.old received)) values.old
         values.new tally.old tally.new }
     ensures traced { OnOk result
         (CountsHullsAtLeast (long_spans_below (gridded desk.old.view)
-        (visit b received.now)) tally.old tally.new) }
+        (visit b (list_of desk.old received))) tally.old tally.new) }
     ensures kept { desk.new ≡ desk.old }
 {
     layers_hold();
@@ -102,47 +105,83 @@ fn look_into_told(
         return look_into_cell(desk, b, received, values, tally);
     }
     match &outcomes[at] {
-        Outcome::Open(live) => look_into_halves(alloc, desk, b, live, values, tally),
+        Outcome::Open(live) => look_into_halves(desk, b, *live, values, tally),
         Outcome::Inside | Outcome::Outside => Ok(()),
     }
 }
 
-// Looks into the halves of a box that is split: those longer than a cell are traced together, and
-// then all are looked into one by one.
+// Looks into the halves of a box that is split. The lists that they hand on are given up then.
 #[cycle(looking)]
 fn look_into_halves(
-    alloc: Global,
     desk: &mut Desk,
     b: IndexBox,
-    live: &Tape,
+    live: usize,
     values: &mut GridValues,
     tally: &mut Tally,
 ) -> Result<(), AllocError>
-    requires may { MayLook desk.old b live.now values.old }
-    requires whole { IsWhole live.now }
+    requires may { MayLook desk.old b live values.old }
+    requires whole { IsWhole (list_of desk.old live) }
     requires long { IsTrue (is_long_for 1 b) }
     ensures settled { OnOk result
-        (AreSettled (gridded desk.old.view) (grid_value desk.old.view live.now) b values.new) }
+        (AreSettled (gridded desk.old.view) (grid_value desk.old.view (list_of desk.old live)) b
+        values.new) }
     ensures worked { OnOk result
-        (All (λ half. AreWorked (gridded desk.old.view) (visit half live.now) values.new)
-        (halves_of 1 b)) }
-    ensures grows { Grows (grid_value desk.old.view live.now) b values.old values.new }
-    ensures counted { ChargesHalves (gridded desk.old.view) live.now (halves_of 1 b)
+        (All (λ half. AreWorked (gridded desk.old.view) (visit half (list_of desk.old live))
+        values.new) (halves_of 1 b)) }
+    ensures grows { Grows (grid_value desk.old.view (list_of desk.old live)) b values.old
+        values.new }
+    ensures counted { ChargesHalves (gridded desk.old.view) (list_of desk.old live) (halves_of 1 b)
         values.old values.new tally.old tally.new }
-    ensures paid { PaysHalves (gridded desk.old.view) live.now (halves_of 1 b) values.old
-        values.new tally.old tally.new }
+    ensures paid { PaysHalves (gridded desk.old.view) (list_of desk.old live) (halves_of 1 b)
+        values.old values.new tally.old tally.new }
     ensures traced { OnOk result
-        (CountsHullsAtLeast (halves_long_spans (gridded desk.old.view) live.now
+        (CountsHullsAtLeast (halves_long_spans (gridded desk.old.view) (list_of desk.old live)
         (halves_of 1 b)) tally.old tally.new) }
     ensures kept { desk.new ≡ desk.old }
 {
+    let count = desk.lists.len();
+    let looked = look_into_each_half(desk, b, live, values, tally);
+    desk.cut(count);
+    looked
+}
+
+// Looks into the halves of a box that is split: those longer than a cell are traced together, and
+// then all are looked into one by one. The lists that they hand on stay behind the others.
+#[cycle(looking)]
+fn look_into_each_half(
+    desk: &mut Desk,
+    b: IndexBox,
+    live: usize,
+    values: &mut GridValues,
+    tally: &mut Tally,
+) -> Result<(), AllocError>
+    requires may { MayLook desk.old b live values.old }
+    requires whole { IsWhole (list_of desk.old live) }
+    requires long { IsTrue (is_long_for 1 b) }
+    ensures settled { OnOk result
+        (AreSettled (gridded desk.old.view) (grid_value desk.old.view (list_of desk.old live)) b
+        values.new) }
+    ensures worked { OnOk result
+        (All (λ half. AreWorked (gridded desk.old.view) (visit half (list_of desk.old live))
+        values.new) (halves_of 1 b)) }
+    ensures grows { Grows (grid_value desk.old.view (list_of desk.old live)) b values.old
+        values.new }
+    ensures counted { ChargesHalves (gridded desk.old.view) (list_of desk.old live) (halves_of 1 b)
+        values.old values.new tally.old tally.new }
+    ensures paid { PaysHalves (gridded desk.old.view) (list_of desk.old live) (halves_of 1 b)
+        values.old values.new tally.old tally.new }
+    ensures traced { OnOk result
+        (CountsHullsAtLeast (halves_long_spans (gridded desk.old.view) (list_of desk.old live)
+        (halves_of 1 b)) tally.old tally.new) }
+    ensures more { HasMore desk.old desk.new }
+{
     layers_hold();
     let halves = split(b, LEAF);
-    let outcomes = trace_longer(alloc, desk, halves.as_slice(), live, values.n(), tally)?;
+    let outcomes = trace_longer(desk, halves.as_slice(), live, values.n(), tally)?;
     let outcomes = outcomes.as_slice();
     let mut at = 0;
     for half in halves.as_slice() {
-        look_into_told(alloc, desk, *half, live, outcomes, at, values, tally)?;
+        look_into_told(desk, *half, live, outcomes, at, values, tally)?;
         at += usize::from(is_long(*half, LEAF));
     }
     Ok(())
@@ -152,29 +191,31 @@ fn look_into_halves(
 // is no memory for a shorter list, and no more was traced than that.
 #[inline]
 fn trace_longer(
-    alloc: Global,
     desk: &mut Desk,
     boxes: &[IndexBox],
-    received: &Tape,
+    received: usize,
     n: GridSize,
     tally: &mut Tally,
-) -> Result<ArrayVec<Outcome, 8>, AllocError>
-    requires whole { IsWhole received.now }
-    requires room { length received.now ≤ desk.old.room }
+) -> Result<ArrayVec<Outcome<usize>, 8>, AllocError>
+    requires among { received < length desk.old.lists }
+    requires whole { IsWhole (list_of desk.old received) }
+    requires room { length (list_of desk.old received) ≤ desk.old.room }
     requires few { length boxes.now ≤ 8 }
     requires within { All (IsInRoot desk.old.view desk.old.lattice) boxes.now }
-    ensures outcomes { IfOk result (λ outcomes. outcomes.items
-        ≡ asked_outcomes (samples desk.old) received.now (longer n boxes.now)) }
-    ensures hand { IfOk result
-        (λ outcomes. All (HandsOn (length received.now)) outcomes.items) }
+    ensures outcomes { IfOk result (λ outcomes. all_seen desk.new.lists outcomes.items
+        ≡ asked_outcomes (samples desk.old) (list_of desk.old received) (longer n boxes.now)) }
+    ensures hand { IfOk result (λ outcomes.
+        All (HandsOn (length (list_of desk.old received)) desk.new.lists) outcomes.items) }
     ensures counted { OnOk result
-        (CountsHulls (length (longer n boxes.now) * length received.now) tally.old tally.new) }
+        (CountsHulls (length (longer n boxes.now) * length (list_of desk.old received))
+        tally.old tally.new) }
     ensures at_most { OnErr result
-        (CountsAtMost 0 (length (longer n boxes.now) * length received.now) tally.old tally.new) }
-    ensures kept { desk.new ≡ desk.old }
+        (CountsAtMost 0 (length (longer n boxes.now) * length (list_of desk.old received))
+        tally.old tally.new) }
+    ensures more { HasMore desk.old desk.new }
 {
     let asked = longer_boxes(n, boxes);
-    desk.trace_asked_boxes(alloc, received, asked.as_slice(), tally)
+    desk.trace_asked_boxes(received, asked.as_slice(), tally)
 }
 
 // Those of some boxes that are longer than a cell.
@@ -208,20 +249,22 @@ fn asked_box(n: GridSize, b: IndexBox) -> AskedBox
 fn look_into_cell(
     desk: &mut Desk,
     b: IndexBox,
-    received: &Tape,
+    received: usize,
     values: &mut GridValues,
     tally: &mut Tally,
 ) -> Result<(), AllocError>
-    requires may { MayLook desk.old b received.now values.old }
+    requires may { MayLook desk.old b received values.old }
     requires one { is_long_for 1 b ≡ false }
     ensures settled { OnOk result
-        (AreSettled (gridded desk.old.view) (grid_value desk.old.view received.now) b values.new) }
+        (AreSettled (gridded desk.old.view) (grid_value desk.old.view (list_of desk.old received)) b
+        values.new) }
     ensures worked { OnOk result
-        (AreWorked (gridded desk.old.view) (visit b received.now) values.new) }
-    ensures grows { Grows (grid_value desk.old.view received.now) b values.old values.new }
-    ensures counted { ChargesBox (gridded desk.old.view) (visit b received.now) values.old
-        values.new tally.old tally.new }
-    ensures paid { PaysBox (gridded desk.old.view) (visit b received.now) values.old
+        (AreWorked (gridded desk.old.view) (visit b (list_of desk.old received)) values.new) }
+    ensures grows { Grows (grid_value desk.old.view (list_of desk.old received)) b values.old
+        values.new }
+    ensures counted { ChargesBox (gridded desk.old.view) (visit b (list_of desk.old received))
+        values.old values.new tally.old tally.new }
+    ensures paid { PaysBox (gridded desk.old.view) (visit b (list_of desk.old received)) values.old
         values.new tally.old tally.new }
     ensures untraced { IsShown values.old (point b.x0 b.y0 b.z0)
         → CountsNoHull tally.old tally.new }
@@ -244,17 +287,18 @@ fn look_into_cell(
 fn is_working(
     desk: &mut Desk,
     b: IndexBox,
-    received: &Tape,
+    received: usize,
     n: GridSize,
     seen: Seen,
     tally: &mut Tally,
 ) -> bool
-    requires may { (t : PointValues) × MayLook desk.old b received.now t × IsSeen t
+    requires may { (t : PointValues) × MayLook desk.old b received t × IsSeen t
         (point b.x0 b.y0 b.z0) seen }
     requires one { is_long_for 1 b ≡ false }
     requires n { SameSize n (size_of desk.old.view) }
-    ensures open { result ≡ is_open_for (gridded desk.old.view) (visit b received.now) }
-    ensures counted { CountsAtMost 0 (length received.now) tally.old tally.new }
+    ensures open { result
+        ≡ is_open_for (gridded desk.old.view) (visit b (list_of desk.old received)) }
+    ensures counted { CountsAtMost 0 (length (list_of desk.old received)) tally.old tally.new }
     ensures untraced { IsTrue seen.inside → IsTrue seen.outside → tally.new ≡ tally.old }
     ensures kept { desk.new ≡ desk.old }
 {

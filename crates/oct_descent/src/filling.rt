@@ -1,6 +1,7 @@
 // Working cells, whose corners are evaluated.
 ghost use Rattle.std.specs.Prelude.{◌≡◌, ◌<◌, false, IfOk, length, OnOk};
 ghost use Rattle.box_chains.specs.Chains.{is_long as is_long_for};
+ghost use Rattle.box_chains.specs.Desks.{list_of};
 ghost use Rattle.kuhn_cells.specs.Sizes.{IsBounded};
 ghost use Rattle.kuhn_cells.specs.Triangles.{point};
 ghost use Rattle.oct_descent.specs.Desks.{MayLook};
@@ -15,35 +16,38 @@ use crate::grid_values::GridValues;
 use arrayvec::ArrayVec;
 use box_chains::{Desk, layers_hold, make_rows};
 use fixed_ops::Tally;
-use live_clauses::Tape;
 use std::alloc::AllocError;
 use view_settings::IndexBox;
 
-/// Evaluates a list at those corners of a cell that are not known. AllocError: there is no memory
-/// for their values.
+/// Evaluates the list of a number at those corners of a cell that are not known. AllocError: there is
+/// no memory for their values.
 pub fn fill_cell(
     desk: &mut Desk,
     b: IndexBox,
-    list: &Tape,
+    received: usize,
     values: &mut GridValues,
     tally: &mut Tally,
 ) -> Result<(), AllocError>
-    requires may { MayLook desk.old b list.now values.old }
+    requires may { MayLook desk.old b received values.old }
     requires one { is_long_for 1 b ≡ false }
     ensures known { OnOk result (AllKnown values.new b) }
-    ensures grows { Grows (grid_value desk.old.view list.now) b values.old values.new }
-    ensures counted { ChargesCorners b (length list.now) values.old values.new tally.old tally.new }
-    ensures paid { PaysCorners b (length list.now) values.old values.new tally.old tally.new }
+    ensures grows { Grows (grid_value desk.old.view (list_of desk.old received)) b values.old
+        values.new }
+    ensures counted { ChargesCorners b (length (list_of desk.old received)) values.old values.new
+        tally.old tally.new }
+    ensures paid { PaysCorners b (length (list_of desk.old received)) values.old values.new
+        tally.old tally.new }
     ensures kept { desk.new ≡ desk.old }
 {
     layers_hold();
+    let list = desk.lists.list(received);
     // All memory is taken first, so that no value is lost for want of it.
     make_rows(&mut desk.rows, list.len())?;
     let gaps = gaps_of(b.x0, b.y0, b.z0, values)?;
     fill_gaps(
         &desk.places,
         gaps.as_slice(),
-        list,
+        &list,
         &mut desk.rows,
         values,
         tally,

@@ -18,13 +18,13 @@ use box_chains::Places;
 use choice_trace::{Inputs, evaluate_lanes};
 use fixed_ops::{Fx, Tally, border, tallies_add_up};
 use kuhn_cells::GridSize;
-use live_clauses::Tape;
+use live_clauses::Steps;
 
 /// Evaluates a list at some points, and keeps their values. One evaluation is counted for each.
 pub fn fill_gaps(
     places: &Places,
     gaps: &[Gap],
-    list: &Tape,
+    list: &Steps<'_>,
     rows: &mut [[Fx; 8]],
     values: &mut GridValues,
     tally: &mut Tally,
@@ -49,7 +49,7 @@ pub fn fill_gaps(
 fn fill_some(
     places: &Places,
     gaps: &[Gap],
-    list: &Tape,
+    list: &Steps<'_>,
     rows: &mut [[Fx; 8]],
     values: &mut GridValues,
     tally: &mut Tally,
@@ -85,7 +85,7 @@ fn fill_some(
 fn fill_lanes<const L: usize>(
     places: &Places,
     gaps: &[Gap],
-    list: &Tape,
+    list: &Steps<'_>,
     rows: &mut [[Fx; 8]],
     values: &mut GridValues,
     tally: &mut Tally,

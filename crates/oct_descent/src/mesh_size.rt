@@ -1,6 +1,7 @@
 // How many cells the grid of a mesh has.
 ghost use Rattle.std.specs.Prelude.{◌≡◌};
 ghost use Rattle.kuhn_cells.specs.Sizes.{IsBounded};
+ghost use Rattle.view_settings.specs.Window.{IsWindow};
 ghost use Rattle.oct_descent.specs.Sizes.{size_of};
 
 use kuhn_cells::GridSize;
@@ -11,6 +12,7 @@ use view_settings::View;
 pub fn mesh_size(view: &View) -> GridSize
     ensures size { result ≡ size_of view.now }
     ensures bounded { IsBounded result }
+    ensures window { IsWindow view.now }
 {
     GridSize::cube(view.n)
 }

@@ -54,10 +54,13 @@ pub fn cells(
         (CountsHullsAtLeast (mesh_long_spans view.now list.now) tally.old tally.new) }
 {
     layers_hold();
-    let mut desk = Desk::new(alloc, view, Lattice::Grid, list.len())?;
+    // A list can be evaluated.
+    let _len = list.len();
+    let mut desk = Desk::new(alloc, view, Lattice::Grid, list)?;
     let root = desk.root();
     let mut values = GridValues::new(alloc, mesh_size(view))?;
-    look_into(alloc, &mut desk, root, list, &mut values, tally)?;
+    // The list that the desk was made with has the number 0.
+    look_into(&mut desk, root, 0, &mut values, tally)?;
     Ok(OctTree {
         view: *view,
         list: list.share()?,

@@ -21,7 +21,8 @@ use Rattle.view_settings.specs.Spans.{IsInRoot}
 use Rattle.view_settings.specs.Window.{Window}
 use Rattle.view_settings.specs.declared.lattice.Lattice.TheVariants.{Raster}
 use Rattle.box_chains.specs.Placing.{Sampling}
-use Rattle.box_chains.specs.Outcomes.{HandsOn, IsHandedOn, outcome_by, outcome_of}
+use Rattle.box_chains.specs.Outcomes.{HandsOn, IsHandedOn, all_seen, outcome_by, outcome_of, outcomes_of, seen}
+use Rattle.box_chains.specs.Desks.{Tracing, samples}
 use Rattle.box_chains.specs.declared.outcome.Outcome.{Outcome}
 use Rattle.box_chains.specs.declared.outcome.Outcome.TheVariants.{Open}
 use Rattle.quad_descent.proofs.NodeLaws.{nodes-are}
@@ -137,7 +138,7 @@ exactly-same before after p s q t same_p same_s h =
     subst (λ n. CountsExactly n t before after) same_p (subst (λ n. CountsExactly p n before after) same_s h)
 
 -- a box that was traced, and then drawn by its outcome
-pub counted-box : (laws : Lawful) (d : Descent) (b : Indices) (list : List Step) (o : Outcome) (before mid after : Counts) → 0 < d.leaf → IsBox b → o ≡ outcome_of (sampling d) list b → CountsHulls (length list) before mid
+pub counted-box : (laws : Lawful) (d : Descent) (b : Indices) (list : List Step) (o : Outcome (List Step)) (before mid after : Counts) → 0 < d.leaf → IsBox b → o ≡ outcome_of (sampling d) list b → CountsHulls (length list) before mid
     → CountsExactly (outcome_points d b o) (outcome_spans d b o) mid after
     → CountsExactly (points_in d (visit b list)) (spans_in d (visit b list)) before after
 counted-box laws d b list o before mid after some is told h below =
@@ -146,7 +147,7 @@ counted-box laws d b list o before mid after some is told h below =
     (ap (λ x. length list + outcome_spans d b x) told ∙ sym (spans-outcome laws d b list some is))
     (laws.work.sum before mid after 0 (length list) (outcome_points d b o) (outcome_spans d b o) (laws.work.hulls before mid (length list) h) below)
 
-pub bounded-box : (laws : Lawful) (d : Descent) (b : Indices) (list : List Step) (o : Outcome) (before mid after : Counts) → 0 < d.leaf → IsBox b → o ≡ outcome_of (sampling d) list b → CountsHulls (length list) before mid
+pub bounded-box : (laws : Lawful) (d : Descent) (b : Indices) (list : List Step) (o : Outcome (List Step)) (before mid after : Counts) → 0 < d.leaf → IsBox b → o ≡ outcome_of (sampling d) list b → CountsHulls (length list) before mid
     → CountsAtMost (outcome_points d b o) (outcome_spans d b o) mid after
     → CountsAtMost (points_in d (visit b list)) (spans_in d (visit b list)) before after
 bounded-box laws d b list o before mid after some is told h below =
@@ -163,8 +164,8 @@ bounded-trace laws d b list before after some is h =
     (laws.work.hulls before after (length list) h)
 
 -- what a box hands on is such a list
-pub opened : (most : ℕ) (o : Outcome) (list : List Step) → HandsOn most o → o ≡ Open list → IsHandedOn most list
-opened most o list on is = subst (HandsOn most) is on
+pub opened : (most : ℕ) (lists : List (List Step)) (o : Outcome ℕ) (at : ℕ) → HandsOn most lists o → o ≡ Open at → IsHandedOn most lists at
+opened most lists o at on is = subst (HandsOn most lists) is on
 
 -- the steps that are traced over halves: the list over each, and what lies below them
 pub spans-halves : (laws : Lawful) (d : Descent) (list : List Step) (halves : List Indices) → 0 < d.leaf → All IsBox halves
@@ -213,7 +214,7 @@ halves-more d list halves i half old mid new within read before added =
     let more : take (i + 1) halves ≡ take i halves ++ half ∷ [] = take_more halves i half within ∙ ap (λ h. take i halves ++ h ∷ []) (sym read) in
     added ∙ ap (λ l. l ++ f half) before ∙ append_assoc old (flat_map f (take i halves)) (f half) ∙ ap (λ l. old ++ l) (sym joined ∙ ap (flat_map f) (sym more))
 
-pub halves-counted : (laws : Lawful) (d : Descent) (list : List Step) (halves : List Indices) (i : ℕ) (half : Indices) (o : Outcome) (before mid after : Counts)
+pub halves-counted : (laws : Lawful) (d : Descent) (list : List Step) (halves : List Indices) (i : ℕ) (half : Indices) (o : Outcome (List Step)) (before mid after : Counts)
     → 0 < d.leaf → IsBox half → i < length halves → half ≡ get_or halves i half
     → o ≡ outcome_of (sampling d) list half → CountsDrawn d list halves i before mid
     → CountsExactly (outcome_points d half o) (outcome_spans d half o) mid after
@@ -231,7 +232,7 @@ halves-counted laws d list halves i half o before mid after some is within read 
     (laws.work.sum before mid after (sum_by f (take i halves)) (all + sum_by g (take i halves)) (outcome_points d half o) (outcome_spans d half o) first second)
 
 -- and the work of the halves up to one of them is among that of all
-pub halves-bounded : (laws : Lawful) (d : Descent) (list : List Step) (halves : List Indices) (i : ℕ) (half : Indices) (o : Outcome) (before mid after : Counts)
+pub halves-bounded : (laws : Lawful) (d : Descent) (list : List Step) (halves : List Indices) (i : ℕ) (half : Indices) (o : Outcome (List Step)) (before mid after : Counts)
     → 0 < d.leaf → All IsBox halves → IsBox half → i < length halves → half ≡ get_or halves i half
     → o ≡ outcome_of (sampling d) list half → CountsDrawn d list halves i before mid
     → CountsAtMost (outcome_points d half o) (outcome_spans d half o) mid after
@@ -304,26 +305,33 @@ halves-boxes laws b halves is all =
     subst (All IsBox) (sym all) (All-weaker (IsPart 8 b) IsBox (λ half part. laws.parts.box 8 b half part) (halves_of 8 b) (laws.parts.all 8 b (omega arith) is))
 
 -- what was told of one of some boxes
-pub told-at : (d : Descent) (list : List Step) (halves : List Indices) (told : List Outcome) (i : ℕ) (half : Indices) (o : Outcome)
+pub told-at : (d : Descent) (list : List Step) (halves : List Indices) (told : List (Outcome (List Step))) (i : ℕ) (half : Indices) (o : Outcome (List Step))
     → told ≡ map (outcome_of (sampling d) list) halves → i < length halves → half ≡ get_or halves i half → o ≡ get_or told i o
     → o ≡ outcome_of (sampling d) list half
 told-at d list halves told i half o are within here there =
-    let f : Indices → Outcome = outcome_of (sampling d) list in
+    let f : Indices → Outcome (List Step) = outcome_of (sampling d) list in
     there ∙ ap (λ l. get_or l i o) are ∙ get_or-map f halves i half o within ∙ ap f (sym here)
 
 -- and it hands on few steps
-pub few-at : (most : ℕ) (told : List Outcome) (i : ℕ) (o : Outcome) → All (HandsOn most) told → i < length told → o ≡ get_or told i o → HandsOn most o
-few-at most told i o few within there = subst (HandsOn most) (sym there) (All-get_or (HandsOn most) told i o within few)
+pub few-at : (most : ℕ) (lists : List (List Step)) (outcomes : List (Outcome ℕ)) (i : ℕ) (d : Outcome ℕ) → All (HandsOn most lists) outcomes → i < length outcomes → HandsOn most lists (get_or outcomes i d)
+few-at most lists outcomes i d few within = few i d within
 
-pub halves-told : (d : Descent) (list : List Step) (halves : List Indices) (told : List Outcome) → told ≡ map (outcome_of (sampling d) list) halves → length told ≡ length halves
-halves-told d list halves told are = ap length are ∙ length-map halves (outcome_of (sampling d) list)
+-- what an outcome that was read stands for
+pub seen-read : (lists : List (List Step)) (outcomes : List (Outcome ℕ)) (i : ℕ) (d : Outcome ℕ) → i < length outcomes
+    → seen lists (get_or outcomes i d) ≡ get_or (all_seen lists outcomes) i (seen lists (get_or outcomes i d))
+seen-read lists outcomes i d within = sym (get_or-map (seen lists) outcomes i d (seen lists (get_or outcomes i d)) within)
+
+pub as-many-told : (desk : Tracing) (list : List Step) (lists : List (List Step)) (outcomes : List (Outcome ℕ)) (halves : List Indices)
+    → all_seen lists outcomes ≡ outcomes_of (samples desk) list halves → length outcomes ≡ length halves
+as-many-told desk list lists outcomes halves are =
+    sym (length-map outcomes (seen lists)) ∙ ap length are ∙ length-map halves (outcome_of (samples desk) list)
 
 -- what is told over the places of a raster
-pub told-all : (places : Sampling) (list : List Step) (halves : List Indices) (told : List Outcome) → places.lattice ≡ Raster
+pub told-all : (places : Sampling) (list : List Step) (halves : List Indices) (told : List (Outcome (List Step))) → places.lattice ≡ Raster
     → told ≡ map (outcome_of places list) halves → told ≡ map (outcome_of (sampling (raster places.view)) list) halves
 told-all places list halves told is are =
     are ∙ ap (λ lattice. map (outcome_of (record { view = places.view; lattice = lattice }) list) halves) is
 
-pub told-one : (places : Sampling) (list : List Step) (b : Indices) (o : Outcome) → places.lattice ≡ Raster
+pub told-one : (places : Sampling) (list : List Step) (b : Indices) (o : Outcome (List Step)) → places.lattice ≡ Raster
     → o ≡ outcome_of places list b → o ≡ outcome_of (sampling (raster places.view)) list b
 told-one places list b o is are = are ∙ ap (λ lattice. outcome_of (record { view = places.view; lattice = lattice }) list b) is

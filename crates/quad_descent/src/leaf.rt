@@ -10,7 +10,7 @@ use crate::scan::Scan;
 use box_chains::Places;
 use choice_trace::{Inputs, evaluate_lanes};
 use fixed_ops::{Fx, Tally, is_inside, tallies_add_up};
-use live_clauses::Tape;
+use live_clauses::Steps;
 use view_settings::IndexBox;
 
 /// The rows of a leaf: a binary digit a sample, the last one lowest, and 1 for inside. The list is
@@ -18,7 +18,7 @@ use view_settings::IndexBox;
 pub fn leaf_rows(
     places: &Places,
     b: IndexBox,
-    list: &Tape,
+    list: &Steps<'_>,
     values: &mut [[Fx; 8]],
     tally: &mut Tally,
 ) -> [u8; 8]
@@ -43,7 +43,7 @@ pub fn leaf_rows(
 fn tell_groups<const L: usize>(
     places: &Places,
     b: IndexBox,
-    list: &Tape,
+    list: &Steps<'_>,
     scan: &mut Scan,
     values: &mut [[Fx; 8]],
     tally: &mut Tally,
@@ -73,7 +73,7 @@ fn tell_groups<const L: usize>(
 fn tell<const L: usize>(
     places: &Places,
     b: IndexBox,
-    list: &Tape,
+    list: &Steps<'_>,
     scan: &mut Scan,
     values: &mut [[Fx; 8]],
     tally: &mut Tally,

@@ -53,10 +53,11 @@ pub fn draw(
         tally.new) }
 {
     layers_hold();
-    let mut desk = Desk::new(alloc, view, Lattice::Raster, list.len())?;
+    let mut desk = Desk::new(alloc, view, Lattice::Raster, list)?;
     let root = desk.root();
     let mut nodes = Vec::new(alloc);
-    draw_box(alloc, &mut desk, root, list, &mut nodes, tally)?;
+    // The list that the desk was made with has the number 0.
+    draw_box(&mut desk, root, 0, &mut nodes, tally)?;
     Ok(QuadTree {
         view: *view,
         list: list.share()?,

@@ -1,35 +1,41 @@
-use Rattle.std.proofs.Common.{◌≡◌, length, take, drop, ap, sym, subst, ◌∙◌, ◌++◌, arith}
-use Rattle.std.proofs.lemmas.Result.{IfOk-weaker}
-use Rattle.live_clauses.specs.Choices.{AreChoices}
+use Rattle.std.proofs.Common.{length, take, ap, sym, subst, ◌∙◌}
+use Rattle.std.proofs.lemmas.List.{take-map}
+use Rattle.live_clauses.specs.Blocks.{list_at}
+use Rattle.live_clauses.specs.Choices.{AreChoices, choice_at, lane}
 use Rattle.live_clauses.specs.Live.{live_of}
-use Rattle.choice_trace.specs.Halves.{lane}
+use Rattle.live_clauses.specs.Steps.{IsTape}
 use Rattle.box_chains.specs.Outcomes.{IsHandedOn}
-use Rattle.box_chains.proofs.Lanes.{copied-lane}
+use Rattle.box_chains.proofs.Seen.{handed-last, last-list}
 use Rattle.box_chains.proofs.rows.hand_on_lane.Goals as goal
 
-pub prune_with-requires-clause-choices : goal.prune_with-requires-clause-choices
-prune_with-requires-clause-choices c =
-    let len = c.len-len.result in
-    let same = copied-lane c.args.l c.args.rows.now c.copy_lane.new.choices (drop len c.args.choices.now) len (omega (arith, c.len-len.ensures.len, c.requires.rows)) c.copy_lane.ensures in
-    subst (AreChoices c.args.tape.now) (ap (λ n. take n (lane c.args.l c.args.rows.now)) (sym c.len-len.ensures.len) ∙ sym same) c.requires.only
+pub push_live-requires-clause-choices : goal.push_live-requires-clause-choices
+push_live-requires-clause-choices c =
+    let l = c.args.l in
+    let same = sym (take-map (λ row. choice_at row l) c.len-len.result c.args.rows.now)
+    ∙ ap (λ n. take n (lane l c.args.rows.now)) (c.len-len.ensures.len ∙ ap length c.list.ensures.list) in
+    subst (AreChoices (list_at c.args.lists.now c.args.at)) (sym same) c.requires.only
 
 pub returns-clause-list : goal.returns-clause-list
 returns-clause-list c =
-    let len = c.len-len.result in
-    let tape = c.args.tape.now in
-    let chosen = take len (c.copy_lane.new.choices ++ drop len c.args.choices.now) in
-    let same = copied-lane c.args.l c.args.rows.now c.copy_lane.new.choices (drop len c.args.choices.now) len (omega (arith, c.len-len.ensures.len, c.requires.rows)) c.copy_lane.ensures in
-    let whole = same ∙ ap (λ n. take n (lane c.args.l c.args.rows.now)) c.len-len.ensures.len in
-    IfOk-weaker c.prune_with.result (λ list. list ≡ live_of tape chosen) (λ list. list ≡ live_of tape (take (length tape) (lane c.args.l c.args.rows.now)))
-    (λ list made. made ∙ ap (live_of tape) whole) c.prune_with.ensures.live
+    let l = c.args.l in
+    let list = list_at c.args.lists.now c.args.at in
+    let after = c.push_live.new.self in
+    let same = sym (take-map (λ row. choice_at row l) c.len-len.result c.args.rows.now)
+    ∙ ap (λ n. take n (lane l c.args.rows.now)) (c.len-len.ensures.len ∙ ap length c.list.ensures.list) in
+    ap (list_at after) c.len-live.ensures
+    ∙ last-list c.args.lists.now after (live_of list (lane l (take c.len-len.result c.args.rows.now))) c.in_ok-push_live.ensures.pushed
+    ∙ ap (live_of list) same
 
 pub returns-clause-handed : goal.returns-clause-handed
 returns-clause-handed c =
-    let tape = c.args.tape.now in
-    let chosen = take (length tape) (lane c.args.l c.args.rows.now) in
-    IfOk-weaker c.prune_with.result (λ list. list ≡ live_of tape chosen) (IsHandedOn (length tape))
-    (λ list made. subst (IsHandedOn (length tape)) (sym made) (record {
-      few = (c.live_steps_are_the_least.ensures.lists tape chosen c.len-len.ensures.tape c.requires.only).1;
-      whole = c.live_lists_are_whole.ensures.live tape chosen c.len-len.ensures.tape c.requires.only;
-    }))
-    (returns-clause-list c)
+    let list = list_at c.args.lists.now c.args.at in
+    let after = c.push_live.new.self in
+    let chosen = lane c.args.l (take c.len-len.result c.args.rows.now) in
+    let tape = subst IsTape c.list.ensures.list c.list.ensures.tape in
+    let l = c.args.l in
+    let same = sym (take-map (λ row. choice_at row l) c.len-len.result c.args.rows.now)
+    ∙ ap (λ n. take n (lane l c.args.rows.now)) (c.len-len.ensures.len ∙ ap length c.list.ensures.list) in
+    let only = subst (AreChoices list) (sym same) c.requires.only in
+    subst (IsHandedOn (length list) after) (sym c.len-live.ensures)
+    (handed-last (length list) c.args.lists.now after (live_of list chosen) c.in_ok-push_live.ensures.pushed
+    (c.live_steps_are_the_least.ensures.lists list chosen tape only).1 (c.live_lists_are_whole.ensures.live list chosen tape only))

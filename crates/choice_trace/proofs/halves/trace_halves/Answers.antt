@@ -5,8 +5,8 @@ use Rattle.fixed_ops.specs.Counts.{no_counts}
 use Rattle.interval_ops.specs.HullCounts.{CountsHulls}
 use Rattle.interval_ops.specs.Spans.{Interval}
 use Rattle.interval_ops.specs.declared.choice.Choice.{Choice}
-use Rattle.live_clauses.specs.Choices.{choice_at}
-use Rattle.choice_trace.specs.Halves.{flag_in, lane, region_in, row_in}
+use Rattle.live_clauses.specs.Choices.{choice_at, lane}
+use Rattle.choice_trace.specs.Halves.{flag_in, region_in, row_in}
 use Rattle.choice_trace.specs.Hulls.{choices_over, hull_at, hull_in, step_hull}
 use Rattle.choice_trace.proofs.HalfRows.{choice_made, flag_more, hull_made, lane_more, lane_traced, row_written}
 use Rattle.choice_trace.proofs.Traces.{are_choices, are_right, length-choices}
@@ -15,7 +15,7 @@ use Rattle.choice_trace.proofs.halves.trace_halves.Goals as goal
 pub loop-at-preserved : goal.loop-at-preserved
 loop-at-preserved g c =
     let region = λ (l : ℕ). region_in c.args.regions.now l in
-    let steps = c.steps-steps.result in
+    let steps = c.again-steps.result in
     let at = c.loop-at.at in
     let step = c.step-step.result in
     let regs = c.loop-at.regs in
@@ -24,7 +24,7 @@ loop-at-preserved g c =
     let later = c.split_at_mut-earlier.result.1.now in
     let row = c.trace_step.new.hulls in
     let chosen = c.trace_step.new.choices in
-    let same_length = ap length c.steps-steps.ensures.steps in
+    let same_length = ap length c.again-steps.ensures.steps in
     let stand = c.len-len.ensures.tape.each in
     let written : earlier ++ set later 0 row ≡ set regs at row =
     row_written regs earlier later at row c.split_at_mut-earlier.ensures.value c.split_at_mut-earlier.ensures.front_len in
@@ -51,18 +51,18 @@ loop-at-preserved g c =
 
 pub returns-clause-choices : goal.returns-clause-choices
 returns-clause-choices g c = λ l h.
-    let same = c.steps-steps.ensures.steps in
+    let same = c.again-steps.ensures.steps in
     let region = region_in c.args.regions.now l in
-    let tape = c.args.tape.now in
+    let tape = c.args.list.now in
     lane_traced c.loop-at.choices (choices_over region tape) (length tape) l (omega arith) (length-choices region tape)
     (λ place below.
     subst (λ steps. choice_at (row_in c.loop-at.choices place) l ≡ choice_at (choices_over region steps) place) same
     (c.loop-at.invariant.choices place (omega (arith, below, ap length same)) l h))
 
 pub returns-clause-only : goal.returns-clause-only
-returns-clause-only g c = λ l h. are_choices (region_in c.args.regions.now l) c.args.tape.now (lane l c.loop-at.choices) (returns-clause-choices g c l h)
+returns-clause-only g c = λ l h. are_choices (region_in c.args.regions.now l) c.args.list.now (lane l c.loop-at.choices) (returns-clause-choices g c l h)
 
 pub returns-clause-right : goal.returns-clause-right
 returns-clause-right g c = λ l p h inside.
-    are_right c.layers_hold.ensures (region_in c.args.regions.now l) c.args.tape.now (lane l c.loop-at.choices) p (c.in_order.ensures l h)
-    c.steps-steps.ensures.tape.each (returns-clause-choices g c l h) inside
+    are_right c.layers_hold.ensures (region_in c.args.regions.now l) c.args.list.now (lane l c.loop-at.choices) p (c.in_order.ensures l h)
+    c.again-steps.ensures.tape.each (returns-clause-choices g c l h) inside

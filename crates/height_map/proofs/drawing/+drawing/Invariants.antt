@@ -1,5 +1,8 @@
 use Rattle.std.proofs.Common.{◌≡◌, ◌+◌, ◌*◌, drop, length, true}
+use Rattle.std.specs.List.{All}
 use Rattle.box_chains.specs.Chains.{sides}
+use Rattle.box_chains.specs.Desks.{HasMore, list_of, samples}
+use Rattle.box_chains.specs.Outcomes.{HandsOn, all_seen, outcomes_of}
 use Rattle.box_chains.specs.Tallied.{CountsAtMost}
 use Rattle.height_map.specs.Beside.{beside_points, beside_top, beside_traced}
 use Rattle.height_map.specs.Bound.{CountsPoints, CountsSpans, layered}
@@ -25,11 +28,13 @@ abbrev pub decreases-draw_halves : goal.decreases-draw_halves
 decreases-draw_halves l = 5 * sides l.b
 
 abbrev pub invariant-draw_open-loop-n : goal.invariant-draw_open-loop-n
-invariant-draw_open-loop-n l = record {
-  kept : l.desk ≡ l.fn.desk;
-  tops : Changes (λ p. true) (beside_top l.fn.desk.view l.fn.live (drop l.n l.fn.boxes)) l.fn.tops l.tops;
-  counted : CountsAtMost (beside_points l.fn.desk.view l.fn.live l.fn.tops (drop l.n l.fn.boxes))
-      (l.n * length l.fn.live + halves_spans (layered l.fn.desk.view) l.fn.live (drop l.n l.fn.boxes)) l.fn.tally l.tally;
-  points : CountsPoints (beside_points l.fn.desk.view l.fn.live l.fn.tops (drop l.n l.fn.boxes)) l.fn.tally l.tally;
-  hulls : CountsSpans (l.n * length l.fn.live + beside_traced l.fn.desk.view l.fn.live l.fn.tops (drop l.n l.fn.boxes)) l.fn.tally l.tally;
+invariant-draw_open-loop-n l = let list = list_of l.fn.desk l.live in record {
+  more : HasMore l.fn.desk l.desk;
+  told : all_seen l.desk.lists l.outcomes ≡ outcomes_of (samples l.fn.desk) list l.fn.boxes;
+  hand : All (HandsOn (length list) l.desk.lists) l.outcomes;
+  tops : Changes (λ p. true) (beside_top l.fn.desk.view list (drop l.n l.fn.boxes)) l.fn.tops l.tops;
+  counted : CountsAtMost (beside_points l.fn.desk.view list l.fn.tops (drop l.n l.fn.boxes))
+      (l.n * length list + halves_spans (layered l.fn.desk.view) list (drop l.n l.fn.boxes)) l.fn.tally l.tally;
+  points : CountsPoints (beside_points l.fn.desk.view list l.fn.tops (drop l.n l.fn.boxes)) l.fn.tally l.tally;
+  hulls : CountsSpans (l.n * length list + beside_traced l.fn.desk.view list l.fn.tops (drop l.n l.fn.boxes)) l.fn.tally l.tally;
 }

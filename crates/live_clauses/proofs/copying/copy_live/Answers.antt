@@ -11,11 +11,11 @@ use Rattle.live_clauses.proofs.Turns.{read_below}
 use Rattle.live_clauses.proofs.copying.copy_live.Goals as goal
 
 pub loop-at-init : goal.loop-at-init
-loop-at-init c = record {
+loop-at-init g c = record {
   room = c.requires.room;
   there = next-there c.args.marks.now 0 c.args.first c.requires.first;
   links = linked-later c.args.marks.now 0 c.args.first (omega arith) c.requires.links;
-  numbered = passed_to c.args.steps.now c.args.choices.now c.requires.tape c.requires.enough c.requires.choices c.args.first 0 c.args.first c.args.marks.now c.in_ok-new.new.items (omega arith)
+  numbered = passed_to c.args.steps.now (g.C.Choices.list c.args.choices) c.requires.tape c.requires.enough c.requires.choices c.args.first 0 c.args.first c.args.marks.now c.in_ok-new.new.items (omega arith)
       c.requires.room c.requires.first
       (record {
         numbers = λ place below needed. absurd (omega (arith, below));
@@ -25,17 +25,17 @@ loop-at-init c = record {
 }
 
 pub copy_step-requires-clause-reads : goal.copy_step-requires-clause-reads
-copy_step-requires-clause-reads c =
-    read_below c.args.steps.now c.args.choices.now c.requires.tape c.requires.enough c.requires.choices c.loop-at.at (length c.loop-at.marks) c.index-steps-at.result
-    c.loop-at-test.true (omega (arith, c.loop-at-test.true, c.loop-at.invariant.room)) c.index-steps-at.is
+copy_step-requires-clause-reads g c =
+    read_below c.args.steps.now (g.C.Choices.list c.args.choices) c.requires.tape c.requires.enough c.requires.choices c.loop-at.at (length c.loop-at.marks) c.index-steps-at.result c.at-choice.result
+    c.loop-at-test.true (omega (arith, c.loop-at-test.true, c.loop-at.invariant.room)) c.index-steps-at.is c.at-choice.ensures
 
 pub copy_step-requires-clause-room : goal.copy_step-requires-clause-room
-copy_step-requires-clause-room c =
-    room-copied c.args.steps.now c.args.choices.now c.requires.tape c.requires.enough c.requires.choices c.loop-at.at c.loop-at.marks c.loop-at.new.items (omega (arith, c.loop-at-test.true))
+copy_step-requires-clause-room g c =
+    room-copied c.args.steps.now (g.C.Choices.list c.args.choices) c.requires.tape c.requires.enough c.requires.choices c.loop-at.at c.loop-at.marks c.loop-at.new.items (omega (arith, c.loop-at-test.true))
     c.loop-at.invariant.numbered
 
 pub loop-at-preserved : goal.loop-at-preserved
-loop-at-preserved c =
+loop-at-preserved g c =
     let at = c.loop-at.at in
     let marks = c.loop-at.marks in
     let next = slice_index marks at in
@@ -52,8 +52,8 @@ loop-at-preserved c =
       room = room_after;
       there = next-there (set marks at number) (suc at) next after;
       links = linked-later (set marks at number) (suc at) next link.after (linked-numbered marks at number (linked-later marks at (suc at) (omega arith) c.loop-at.invariant.links));
-      numbered = passed_to c.args.steps.now c.args.choices.now c.requires.tape c.requires.enough c.requires.choices (next - suc at) (suc at) next (set marks at number) c.copy_step.new.new.items
+      numbered = passed_to c.args.steps.now (g.C.Choices.list c.args.choices) c.requires.tape c.requires.enough c.requires.choices (next - suc at) (suc at) next (set marks at number) c.copy_step.new.new.items
           (omega (arith, link.after)) room_after after
-          (visited c.args.steps.now c.args.choices.now c.requires.tape c.requires.enough c.requires.choices at (suc at) number marks c.loop-at.new.items c.copy_step.new.new.items
-          c.index-steps-at.result c.loop-at-test.true refl c.index-steps-at.is here room c.loop-at.invariant.numbered c.in_ok-marks.ensures.number c.in_ok-marks.ensures.copied);
+          (visited c.args.steps.now (g.C.Choices.list c.args.choices) c.requires.tape c.requires.enough c.requires.choices at (suc at) number marks c.loop-at.new.items c.copy_step.new.new.items
+          c.index-steps-at.result c.at-choice.result c.loop-at-test.true refl c.index-steps-at.is c.at-choice.ensures here room c.loop-at.invariant.numbered c.in_ok-marks.ensures.number c.in_ok-marks.ensures.copied);
     }

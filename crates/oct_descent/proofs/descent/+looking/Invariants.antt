@@ -1,8 +1,8 @@
-use Rattle.std.proofs.Common.{◌≡◌, ◌≤◌, ◌+◌, ◌*◌, ℕ, drop, take}
+use Rattle.std.proofs.Common.{◌≡◌, ◌≤◌, ◌+◌, ◌*◌, ℕ, drop, length, take}
 use Rattle.std.specs.List.{All}
-use Rattle.box_chains.specs.Desks.{samples}
+use Rattle.box_chains.specs.Desks.{HasMore, list_of, samples}
 use Rattle.box_chains.specs.Chains.{sides, visit}
-use Rattle.box_chains.specs.Outcomes.{asked_outcomes}
+use Rattle.box_chains.specs.Outcomes.{HandsOn, all_seen, asked_outcomes}
 use Rattle.kuhn_cells.specs.Triangles.{GridPoint}
 use Rattle.oct_descent.specs.Bound.{CountsHullsAtLeast}
 use Rattle.oct_descent.specs.Desks.{PaysHalves, longer}
@@ -13,23 +13,27 @@ use Rattle.oct_descent.specs.Ways.{gridded}
 use Rattle.oct_descent.proofs.Looks.{halves_below, halves_long_below, owned}
 use Rattle.oct_descent.proofs.descent.+looking.Given as goal
 
--- a box has two turns before its halves have theirs
+-- a box has three turns before its halves have theirs
 abbrev pub decreases-look_into_told : goal.decreases-look_into_told
-decreases-look_into_told l = 2 * sides l.b + 1
+decreases-look_into_told l = 3 * sides l.b + 2
 
 abbrev pub decreases-look_into_halves : goal.decreases-look_into_halves
-decreases-look_into_halves l = 2 * sides l.b
+decreases-look_into_halves l = 3 * sides l.b + 1
 
-abbrev pub invariant-look_into_halves-loop-half : goal.invariant-look_into_halves-loop-half
-invariant-look_into_halves-loop-half l = record {
-  kept : l.desk ≡ l.fn.desk;
+abbrev pub decreases-look_into_each_half : goal.decreases-look_into_each_half
+decreases-look_into_each_half l = 3 * sides l.b
+
+abbrev pub invariant-look_into_each_half-loop-half : goal.invariant-look_into_each_half-loop-half
+invariant-look_into_each_half-loop-half l = let list = list_of l.fn.desk l.live in record {
+  more : HasMore l.fn.desk l.desk;
   few : l.at ≤ l.half-index;
-  told : drop l.at l.outcomes ≡ asked_outcomes (samples l.fn.desk) l.live (longer (size_of l.fn.desk.view) (drop l.half-index l.half-items));
-  settled : All (λ h. AreSettled (gridded l.fn.desk.view) (grid_value l.fn.desk.view l.live) h l.values) (take l.half-index l.half-items);
-  grows : Grows (grid_value l.fn.desk.view l.live) l.fn.b l.fn.values l.values;
-  counted : (f : GridPoint → ℕ) → All (λ h. IsEnough f (gridded l.fn.desk.view) (visit h l.live)) l.half-items
-      → Charges f (owned l.live l.half-items + halves_below (gridded l.fn.desk.view) l.live (take l.half-index l.half-items)) l.fn.values l.values l.fn.tally l.tally;
-  worked : All (λ h. AreWorked (gridded l.fn.desk.view) (visit h l.live) l.values) (take l.half-index l.half-items);
-  paid : PaysHalves (gridded l.fn.desk.view) l.live l.half-items l.fn.values l.values l.fn.tally l.tally;
-  traced : CountsHullsAtLeast (owned l.live l.half-items + halves_long_below (gridded l.fn.desk.view) l.live (take l.half-index l.half-items)) l.fn.tally l.tally;
+  told : drop l.at (all_seen l.desk.lists l.outcomes) ≡ asked_outcomes (samples l.fn.desk) list (longer (size_of l.fn.desk.view) (drop l.half-index l.half-items));
+  hand : All (HandsOn (length list) l.desk.lists) l.outcomes;
+  settled : All (λ h. AreSettled (gridded l.fn.desk.view) (grid_value l.fn.desk.view list) h l.values) (take l.half-index l.half-items);
+  grows : Grows (grid_value l.fn.desk.view list) l.fn.b l.fn.values l.values;
+  counted : (f : GridPoint → ℕ) → All (λ h. IsEnough f (gridded l.fn.desk.view) (visit h list)) l.half-items
+      → Charges f (owned list l.half-items + halves_below (gridded l.fn.desk.view) list (take l.half-index l.half-items)) l.fn.values l.values l.fn.tally l.tally;
+  worked : All (λ h. AreWorked (gridded l.fn.desk.view) (visit h list) l.values) (take l.half-index l.half-items);
+  paid : PaysHalves (gridded l.fn.desk.view) list l.half-items l.fn.values l.values l.fn.tally l.tally;
+  traced : CountsHullsAtLeast (owned list l.half-items + halves_long_below (gridded l.fn.desk.view) list (take l.half-index l.half-items)) l.fn.tally l.tally;
 }

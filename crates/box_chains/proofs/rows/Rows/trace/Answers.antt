@@ -1,4 +1,7 @@
-use Rattle.std.proofs.Common.{◌++◌, ap, ◌∙◌}
+use Rattle.std.proofs.Common.{◌≡◌, ◌++◌, length, map, subst}
+use Rattle.std.specs.List.{range_with_len}
+use Rattle.live_clauses.specs.Blocks.{list_at}
+use Rattle.box_chains.specs.Outcomes.{AreSeen, asked_outcomes, lane_outcome}
 use Rattle.box_chains.proofs.Lanes.{lanes-told}
 use Rattle.box_chains.proofs.Traced.{on_ok-then}
 use Rattle.box_chains.proofs.rows.Rows.trace.Goals as goal
@@ -6,9 +9,12 @@ use Rattle.box_chains.proofs.rows.Rows.trace.Goals as goal
 pub returns-clause-outcomes : goal.returns-clause-outcomes
 returns-clause-outcomes g c =
     let halves = c.trace_halves-halves in
+    let list = list_at c.args.lists.now c.args.at in
+    let rows = halves.new.choices in
+    let are = subst (λ x. map (lane_outcome x c.args.asked.now halves.result.hulls rows) (range_with_len 0 g.row.L) ≡ asked_outcomes c.args.places.now x c.args.asked.now)
+    c.list.ensures.list
+    (lanes-told c.args.places.now c.list.result c.args.asked.now c.regions_of-regions.result halves.result.hulls rows g.row.L
+    c.regions_of-regions.ensures c.requires.boxes halves.ensures.hulls halves.ensures.choices) in
     on_ok-then c.push_outcomes.result _ _
-    (λ added. added ∙ ap (λ xs. c.args.outcomes.now.items ++ xs)
-    (lanes-told c.args.places.now c.args.tape.now c.args.asked.now c.regions_of-regions.result halves.result.hulls halves.new.choices g.row.L
-    c.regions_of-regions.ensures c.requires.boxes halves.ensures.hulls
-    halves.ensures.choices))
+    (λ added. λ told seen. subst (λ xs. AreSeen (length list) c.push_outcomes.new.lists c.push_outcomes.new.outcomes.items (told ++ xs)) are (added told seen))
     c.push_outcomes.ensures.outcomes

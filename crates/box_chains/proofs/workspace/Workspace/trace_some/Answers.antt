@@ -1,23 +1,30 @@
-use Rattle.std.proofs.Common.{length, sym, subst, arith}
-use Rattle.std.specs.List.{All}
-use Rattle.std.proofs.lemmas.List.Elements.{All-push}
-use Rattle.box_chains.specs.Outcomes.{HandsOn}
+use Rattle.std.proofs.Common.{◌++◌, length, sym, subst, arith}
+use Rattle.live_clauses.specs.Blocks.{list_at}
+use Rattle.box_chains.specs.Outcomes.{AreSeen, asked_outcome, asked_outcomes}
+use Rattle.box_chains.proofs.Lanes.{take-one}
+use Rattle.box_chains.proofs.Seen.{are-pushed}
 use Rattle.box_chains.proofs.Traced.{hulls-among, hulls-one, on_err}
 use Rattle.box_chains.proofs.workspace.Workspace.trace_some.Goals as goal
 
 pub returns-in_err-trace-clause-at_most : goal.returns-in_err-trace-clause-at_most
 returns-in_err-trace-clause-at_most c =
-    on_err _ _ (hulls-among c.args.tally.now c.trace.new.tally 4 (length c.args.asked.now) (length c.args.tape.now) (omega arith) c.in_err-trace.ensures.counted)
+    on_err _ _ (hulls-among c.args.tally.now c.trace.new.tally 4 (length c.args.asked.now) (length (list_at c.args.lists.now c.args.at)) (omega arith) c.in_err-trace.ensures.counted)
 
 pub returns-in_err-trace-2-clause-at_most : goal.returns-in_err-trace-2-clause-at_most
 returns-in_err-trace-2-clause-at_most c =
-    on_err _ _ (hulls-among c.args.tally.now _ 2 (length c.args.asked.now) (length c.args.tape.now) (omega arith) c.in_err-trace-2.ensures.counted)
+    on_err _ _ (hulls-among c.args.tally.now _ 2 (length c.args.asked.now) (length (list_at c.args.lists.now c.args.at)) (omega arith) c.in_err-trace-2.ensures.counted)
 
 pub returns-in_err-trace_asked_box-clause-at_most : goal.returns-in_err-trace_asked_box-clause-at_most
 returns-in_err-trace_asked_box-clause-at_most c =
-    on_err _ _ (hulls-among c.args.tally.now c.trace_asked_box.new.tally 1 (length c.args.asked.now) (length c.args.tape.now) c.requires.some (hulls-one c.args.tally.now c.trace_asked_box.new.tally (length c.args.tape.now) c.in_err-trace_asked_box.ensures.counted))
+    on_err _ _ (hulls-among c.args.tally.now c.trace_asked_box.new.tally 1 (length c.args.asked.now) (length (list_at c.args.lists.now c.args.at)) c.requires.some (hulls-one c.args.tally.now c.trace_asked_box.new.tally (length (list_at c.args.lists.now c.args.at)) c.in_err-trace_asked_box.ensures.counted))
 
-pub returns-in_ok-trace_asked_box-clause-shorter : goal.returns-in_ok-trace_asked_box-clause-shorter
-returns-in_ok-trace_asked_box-clause-shorter c = λ few.
-    subst (All (HandsOn (length c.args.tape.now))) (sym c.push.ensures.items)
-    (All-push (HandsOn (length c.args.tape.now)) c.args.outcomes.now.items c.in_ok-trace_asked_box.field-0 few c.in_ok-trace_asked_box.ensures.shorter)
+pub returns-in_ok-trace_asked_box-clause-outcomes : goal.returns-in_ok-trace_asked_box-clause-outcomes
+returns-in_ok-trace_asked_box-clause-outcomes c = λ told seen.
+    let lists = c.args.lists.now in
+    let list = list_at lists c.args.at in
+    let after = c.trace_asked_box.new.lists in
+    let box = c.index-asked-0.result in
+    let one = take-one c.args.asked.now box c.requires.some c.index-asked-0.is in
+    subst (λ boxes. AreSeen (length list) after c.push.new.self.items (told ++ asked_outcomes c.args.places.now list boxes)) (sym one)
+    (are-pushed (length list) lists after c.args.outcomes.now.items c.push.new.self.items told c.in_ok-trace_asked_box.field-0 (asked_outcome c.args.places.now list box)
+    c.in_ok-trace_asked_box.ensures.first seen c.push.ensures.items c.in_ok-trace_asked_box.ensures.outcome c.in_ok-trace_asked_box.ensures.shorter)

@@ -2,7 +2,7 @@ use Rattle.std.proofs.Common.{◌≡◌, drop, length, take}
 use Rattle.fixed_ops.specs.Counts.{no_counts}
 use Rattle.interval_ops.specs.HullCounts.{CountsHulls}
 use Rattle.choice_trace.specs.Hulls.{choices_over, hulls}
-use Rattle.choice_trace.proofs.tracer.trace.Given as goal
+use Rattle.choice_trace.proofs.tracer.trace_steps.Given as goal
 
 abbrev pub invariant-loop-at : goal.invariant-loop-at
 invariant-loop-at l = record {

@@ -10,17 +10,17 @@ use Rattle.choice_trace.specs.Operands.{operand_of}
 use Rattle.choice_trace.proofs.Applied.{first-within, operands-trace, ranges_of, second-within}
 use Rattle.choice_trace.proofs.HullLists.{length-hulls}
 use Rattle.choice_trace.proofs.Traces.{agree, all_chosen, are_choices, are_right, choice_written, front_more, hull_written, last_held, length-choices}
-use Rattle.choice_trace.proofs.tracer.trace.Goals as goal
+use Rattle.choice_trace.proofs.tracer.trace_steps.Goals as goal
 
 pub loop-at-preserved : goal.loop-at-preserved
 loop-at-preserved c =
     let region = c.args.region in
-    let steps = c.steps-steps.result in
+    let steps = c.again-steps.result in
     let at = c.loop-at.at in
     let step = c.step-step.result in
     let a = c.operands.result.0 in
     let b = c.operands.result.1 in
-    let same_length = ap length c.steps-steps.ensures.steps in
+    let same_length = ap length c.again-steps.ensures.steps in
     let stand = c.len-len.ensures.tape.each in
     let same = c.loop-at.invariant.hulls in
     let operands = operands-trace region c.loop-at.regs step a b (first-within at (length c.loop-at.regs) step c.step-step.ensures.stands (omega (arith, same_length))) (second-within at (length c.loop-at.regs) step c.step-step.ensures.stands (omega (arith, same_length)))
@@ -39,38 +39,38 @@ loop-at-preserved c =
 pub returns-clause-hull : goal.returns-clause-hull
 returns-clause-hull c =
     let region = c.args.region in
-    let steps = c.steps-steps.result in
+    let steps = c.again-steps.result in
     let last = c.len-len.result - 1 in
     let read : c.index-regs-len.result ≡ get_or c.loop-at.regs last all_numbers =
-    get_or_read c.loop-at.regs last c.index-regs-len.result (omega (arith, ap length c.steps-steps.ensures.steps, c.len-len.ensures.tape.some)) c.index-regs-len.is all_numbers in
+    get_or_read c.loop-at.regs last c.index-regs-len.result (omega (arith, ap length c.again-steps.ensures.steps, c.len-len.ensures.tape.some)) c.index-regs-len.is all_numbers in
     read
     ∙ agree c.loop-at.regs (hulls region steps) c.loop-at.at last all_numbers c.loop-at.invariant.hulls (omega (arith, c.len-len.ensures.tape.some))
     ∙ ap (λ n. get_or (hulls region steps) (n - 1) all_numbers) c.len-len.ensures.len
-    ∙ ap (λ tape. tape_hull region tape) c.steps-steps.ensures.steps
+    ∙ ap (λ tape. tape_hull region tape) c.again-steps.ensures.steps
 
 pub returns-clause-choices : goal.returns-clause-choices
 returns-clause-choices c =
-    let same = c.steps-steps.ensures.steps in
-    all_chosen c.args.region c.args.tape.now c.loop-at.choices c.loop-at.at (omega (arith, ap length same))
+    let same = c.again-steps.ensures.steps in
+    all_chosen c.args.region c.args.list.now c.loop-at.choices c.loop-at.at (omega (arith, ap length same))
     (subst (λ steps. take c.loop-at.at c.loop-at.choices ≡ take c.loop-at.at (choices_over c.args.region steps)) same c.loop-at.invariant.chosen)
 
 pub returns-clause-only : goal.returns-clause-only
-returns-clause-only c = are_choices c.args.region c.args.tape.now c.loop-at.choices (returns-clause-choices c)
+returns-clause-only c = are_choices c.args.region c.args.list.now c.loop-at.choices (returns-clause-choices c)
 
 pub returns-clause-holds : goal.returns-clause-holds
 returns-clause-holds c = λ p inside.
-    let steps = c.args.tape.now in
-    let tape = c.steps-steps.ensures.tape in
+    let steps = c.args.list.now in
+    let tape = c.again-steps.ensures.tape in
     subst (λ (s : Interval). Holds s (tape_value p steps)) (sym (returns-clause-hull c))
     (last_held c.layers_hold.ensures c.args.region p steps (record { x = c.lo.ensures.span; y = c.lo-2.ensures.span; z = c.lo-3.ensures.span }) inside tape)
 
 pub returns-clause-right : goal.returns-clause-right
 returns-clause-right c = λ p inside.
-    are_right c.layers_hold.ensures c.args.region c.args.tape.now c.loop-at.choices p (record { x = c.lo.ensures.span; y = c.lo-2.ensures.span; z = c.lo-3.ensures.span })
-    c.steps-steps.ensures.tape.each (returns-clause-choices c) inside
+    are_right c.layers_hold.ensures c.args.region c.args.list.now c.loop-at.choices p (record { x = c.lo.ensures.span; y = c.lo-2.ensures.span; z = c.lo-3.ensures.span })
+    c.again-steps.ensures.tape.each (returns-clause-choices c) inside
 
 pub returns-clause-counted : goal.returns-clause-counted
 returns-clause-counted c =
-    let all : c.loop-at.at ≡ length c.args.tape.now = omega (arith, c.len-len.ensures.len, ap length c.steps-steps.ensures.steps) in
-    c.hull_counts.ensures.join c.args.tally.now c.join.new.self c.loop-at.work (length c.args.tape.now)
+    let all : c.loop-at.at ≡ length c.args.list.now = omega (arith, c.len-len.ensures.len, ap length c.again-steps.ensures.steps) in
+    c.hull_counts.ensures.join c.args.tally.now c.join.new.self c.loop-at.work (length c.args.list.now)
     (subst (λ n. CountsHulls n no_counts c.loop-at.work) all c.loop-at.invariant.counted) c.join.ensures
