@@ -1,9 +1,9 @@
 pub mod Again
+pub mod Bits
 mod Examples
 pub mod Joined
 pub mod Keeping
 pub mod Kept
-pub mod Links
 pub mod MeaningLaws
 pub mod Needs
 pub mod Numbering
@@ -13,4 +13,5 @@ pub mod Roots
 pub mod Sameness
 pub mod Turns
 pub mod ValueLaws
+pub mod Walks
 pub mod Whole
