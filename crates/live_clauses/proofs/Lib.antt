@@ -1,10 +1,10 @@
 pub mod Again
+pub mod Bits
 pub mod EqualityLaws
 mod Examples
 pub mod Joined
 pub mod Keeping
 pub mod Kept
-pub mod Links
 pub mod MeaningLaws
 pub mod Needs
 pub mod Numbering
@@ -14,4 +14,5 @@ pub mod Roots
 pub mod Sameness
 pub mod Turns
 pub mod ValueLaws
+pub mod Walks
 pub mod Whole

@@ -119,7 +119,7 @@ module _ (steps : List Step) (choices : List Choice) (some : 0 < length steps) (
       needed_later (suc turn) (length steps) place (omega arith) (true_right (needed_after turn steps choices place) _ here)
 
   -- and nothing past the end
-  needed_within : (n place : ℕ) → needed_after n steps choices place ≡ true → place < length steps
+  pub needed_within : (n place : ℕ) → needed_after n steps choices place ≡ true → place < length steps
   needed_within zero place needed = omega (arith, (Decides-eqb place (length steps - 1)).0 needed)
   needed_within (suc n) place needed =
       elim (one_true (needed_after n steps choices place) _ needed) [

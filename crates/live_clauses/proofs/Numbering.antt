@@ -1,6 +1,6 @@
 -- One step up a list: its number is that of what stands for it, and a live step is copied with new numbers.
-use Rattle.std.proofs.Common.{◌≡◌, ◌≢◌, ℕ, suc, ◌<◌, ◌≤◌, Bool, true, false, cond, ◌&&◌, ltb, ◌⊎◌, List, [], ◌∷◌, ◌++◌, length, map, get_or, set, slice_index, inl, inr, refl, ap, sym, subst, ◌∙◌, arith}
-use Rattle.std.proofs.lemmas.List.{length-map, get_or-set_same, get_or-set_other}
+use Rattle.std.proofs.Common.{◌≡◌, ◌≢◌, ℕ, zero, suc, ◌+◌, ◌-◌, ◌<◌, ◌≤◌, Bool, true, false, cond, ◌&&◌, ltb, ◌⊎◌, List, [], ◌∷◌, ◌++◌, length, map, take, get_or, set, slice_index, inl, inr, refl, ap, sym, subst, ◌∙◌, arith}
+use Rattle.std.proofs.lemmas.List.{length-map, get_or-set_same, get_or-set_other, take_all}
 use Rattle.std.proofs.lemmas.Bool.{false≢true, cases_lt}
 use Rattle.std.proofs.lemmas.Bool.Decides.{Decides-ltb}
 use Rattle.fixed_ops.specs.Arity.{arity_of}
@@ -9,14 +9,15 @@ use Rattle.interval_ops.specs.declared.choice.Choice.TheVariants.{Left, Right, B
 use Rattle.live_clauses.specs.declared.packed_step.PackedStep.{PackedStep}
 use Rattle.live_clauses.specs.declared.step.Step.{Step}
 use Rattle.live_clauses.specs.Choices.{step_at, choice_at, AreChoices}
-use Rattle.live_clauses.specs.Live.{chosen, is_needed, is_both, is_kept, kept_below, new_place, renumbered, live_below}
-use Rattle.live_clauses.specs.Marks.{AreMarks, AreNumbers, IsNumbered}
+use Rattle.live_clauses.specs.Live.{chosen, is_needed, is_both, is_kept, kept_below, new_place, renumbered, live_below, live_of}
+use Rattle.live_clauses.specs.Marks.{AreNumbers, IsCopied}
 use Rattle.live_clauses.specs.Packed.{unpacked}
 use Rattle.live_clauses.specs.Steps.{IsTape}
 use Rattle.live_clauses.proofs.Representatives.{choice_cases, chosen_left, chosen_right, chosen_both, step_at-stands, choosing_operands, left_chooses, right_chooses, representative_left, representative_right, representative_both}
 use Rattle.live_clauses.proofs.Needs.{needed_on, hands_on_left, hands_on_right, hands_on_first, hands_on_second}
-use Rattle.live_clauses.proofs.Kept.{kept_below-le, length-live_below, live_below-dropped}
-use Rattle.live_clauses.proofs.Turns.{step_at-unpacked, marked, unmarked}
+use Rattle.live_clauses.proofs.Joined.{true_both}
+use Rattle.live_clauses.proofs.Kept.{kept_below-dropped, kept_below-less, live_below-dropped}
+use Rattle.live_clauses.proofs.Turns.{kept_below-past, live_below-past, step_at-unpacked}
 
 -- new numbers count only where an operand is
 renumbered-same : (step : Step) (f g : ℕ → ℕ) → (0 < arity_of step.op → f step.a ≡ g step.a) → (1 < arity_of step.op → f step.b ≡ g step.b) → renumbered f step ≡ renumbered g step
@@ -79,63 +80,74 @@ module _ (steps : List Step) (choices : List Choice) (tape : IsTape steps) (choo
           | inr here ↦ let same : place ≡ at = omega arith in rw same (get_or-set_same numbers at number 0 room ∙ is)
         ]
 
-  pub numbers-passed : (at : ℕ) (numbers : List ℕ) → is_needed steps choices at ≡ false → AreNumbers at steps choices numbers → AreNumbers (suc at) steps choices numbers
+  numbers-passed : (at : ℕ) (numbers : List ℕ) → is_needed steps choices at ≡ false → AreNumbers at steps choices numbers → AreNumbers (suc at) steps choices numbers
   numbers-passed at numbers idle are place below there =
       elim (cases_lt place at) [
         | inl before ↦ are place before there
         | inr here ↦ let same : place ≡ at = omega arith in absurd (false≢true (sym idle ∙ rw same at there))
       ]
 
-  pub marks-visited : (at number : ℕ) (marks : List ℕ) → AreMarks at steps choices marks → AreMarks (suc at) steps choices (set marks at number)
-  marks-visited at number marks are place from there =
-      let other : place ≢ at = omega arith in
-      ap (λ n. ltb 0 n) (get_or-set_other marks at place number 0 other) ∙ are place (omega arith) there
+  -- a walk up passes a step that is not needed
+  copied-passed : (at : ℕ) (numbers : List ℕ) (new : List PackedStep) (count : ℕ) → is_needed steps choices at ≡ false
+      → IsCopied at steps choices numbers new count → IsCopied (suc at) steps choices numbers new count
+  copied-passed at numbers new count idle so =
+      let dropped : is_kept steps choices at ≡ false = ap (λ b. b && is_both (choice_at choices at)) idle in
+      record {
+        numbered = numbers-passed at numbers idle so.numbered;
+        counted = so.counted ∙ sym (kept_below-dropped steps choices at dropped);
+        copied = so.copied ∙ sym (live_below-dropped steps choices at dropped);
+      }
 
-  pub marks-passed : (at : ℕ) (marks : List ℕ) → AreMarks at steps choices marks → AreMarks (suc at) steps choices marks
-  marks-passed at marks are place from there = are place (omega arith) there
-
-  pub copied-passed : (at : ℕ) → is_needed steps choices at ≡ false → live_below steps choices (suc at) ≡ live_below steps choices at
-  copied-passed at idle = live_below-dropped steps choices at (ap (λ b. b && is_both (choice_at choices at)) idle)
+  pub copied-up : (gap low : ℕ) (numbers : List ℕ) (new : List PackedStep) (count : ℕ) → ((place : ℕ) → low ≤ place → place < low + gap → is_needed steps choices place ≡ false)
+      → IsCopied low steps choices numbers new count → IsCopied (low + gap) steps choices numbers new count
+  copied-up zero low numbers new count none so = let same : low ≡ low + 0 = omega arith in subst (λ p. IsCopied p steps choices numbers new count) same so
+  copied-up (suc gap) low numbers new count none so =
+      let next : suc (low + gap) ≡ low + suc gap = omega arith in
+      subst (λ p. IsCopied p steps choices numbers new count) next
+      (copied-passed (low + gap) numbers new count (none (low + gap) (omega arith) (omega arith))
+      (copied-up gap low numbers new count (λ place from below. none place from (omega (arith, below))) so))
 
 -- the same of steps as they are kept
-module _ (kept : List PackedStep) (choices : List Choice) (tape : IsTape (map unpacked kept)) (enough : length kept ≤ length choices) (choose : AreChoices (map unpacked kept) choices) where
-  pub room-copied : (at : ℕ) (numbers : List ℕ) (new : List PackedStep) → at ≤ length kept → IsNumbered at (map unpacked kept) choices numbers (map unpacked new) → length new ≤ 65535
-  room-copied at numbers new within is =
-      omega (arith, ap length is.copied, length-map new unpacked, length-live_below (map unpacked kept) choices at, kept_below-le (map unpacked kept) choices at, tape.few, length-map kept unpacked)
+module _ (kept : List PackedStep) (choices : List Choice) (tape : IsTape (map unpacked kept)) (choose : AreChoices (map unpacked kept) choices) where
+  -- a live step has room in a list that is as long as there are live ones
+  pub room-copied : (at count room : ℕ) → at < length kept → is_needed (map unpacked kept) choices at ≡ true → count ≡ kept_below (map unpacked kept) choices at
+      → room ≡ kept_below (map unpacked kept) choices (length kept) → (choice : Choice) → choice ≡ choice_at choices at → is_both choice ≡ true → count < room
+  room-copied at count room within needed is all choice chosen_is both =
+      let live : is_kept (map unpacked kept) choices at ≡ true = true_both _ _ needed (ap is_both (sym chosen_is) ∙ both) in
+      omega (arith, is, all, kept_below-less (map unpacked kept) choices at (length kept) live within)
 
-  pub visited : (at next number : ℕ) (numbers : List ℕ) (new after : List PackedStep) (read : PackedStep) (choice : Choice) → at < length kept → next ≡ suc at
-      → read ≡ get_or kept at read → choice ≡ choice_at choices at → slice_index numbers at ≢ 0 → length numbers ≡ length kept
-      → IsNumbered at (map unpacked kept) choices numbers (map unpacked new)
-      → number ≡ chosen choice (slice_index numbers read.a) (slice_index numbers read.b) (length new)
-      → map unpacked after ≡ map unpacked new ++ cond (is_both choice) (renumbered (λ k. slice_index numbers k) (unpacked read) ∷ []) []
-      → IsNumbered next (map unpacked kept) choices (set numbers at number) (map unpacked after)
-  visited at next number numbers new after read choice within more is chosen_is here room so number_is after_is =
+  pub visited : (at number count after : ℕ) (numbers : List ℕ) (new made : List PackedStep) (read : PackedStep) (choice : Choice) → at < length kept
+      → read ≡ get_or kept at read → choice ≡ choice_at choices at → is_needed (map unpacked kept) choices at ≡ true → at < length numbers
+      → IsCopied at (map unpacked kept) choices numbers new count
+      → number ≡ chosen choice (slice_index numbers read.a) (slice_index numbers read.b) count
+      → after ≡ count + cond (is_both choice) 1 0
+      → map unpacked (take after made) ≡ map unpacked (take count new) ++ cond (is_both choice) (renumbered (λ k. slice_index numbers k) (unpacked read) ∷ []) []
+      → IsCopied (suc at) (map unpacked kept) choices (set numbers at number) made after
+  visited at number count after numbers new made read choice within is chosen_is needed room so number_is after_is made_is =
       let steps = map unpacked kept in
       let there : at < length steps = omega (arith, length-map kept unpacked) in
-      let needed : is_needed steps choices at ≡ true = sym (so.marks at (omega arith) there) ∙ marked numbers at here in
       let step : unpacked read ≡ step_at steps at = step_at-unpacked kept at read within is in
-      let count : length new ≡ kept_below steps choices at = sym (length-map new unpacked) ∙ ap length so.copied ∙ length-live_below steps choices at in
-      let number_at : number ≡ chosen (choice_at choices at) (slice_index numbers (step_at steps at).a) (slice_index numbers (step_at steps at).b) (length new) =
-      number_is ∙ ap (λ c. chosen c (slice_index numbers read.a) (slice_index numbers read.b) (length new)) chosen_is
-      ∙ ap (λ s. chosen (choice_at choices at) (slice_index numbers s.a) (slice_index numbers s.b) (length new)) step in
-      let after_at : map unpacked after ≡ live_below steps choices at ++ cond (is_both (choice_at choices at)) (renumbered (λ k. slice_index numbers k) (step_at steps at) ∷ []) [] =
-      after_is ∙ ap (λ l. l ++ cond (is_both choice) (renumbered (λ k. slice_index numbers k) (unpacked read) ∷ []) []) so.copied
+      let live : is_kept steps choices at ≡ is_both (choice_at choices at) = ap (λ b. b && is_both (choice_at choices at)) needed in
+      let number_at : number ≡ chosen (choice_at choices at) (slice_index numbers (step_at steps at).a) (slice_index numbers (step_at steps at).b) count =
+      number_is ∙ ap (λ c. chosen c (slice_index numbers read.a) (slice_index numbers read.b) count) chosen_is
+      ∙ ap (λ s. chosen (choice_at choices at) (slice_index numbers s.a) (slice_index numbers s.b) count) step in
+      let made_at : map unpacked (take after made) ≡ live_below steps choices at ++ cond (is_both (choice_at choices at)) (renumbered (λ k. slice_index numbers k) (step_at steps at) ∷ []) [] =
+      made_is ∙ ap (λ l. l ++ cond (is_both choice) (renumbered (λ k. slice_index numbers k) (unpacked read) ∷ []) []) so.copied
       ∙ ap (λ c. live_below steps choices at ++ cond (is_both c) (renumbered (λ k. slice_index numbers k) (unpacked read) ∷ []) []) chosen_is
       ∙ ap (λ s. live_below steps choices at ++ cond (is_both (choice_at choices at)) (renumbered (λ k. slice_index numbers k) s ∷ []) []) step in
-      subst (λ n. IsNumbered n steps choices (set numbers at number) (map unpacked after)) (sym more) (record {
-        numbers = numbers-visited steps choices tape choose at numbers there needed so.numbers number (omega arith) (number_at ∙ number-chosen steps choices tape choose at numbers there needed so.numbers (length new) count);
-        marks = marks-visited steps choices tape choose at number numbers so.marks;
-        copied = after_at ∙ copied-visited steps choices tape choose at numbers there needed so.numbers;
-      })
+      record {
+        numbered = numbers-visited steps choices tape choose at numbers there needed so.numbered number room (number_at ∙ number-chosen steps choices tape choose at numbers there needed so.numbered count so.counted);
+        counted = after_is ∙ ap (λ c. count + cond (is_both c) 1 0) chosen_is ∙ ap (λ n. n + cond (is_both (choice_at choices at)) 1 0) so.counted
+            ∙ ap (λ b. kept_below steps choices at + cond b 1 0) (sym live);
+        copied = made_at ∙ copied-visited steps choices tape choose at numbers there needed so.numbered;
+      }
 
-  pub passed : (at next : ℕ) (numbers : List ℕ) (new : List PackedStep) → at < length kept → next ≡ suc at → slice_index numbers at ≡ 0
-      → IsNumbered at (map unpacked kept) choices numbers (map unpacked new) → IsNumbered next (map unpacked kept) choices numbers (map unpacked new)
-  passed at next numbers new within more here so =
+  -- at the end of the list all is copied
+  pub copied-all : (numbers : List ℕ) (new : List PackedStep) (count end : ℕ) → length kept ≤ end → length new ≡ kept_below (map unpacked kept) choices (length kept)
+      → IsCopied end (map unpacked kept) choices numbers new count → map unpacked new ≡ live_of (map unpacked kept) choices
+  copied-all numbers new count end past room so =
       let steps = map unpacked kept in
-      let there : at < length steps = omega (arith, length-map kept unpacked) in
-      let idle : is_needed steps choices at ≡ false = sym (so.marks at (omega arith) there) ∙ unmarked numbers at here in
-      subst (λ n. IsNumbered n steps choices numbers (map unpacked new)) (sym more) (record {
-        numbers = numbers-passed steps choices tape choose at numbers idle so.numbers;
-        marks = marks-passed steps choices tape choose at numbers so.marks;
-        copied = so.copied ∙ sym (copied-passed steps choices tape choose at idle);
-      })
+      let many : length steps ≡ length kept = length-map kept unpacked in
+      let here : length steps + (end - length steps) ≡ end = omega (arith, many, past) in
+      let all : count ≡ length new = so.counted ∙ ap (kept_below steps choices) (sym here) ∙ kept_below-past steps choices tape choose (end - length steps) ∙ ap (kept_below steps choices) many ∙ sym room in
+      ap (map unpacked) (sym (take_all count new (omega (arith, all)))) ∙ so.copied ∙ ap (live_below steps choices) (sym here) ∙ live_below-past steps choices tape choose (end - length steps)

@@ -6,6 +6,7 @@ use Rattle.std.proofs.lemmas.List.{length-append, length-take, length-take-le, t
 use Rattle.std.proofs.lemmas.List.Elements.{All-head, All-tail, All-push, All-take}
 use Rattle.live_clauses.specs.declared.packed_step.PackedStep.{PackedStep}
 use Rattle.live_clauses.specs.declared.part.Part.{Part}
+use Rattle.live_clauses.specs.declared.step.Step.{Step}
 use Rattle.live_clauses.specs.Blocks.{AreParts, IsPart, end_of, part_of, parts_of}
 use Rattle.live_clauses.specs.Packed.{unpacked}
 use Rattle.live_clauses.specs.Steps.{IsTape}
@@ -143,3 +144,41 @@ appended block most parts steps part new are is made few tape =
       }),
       map_push (part_of new) parts part ∙ ap (λ l. parts_of new parts ++ l ∷ []) list ∙ ap (λ ls. ls ++ map unpacked steps ∷ []) (sym (parts-same block most parts are new start same (omega arith))),
     )
+
+-- what is written behind the parts of a block is one more of them
+pub written : (block new : List PackedStep) (most : ℕ) (parts : List Part) (start count : ℕ) (part : Part) (list : List Step) → AreParts block most parts → start ≡ end_of parts
+    → take start block ≡ take start new → part ≡ record { start = start; end = start + count } → start + count ≤ length new → count ≤ most → part_of new (record { start = start; end = start + count }) ≡ list → IsTape list
+    → AreParts new most (parts ++ part ∷ []) × (parts_of new (parts ++ part ∷ []) ≡ parts_of block parts ++ list ∷ [])
+written block new most parts start count part list are ends same is room few listed tape =
+    let starts : part.start ≡ start = ap (λ p. p.start) is in
+    let stops : part.end ≡ start + count = ap (λ p. p.end) is in
+    let one : part_of new part ≡ list = ap (part_of new) is ∙ listed in
+    let stay = parts-stay block most parts are new start same (omega (arith, ends)) (omega (arith, room)) in (
+      parts-pushed new most parts stay part (omega (arith, starts, ends)) (record {
+        order = omega (arith, starts, stops);
+        within = omega (arith, stops, room);
+        few = omega (arith, starts, stops, few);
+        tape = subst IsTape (sym one) tape;
+      }),
+      map_push (part_of new) parts part ∙ ap (λ l. parts_of new parts ++ l ∷ []) one ∙ ap (λ ls. ls ++ list ∷ []) (sym (parts-same block most parts are new start same (omega (arith, ends)))),
+    )
+
+-- a block that is made longer
+module _ (block made : List PackedStep) (start : ℕ) (within : start ≤ length block) (same : take (length block) made ≡ block) where
+  pub longer-same : take start block ≡ take start made
+  longer-same = ap (take start) (sym same) ∙ take-take start (length block) made within
+
+  pub longer-le : length block ≤ length made
+  longer-le = omega (arith, length-take (length block) made, ap length same)
+
+  -- its parts are the same
+  pub longer-part : (part : Part) → part.start ≤ part.end → part.end ≤ start → part_of made part ≡ part_of block part
+  longer-part part order before = sym (part-same block made start part longer-same order before)
+
+  pub longer-is_part : (most : ℕ) (part : Part) → part.end ≤ start → IsPart block most part → IsPart made most part
+  longer-is_part most part before is = record {
+    order = is.order;
+    within = omega (arith, is.within, longer-le);
+    few = is.few;
+    tape = subst IsTape (sym (longer-part part is.order before)) is.tape;
+  }

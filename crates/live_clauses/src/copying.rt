@@ -1,71 +1,109 @@
 // Up a list from mark to mark: its live steps, numbered anew.
-ghost use Rattle.std.specs.Prelude.{◌≡◌, ◌<◌, ◌≤◌, ◌++◌, [], ◌∷◌, map, length, slice_index, if◌then◌else◌, IfOk};
+ghost use Rattle.std.specs.Prelude.{◌≡◌, ℕ, ◌+◌, ◌*◌, ◌<◌, ◌≤◌, ◌++◌, [], ◌∷◌, true, map, length, slice_index, take, if◌then◌else◌};
 ghost use Rattle.live_clauses.specs.Choices.{AreChoices};
-ghost use Rattle.live_clauses.specs.Live.{chosen, is_both, live_of, renumbered};
-ghost use Rattle.live_clauses.specs.Marks.{AreLinked, AreMarks, IsNextMarked, ReadsBelow};
+ghost use Rattle.live_clauses.specs.Live.{chosen, is_both, is_needed, kept_below, live_of, renumbered};
+ghost use Rattle.live_clauses.specs.Marks.{AreMarks, IsCopied, has_bit};
 ghost use Rattle.live_clauses.specs.Packed.{unpacked};
 ghost use Rattle.live_clauses.specs.Steps.{IsTape};
 
 use crate::Choices;
 use crate::packed_step::PackedStep;
+use crate::words::{lowest, without};
 use interval_ops::Choice;
-use std::alloc::{AllocError, Global};
 
-// The live steps, of which there are so many. Goes from the first marked place to the next. The marks
-// of the needed steps become their numbers.
+// Fills a list with the live steps, of which there are as many as it has places. The new numbers of
+// the needed steps are kept on the way; what the memory for them holds before and after means nothing.
 pub(crate) fn copy_live<C: Choices>(
-    alloc: Global,
     steps: &[PackedStep],
     choices: C,
-    marks: &mut [u16],
-    first: usize,
-    live: usize,
-) -> Result<Vec<PackedStep>, AllocError>
+    marks: &[u64],
+    numbers: &mut [u16],
+    new: &mut [PackedStep],
+)
     requires tape { IsTape (map unpacked steps.now) }
     requires enough { length steps.now ≤ length (C.list choices) }
     requires choices { AreChoices (map unpacked steps.now) (C.list choices) }
-    requires room { length marks.old ≡ length steps.now }
-    requires first { IsNextMarked marks.old 0 first }
-    requires marks { AreMarks 0 (map unpacked steps.now) (C.list choices) marks.old }
-    requires links { AreLinked 0 marks.old }
-    ensures { IfOk result (λ new. map unpacked new.items
-        ≡ live_of (map unpacked steps.now) (C.list choices)) }
+    requires marks { AreMarks (map unpacked steps.now) (C.list choices) marks.now }
+    requires words { length steps.now ≤ 64 * length marks.now }
+    requires numbers { length steps.now ≤ length numbers.old }
+    requires room { length new.old
+        ≡ kept_below (map unpacked steps.now) (C.list choices) (length steps.now) }
+    ensures { map unpacked new.new ≡ live_of (map unpacked steps.now) (C.list choices) }
 {
-    let mut new = Vec::with_capacity(alloc, live)?;
-    let mut at = first;
-    while at < steps.len() {
-        let next = marks[at] as usize;
-        let choice = choices.at(at);
-        marks[at] = copy_step(steps[at], choice, marks, &mut new)?;
-        at = next;
+    let mut count = 0;
+    for word in 0..marks.len() {
+        count = copy_word(steps, choices, marks[word], word, numbers, new, count);
     }
-    Ok(new)
 }
 
-// Puts a step last where it stands for itself, and gives the number of what stands for it.
+// Goes up the needed steps of one word, and gives how many live ones there are up to its end.
 #[inline]
+fn copy_word<C: Choices>(
+    steps: &[PackedStep],
+    choices: C,
+    needed: u64,
+    word: usize,
+    numbers: &mut [u16],
+    new: &mut [PackedStep],
+    before: usize,
+) -> usize
+    requires tape { IsTape (map unpacked steps.now) }
+    requires enough { length steps.now ≤ length (C.list choices) }
+    requires choices { AreChoices (map unpacked steps.now) (C.list choices) }
+    requires needed { (bit : ℕ) → bit < 64 → has_bit needed bit
+        ≡ is_needed (map unpacked steps.now) (C.list choices) (64 * word + bit) }
+    requires numbers { length steps.now ≤ length numbers.old }
+    requires room { length new.old
+        ≡ kept_below (map unpacked steps.now) (C.list choices) (length steps.now) }
+    requires copied { IsCopied (64 * word) (map unpacked steps.now) (C.list choices)
+        numbers.old new.old before }
+    ensures { IsCopied (64 * word + 64) (map unpacked steps.now) (C.list choices)
+        numbers.new new.new result }
+{
+    let mut from = 0;
+    let mut rest = needed;
+    let mut count = before;
+    while rest != 0 {
+        let bit = lowest(rest);
+        let at = 64 * word + bit;
+        let choice = choices.at(at);
+        let (number, after) = copy_step(steps[at], choice, numbers, new, count);
+        numbers[at] = number;
+        count = after;
+        rest = without(rest, bit);
+        from = bit + 1;
+    }
+    count
+}
+
+// Puts a step behind so many others where it stands for itself. Gives the number of what stands for
+// it, and how many steps there are then.
+#[inline(always)]
 fn copy_step(
     step: PackedStep,
     choice: Choice,
     numbers: &[u16],
-    new: &mut Vec<PackedStep>,
-) -> Result<u16, AllocError>
-    requires reads { ReadsBelow (length numbers.now) (unpacked step) choice }
-    requires room { length new.old.items ≤ 65535 }
-    ensures number { IfOk result (λ number. number ≡ chosen choice (slice_index numbers.now step.a)
-        (slice_index numbers.now step.b) (length new.old.items)) }
-    ensures copied { IfOk result (λ number. map unpacked new.new.items
-        ≡ map unpacked new.old.items ++ (if is_both choice
+    new: &mut [PackedStep],
+    count: usize,
+) -> (u16, usize)
+    requires a { step.a < length numbers.now }
+    requires b { step.b < length numbers.now }
+    requires few { length new.old ≤ 65535 }
+    requires room { is_both choice ≡ true → count < length new.old }
+    ensures number { result.0 ≡ chosen choice (slice_index numbers.now step.a)
+        (slice_index numbers.now step.b) count }
+    ensures count { result.1 ≡ count + (if is_both choice then 1 else 0) }
+    ensures copied { map unpacked (take result.1 new.new)
+        ≡ map unpacked (take count new.old) ++ (if is_both choice
         then renumbered (λ place. slice_index numbers.now place) (unpacked step) ∷ []
-        else [])) }
+        else []) }
 {
     match choice {
-        Choice::Left => Ok(numbers[step.a as usize]),
-        Choice::Right => Ok(numbers[step.b as usize]),
+        Choice::Left => (numbers[step.a as usize], count),
+        Choice::Right => (numbers[step.b as usize], count),
         Choice::Both => {
-            let number = new.len() as u16;
-            new.push(step.renumber(numbers))?;
-            Ok(number)
+            new[count] = step.renumber(numbers);
+            (count as u16, count + 1)
         }
     }
 }

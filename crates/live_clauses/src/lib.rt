@@ -12,6 +12,7 @@ mod part;
 mod shortening;
 mod step;
 mod tape;
+mod words;
 
 pub use choices::{Choices, Lane};
 pub use laws::{

@@ -10,6 +10,7 @@ ghost use Rattle.live_clauses.specs.Steps.{IsTape};
 use crate::block::{append, append_live};
 use crate::packed_step::PackedStep;
 use crate::part::Part;
+use crate::words::words;
 use crate::{Choices, Steps, Tape};
 use std::alloc::{AllocError, Global};
 use std::marker::Model;
@@ -21,12 +22,13 @@ pub struct Lists {
     // The steps of all lists, and after them memory for more.
     steps: Vec<PackedStep>,
     parts: Vec<Part>,
-    // What is needed of a list that is shortened, with room for the longest.
-    marks: Vec<u16>,
+    // What is needed of a list that is shortened, and its new numbers, with room for the longest.
+    marks: Vec<u64>,
+    numbers: Vec<u16>,
 }
 
 impl Model for Lists {
-    ghost use Rattle.std.specs.Prelude.{List, length};
+    ghost use Rattle.std.specs.Prelude.{◌*◌, ◌≤◌, List, length};
     ghost use Rattle.live_clauses.specs.declared.step.Step.{Step};
 
     ghost Value = { List (List Step) };
@@ -35,7 +37,8 @@ impl Model for Lists {
 
     ghost view = { λ l. parts_of l.steps.items l.parts.items };
 
-    ghost invariant = { λ l. AreParts l.steps.items (length l.marks.items) l.parts.items };
+    ghost invariant = { λ l. AreParts l.steps.items (length l.numbers.items) l.parts.items
+        × (length l.numbers.items ≤ 64 * length l.marks.items) };
 }
 
 impl Lists {
@@ -47,6 +50,7 @@ impl Lists {
             steps: Vec::new(alloc),
             parts: Vec::new(alloc),
             marks: Vec::new(alloc),
+            numbers: Vec::new(alloc),
         }
     }
 
@@ -76,10 +80,12 @@ impl Lists {
         ensures stays { OnErr result (self.new ≡ self.old) }
     {
         let steps = list.packed();
-        if self.marks.len() < steps.len() {
-            self.marks.resize(steps.len(), 0)?;
+        if self.numbers.len() < steps.len() {
+            self.marks.resize(words(steps.len()), 0)?;
+            self.numbers.resize(steps.len(), 0)?;
         }
-        append(&mut self.steps, &mut self.parts, self.marks.len(), steps)
+        let most = self.numbers.len();
+        append(&mut self.steps, &mut self.parts, most, steps)
     }
 
     /// Puts the live list of the list at a place behind the others: the steps that its last step needs
@@ -98,6 +104,7 @@ impl Lists {
             &mut self.steps,
             &mut self.parts,
             &mut self.marks,
+            &mut self.numbers,
             part,
             choices,
         )

@@ -1,90 +1,101 @@
 // Down a list from its last step: what is needed, and how much of it is live.
-ghost use Rattle.std.specs.Prelude.{◌≡◌, ◌<◌, ◌≤◌, ◌==◌, map, length, if◌then◌else◌};
+ghost use Rattle.std.specs.Prelude.{◌≡◌, ◌+◌, ◌-◌, ◌*◌, ◌<◌, ◌≤◌, true, false, nat_lt, map, length, if◌then◌else◌};
+ghost use Rattle.fixed_ops.specs.Arity.{arity_of};
 ghost use Rattle.live_clauses.specs.Choices.{AreChoices};
-ghost use Rattle.live_clauses.specs.Live.{hands_on, is_both, kept_below, reads};
-ghost use Rattle.live_clauses.specs.Marks.{AreLinked, AreMarks, IsNextMarked, Leaves, Marks, ReadsBelow};
+ghost use Rattle.live_clauses.specs.Live.{chosen, hands_on, is_both, kept_below};
+ghost use Rattle.live_clauses.specs.Marks.{AreMarks, IsMarked, Marks};
 ghost use Rattle.live_clauses.specs.Packed.{unpacked};
 ghost use Rattle.live_clauses.specs.Steps.{IsTape};
 
 use crate::Choices;
 use crate::packed_step::PackedStep;
-use fixed_ops::Op;
+use crate::words::{below, highest, mark_if};
+use fixed_ops::{Op, arity};
 use interval_ops::Choice;
 
-// What a place holds that is marked, and not yet visited.
-const MARK: u16 = 1;
-
-// Marks the steps that are needed. Each marked place holds the next one, or the length where it is
-// the last. Gives how many of the steps are live, and the first marked place.
-pub(crate) fn mark<C: Choices>(
-    steps: &[PackedStep],
-    choices: C,
-    marks: &mut [u16],
-) -> (usize, usize)
+// Marks the steps that are needed, and gives how many of them are live.
+pub(crate) fn mark<C: Choices>(steps: &[PackedStep], choices: C, marks: &mut [u64]) -> usize
     requires tape { IsTape (map unpacked steps.now) }
     requires enough { length steps.now ≤ length (C.list choices) }
     requires choices { AreChoices (map unpacked steps.now) (C.list choices) }
-    requires room { length marks.old ≡ length steps.now }
-    ensures live { result.0
+    requires room { length steps.now ≤ 64 * length marks.old }
+    ensures live { result
         ≡ kept_below (map unpacked steps.now) (C.list choices) (length steps.now) }
-    ensures first { IsNextMarked marks.new 0 result.1 }
-    ensures marks { AreMarks 0 (map unpacked steps.now) (C.list choices) marks.new }
-    ensures links { AreLinked 0 marks.new }
+    ensures marks { AreMarks (map unpacked steps.now) (C.list choices) marks.new }
 {
-    let mut at = steps.len();
-    let mut next = at;
     marks.fill(0);
-    marks[at - 1] = MARK;
+    mark_if(marks, steps.len() - 1, true);
+    let mut word = marks.len();
     let mut live = 0;
-    while at > 0 {
-        at -= 1;
-        if marks[at] != 0 {
-            let choice = choices.at(at);
-            live += visit(steps[at], choice, marks);
-            marks[at] = next as u16;
-            next = at;
-        }
+    while word > 0 {
+        word -= 1;
+        live = mark_word(steps, choices, marks, word, live);
     }
-    (live, next)
+    live
+}
+
+// Goes down the marked steps of one word and marks what they need, which may stand in the same word.
+// Gives how many steps are live from the word on.
+#[inline]
+fn mark_word<C: Choices>(
+    steps: &[PackedStep],
+    choices: C,
+    marks: &mut [u64],
+    word: usize,
+    behind: usize,
+) -> usize
+    requires tape { IsTape (map unpacked steps.now) }
+    requires enough { length steps.now ≤ length (C.list choices) }
+    requires choices { AreChoices (map unpacked steps.now) (C.list choices) }
+    requires room { length steps.now ≤ 64 * length marks.old }
+    requires word { word < length marks.old }
+    requires marked { IsMarked (64 * word + 64) (map unpacked steps.now) (C.list choices)
+        marks.old behind }
+    ensures { IsMarked (64 * word) (map unpacked steps.now) (C.list choices)
+        marks.new result }
+{
+    let mut end = 64;
+    let mut rest = marks[word];
+    let mut live = behind;
+    while rest != 0 {
+        end = highest(rest);
+        let at = 64 * word + end;
+        let choice = choices.at(at);
+        live += visit(steps[at], choice, marks);
+        rest = below(marks[word], end);
+    }
+    live
 }
 
 // Marks what a needed step needs, and counts it where it stands for itself.
-#[inline]
-fn visit(step: PackedStep, choice: Choice, marks: &mut [u16]) -> usize
-    requires { ReadsBelow (length marks.old) (unpacked step) choice }
+#[inline(always)]
+fn visit(step: PackedStep, choice: Choice, marks: &mut [u64]) -> usize
+    requires a { step.a < 64 * length marks.old }
+    requires b { step.b < 64 * length marks.old }
     ensures live { result ≡ (if is_both choice then 1 else 0) }
     ensures marks { Marks marks.old marks.new (hands_on (unpacked step) choice) }
-    ensures others { Leaves marks.old marks.new (hands_on (unpacked step) choice) }
 {
+    let (first, second) = needs(step.op, choice);
+    mark_if(marks, step.a as usize, first);
+    mark_if(marks, step.b as usize, second);
     match choice {
-        Choice::Left => {
-            marks[step.a as usize] = MARK;
-            0
-        }
-        Choice::Right => {
-            marks[step.b as usize] = MARK;
-            0
-        }
-        Choice::Both => {
-            hand_on(step, marks);
-            1
-        }
+        Choice::Left | Choice::Right => 0,
+        Choice::Both => 1,
     }
 }
 
-// Marks the operands of a step.
-#[inline]
-fn hand_on(step: PackedStep, marks: &mut [u16])
-    requires { ReadsBelow (length marks.old) (unpacked step) Choice.Both }
-    ensures marks { Marks marks.old marks.new (reads (unpacked step)) }
-    ensures others { Leaves marks.old marks.new (reads (unpacked step)) }
+// Whether a step, as it chooses, needs its first operand, and whether it needs its second.
+#[inline(always)]
+fn needs(op: Op, choice: Choice) -> (bool, bool)
+    ensures first { result.0 ≡ chosen choice true false (nat_lt 0 (arity_of op)) }
+    ensures second { result.1 ≡ chosen choice false true (nat_lt 1 (arity_of op)) }
 {
-    match step.op {
-        Op::X | Op::Y | Op::Z | Op::Const => {}
-        Op::Neg | Op::Square | Op::Sqrt | Op::Abs | Op::Floor => marks[step.a as usize] = MARK,
-        Op::Add | Op::Sub | Op::Mul | Op::Div | Op::Min | Op::Max => {
-            marks[step.a as usize] = MARK;
-            marks[step.b as usize] = MARK;
+    match choice {
+        Choice::Left => (true, false),
+        Choice::Right => (false, true),
+        Choice::Both => {
+            let operands = arity(op);
+            (operands > 0, operands > 1)
         }
     }
 }

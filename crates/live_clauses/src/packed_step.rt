@@ -1,11 +1,10 @@
 // A step as a list keeps it.
-ghost use Rattle.std.specs.Prelude.{◌≡◌, ◌<◌, ◌≤◌, length, slice_index};
-ghost use Rattle.fixed_ops.specs.Arity.{arity_of};
+ghost use Rattle.std.specs.Prelude.{◌≡◌, ◌<◌, ◌≤◌, length, slice_index, if◌then◌else◌};
 ghost use Rattle.live_clauses.specs.Live.{renumbered};
 ghost use Rattle.live_clauses.specs.Packed.{unpacked};
 
 use crate::Step;
-use fixed_ops::{Fx, Op};
+use fixed_ops::{Fx, Op, arity};
 
 // A step in 16 bytes: a place in a list is at most 65,535.
 #[derive(Clone, Copy, Debug, PartialEq, Eq)]
@@ -17,6 +16,17 @@ pub(crate) struct PackedStep {
 }
 
 impl PackedStep {
+    // What memory holds that no list is in.
+    #[inline]
+    pub(crate) fn blank() -> PackedStep {
+        PackedStep {
+            op: Op::X,
+            a: 0,
+            b: 0,
+            value: Fx::from_raw(0),
+        }
+    }
+
     // How a step is kept.
     #[inline]
     pub(crate) fn pack(step: Step) -> PackedStep
@@ -46,25 +56,30 @@ impl PackedStep {
     }
 
     // The step with the new numbers of its operands.
-    #[inline]
+    #[inline(always)]
     pub(crate) fn renumber(self, numbers: &[u16]) -> PackedStep
-        requires a { 0 < arity_of self.op → self.a < length numbers.now }
-        requires b { 1 < arity_of self.op → self.b < length numbers.now }
+        requires a { self.a < length numbers.now }
+        requires b { self.b < length numbers.now }
         ensures { unpacked result
             ≡ renumbered (λ place. slice_index numbers.now place) (unpacked self) }
     {
-        let (a, b) = match self.op {
-            Op::X | Op::Y | Op::Z | Op::Const => (0, 0),
-            Op::Neg | Op::Square | Op::Sqrt | Op::Abs | Op::Floor => (numbers[self.a as usize], 0),
-            Op::Add | Op::Sub | Op::Mul | Op::Div | Op::Min | Op::Max => {
-                (numbers[self.a as usize], numbers[self.b as usize])
-            }
-        };
+        // Both numbers are read, so that no branch goes by the operation.
+        let operands = arity(self.op);
+        let first = numbers[self.a as usize];
+        let second = numbers[self.b as usize];
         PackedStep {
             op: self.op,
-            a,
-            b,
+            a: kept_if(operands > 0, first),
+            b: kept_if(operands > 1, second),
             value: self.value,
         }
     }
+}
+
+// A number where it is to be kept, or else 0.
+#[inline(always)]
+fn kept_if(keep: bool, number: u16) -> u16
+    ensures { result ≡ (if keep then number else 0) }
+{
+    if keep { number } else { 0 }
 }

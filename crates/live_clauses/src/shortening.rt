@@ -1,15 +1,17 @@
 // The live list of a list, and the root list of a solid.
-ghost use Rattle.std.specs.Prelude.{◌≡◌, ◌≤◌, length, map, IfOk};
+ghost use Rattle.std.specs.Prelude.{◌≡◌, ◌*◌, ◌≤◌, length, map, IfOk};
 ghost use Rattle.fixed_ops.specs.Points.{Point};
 ghost use Rattle.solid_model.specs.Values.{solid_value};
 ghost use Rattle.live_clauses.specs.Choices.{AreChoices, AreRight};
-ghost use Rattle.live_clauses.specs.Live.{live_of, root_of};
+ghost use Rattle.live_clauses.specs.Live.{kept_below, live_of, root_of};
+ghost use Rattle.live_clauses.specs.Marks.{AreMarks};
 ghost use Rattle.live_clauses.specs.Packed.{unpacked};
-ghost use Rattle.live_clauses.specs.Steps.{steps_of, tape_value};
+ghost use Rattle.live_clauses.specs.Steps.{IsTape, steps_of, tape_value};
 
 use crate::copying::copy_live;
 use crate::marking::mark;
 use crate::packed_step::PackedStep;
+use crate::words::words;
 use crate::{Step, Tape};
 use interval_ops::Choice;
 use solid_model::Model;
@@ -55,8 +57,8 @@ pub fn prune(alloc: Global, tape: &Tape, choices: &[Choice]) -> Result<Tape, All
     ensures value { IfOk result (λ new. (p : Point) → AreRight p tape.now choices.now
         → tape_value p new ≡ tape_value p tape.now) }
 {
-    let mut scratch = vec![in alloc; 0u16; tape.len() as usize]?;
-    prune_with(alloc, tape, choices, &mut scratch)
+    let mut numbers = vec![in alloc; 0u16; tape.len() as usize]?;
+    prune_with(alloc, tape, choices, &mut numbers)
 }
 
 /// The live list of a list under choices, as `prune` gives it, with scratch memory for as many
@@ -76,10 +78,34 @@ pub fn prune_with(
         → tape_value p new ≡ tape_value p tape.now) }
 {
     let steps = tape.packed();
-    let marks = &mut scratch[..steps.len()];
-    let (live, first) = mark(steps, choices, marks);
+    let mut marks = vec![in alloc; 0u64; words(steps.len())]?;
+    let live = mark(steps, choices, &mut marks);
     if live == steps.len() {
         return tape.share();
     }
-    Tape::from_packed(copy_live(alloc, steps, choices, marks, first, live)?)
+    Tape::from_packed(live_steps(alloc, steps, choices, &marks, scratch, live)?)
+}
+
+// The live steps, of which there are so many, in memory of their own.
+fn live_steps(
+    alloc: Global,
+    steps: &[PackedStep],
+    choices: &[Choice],
+    marks: &[u64],
+    numbers: &mut [u16],
+    live: usize,
+) -> Result<Vec<PackedStep>, AllocError>
+    requires tape { IsTape (map unpacked steps.now) }
+    requires enough { length steps.now ≤ length choices.now }
+    requires choices { AreChoices (map unpacked steps.now) choices.now }
+    requires marks { AreMarks (map unpacked steps.now) choices.now marks.now }
+    requires words { length steps.now ≤ 64 * length marks.now }
+    requires numbers { length steps.now ≤ length numbers.old }
+    requires live { live ≡ kept_below (map unpacked steps.now) choices.now (length steps.now) }
+    ensures { IfOk result (λ new. map unpacked new.items
+        ≡ live_of (map unpacked steps.now) choices.now) }
+{
+    let mut new = vec![in alloc; PackedStep::blank(); live]?;
+    copy_live(steps, choices, marks, numbers, new.as_mut_slice());
+    Ok(new)
 }

@@ -19,13 +19,13 @@ returns-then-live-steps-clause-live c =
 
 pub from_packed-requires : goal.from_packed-requires
 from_packed-requires c =
-    let copied : map unpacked c.in_ok-copy_live.field-0.items ≡ live_of c.args.tape.now c.args.choices.now = rw (← c.packed-steps.ensures.steps) c.in_ok-copy_live.ensures in
+    let copied : map unpacked c.in_ok-live_steps.field-0.items ≡ live_of c.args.tape.now c.args.choices.now = rw (← c.packed-steps.ensures.steps) c.in_ok-live_steps.ensures in
     rw copied (live_of-tape c.args.tape.now c.args.choices.now c.packed-steps.ensures.tape c.requires.choices)
 
 pub returns-clause-value : goal.returns-clause-value
 returns-clause-value c =
-    let copied : map unpacked c.in_ok-copy_live.field-0.items ≡ live_of c.args.tape.now c.args.choices.now = rw (← c.packed-steps.ensures.steps) c.in_ok-copy_live.ensures in
-    IfOk-weaker c.from_packed.result (λ new. new ≡ map unpacked c.in_ok-copy_live.field-0.items)
+    let copied : map unpacked c.in_ok-live_steps.field-0.items ≡ live_of c.args.tape.now c.args.choices.now = rw (← c.packed-steps.ensures.steps) c.in_ok-live_steps.ensures in
+    IfOk-weaker c.from_packed.result (λ new. new ≡ map unpacked c.in_ok-live_steps.field-0.items)
     (λ new. (p : Point) → AreRight p c.args.tape.now c.args.choices.now → tape_value p new ≡ tape_value p c.args.tape.now)
     (λ new made p right. ap (tape_value p) (made ∙ copied) ∙ live_of-value c.args.tape.now c.args.choices.now c.packed-steps.ensures.tape c.requires.choices p right)
     c.from_packed.ensures

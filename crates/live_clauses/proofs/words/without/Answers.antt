@@ -1,0 +1,10 @@
+-- A word without a bit has its other ones.
+use Rattle.std.proofs.Common.{w64}
+use Rattle.std.proofs.lemmas.Nat.Bits.{bit_at_clear_other, bit_at_clear_same}
+use Rattle.live_clauses.proofs.words.without.Goals as goal
+
+pub returns-clause-here : goal.returns-clause-here
+returns-clause-here c = bit_at_clear_same w64 c.args.word c.args.bit c.requires
+
+pub returns-clause-others : goal.returns-clause-others
+returns-clause-others c = λ other within not. bit_at_clear_other w64 c.args.word c.args.bit c.requires other within not
