@@ -145,6 +145,5 @@ module _ {K T : Type 0} (held : K → Option (List ℕ)) (faults : K → ℕ) wh
         script = λ script. absurd (served.script script);
         unwritten = λ _. served.unwritten;
         counted = λ _. served.counted;
-        commands = λ replays. absurd (other replays);
         stops = λ replays. absurd (other replays);
       })

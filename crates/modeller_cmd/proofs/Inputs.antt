@@ -59,22 +59,6 @@ read-ends {S} {T} words job rest source end.TooLong (Err stop) asks same reads i
     told-by-source rest source (asks_nothing words) _ (sym same ∙ reads)
     (some_follows (rest source) _ _ (λ bytes more. subst (λ s. Ends {T = T} (outcome words bytes) (Err s)) (sym is) (too_long_outcome words job bytes asks reads more)) (long refl))
 
--- what is so of the frames of the input of a job is so of what the source tells, since a job without input has none
-pub frames-told : {S : Type 0} (words : List (List ℕ)) (rest : S → Option (List ℕ)) (source : S) (job : Job) (input : List ℕ) → Ok job ≡ asked words
-    → (nothing : Bool) → reads_nothing job ≡ nothing → IfSome (input_told rest source nothing) (λ bytes. input ≡ bytes)
-    → MeshFramesAreSound words input → IfSome (rest source) (MeshFramesAreSound words)
-frames-told words rest source job input asks false reads all sound = told-input (rest source) _ (MeshFramesAreSound words) all sound
-frames-told words rest source job input asks true reads all sound =
-    some_all (rest source) (MeshFramesAreSound words) (λ bytes. no_frames bytes)
-  where
-    replay_reads : (j : Job) → j ≡ Replay → reads_nothing j ≡ true → ⊥
-    replay_reads j is nothing = grind (arith, subst (λ k. reads_nothing k ≡ true) is nothing)
-
-    no_frames : (bytes : List ℕ) → MeshFramesAreSound words bytes
-    no_frames bytes clauses before after view replays texts says done =
-        let same : job ≡ Replay = cc in
-        absurd (replay_reads job same reads)
-
 -- a source that stands lost nothing
 consumes_none : (a : Option (List ℕ)) → Consumes a a []
 consumes_none None = tt

@@ -3,7 +3,8 @@ use Rattle.std.proofs.Common.{◌≡◌, ◌≢◌, ℕ, ◌≤◌, Bool, true, 
 use Rattle.std.specs.Prelude.{All, IfOk, if◌then◌else◌, nat_lt}
 use Rattle.std.proofs.lemmas.Bool.{ltb-false}
 use Rattle.clause_reader.specs.Reading.{text_read}
-use Rattle.edit_script.specs.Commands.{IsCommand}
+use Rattle.edit_script.specs.Commands.{MayBeDrawn}
+use Rattle.edit_script.specs.ScriptLaws.{DrawsMayBeDrawn}
 use Rattle.edit_script.specs.Marks.{before_mark}
 use Rattle.edit_script.specs.Scripts.{script_read}
 use Rattle.edit_script.specs.declared.command.Command.{Command}
@@ -58,22 +59,14 @@ run_is_sound words input r is keeps texts view clauses asks reads done =
     let bytes = ap bytes_of_parts parts ∙ one in
     subst (IsSoundText view clauses) (sym bytes) (texts view clauses job.0 job.1)
 
--- an outcome that is done has parts
-done_ok : (outcome : Result (List Part) Refusal) → (output_as outcome).status ≡ Done → IsOk outcome
-done_ok (Ok parts) done = search rules
-done_ok (Err (refusal.Words fault)) done = absurd (grind (arith, done))
-done_ok (Err refusal.TooLong) done = absurd (grind (arith, done))
-done_ok (Err (refusal.Text fault)) done = absurd (grind (arith, done))
-done_ok (Err (refusal.Script fault)) done = absurd (grind (arith, done))
-
 -- what the commands of a script write for a mesh is the frame of the text of a sound one
 script_frames : (clauses : List Clause) (before after : List Command) (view : Window) (input : List ℕ) → MeshTextsAreSound → length input ≤ input_limit
-    → text_read (before_mark input) ≡ Ok clauses → script_read input ≡ Ok (before ++ commands.Mesh view ∷ after) → IfOk (script_read input) (All IsCommand)
+    → text_read (before_mark input) ≡ Ok clauses → script_read input ≡ Ok (before ++ commands.Mesh view ∷ after) → IfOk (script_read input) (All MayBeDrawn)
     → HasSoundFrame view (standing clauses before) (replayed clauses before) (output_as (made Replay input)).parts
 script_frames clauses before after view input texts few reads says keeps =
     let shown = standing clauses before in
-    let all = subst (λ r. IfOk r (All IsCommand)) says keeps in
-    let fits = All-between IsCommand before (commands.Mesh view) after all in
+    let all = subst (λ r. IfOk r (All MayBeDrawn)) says keeps in
+    let fits = All-between MayBeDrawn before (commands.Mesh view) after all in
     let played = solid_read input (before_mark input) (λ solid. parts_played solid (script_read input)) clauses few reads ∙ ap (parts_played clauses) says in
     let after_it = replayed (clauses_after shown (commands.Mesh view)) after in
     record {
@@ -85,19 +78,11 @@ script_frames clauses before after view input texts few reads says keeps =
       stands = ap (λ o. (output_as o).parts) played ∙ replayed-between clauses before (commands.Mesh view) after;
     }
 
--- so it is of a run that was read to the end of its script
-pub frames_are_sound : {T : Type 0} (words : List (List ℕ)) (input : List ℕ) (job : Job) (r : Result T Stop) → Ok job ≡ asked words → MeshTextsAreSound
-    → (job ≡ Replay → IsOk (made job input) → r ≢ Err NoMemory → IfOk (script_read input) (All IsCommand)) → IsRead (status_after r)
-    → MeshFramesAreSound words input
-frames_are_sound {T} words input job r asks texts keeps read clauses before after view replays reads says done =
-    let same : job ≡ Replay = cc in
+-- so it is of every run
+pub frames_are_sound : (words : List (List ℕ)) (input : List ℕ) → MeshTextsAreSound → DrawsMayBeDrawn → MeshFramesAreSound words input
+frames_are_sound words input texts draws clauses before after view replays reads says done =
     let made_of = outcome_of words input Replay replays in
     let finished = ap (λ o. (output_as o).status) (sym made_of) ∙ done in
-    let ok = done_ok (made Replay input) finished in
     let few = few_of input (before_mark input) (λ solid. parts_played solid (script_read input)) finished in
-    let commands_kept = keeps same (subst (λ j. IsOk (made j input)) (sym same) ok) (λ memory. read_no_memory r read memory) in
     subst (HasSoundFrame view (standing clauses before) (replayed clauses before)) (ap (λ o. (output_as o).parts) (sym made_of))
-    (script_frames clauses before after view input texts few reads says commands_kept)
-  where
-    read_no_memory : (q : Result T Stop) → IsRead (status_after q) → q ≡ Err NoMemory → ⊥
-    read_no_memory q read memory = subst (λ s. IsRead (status_after s)) memory read
+    (script_frames clauses before after view input texts few reads says (draws input))

@@ -51,8 +51,7 @@ pub record EndsSo {S K N : Type 0} (run : Run S K N) : Type 0 where
   pub silent : run.status ≡ Done → run.notes_after ≡ run.notes
   -- the text of a mesh is that of a sound one
   pub sound : IfSome (run.rest run.source) (MeshesAreSound run.words)
-  pub sound_frames : IsRead run.status
-      → IfSome (run.rest run.source) (MeshFramesAreSound run.words)
+  pub sound_frames : IfSome (run.rest run.source) (MeshFramesAreSound run.words)
   -- when each status comes
   pub answer : OfOutput run (λ output. IsAnswer output.status run.status)
   pub usage : (run.status ≡ Usage) ↔ IsErr (asked run.words)

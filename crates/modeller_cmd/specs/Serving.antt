@@ -1,7 +1,5 @@
 -- What a job that is served does to a sink and to a tally.
 use Rattle.std.specs.Prelude.{◌≡◌, ◌≢◌, ℕ, List, Option, Result, Err, IfErr, IfOk, IsOk, OnOk, All}
-use Rattle.edit_script.specs.Commands.{IsCommand}
-use Rattle.edit_script.specs.Scripts.{script_read}
 use Rattle.fixed_ops.specs.Counts.{Counts}
 use Rattle.model_frames.specs.Frames.{Part}
 use Rattle.model_frames.specs.Work.{CountsWork}
@@ -62,6 +60,4 @@ pub record Served {K T : Type 0} (held : K → Option (List ℕ)) (faults : K �
   pub unwritten : job ≢ Replay → result ≡ Err NoMemory → after ≡ before
   pub counted : job ≢ Replay → result ≡ Err WriteFault
       → CountsWork first last (work_of_parts (output_as (made job input)).parts)
-  pub commands : job ≡ Replay → IsOk (made job input) → result ≢ Err NoMemory
-      → IfOk (script_read input) (All IsCommand)
   pub stops : job ≡ Replay → IfErr result (StopsPlay held faults before after first last input)

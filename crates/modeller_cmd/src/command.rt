@@ -24,6 +24,7 @@ use crate::forge::forge;
 use crate::note::note_of;
 use crate::replay::replay;
 use crate::stop::Stop;
+use edit_script::draws_may_be_drawn;
 use fixed_ops::Tally;
 use model_frames::{Frame, frames_add_up, mesh_texts_are_sound};
 use modeller_io::{ReadEnd, Sink, Source, read_all, write_all};
@@ -58,8 +59,7 @@ pub fn run<S: Source, K: Sink, N: Sink>(
     // Where a mesh is asked for, that output is the text of a closed, manifold and separating one,
     // and where a command of a script asks for one, so is that of its frame.
     ensures sound { IfSome (S.rest source.old) (MeshesAreSound (bytes_of words.now)) }
-    ensures sound_frames { IsRead result
-        → IfSome (S.rest source.old) (MeshFramesAreSound (bytes_of words.now)) }
+    ensures sound_frames { IfSome (S.rest source.old) (MeshFramesAreSound (bytes_of words.now)) }
 
     // When each status comes.
     ensures answer { WithOutput S.rest source.old (bytes_of words.now) (λ output.
@@ -232,13 +232,13 @@ fn work<S: Source, K: Sink>(
     ensures gained { Grew K.held out.old out.new }
     ensures untold { CountsForSome (bytes_of words.now) tally.old tally.new }
     ensures sound { IfSome (S.rest source.old) (MeshesAreSound (bytes_of words.now)) }
-    ensures sound_frames { IsRead (status_after result)
-        → IfSome (S.rest source.old) (MeshFramesAreSound (bytes_of words.now)) }
+    ensures sound_frames { IfSome (S.rest source.old) (MeshFramesAreSound (bytes_of words.now)) }
     ensures script { status_after result ≡ Status.BadScript
         → asked (bytes_of words.now) ≡ Ok Job.Replay }
 {
     frames_add_up();
     mesh_texts_are_sound();
+    draws_may_be_drawn();
     let job = read_job(words)?;
     let input = read_input(alloc, &job, source)?;
     serve(alloc, &job, &input, out, tally)

@@ -47,8 +47,6 @@ pub fn replay<K: Sink>(
         (output_as (made Job.Replay input.now)).parts) }
     ensures refused { IsRefusal (status_after result)
         → (out.new ≡ out.old) × (tally.new ≡ tally.old) }
-    ensures commands { IsOk (made Job.Replay input.now) → result ≢ Err Stop.NoMemory
-        → IfOk (script_read input.now) (All IsCommand) }
     ensures stops { IfErr result
         (StopsPlay K.held K.faults out.old out.new tally.old tally.new input.now) }
 {

@@ -10,7 +10,7 @@ use Rattle.modeller_cmd.specs.Playing.{Played, Stopped}
 use Rattle.modeller_cmd.specs.Stopping.{IsUnbegun}
 use Rattle.modeller_cmd.specs.Stops.{stop_of_end}
 use Rattle.modeller_cmd.specs.declared.stop.Stop.TheVariants.{NoMemory, Refused, WriteFault}
-use Rattle.modeller_cmd.proofs.Inputs.{frames-told, read-ends, reads-some, told-by-words}
+use Rattle.modeller_cmd.proofs.Inputs.{read-ends, reads-some, told-by-words}
 use Rattle.modeller_cmd.proofs.Outcomes.{some-none, some_all, some_follows}
 use Rattle.modeller_cmd.proofs.Plays.{parts-none, stops-with}
 use Rattle.modeller_cmd.proofs.Serving.{as-told, done-or-stopped, err-follows, ok-follows, served, served-counted, served-front, served-told, served-whole}
@@ -144,12 +144,17 @@ pub returns-in_err-input-clause-plain : goal.returns-in_err-input-clause-plain
 returns-in_err-input-clause-plain g c =
     some_all (input_told g.S.Source.rest c.args.source.now (asks_nothing (bytes_of c.args.words.now))) _ (λ input. c.frames_add_up.ensures.plain_none c.args.tally.now (work_of_parts (output_of (bytes_of c.args.words.now) input).parts).plain)
 
+pub returns-in_err-job-clause-sound_frames : goal.returns-in_err-job-clause-sound_frames
+returns-in_err-job-clause-sound_frames g c =
+    some_all (g.S.Source.rest c.args.source.now) _ (λ input. frames_are_sound (bytes_of c.args.words.now) input c.mesh_texts_are_sound.ensures c.draws_may_be_drawn.ensures)
+
+pub returns-in_err-input-clause-sound_frames : goal.returns-in_err-input-clause-sound_frames
+returns-in_err-input-clause-sound_frames g c =
+    some_all (g.S.Source.rest c.args.source.now) _ (λ input. frames_are_sound (bytes_of c.args.words.now) input c.mesh_texts_are_sound.ensures c.draws_may_be_drawn.ensures)
+
 pub returns-clause-sound_frames : goal.returns-clause-sound_frames
-returns-clause-sound_frames g c = λ read.
-    let words = bytes_of c.args.words.now in
-    frames-told words g.S.Source.rest c.args.source.now c.in_ok-job.job c.deref.result.now c.in_ok-job.ensures.job (reads_nothing c.in_ok-job.job) refl
-    (some_follows (input_told g.S.Source.rest c.args.source.now (reads_nothing c.in_ok-job.job)) _ (λ bytes. c.deref.result.now ≡ bytes) (λ bytes same. c.deref.ensures.value ∙ same) c.in_ok-input.ensures.all)
-    (frames_are_sound words c.deref.result.now c.in_ok-job.job c.serve.result c.in_ok-job.ensures.job c.mesh_texts_are_sound.ensures c.serve.ensures.commands read)
+returns-clause-sound_frames g c =
+    some_all (g.S.Source.rest c.args.source.now) _ (λ input. frames_are_sound (bytes_of c.args.words.now) input c.mesh_texts_are_sound.ensures c.draws_may_be_drawn.ensures)
 
 pub returns-in_err-job-clause-stops : goal.returns-in_err-job-clause-stops
 returns-in_err-job-clause-stops g c =
