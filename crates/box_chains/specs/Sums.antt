@@ -1,5 +1,5 @@
 -- Sums over the samples of a box.
-use Rattle.std.specs.Prelude.{ℕ, ◌-◌, ◌*◌, ◌≤◌, ◌<◌}
+use Rattle.std.specs.Prelude.{ℕ, ◌-◌, ◌*◌, ◌≤◌, ◌<◌, List, [], ◌∷◌, max}
 use Rattle.std.specs.List.{range_with_len, sum_by}
 use Rattle.view_settings.specs.Boxes.{Indices}
 
@@ -24,6 +24,11 @@ abbrev pub sum_in : Indices → (Sample → ℕ) → ℕ
 sum_in b f =
     sum_along b.z0 b.z1 (λ k. sum_along b.y0 b.y1 (λ j. sum_along b.x0 b.x1 (λ i.
     f (record { i = i; j = j; k = k }))))
+
+-- the greatest of some numbers, 0 where there is none
+abbrev pub maximum : List ℕ → ℕ
+maximum [] = 0
+maximum (n ∷ ns) = max n (maximum ns)
 
 -- how many samples a box has
 abbrev pub size : Indices → ℕ

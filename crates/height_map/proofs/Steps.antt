@@ -31,7 +31,8 @@ use Rattle.box_chains.specs.Tested.{halves_points_where, halves_spans_where, has
 use Rattle.height_map.specs.Columns.{Changes, IsAmong, covers, has_open, is_open, leaf_top}
 use Rattle.box_chains.specs.Opened.{outcome_spans, sampling}
 use Rattle.height_map.specs.Opened.{outcome_points, outcome_top, outcome_traced}
-use Rattle.height_map.specs.Tops.{greatest, top_among}
+use Rattle.height_map.specs.Tops.{top_among}
+use Rattle.box_chains.specs.Sums.{maximum}
 use Rattle.height_map.proofs.Beside.{halves-parts}
 use Rattle.height_map.proofs.ChangeLaws.{covers-place, lifted-some, place-within}
 use Rattle.height_map.proofs.Drawn.{IsDrawnTo, half-open, columns-there, farther-drawn, half-placed, nearer-drawn, outcome-drawn, placed-kept, placed-more, placed-visit}
@@ -426,7 +427,7 @@ kept-bounded laws view list w tops boxes kept start end over are h =
 -- ---- the longest of some boxes
 
 abbrev pub longest : List Indices → ℕ
-longest boxes = greatest (map sides boxes)
+longest boxes = maximum (map sides boxes)
 
 pub longest-at : (boxes : List Indices) (i : ℕ) (b : Indices) → i < length boxes → b ≡ get_or boxes i b → sides b ≤ longest boxes
 longest-at [] i b within read = absurd (omega (arith, within))

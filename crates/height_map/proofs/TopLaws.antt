@@ -4,7 +4,7 @@ use Rattle.std.specs.Prelude.{max, nat_le, ◌==◌, ◌&&◌}
 use Rattle.std.specs.List.{range_with_len}
 use Rattle.std.proofs.lemmas.Bool.{cases_lt, le-leb, lt-leb, ne_eqb}
 use Rattle.height_map.specs.Columns.{lifted}
-use Rattle.height_map.specs.Tops.{greatest}
+use Rattle.box_chains.specs.Sums.{maximum}
 use Rattle.height_map.proofs.ChangeLaws.{lifted-none, lifted-some}
 
 abbrev item : (ℕ → Bool) → ℕ → ℕ
@@ -12,11 +12,11 @@ item f k = cond (f k) (k + 1) 0
 
 -- 1 plus the greatest of so many numbers from low on that pass, or 0
 abbrev upto : (ℕ → Bool) → ℕ → ℕ → ℕ
-upto f low n = greatest (map (λ k. cond (f k) (k + 1) 0) (range_with_len low n))
+upto f low n = maximum (map (λ k. cond (f k) (k + 1) 0) (range_with_len low n))
 
 -- the same from low on, below high
 abbrev pub best : (ℕ → Bool) → ℕ → ℕ → ℕ
-best f low high = greatest (map (λ k. cond (f k) (k + 1) 0) (range_with_len low (high - low)))
+best f low high = maximum (map (λ k. cond (f k) (k + 1) 0) (range_with_len low (high - low)))
 
 item-le : (f : ℕ → Bool) (k : ℕ) → item f k ≤ k + 1
 item-le f k = by (f k)

@@ -1,17 +1,13 @@
 -- The tops of columns of samples.
-use Rattle.std.specs.Prelude.{ℕ, ◌+◌, ◌-◌, Bool, List, [], ◌∷◌, map, max, if◌then◌else◌}
+use Rattle.std.specs.Prelude.{ℕ, ◌+◌, ◌-◌, Bool, List, map, if◌then◌else◌}
 use Rattle.std.specs.List.{flat_map, range_with_len}
 use Rattle.fixed_ops.specs.Raw.{is_inside}
 use Rattle.live_clauses.specs.Steps.{tape_value}
 use Rattle.live_clauses.specs.declared.step.Step.{Step}
+use Rattle.box_chains.specs.Sums.{maximum}
 use Rattle.view_settings.specs.Places.{point_of}
 use Rattle.view_settings.specs.Window.{Window}
 use Rattle.view_settings.specs.declared.lattice.Lattice.TheVariants.{Height}
-
--- the greatest of some numbers, 0 where there is none
-abbrev pub greatest : List ℕ → ℕ
-greatest [] = 0
-greatest (n ∷ ns) = max n (greatest ns)
 
 -- whether the value of a list is inside at sample k, from the far end on, of the column at i, from
 -- the left on, in row j, from the top on
@@ -22,7 +18,7 @@ inside view list i j k = is_inside (tape_value (point_of view Height i j k) list
 -- where there is none
 abbrev pub top_among : Window → List Step → ℕ → ℕ → ℕ → ℕ → ℕ
 top_among view list low high i j =
-    greatest (map (λ k. if inside view list i j k then k + 1 else 0) (range_with_len low (high - low)))
+    maximum (map (λ k. if inside view list i j k then k + 1 else 0) (range_with_len low (high - low)))
 
 -- the top of a column
 abbrev pub top_of : Window → List Step → ℕ → ℕ → ℕ

@@ -12,7 +12,8 @@ use Rattle.live_clauses.specs.Steps.{IsTape}
 use Rattle.live_clauses.specs.declared.step.Step.{Step}
 use Rattle.view_settings.specs.Boxes.{Indices}
 use Rattle.view_settings.specs.Window.{Window, IsWindow}
-use Rattle.oct_descent.specs.Bound.{greatest, has_point, least, length_in, lengths_at, mesh_points, mesh_spans, points_of_grid, sample_of, working_lengths}
+use Rattle.oct_descent.specs.Bound.{has_point, least, length_in, lengths_at, mesh_points, mesh_spans, points_of_grid, sample_of, working_lengths}
+use Rattle.box_chains.specs.Sums.{maximum}
 use Rattle.oct_descent.specs.Laws.{MeshPointsAreBounded, MeshSpansAreBounded}
 use Rattle.oct_descent.specs.Sizes.{size_of}
 use Rattle.oct_descent.specs.Tables.{AreWorked, IsDue, IsEnough, PointValues, is_known, known_at}
@@ -45,7 +46,7 @@ sum_in-most laws b f c less =
     omega (arith, more, all, laws.sums.const b c)
 
 at-most : (laws : Lawful) (view : Window) (list : List Step) (p cell : GridPoint) → IsWindow view → IsTape list → cell.x < view.n → cell.y < view.n → cell.z < view.n
-    → greatest (cond (has_corner cell p) (working_length view list cell ∷ []) []) ≤ length list
+    → maximum (cond (has_corner cell p) (working_length view list cell ∷ []) []) ≤ length list
 at-most laws view list p cell window tape x y z = by (has_corner cell p) (is_working (gridded view) (whole view list) (sample_of cell)) refl
   where
     lies : LiesIn (whole view list).box (sample_of cell)
@@ -54,7 +55,7 @@ at-most laws view list p cell window tape x y z = by (has_corner cell p) (is_wor
     end : length (way_end (gridded view) (whole view list) (sample_of cell)).list ≤ length list
     end = end-below laws (gridded view) (whole view list) (sample_of cell) (omega arith) (whole-visit view list window tape) lies
 
-    by : (t u : Bool) → is_working (gridded view) (whole view list) (sample_of cell) ≡ u → greatest (cond t (working_length view list cell ∷ []) []) ≤ length list
+    by : (t u : Bool) → is_working (gridded view) (whole view list) (sample_of cell) ≡ u → maximum (cond t (working_length view list cell ∷ []) []) ≤ length list
     by false u e = omega arith
     by true true e = rw e (omega (arith, end))
     by true false e = rw e (omega arith)
@@ -63,7 +64,7 @@ pub points_bounded : Lawful → MeshPointsAreBounded
 unfolding mesh_points
 points_bounded laws view list window tape =
     subst (λ (n : ℕ). mesh_points view list ≤ n * (n * n) * length list) side
-    (sum_in-most laws (points_of_grid (size_of view)) (λ s. greatest (lengths_at view list (point s.i s.j s.k))) (length list)
+    (sum_in-most laws (points_of_grid (size_of view)) (λ s. maximum (lengths_at view list (point s.i s.j s.k))) (length list)
     (λ s. greatest-block_most view.n view.n view.n (λ cell. cond (has_corner cell (point s.i s.j s.k)) (working_length view list cell ∷ []) []) (length list)
     (λ cell x y z. at-most laws view list (point s.i s.j s.k) cell window tape x y z)))
   where
@@ -155,14 +156,14 @@ none_due view list t p worked unknown =
     by cell x y z false e = All-nil (λ n. ⊥)
 
 -- what a grid's points take is enough for the box of all cells
-pub points_suffice : (view : Window) (list : List Step) → IsEnough (λ p. greatest (lengths_at view list p)) (gridded view) (whole view list)
+pub points_suffice : (view : Window) (list : List Step) → IsEnough (λ p. maximum (lengths_at view list p)) (gridded view) (whole view list)
 points_suffice view list s lies works p covers =
     let cell = point s.i s.j s.k in
     let one = greatest-block view.n view.n view.n (λ cell. cond (has_corner cell p) (working_length view list cell ∷ []) []) cell lies.x.1 lies.y.1 lies.z.1 in
     let corner : has_corner cell p ≡ true = and_from (nat_le s.i p.x) _ (le-leb s.i p.x covers.x.0) (and_from (nat_le p.x (s.i + 1)) _ (le-leb p.x (s.i + 1) covers.x.1)
     (and_from (nat_le s.j p.y) _ (le-leb s.j p.y covers.y.0) (and_from (nat_le p.y (s.j + 1)) _ (le-leb p.y (s.j + 1) covers.y.1)
     (and_from (nat_le s.k p.z) _ (le-leb s.k p.z covers.z.0) (le-leb p.z (s.k + 1) covers.z.1))))) in
-    let here : greatest (cond (has_corner cell p) (working_length view list cell ∷ []) []) ≡ max (length (way_end (gridded view) (whole view list) s).list) 0 =
-    ap (λ t. greatest (cond t (working_length view list cell ∷ []) [])) corner
-    ∙ ap (λ t. greatest (cond t (length (way_end (gridded view) (whole view list) s).list) 0 ∷ [])) works in
+    let here : maximum (cond (has_corner cell p) (working_length view list cell ∷ []) []) ≡ max (length (way_end (gridded view) (whole view list) s).list) 0 =
+    ap (λ t. maximum (cond t (working_length view list cell ∷ []) [])) corner
+    ∙ ap (λ t. maximum (cond t (length (way_end (gridded view) (whole view list) s).list) 0 ∷ [])) works in
     omega (arith, one, here)

@@ -10,7 +10,8 @@ use Rattle.kuhn_cells.specs.declared.grid_size.GridSize.{GridSize}
 use Rattle.live_clauses.specs.declared.step.Step.{Step}
 use Rattle.view_settings.specs.Boxes.{Indices}
 use Rattle.view_settings.specs.Window.{Window}
-use Rattle.oct_descent.specs.Bound.{CountsAtLeast, CountsHullsAtLeast, greatest, least, long_spans_in, mesh_least, mesh_long_spans, mesh_points, mesh_spans, spans_in}
+use Rattle.oct_descent.specs.Bound.{CountsAtLeast, CountsHullsAtLeast, least, long_spans_in, mesh_least, mesh_long_spans, mesh_points, mesh_spans, spans_in}
+use Rattle.box_chains.specs.Sums.{maximum}
 use Rattle.oct_descent.specs.Corners.{is_mixed, places_to, side_seen}
 use Rattle.oct_descent.specs.GridValues.{grid_of, grid_value}
 use Rattle.oct_descent.specs.declared.seen.Seen.{Seen}
@@ -163,7 +164,7 @@ least_first = refl
 least_last : least (7 ∷ 5 ∷ 2 ∷ []) ≡ 2
 least_last = refl
 
-greatest_within : greatest (2 ∷ 7 ∷ 5 ∷ []) ≡ 7
+greatest_within : maximum (2 ∷ 7 ∷ 5 ∷ []) ≡ 7
 greatest_within = refl
 
 -- ---- the values of a grid

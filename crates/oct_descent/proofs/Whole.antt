@@ -15,7 +15,8 @@ use Rattle.view_settings.specs.Spans.{root_of}
 use Rattle.view_settings.specs.Window.{Window}
 use Rattle.view_settings.specs.declared.lattice.Lattice.TheVariants as lattices
 use Rattle.oct_descent.proofs.Sizes.{size-from, size-is, size-then}
-use Rattle.oct_descent.specs.Bound.{CountsAtLeast, greatest, least, lengths_at, mesh_least, mesh_points, mesh_spans, points_of_grid, working_lengths}
+use Rattle.oct_descent.specs.Bound.{CountsAtLeast, least, lengths_at, mesh_least, mesh_points, mesh_spans, points_of_grid, working_lengths}
+use Rattle.box_chains.specs.Sums.{maximum}
 use Rattle.oct_descent.specs.GridValues.{grid_value}
 use Rattle.oct_descent.specs.Sizes.{size_of}
 use Rattle.oct_descent.specs.Tables.{AreSettled, AreWorked, ChargesBox, Grows, IsNew, PaysBox, PointValues, is_known, known_at, left}
@@ -29,16 +30,16 @@ left-all laws f t none =
     laws.sums.same (points_of_grid t.n) (λ s. cond (is_known (known_at t (point s.i s.j s.k))) 0 (f (point s.i s.j s.k))) (λ s. f (point s.i s.j s.k))
     (λ s lies. ap (λ o. cond (is_known o) 0 (f (point s.i s.j s.k))) (none (point s.i s.j s.k)))
 
-mesh-left : (laws : Lawful) (view : Window) (list : List Step) (t : PointValues) → t.n ≡ size_of view → ((p : GridPoint) → known_at t p ≡ None) → left (λ p. greatest (lengths_at view list p)) t ≡ mesh_points view list
+mesh-left : (laws : Lawful) (view : Window) (list : List Step) (t : PointValues) → t.n ≡ size_of view → ((p : GridPoint) → known_at t p ≡ None) → left (λ p. maximum (lengths_at view list p)) t ≡ mesh_points view list
 unfolding mesh_points
 mesh-left laws view list t same none =
-    left-all laws (λ p. greatest (lengths_at view list p)) t none ∙ ap (λ n. sum_in (points_of_grid n) (λ s. greatest (lengths_at view list (point s.i s.j s.k)))) same
+    left-all laws (λ p. maximum (lengths_at view list p)) t none ∙ ap (λ n. sum_in (points_of_grid n) (λ s. maximum (lengths_at view list (point s.i s.j s.k)))) same
 
 -- the work of the box of all cells is within that of the grid
 pub whole-counted : (laws : Lawful) (view other : Window) (list : List Step) (b : Indices) (before after : PointValues) (told now : Counts) → other ≡ view → b ≡ root_of view lattices.Grid → before.n ≡ size_of view
     → ((p : GridPoint) → known_at before p ≡ None) → ChargesBox (gridded other) (visit b list) before after told now → CountsAtMost (mesh_points view list) (mesh_spans view list) told now
 whole-counted laws view other list b before after told now same root n none charges =
-    let f : GridPoint → ℕ = λ p. greatest (lengths_at view list p) in
+    let f : GridPoint → ℕ = λ p. maximum (lengths_at view list p) in
     let here = subst (λ v. ChargesBox (gridded v) (visit (root_of view lattices.Grid) list) before after told now) same (subst (λ c. ChargesBox (gridded other) (visit c list) before after told now) root charges) in
     let h = here f (points_suffice view list) in
     laws.bounds.more told now h.points (mesh_spans view list) (mesh_points view list) (mesh_spans view list) (omega (arith, h.enough, mesh-left laws view list before n none)) (omega arith) h.counts

@@ -1,9 +1,9 @@
 -- The work that the cells of a grid take at most.
-use Rattle.std.specs.Prelude.{ℕ, ◌+◌, ◌≤◌, Bool, ◌&&◌, nat_le, List, [], ◌∷◌, length, max, min, if◌then◌else◌}
+use Rattle.std.specs.Prelude.{ℕ, ◌+◌, ◌≤◌, Bool, ◌&&◌, nat_le, List, [], ◌∷◌, length, min, if◌then◌else◌}
 use Rattle.std.specs.List.{sum_by}
 use Rattle.box_chains.specs.Chains.{Visit, is_long}
 use Rattle.box_chains.specs.Counts.{first_lengths, is_first}
-use Rattle.box_chains.specs.Sums.{Sample, sum_in}
+use Rattle.box_chains.specs.Sums.{Sample, maximum, sum_in}
 use Rattle.box_chains.specs.Tallied.{CountsAtMost}
 use Rattle.fixed_ops.specs.Counts.{Counts, RisesBy}
 use Rattle.kuhn_cells.specs.Grids.{over_block}
@@ -39,11 +39,6 @@ long_spans_in d v = sum_in v.box (λ s. long_lengths d s (way d v s))
 abbrev pub mesh_long_spans : Window → List Step → ℕ
 mesh_long_spans view list = long_spans_in (gridded view) (whole view list)
 
--- the greatest of some numbers, 0 where there is none
-abbrev pub greatest : List ℕ → ℕ
-greatest [] = 0
-greatest (n ∷ ns) = max n (greatest ns)
-
 -- a cell, as what a way leads to
 abbrev pub sample_of : GridPoint → Sample
 sample_of p = record { i = p.x; j = p.y; k = p.z }
@@ -78,7 +73,7 @@ points_of_grid n =
 -- cell receives that has it as a corner.
 unfoldable pub mesh_points : Window → List Step → ℕ
 mesh_points view list =
-    sum_in (points_of_grid (size_of view)) (λ s. greatest (lengths_at view list (point s.i s.j s.k)))
+    sum_in (points_of_grid (size_of view)) (λ s. maximum (lengths_at view list (point s.i s.j s.k)))
 
 -- the least of some numbers, 0 where there is none
 abbrev pub least : List ℕ → ℕ

@@ -46,6 +46,5 @@ returns-in-Replay g c =
       script = λ is. refl;
       unwritten = λ other. absurd (other refl);
       counted = λ other. absurd (other refl);
-      commands = λ is. r.commands;
       stops = λ is. r.stops;
     })
