@@ -4,6 +4,8 @@ use Rattle.view_settings.specs.Words.{job_of}
 use Rattle.view_settings.specs.declared.job.Job.{Job}
 use Rattle.view_settings.specs.declared.job.Job.TheVariants as jobs
 use Rattle.view_settings.specs.declared.word_fault.WordFault.{WordFault}
+use Rattle.modeller_cmd.specs.declared.reads.Reads.{Reads}
+use Rattle.modeller_cmd.specs.declared.reads.Reads.TheVariants.{Nothing, Model, Script}
 use Rattle.modeller_cmd.specs.declared.refusal.Refusal.{Refusal}
 use Rattle.modeller_cmd.specs.declared.refusal.Refusal.TheVariants.{Words}
 
@@ -20,15 +22,24 @@ asked words = by (job_of words)
 abbrev pub WritesAtOnce : List (List ℕ) → Type 0
 WritesAtOnce words = asked words ≢ Ok jobs.Replay
 
+-- what a job reads
+abbrev pub reads : Job → Reads
+reads (jobs.Render view) = Model
+reads (jobs.Height view) = Model
+reads (jobs.Mesh view) = Model
+reads (jobs.Count view) = Model
+reads jobs.Text = Model
+reads jobs.Replay = Script
+reads (jobs.Forge forge) = Nothing
+
 -- a job that makes its own solid, and has no input
 abbrev pub reads_nothing : Job → Bool
-reads_nothing (jobs.Render view) = false
-reads_nothing (jobs.Height view) = false
-reads_nothing (jobs.Mesh view) = false
-reads_nothing (jobs.Count view) = false
-reads_nothing jobs.Text = false
-reads_nothing jobs.Replay = false
-reads_nothing (jobs.Forge forge) = true
+reads_nothing job = by (reads job)
+  where
+    by : Reads → Bool
+    by Nothing = true
+    by Model = false
+    by Script = false
 
 -- the words ask for nothing of the source
 abbrev pub asks_nothing : List (List ℕ) → Bool

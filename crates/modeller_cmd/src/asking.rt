@@ -2,8 +2,9 @@
 ghost use Rattle.std.specs.Prelude.{◌≡◌, Ok, Err, IfOk};
 ghost use Rattle.view_settings.specs.Settings.{IsJob};
 ghost use Rattle.view_settings.specs.Words.{bytes_of};
-ghost use Rattle.modeller_cmd.specs.Asking.{asked, asks_nothing, reads_nothing};
+ghost use Rattle.modeller_cmd.specs.Asking.{asked, asks_nothing, reads, reads_nothing};
 
+use crate::reads::Reads;
 use crate::refusal::Refusal;
 use view_settings::{Job, read_words};
 
@@ -19,13 +20,13 @@ pub fn read_job(words: &[String]) -> Result<Job, Refusal>
     }
 }
 
-/// A job makes its own solid, and nothing is read for it.
-pub fn reads_nothing(job: &Job) -> bool
-    ensures { result ≡ reads_nothing job.now }
+/// What a job reads: the table of the jobs.
+pub fn reads(job: &Job) -> Reads
+    ensures { result ≡ reads job.now }
 {
     match job {
-        Job::Render(_) | Job::Height(_) | Job::Mesh(_) | Job::Count(_) | Job::Text | Job::Replay =>
-            false,
-        Job::Forge(_) => true,
+        Job::Render(_) | Job::Height(_) | Job::Mesh(_) | Job::Count(_) | Job::Text => Reads::Model,
+        Job::Replay => Reads::Script,
+        Job::Forge(_) => Reads::Nothing,
     }
 }

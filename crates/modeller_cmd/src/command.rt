@@ -17,11 +17,12 @@ ghost use Rattle.modeller_cmd.specs.Stopping.{StopsPlay, StopsRun};
 ghost use Rattle.model_frames.specs.Work.{CountsWithin, CountsWork, PointsRiseAtMost};
 
 use crate::Status;
-use crate::asking::{read_job, reads_nothing};
+use crate::asking::{read_job, reads};
 use crate::count::count;
 use crate::drawing::draw;
 use crate::forge::forge;
 use crate::note::note_of;
+use crate::reads::Reads;
 use crate::replay::replay;
 use crate::stop::Stop;
 use edit_script::draws_may_be_drawn;
@@ -267,11 +268,13 @@ fn read_input<S: Source>(alloc: Global, job: &Job, source: &mut S) -> Result<Vec
         → S.taken source.new < last_count → result ≡ Err ReadEnd.TooLong }
     ensures lost { LosesAtMost S.rest S.taken source.old source.new (input_limit + 1) }
 {
-    if reads_nothing(job) {
-        return Ok(Vec::new(alloc));
+    match reads(job) {
+        Reads::Nothing => Ok(Vec::new(alloc)),
+        Reads::Model | Reads::Script => {
+            let input = read_all(alloc, source, INPUT_LIMIT)?;
+            Ok(input)
+        }
     }
-    let input = read_all(alloc, source, INPUT_LIMIT)?;
-    Ok(input)
 }
 
 // Does a job on an input, and writes what it makes: the table of the verbs. All memory is taken

@@ -10,6 +10,7 @@ mod forge;
 mod frame;
 mod line;
 mod note;
+mod reads;
 mod refusal;
 mod replay;
 mod send;
