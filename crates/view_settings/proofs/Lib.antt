@@ -1,9 +1,6 @@
-pub mod BoxLaws
 mod Examples
 pub mod GivenLaws
 pub mod GrammarLaws
 pub mod NameLaws
-pub mod SpanLaws
 mod WordExamples
 pub mod WordLaws
-pub mod WindowLaws

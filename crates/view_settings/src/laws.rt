@@ -1,22 +1,9 @@
 // What always holds of the definitions that the contracts cite.
 ghost use Rattle.view_settings.specs.Grammar.{GivenSettingsAreExact, RefusedWordIsExact};
-ghost use Rattle.view_settings.specs.Laws.{HalvesPart, RangesAreSpans, RangesHold};
-
-/// Each sample of a box lies in exactly one of its halves, and no other sample lies in any.
-pub fn halves_part()
-    ensures { HalvesPart }
-{}
 
 /// The settings of words are those that the words give, one by one, each after those before it. The
 /// word that is refused is the first that gives none.
 pub fn words_are_exact()
     ensures given { GivenSettingsAreExact }
     ensures refused { RefusedWordIsExact }
-{}
-
-/// The range of places along an axis has the least and the greatest place of its samples as its
-/// ends, which are raw numbers in order.
-pub fn ranges_hold()
-    ensures ends { RangesHold }
-    ensures spans { RangesAreSpans }
 {}
