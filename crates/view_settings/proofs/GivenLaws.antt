@@ -23,7 +23,7 @@ use Rattle.view_settings.specs.Kinds.{kind_of, greatest_of}
 use Rattle.view_settings.specs.Names.{is_same, number_of}
 use Rattle.view_settings.specs.Setting.{IsSetting, IsValue, is_given}
 use Rattle.view_settings.specs.Settings.{Given, AreSettings, value_given, count_or, is_empty, mesh_job, settled, window_of}
-use Rattle.view_settings.specs.Window.{Window, IsCount}
+use Rattle.view_places.specs.Window.{Window, IsCount}
 use Rattle.view_settings.proofs.NameLaws.{same_names, number_of-below}
 
 -- a value that a setting of this name may have

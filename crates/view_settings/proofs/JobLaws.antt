@@ -25,10 +25,9 @@ use Rattle.view_settings.specs.Kinds.{greatest_of, kind_of}
 use Rattle.view_settings.specs.Names.{name_called}
 use Rattle.view_settings.specs.Setting.{IsSetting, IsValue, is_given, known, parts_of, setting_of, value_read}
 use Rattle.view_settings.specs.Settings.{Given, IsJob, begun, count_or, finished, is_empty, job_with, mesh_job, minus_one, one, raw_or, settled, value_given, window_of}
-use Rattle.view_settings.specs.Window.{AreEnds, IsCount, IsWindow, Window, fits_mesh}
+use Rattle.view_settings.specs.Window.{AreEnds, FitsMesh, IsCount, IsWindow, Window, fits_mesh, has_room}
 use Rattle.view_settings.specs.Words.{after_words}
 use Rattle.view_settings.proofs.GivenLaws.{count_range, each-push, given_count, given_raw, height_columns, height_rows}
-use Rattle.view_settings.proofs.WindowLaws.{fits_mesh_is}
 
 -- Numerals mean raw numbers.
 
@@ -228,6 +227,28 @@ window-is verb settings each order =
           (record { some = omega arith; few = omega arith });
     }
 
+-- The test of whether a mesh may be made.
+
+from-true : (b : Bool) → b ≡ true → T b
+from-true true e = tt
+from-true false e = absurd cc
+
+room-is : (low high : ℤ) (cells : ℕ) → has_room low high cells ≡ true
+    → pos (cells * 65536) ≤ℤ (high -ℤ low)
+unfolding has_room
+room-is low high cells e = le_z_yes (from-true _ e)
+
+fits-is : (v : Window) → fits_mesh v ≡ true → FitsMesh v
+fits-is v e =
+    let x = within-both (has_room v.x0 v.x1 v.n)
+    (has_room v.y0 v.y1 v.n && has_room v.z0 v.z1 v.n) e in
+    let others = within-both (has_room v.y0 v.y1 v.n) (has_room v.z0 v.z1 v.n) x.1 in
+    record {
+      x = room-is v.x0 v.x1 v.n x.0;
+      y = room-is v.y0 v.y1 v.n others.0;
+      z = room-is v.z0 v.z1 v.n others.1;
+    }
+
 -- The job of settings.
 
 mesh-is : (v : Window) (job : Job) → IsWindow v → mesh_job v ≡ Ok job → IsJob job
@@ -238,7 +259,7 @@ mesh-is v job window e = by (fits_mesh v) refl
     by true f =
         let got = rw f at e in
         let same : jobs.Mesh v ≡ job = cc in
-        subst IsJob same (window, (fits_mesh_is v).0 f)
+        subst IsJob same (window, fits-is v f)
 
 made-is : (verb : Verb) (settings : List Setting) (job : Job)
     → AllByRecursion (IsSetting verb) settings → IsWindow (window_of settings)

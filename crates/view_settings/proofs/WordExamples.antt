@@ -15,7 +15,7 @@ use Rattle.view_settings.specs.Kinds.{greatest_of, kind_of}
 use Rattle.view_settings.specs.Names.{name_called, names, number_of}
 use Rattle.view_settings.specs.Setting.{IsValue, setting_of, value_read}
 use Rattle.view_settings.specs.Verbs.{verb_named}
-use Rattle.view_settings.specs.Window.{Window, has_room}
+use Rattle.view_places.specs.Window.{Window, has_room}
 use Rattle.view_settings.specs.Words.{job_of}
 
 each_name_is_read : map name_called (codes "x0" ∷ codes "x1" ∷ codes "y0" ∷ codes "y1"

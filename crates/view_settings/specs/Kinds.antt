@@ -17,7 +17,15 @@ window_kind X0 = Some kinds.Numeral
 window_kind X1 = Some kinds.Numeral
 window_kind Y0 = Some kinds.Numeral
 window_kind Y1 = Some kinds.Numeral
-window_kind name = None
+window_kind Z0 = None
+window_kind Z1 = None
+window_kind Z = None
+window_kind W = None
+window_kind H = None
+window_kind D = None
+window_kind N = None
+window_kind Seed = None
+window_kind Solids = None
 
 -- a window, a height, columns and rows
 abbrev pub image_kind : Name → Option Kind

@@ -18,7 +18,7 @@ use Rattle.view_settings.specs.declared.word_fault.WordReason.TheVariants.{Empty
 use Rattle.view_settings.specs.Names.{is_same, number_of}
 use Rattle.view_settings.specs.Setting.{IsSetting, setting_of}
 use Rattle.view_settings.specs.Steps.{◌>>=◌}
-use Rattle.view_settings.specs.Window.{Window, IsWindow, IsCount, FitsHeight, FitsMesh, fits_mesh}
+use Rattle.view_places.specs.Window.{Window, IsWindow, IsCount, FitsHeight, FitsMesh, fits_mesh}
 
 -- a verb, and the settings that its words gave, in their order
 pub record Given : Type 0 where

@@ -1,6 +1,6 @@
 // What is forged.
 
-use crate::View;
+use view_places::View;
 
 /// A model to be made, and the view in which it is drawn.
 #[derive(Clone, Copy, Debug, PartialEq, Eq)]

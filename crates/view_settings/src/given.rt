@@ -5,11 +5,12 @@ ghost use Rattle.fixed_ops.specs.Raw.{IsRaw};
 ghost use Rattle.view_settings.specs.Kinds.{greatest_of};
 ghost use Rattle.view_settings.specs.Setting.{IsSetting};
 ghost use Rattle.view_settings.specs.Settings.{IsJob, count_or, is_empty, mesh_job, raw_or, settled, value_given, window_of};
-ghost use Rattle.view_settings.specs.Window.{FitsHeight, IsCount, IsWindow};
+ghost use Rattle.view_places.specs.Window.{FitsHeight, IsCount, IsWindow};
 
 use crate::name::Name;
 use crate::setting::{Setting, Value};
-use crate::{Forge, Job, Verb, View, WordReason};
+use crate::{Forge, Job, Verb, WordReason};
+use view_places::View;
 
 // The raw number of 1.
 const ONE: i64 = 1 << 32;

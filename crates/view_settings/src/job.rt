@@ -1,6 +1,7 @@
 // What words ask for.
 
-use crate::{Forge, View};
+use crate::Forge;
+use view_places::View;
 
 /// What words ask for.
 #[derive(Clone, Copy, Debug, PartialEq, Eq)]

@@ -97,6 +97,14 @@ fn window_kind(name: Name) -> Option<Kind>
 {
     match name {
         Name::X0 | Name::X1 | Name::Y0 | Name::Y1 => Some(Kind::Numeral),
-        _ => None,
+        Name::Z0
+        | Name::Z1
+        | Name::Z
+        | Name::W
+        | Name::H
+        | Name::D
+        | Name::N
+        | Name::Seed
+        | Name::Solids => None,
     }
 }

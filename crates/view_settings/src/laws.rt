@@ -1,12 +1,6 @@
 // What always holds of the definitions that the contracts cite.
 ghost use Rattle.view_settings.specs.Grammar.{GivenSettingsAreExact, JobsHold, RefusedWordIsExact};
-ghost use Rattle.view_settings.specs.Laws.{HalvesPart, RangesAreSpans, RangesHold};
 ghost use Rattle.view_settings.specs.Reasons.{WordReasonsAreLowest};
-
-/// Each sample of a box lies in exactly one of its halves, and no other sample lies in any.
-pub fn halves_part()
-    ensures { HalvesPart }
-{}
 
 /// The settings of words are those that the words give, one by one, each after those before it. The
 /// word that is refused is the first that gives none.
@@ -23,11 +17,4 @@ pub fn jobs_hold()
 /// A word is refused for the lowest reason that holds in it, and gives a setting where none does.
 pub fn word_reasons_are_lowest()
     ensures { WordReasonsAreLowest }
-{}
-
-/// The range of places along an axis has the least and the greatest place of its samples as its
-/// ends, which are raw numbers in order.
-pub fn ranges_hold()
-    ensures ends { RangesHold }
-    ensures spans { RangesAreSpans }
 {}

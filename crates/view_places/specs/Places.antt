@@ -1,15 +1,15 @@
 -- Where samples lie.
 use Rattle.std.specs.Prelude.{ℕ, ◌-◌, ℤ}
 use Rattle.fixed_ops.specs.Points.{Point}
-use Rattle.view_settings.specs.declared.axis_samples.AxisSamples.{AxisSamples}
-use Rattle.view_settings.specs.declared.course.Course.{Course}
-use Rattle.view_settings.specs.declared.course.Course.TheVariants.{Rising, Falling, Level}
-use Rattle.view_settings.specs.declared.lattice.Axis.{Axis}
-use Rattle.view_settings.specs.declared.lattice.Axis.TheVariants.{X, Y, Z}
-use Rattle.view_settings.specs.declared.lattice.Lattice.{Lattice}
-use Rattle.view_settings.specs.declared.lattice.Lattice.TheVariants.{Raster, Height, Grid}
-use Rattle.view_settings.specs.Samples.{place_on}
-use Rattle.view_settings.specs.Window.{Window}
+use Rattle.view_places.specs.declared.axis_samples.AxisSamples.{AxisSamples}
+use Rattle.view_places.specs.declared.course.Course.{Course}
+use Rattle.view_places.specs.declared.course.Course.TheVariants.{Rising, Falling, Level}
+use Rattle.view_places.specs.declared.lattice.Axis.{Axis}
+use Rattle.view_places.specs.declared.lattice.Axis.TheVariants.{X, Y, Z}
+use Rattle.view_places.specs.declared.lattice.Lattice.{Lattice}
+use Rattle.view_places.specs.declared.lattice.Lattice.TheVariants.{Raster, Height, Grid}
+use Rattle.view_places.specs.Samples.{place_on}
+use Rattle.view_places.specs.Window.{Window}
 
 -- the lower and the upper end of an axis of a view
 abbrev pub low_end : Window → Axis → ℤ

@@ -2,7 +2,7 @@
 use Rattle.std.specs.Prelude.{◌≡◌, ◌↔◌, ◌*◌, IsTrue, Bool, true, false, ◌&&◌, ◌≤ℤ◌, T, ℤ, ℕ, pos, ◌-ℤ◌}
 use Rattle.std.specs.Int.Signed.{le_z_yes}
 use Rattle.std.proofs.Common.{refl}
-use Rattle.view_settings.specs.Window.{Window, FitsMesh, fits_mesh, has_room}
+use Rattle.view_places.specs.Window.{Window, FitsMesh, fits_mesh, has_room}
 
 to_true : (b : Bool) → T b → b ≡ true
 to_true true t = refl

@@ -2,7 +2,7 @@
 ghost use Rattle.std.specs.Prelude.{◌≡◌, ◌+◌, ◌-◌, ◌<◌, ◌≤◌, ◌++◌, nat_lt, Some, None, if◌then◌else◌};
 ghost use Rattle.std.specs.List.{flat_map};
 ghost use Rattle.arrayvec.specs.ArrayVec.{array_vec_len};
-ghost use Rattle.view_settings.specs.Boxes.{halves_of, halves_x, halves_y, middle as middle_of};
+ghost use Rattle.view_places.specs.Boxes.{halves_of, halves_x, halves_y, middle as middle_of};
 
 use arrayvec::ArrayVec;
 use std::marker::Model;
@@ -26,7 +26,7 @@ pub struct IndexBox {
 }
 
 impl Model for IndexBox {
-    ghost use Rattle.view_settings.specs.Boxes.{Indices, IsBox};
+    ghost use Rattle.view_places.specs.Boxes.{Indices, IsBox};
 
     ghost Value = { Indices };
 
@@ -59,7 +59,7 @@ impl Model for IndexBox {
 }
 
 impl Default for IndexBox {
-    ghost use Rattle.view_settings.specs.Boxes.{one_sample};
+    ghost use Rattle.view_places.specs.Boxes.{one_sample};
 
     ghost is_default = { λ b. b ≡ one_sample };
 

@@ -1,6 +1,6 @@
 // A window onto a solid, and how finely it is sampled.
 ghost use Rattle.std.specs.Prelude.{◌≡◌, ◌↔◌, IsTrue};
-ghost use Rattle.view_settings.specs.Window.{AreEnds, IsCount, has_room as has_room_for};
+ghost use Rattle.view_places.specs.Window.{AreEnds, IsCount, has_room as has_room_for};
 
 use std::marker::Model;
 
@@ -34,7 +34,7 @@ pub struct View {
 }
 
 impl Model for View {
-    ghost use Rattle.view_settings.specs.Window.{Window, IsWindow};
+    ghost use Rattle.view_places.specs.Window.{Window, IsWindow};
 
     ghost Value = { Window };
 
@@ -82,7 +82,7 @@ impl Model for View {
 }
 
 impl View {
-    ghost use Rattle.view_settings.specs.Window.{FitsHeight, FitsMesh, IsWindow, fits_mesh};
+    ghost use Rattle.view_places.specs.Window.{FitsHeight, FitsMesh, IsWindow, fits_mesh};
 
     /// Whether a height map may be drawn of it: w and h are at most 1024.
     #[inline]

@@ -1,12 +1,12 @@
 -- What always holds of the halves of a box, and of the places of its samples.
 use Rattle.std.specs.Prelude.{◌≡◌, ℕ, ◌≤◌, count_by, if◌then◌else◌}
-use Rattle.view_settings.specs.declared.lattice.Axis.{Axis}
-use Rattle.view_settings.specs.declared.lattice.Lattice.{Lattice}
+use Rattle.view_places.specs.declared.lattice.Axis.{Axis}
+use Rattle.view_places.specs.declared.lattice.Lattice.{Lattice}
 use Rattle.interval_ops.specs.Spans.{IsSpan}
-use Rattle.view_settings.specs.Boxes.{Indices, halves_of, has_sample}
-use Rattle.view_settings.specs.Places.{steps_of}
-use Rattle.view_settings.specs.Spans.{IsRange, last_of, range_along}
-use Rattle.view_settings.specs.Window.{Window, IsWindow}
+use Rattle.view_places.specs.Boxes.{Indices, halves_of, has_sample}
+use Rattle.view_places.specs.Places.{steps_of}
+use Rattle.view_places.specs.Spans.{IsRange, last_of, range_along}
+use Rattle.view_places.specs.Window.{Window, IsWindow}
 
 -- each sample of a box lies in exactly one of its halves, and no other sample lies in any
 abbrev pub HalvesPart : Type 0

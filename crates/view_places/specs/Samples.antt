@@ -1,9 +1,9 @@
 -- The samples along an axis.
 use Rattle.std.specs.Prelude.{ℕ, ◌==◌, ℤ, pos, ◌+ℤ◌, ◌-ℤ◌, ◌*ℤ◌, if◌then◌else◌}
 use Rattle.fixed_ops.specs.Raw.{floor_div}
-use Rattle.view_settings.specs.declared.axis_samples.AxisSamples.{AxisSamples}
-use Rattle.view_settings.specs.declared.course.Course.{Course}
-use Rattle.view_settings.specs.declared.course.Course.TheVariants.{Rising, Falling, Level}
+use Rattle.view_places.specs.declared.axis_samples.AxisSamples.{AxisSamples}
+use Rattle.view_places.specs.declared.course.Course.{Course}
+use Rattle.view_places.specs.declared.course.Course.TheVariants.{Rising, Falling, Level}
 
 -- how far a sample lies from the first, where the last of so many steps lies this far, rounded down
 abbrev pub way : ℤ → ℕ → ℕ → ℤ

@@ -5,8 +5,8 @@ use Rattle.std.specs.List.{flat_map}
 use Rattle.std.proofs.lemmas.Bool.Decides.{nat_tests}
 use Rattle.std.proofs.lemmas.List.Concat.{flat_map-cons}
 use Rattle.std.proofs.lemmas.List.Sums.{sum_by-append}
-use Rattle.view_settings.specs.Boxes.{Indices, halves_x, halves_y, halves_z, has_sample, middle}
-use Rattle.view_settings.specs.Laws.{HalvesPart}
+use Rattle.view_places.specs.Boxes.{Indices, halves_x, halves_y, halves_z, has_sample, middle}
+use Rattle.view_places.specs.Laws.{HalvesPart}
 
 abbrev one : Bool → ℕ
 one b = cond b 1 0

@@ -1,7 +1,7 @@
 // Which places the samples of a box have.
 ghost use Rattle.std.specs.Prelude.{◌≡◌, ◌<◌, ◌≤◌};
-ghost use Rattle.view_settings.specs.Places.{steps_of};
-ghost use Rattle.view_settings.specs.Spans.{IsInRoot, last_of, range_along, region_of};
+ghost use Rattle.view_places.specs.Places.{steps_of};
+ghost use Rattle.view_places.specs.Spans.{IsInRoot, last_of, range_along, region_of};
 
 use crate::{Axis, IndexBox, Lattice, View, sample};
 use fixed_ops::le;

@@ -3,13 +3,13 @@ use Rattle.std.specs.Prelude.{◌≡◌, ℕ, ◌-◌, ◌≤◌, ℤ}
 use Rattle.std.specs.Int.{int_max, int_min}
 use Rattle.interval_ops.specs.declared.region.Region.{Region}
 use Rattle.interval_ops.specs.Spans.{Interval, Holds}
-use Rattle.view_settings.specs.declared.lattice.Axis.{Axis}
-use Rattle.view_settings.specs.declared.lattice.Axis.TheVariants.{X, Y, Z}
-use Rattle.view_settings.specs.declared.lattice.Lattice.{Lattice}
-use Rattle.view_settings.specs.declared.lattice.Lattice.TheVariants.{Raster, Height, Grid}
-use Rattle.view_settings.specs.Boxes.{Indices}
-use Rattle.view_settings.specs.Places.{place_of}
-use Rattle.view_settings.specs.Window.{Window}
+use Rattle.view_places.specs.declared.lattice.Axis.{Axis}
+use Rattle.view_places.specs.declared.lattice.Axis.TheVariants.{X, Y, Z}
+use Rattle.view_places.specs.declared.lattice.Lattice.{Lattice}
+use Rattle.view_places.specs.declared.lattice.Lattice.TheVariants.{Raster, Height, Grid}
+use Rattle.view_places.specs.Boxes.{Indices}
+use Rattle.view_places.specs.Places.{place_of}
+use Rattle.view_places.specs.Window.{Window}
 
 -- the box of all samples of a lattice; of a grid, the box of all its cells
 abbrev pub root_of : Window → Lattice → Indices

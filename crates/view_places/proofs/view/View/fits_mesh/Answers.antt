@@ -1,6 +1,6 @@
 use Rattle.std.proofs.Common.{rules}
-use Rattle.view_settings.proofs.WindowLaws.{tested}
-use Rattle.view_settings.proofs.view.View.fits_mesh.Goals as goal
+use Rattle.view_places.proofs.WindowLaws.{tested}
+use Rattle.view_places.proofs.view.View.fits_mesh.Goals as goal
 
 pub returns-then-has_room-2-clause-fits : goal.returns-then-has_room-2-clause-fits
 returns-then-has_room-2-clause-fits c = tested c.args.self.now _ (search rules)

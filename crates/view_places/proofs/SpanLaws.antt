@@ -5,15 +5,15 @@ use Rattle.std.proofs.lemmas.Int.{ints, clamps}
 use Rattle.std.proofs.lemmas.Nat.{le-div}
 use Rattle.std.proofs.Math.Nat.{mul-le-mul_left, mul-div_cancel, div-mul-le_self}
 use Rattle.fixed_ops.specs.Raw.{IsRaw}
-use Rattle.view_settings.specs.declared.lattice.Axis.{Axis}
-use Rattle.view_settings.specs.declared.lattice.Axis.TheVariants as axes
-use Rattle.view_settings.specs.declared.lattice.Lattice.{Lattice}
-use Rattle.view_settings.specs.declared.lattice.Lattice.TheVariants.{Raster, Height, Grid}
-use Rattle.view_settings.specs.Laws.{RangesAreSpans, RangesHold}
-use Rattle.view_settings.specs.Places.{place_of, steps_of}
-use Rattle.view_settings.specs.Samples.{place_up, place_down, way}
-use Rattle.view_settings.specs.Spans.{IsRange, last_of, range_along}
-use Rattle.view_settings.specs.Window.{Window, AreEnds, IsWindow}
+use Rattle.view_places.specs.declared.lattice.Axis.{Axis}
+use Rattle.view_places.specs.declared.lattice.Axis.TheVariants as axes
+use Rattle.view_places.specs.declared.lattice.Lattice.{Lattice}
+use Rattle.view_places.specs.declared.lattice.Lattice.TheVariants.{Raster, Height, Grid}
+use Rattle.view_places.specs.Laws.{RangesAreSpans, RangesHold}
+use Rattle.view_places.specs.Places.{place_of, steps_of}
+use Rattle.view_places.specs.Samples.{place_up, place_down, way}
+use Rattle.view_places.specs.Spans.{IsRange, last_of, range_along}
+use Rattle.view_places.specs.Window.{Window, AreEnds, IsWindow}
 
 either : (b : Bool) (x y : ℕ) → x ≤ y → cond b (pos 0) (pos x) ≤ℤ cond b (pos 0) (pos y)
 either true x y le = omega (arith, ints)

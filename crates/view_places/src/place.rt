@@ -1,9 +1,9 @@
 // Where samples lie.
 ghost use Rattle.std.specs.Prelude.{◌≡◌, ◌<◌, ◌≤◌};
 ghost use Rattle.fixed_ops.specs.Raw.{IsRaw};
-ghost use Rattle.view_settings.specs.Places.{place_of, samples_along as samples_along_of, steps_of};
-ghost use Rattle.view_settings.specs.Spans.{root_of};
-ghost use Rattle.view_settings.specs.Window.{AreEnds};
+ghost use Rattle.view_places.specs.Places.{place_of, samples_along as samples_along_of, steps_of};
+ghost use Rattle.view_places.specs.Spans.{root_of};
+ghost use Rattle.view_places.specs.Window.{AreEnds};
 
 use crate::{Axis, AxisSamples, Course, IndexBox, Lattice, View};
 use fixed_ops::Fx;

@@ -1,6 +1,6 @@
 -- The laws of ranges are lemmas.
-use Rattle.view_settings.proofs.SpanLaws.{ranges, spans}
-use Rattle.view_settings.proofs.laws.ranges_hold.Goals as goal
+use Rattle.view_places.proofs.SpanLaws.{ranges, spans}
+use Rattle.view_places.proofs.laws.ranges_hold.Goals as goal
 
 pub returns-clause-ends : goal.returns-clause-ends
 returns-clause-ends c = ranges

@@ -1,0 +1,260 @@
+-- Places and boxes, computed on views that were worked out by hand.
+use Rattle.std.proofs.Common.{◌≡◌, ℕ, zero, suc, pos, negsuc, ◌≤◌, [], ◌∷◌, true, false, refl, arith}
+use Rattle.std.specs.Prelude.{◌≤ℤ◌}
+use Rattle.fixed_ops.specs.Raw.{IsRaw, greatest, least}
+use Rattle.view_places.specs.declared.lattice.Axis.TheVariants as axes
+use Rattle.view_places.specs.declared.lattice.Lattice.TheVariants.{Raster, Height, Grid}
+use Rattle.view_places.specs.Boxes.{Indices, IsBox, middle, one_sample}
+use Rattle.view_places.specs.Places.{place_of, point_of, raster_point, steps_of}
+use Rattle.view_places.specs.Spans.{IsInRoot, IsPlaceAmong, region_of, root_of}
+use Rattle.view_places.specs.Window.{AreEnds, FitsHeight, IsCount, IsWindow, Window, fits_mesh, has_room}
+
+-- from -1 to 1, with this count along each axis
+abbrev counted : ℕ → Window
+counted n = record {
+  x0 = negsuc 4294967295;
+  x1 = pos 4294967296;
+  y0 = negsuc 4294967295;
+  y1 = pos 4294967296;
+  z0 = negsuc 4294967295;
+  z1 = pos 4294967296;
+  z = pos 0;
+  w = n;
+  h = n;
+  d = n;
+  n = n;
+}
+
+-- a third of 2^33 is not whole: columns are rounded down, and rows the other way
+column_rounds_down : place_of (counted 4) Raster axes.X 1 ≡ negsuc 1431655765
+column_rounds_down = refl
+
+row_rounds_up : place_of (counted 4) Raster axes.Y 1 ≡ pos 1431655766
+row_rounds_up = refl
+
+layer_rounds_down : place_of (counted 4) Height axes.Z 2 ≡ pos 1431655765
+layer_rounds_down = refl
+
+-- the rows of a mesh rise
+mesh_rows_rise : place_of (counted 3) Grid axes.Y 1 ≡ negsuc 1431655765
+mesh_rows_rise = refl
+
+-- a lone column lies at the lower end, a lone row at the upper one
+lone_sample : raster_point (counted 1) 0 0 ≡ record { x = negsuc 4294967295; y = pos 4294967296; z = pos 0 }
+lone_sample = refl
+
+last_sample : raster_point (counted 2) 1 1 ≡ record { x = pos 4294967296; y = negsuc 4294967295; z = pos 0 }
+last_sample = refl
+
+-- a mesh needs room along each axis
+room_everywhere : fits_mesh (counted 4) ≡ true
+unfolding has_room
+room_everywhere = refl
+
+no_room_along_x : fits_mesh (record (counted 4) { x0 = pos 5; x1 = pos 5 }) ≡ false
+unfolding has_room
+no_room_along_x = refl
+
+no_room_along_y : fits_mesh (record (counted 4) { y0 = pos 5; y1 = pos 5 }) ≡ false
+unfolding has_room
+no_room_along_y = refl
+
+no_room_along_z : fits_mesh (record (counted 4) { z0 = pos 5; z1 = pos 5 }) ≡ false
+unfolding has_room
+no_room_along_z = refl
+
+-- of 17 indices from 3 on the lower half has 9
+lower_half_has_the_odd_index : middle 3 20 ≡ 12
+lower_half_has_the_odd_index = refl
+
+-- a box has an index on each axis
+abbrev sides_to : ℕ → ℕ → ℕ → Indices
+sides_to x1 y1 z1 = record { x0 = 3; x1 = x1; y0 = 5; y1 = y1; z0 = 7; z1 = z1 }
+
+one_index_on_each : IsBox (sides_to 4 6 8)
+one_index_on_each = record { x = omega arith; y = omega arith; z = omega arith }
+
+none_along_x : IsBox (sides_to 3 6 8) → ⊥
+none_along_x h = omega (arith, h.x)
+
+none_along_y : IsBox (sides_to 4 5 8) → ⊥
+none_along_y h = omega (arith, h.y)
+
+none_along_z : IsBox (sides_to 4 6 7) → ⊥
+none_along_z h = omega (arith, h.z)
+
+-- an image of one pixel is the box of the one index 0 on each axis
+lone_pixel : root_of (counted 1) Raster ≡ one_sample
+lone_pixel = refl
+
+-- ---- a view whose axes differ: 3 columns, 4 rows, 5 layers and 6 cells
+
+abbrev uneven : Window
+uneven = record {
+  x0 = pos 10;
+  x1 = pos 17;
+  y0 = pos 20;
+  y1 = pos 50;
+  z0 = pos 100;
+  z1 = pos 400;
+  z = pos 9;
+  w = 3;
+  h = 4;
+  d = 5;
+  n = 6;
+}
+
+-- half of 7 along x, and two thirds of 30 from the top along y
+uneven_pixel : raster_point uneven 1 2 ≡ record { x = pos 13; y = pos 30; z = pos 9 }
+uneven_pixel = refl
+
+-- a third of 30 from the top along y, and three quarters of 300 along z
+uneven_layer : point_of uneven Height 1 1 3 ≡ record { x = pos 13; y = pos 40; z = pos 325 }
+uneven_layer = refl
+
+-- a sixth of 7, a third of 30 and two thirds of 300
+uneven_corner : point_of uneven Grid 1 2 4 ≡ record { x = pos 11; y = pos 30; z = pos 300 }
+uneven_corner = refl
+
+-- the samples of an image, of a height map and of a mesh, along each axis
+uneven_pixels : root_of uneven Raster ≡ record { x0 = 0; x1 = 3; y0 = 0; y1 = 4; z0 = 0; z1 = 1 }
+uneven_pixels = refl
+
+uneven_layers : root_of uneven Height ≡ record { x0 = 0; x1 = 3; y0 = 0; y1 = 4; z0 = 0; z1 = 5 }
+uneven_layers = refl
+
+uneven_cells : root_of uneven Grid ≡ record { x0 = 0; x1 = 6; y0 = 0; y1 = 6; z0 = 0; z1 = 6 }
+uneven_cells = refl
+
+-- the ranges of columns 1 and 2 and of rows 0 to 2, and those of the corners of some cells
+ranges_of_pixels : region_of uneven Raster (record { x0 = 1; x1 = 3; y0 = 0; y1 = 3; z0 = 0; z1 = 1 })
+    ≡ record {
+      x = record { lo = pos 13; hi = pos 17 };
+      y = record { lo = pos 30; hi = pos 50 };
+      z = record { lo = pos 9; hi = pos 9 };
+    }
+ranges_of_pixels = refl
+
+ranges_of_layers : region_of uneven Height (record { x0 = 1; x1 = 3; y0 = 0; y1 = 3; z0 = 1; z1 = 4 })
+    ≡ record {
+      x = record { lo = pos 13; hi = pos 17 };
+      y = record { lo = pos 30; hi = pos 50 };
+      z = record { lo = pos 175; hi = pos 325 };
+    }
+ranges_of_layers = refl
+
+ranges_of_cells : region_of uneven Grid (record { x0 = 1; x1 = 3; y0 = 2; y1 = 5; z0 = 0; z1 = 4 })
+    ≡ record {
+      x = record { lo = pos 11; hi = pos 13 };
+      y = record { lo = pos 30; hi = pos 45 };
+      z = record { lo = pos 100; hi = pos 300 };
+    }
+ranges_of_cells = refl
+
+-- a box lies in the root box up to its very ends, and no further along any axis
+abbrev layers_to : ℕ → ℕ → ℕ → Indices
+layers_to x1 y1 z1 = record { x0 = 0; x1 = x1; y0 = 0; y1 = y1; z0 = 0; z1 = z1 }
+
+box_of_all_layers : IsInRoot uneven Height (layers_to 3 4 5)
+box_of_all_layers = record { x = omega arith; y = omega arith; z = omega arith }
+
+box_too_wide : IsInRoot uneven Height (layers_to 4 4 5) → ⊥
+box_too_wide h = omega (arith, h.x)
+
+box_too_high : IsInRoot uneven Height (layers_to 3 5 5) → ⊥
+box_too_high h = omega (arith, h.y)
+
+box_too_deep : IsInRoot uneven Height (layers_to 3 4 6) → ⊥
+box_too_deep h = omega (arith, h.z)
+
+-- a height map has at most 1024 columns and 1024 rows
+height_map_of_most : FitsHeight (record uneven { w = 1024; h = 1024 })
+height_map_of_most = record { w = omega arith; h = omega arith }
+
+too_many_columns : FitsHeight (record uneven { w = 1025 }) → ⊥
+too_many_columns h = omega (arith, h.w)
+
+too_many_rows : FitsHeight (record uneven { h = 1025 }) → ⊥
+too_many_rows h = omega (arith, h.h)
+
+-- how many steps lie between the first and the last sample of each axis
+steps_of_pixels : steps_of uneven Raster axes.X ∷ steps_of uneven Raster axes.Y ∷ steps_of uneven Raster axes.Z ∷ []
+    ≡ 2 ∷ 3 ∷ 0 ∷ []
+steps_of_pixels = refl
+
+steps_of_layers : steps_of uneven Height axes.X ∷ steps_of uneven Height axes.Y ∷ steps_of uneven Height axes.Z ∷ []
+    ≡ 2 ∷ 3 ∷ 4 ∷ []
+steps_of_layers = refl
+
+steps_of_cells : steps_of uneven Grid axes.X ∷ steps_of uneven Grid axes.Y ∷ steps_of uneven Grid axes.Z ∷ []
+    ≡ 6 ∷ 6 ∷ 6 ∷ []
+steps_of_cells = refl
+
+-- columns 1 and 2 are at 13 and 17: neither the place of column 0 is among them nor one between
+place_before : IsPlaceAmong uneven Raster axes.X 1 2 (pos 10) → ⊥
+place_before h = by h.index h.above h.below h.is
+  where
+    by : (i : ℕ) → 1 ≤ i → i ≤ 2 → place_of uneven Raster axes.X i ≡ pos 10 → ⊥
+    by zero some few e = omega (arith, some)
+    by (suc zero) some few e = cc
+    by (suc (suc zero)) some few e = cc
+    by (suc (suc (suc i))) some few e = omega (arith, few)
+
+-- ---- what a view keeps
+
+largest_ends : AreEnds least greatest
+largest_ends = record {
+  low_raw = (record { le = tt }, record { le = tt });
+  high_raw = (record { le = tt }, record { le = tt });
+  ordered = record { le = tt };
+}
+
+largest_window : IsWindow (record {
+  x0 = least;
+  x1 = greatest;
+  y0 = least;
+  y1 = greatest;
+  z0 = least;
+  z1 = greatest;
+  z = least;
+  w = 4096;
+  h = 4096;
+  d = 1024;
+  n = 256;
+})
+largest_window = record {
+  x = largest_ends;
+  y = largest_ends;
+  z_ends = largest_ends;
+  z = (record { le = tt }, record { le = tt });
+  w = record { some = omega arith; few = omega arith };
+  h = record { some = omega arith; few = omega arith };
+  d = record { some = omega arith; few = omega arith };
+  n = record { some = omega arith; few = omega arith };
+}
+
+-- the ends of an axis may be one place, and a count may be 1
+lone_place : AreEnds (pos 10) (pos 10)
+lone_place = record {
+  low_raw = (record { le = tt }, record { le = tt });
+  high_raw = (record { le = tt }, record { le = tt });
+  ordered = record { le = tt };
+}
+
+lone_count : IsCount 256 1
+lone_count = record { some = omega arith; few = omega arith }
+
+no_window_has_more : (v : Window) → IsWindow v → (v.w ≤ 4096) × (v.h ≤ 4096) × (v.d ≤ 1024) × (v.n ≤ 256)
+no_window_has_more v is = (is.w.few, is.h.few, is.d.few, is.n.few)
+
+none_has_none : (v : Window) → IsWindow v → (1 ≤ v.w) × (1 ≤ v.h) × (1 ≤ v.d) × (1 ≤ v.n)
+none_has_none v is = (is.w.some, is.h.some, is.d.some, is.n.some)
+
+ends_are_in_order : (v : Window) → IsWindow v → (v.x0 ≤ℤ v.x1) × (v.y0 ≤ℤ v.y1) × (v.z0 ≤ℤ v.z1)
+ends_are_in_order v is = (is.x.ordered, is.y.ordered, is.z_ends.ordered)
+
+lower_ends_are_raw : (v : Window) → IsWindow v → IsRaw v.x0 × IsRaw v.y0 × IsRaw v.z0 × IsRaw v.z
+lower_ends_are_raw v is = (is.x.low_raw, is.y.low_raw, is.z_ends.low_raw, is.z)
+
+upper_ends_are_raw : (v : Window) → IsWindow v → IsRaw v.x1 × IsRaw v.y1 × IsRaw v.z1
+upper_ends_are_raw v is = (is.x.high_raw, is.y.high_raw, is.z_ends.high_raw)

@@ -1,0 +1,4 @@
+pub mod BoxLaws
+mod Examples
+pub mod SpanLaws
+pub mod WindowLaws
