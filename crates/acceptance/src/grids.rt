@@ -6,7 +6,7 @@ use live_clauses::{Tape, root_tape};
 use oct_descent::{cell_list, cells};
 use std::alloc::Global;
 use std::test::Fail;
-use view_settings::View;
+use view_places::View;
 
 const HALF: i64 = 1 << 31;
 

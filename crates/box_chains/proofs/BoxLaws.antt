@@ -6,8 +6,8 @@ use Rattle.std.proofs.lemmas.List.Concat.{flat_map-cons}
 use Rattle.std.proofs.lemmas.List.Elements.{All-append, All-contains, All-contains_itself, All-head, All-tail, All-weaker, Contains-append_cases, Contains-append_left, Contains-append_right}
 use Rattle.std.proofs.lemmas.List.Kept.{AllPairs-cons}
 use Rattle.std.proofs.lemmas.List.Sums.{sum_by-append, sum_by-cons}
-use Rattle.view_settings.specs.Boxes.{Indices, IsBox, halves_of, has_sample}
-use Rattle.view_settings.specs.Laws.{HalvesPart}
+use Rattle.view_places.specs.Boxes.{Indices, IsBox, halves_of, has_sample}
+use Rattle.view_places.specs.Laws.{HalvesPart}
 use Rattle.box_chains.proofs.ChainLaws.{box-has_sides, chain-begins, chain-ends, chain-goes_on, spans-end, spans-split, split-is_long}
 use Rattle.box_chains.specs.Chains.{Descent, Visit, chain, half_visit, half_with, is_split, next_visit, sides}
 use Rattle.box_chains.specs.Counts.{spans_in}

@@ -5,8 +5,8 @@ use Rattle.std.specs.List.{Contains, last_or, sum_by}
 use Rattle.std.proofs.lemmas.Bool.{false≢true}
 use Rattle.std.proofs.lemmas.List.Elements.{All-contains_itself, All-contains, All-weaker}
 use Rattle.std.proofs.lemmas.List.Sums.{sum_by-cons}
-use Rattle.view_settings.specs.Boxes.{Indices, IsBox, halves_of}
-use Rattle.view_settings.specs.Laws.{HalvesPart}
+use Rattle.view_places.specs.Boxes.{Indices, IsBox, halves_of}
+use Rattle.view_places.specs.Laws.{HalvesPart}
 use Rattle.box_chains.specs.Chains.{Descent, Visit, chain, chain_end, chain_within, decision, half_visit, half_with, is_long, is_split, next_visit, sides}
 use Rattle.box_chains.specs.Counts.{cost, end_cost, first_lengths, is_first, points_in, spans_in}
 use Rattle.box_chains.specs.Parts.{IsPart}

@@ -4,10 +4,10 @@ use Rattle.fixed_ops.specs.Counts.{Counts}
 use Rattle.fixed_ops.specs.declared.operation.Op.{Op}
 use Rattle.fixed_ops.specs.declared.operation.Op.TheVariants.{X, Y, Const, Neg, Sub, Max}
 use Rattle.live_clauses.specs.declared.step.Step.{Step}
-use Rattle.view_settings.specs.Window.{Window}
-use Rattle.view_settings.specs.Boxes.{Indices}
-use Rattle.view_settings.specs.declared.lattice.Axis.TheVariants as axes
-use Rattle.view_settings.specs.declared.lattice.Lattice.TheVariants.{Raster, Height, Grid}
+use Rattle.view_places.specs.Window.{Window}
+use Rattle.view_places.specs.Boxes.{Indices}
+use Rattle.view_places.specs.declared.lattice.Axis.TheVariants as axes
+use Rattle.view_places.specs.declared.lattice.Lattice.TheVariants.{Raster, Height, Grid}
 use Rattle.box_chains.specs.Chains.{Descent, chain_within, is_long}
 use Rattle.box_chains.specs.Counts.{points_in, root_visit, spans_in}
 use Rattle.box_chains.specs.Placing.{places_along}

@@ -7,8 +7,8 @@ use Rattle.std.proofs.lemmas.Bool.Decides.{nat_tests}
 use Rattle.std.proofs.lemmas.List.Concat.{flat_map-cons}
 use Rattle.std.proofs.lemmas.List.Elements.{All-append, All-cons, All-contains, All-head, All-nil, All-tail, All-weaker}
 use Rattle.std.proofs.lemmas.List.Sums.{sum_by-cons}
-use Rattle.view_settings.specs.Laws.{HalvesPart}
-use Rattle.view_settings.specs.Boxes.{Indices, IsBox, halves_of, halves_x, halves_y, halves_z, has_sample, middle}
+use Rattle.view_places.specs.Laws.{HalvesPart}
+use Rattle.view_places.specs.Boxes.{Indices, IsBox, halves_of, halves_x, halves_y, halves_z, has_sample, middle}
 use Rattle.box_chains.specs.Chains.{half_with, is_long, sides}
 use Rattle.box_chains.specs.Parts.{IsPart, IsPartAlong}
 use Rattle.box_chains.specs.Sums.{LiesIn, Sample}

@@ -10,11 +10,11 @@ use Rattle.interval_ops.specs.declared.choice.Choice.{Choice}
 use Rattle.live_clauses.specs.Choices.{lane}
 use Rattle.live_clauses.specs.Live.{live_of}
 use Rattle.live_clauses.specs.declared.step.Step.{Step}
-use Rattle.view_settings.specs.Boxes.{Indices}
+use Rattle.view_places.specs.Boxes.{Indices}
 use Rattle.std.specs.List.{All, range_with_len}
 use Rattle.std.proofs.lemmas.List.FromFn.{get_or-map-range_with_len, length-range_with_len}
 use Rattle.interval_ops.specs.declared.region.Region.{Region}
-use Rattle.view_settings.specs.Spans.{IsInRoot, region_of}
+use Rattle.view_places.specs.Spans.{IsInRoot, region_of}
 use Rattle.choice_trace.specs.Halves.{region_in}
 use Rattle.choice_trace.specs.Hulls.{choices_over, hull_in, tape_hull}
 use Rattle.box_chains.specs.Outcomes.{AreInRoot, asked_outcome, asked_outcomes, held_decision, held_in, lane_outcome, outcome_by, outcomes_of, plain_box}

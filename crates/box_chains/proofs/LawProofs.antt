@@ -3,8 +3,8 @@ use Rattle.std.proofs.Common.{◌≡◌, ◌+◌, ◌*◌, Bool, true, false, co
 use Rattle.std.specs.List.{sum_by}
 use Rattle.fixed_ops.specs.Laws.{TalliesAddUp}
 use Rattle.fixed_ops.specs.Raw.{is_inside}
-use Rattle.view_settings.specs.Boxes.{halves_of}
-use Rattle.view_settings.specs.Laws.{HalvesPart}
+use Rattle.view_places.specs.Boxes.{halves_of}
+use Rattle.view_places.specs.Laws.{HalvesPart}
 use Rattle.box_chains.proofs.HalfLaws.{half_with-among, half_with-is, half_with-part, halves-are_parts, has-lies, lies-has, part-is_box, part-is_shorter, part-lies}
 use Rattle.box_chains.proofs.SumLaws.{along-parts, along-same, sum_in-const, sum_in-first, sum_in-halves, sum_in-plus, sum_in-same, upto-const}
 use Rattle.box_chains.proofs.TallyLaws.{exactly-hulls, exactly-none, exactly-points, exactly-then, most-after, most-exactly, most-hulls, most-more, most-none, most-points, most-then}

@@ -2,10 +2,10 @@
 use Rattle.std.proofs.Common.{◌≡◌, ◌+◌, ◌<◌, ◌≤◌, ℕ, ℤ, List, [], ◌∷◌, ◌++◌, get_or, length, map, ap, sym, ◌∙◌, arith}
 use Rattle.std.specs.List.{range_with_len}
 use Rattle.std.proofs.lemmas.List.FromFn.{get_or-map-range_with_len, length-map-range_with_len, map-range_with_len_more}
-use Rattle.view_settings.specs.Places.{place_of, steps_of}
-use Rattle.view_settings.specs.Window.{Window}
-use Rattle.view_settings.specs.declared.lattice.Axis.{Axis}
-use Rattle.view_settings.specs.declared.lattice.Lattice.{Lattice}
+use Rattle.view_places.specs.Places.{place_of, steps_of}
+use Rattle.view_places.specs.Window.{Window}
+use Rattle.view_places.specs.declared.lattice.Axis.{Axis}
+use Rattle.view_places.specs.declared.lattice.Lattice.{Lattice}
 use Rattle.box_chains.specs.Placing.{places_along}
 
 -- there is one place a sample

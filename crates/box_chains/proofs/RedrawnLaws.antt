@@ -8,8 +8,8 @@ use Rattle.std.proofs.lemmas.List.Elements.{All-contains, All-contains_itself, A
 use Rattle.std.proofs.lemmas.List.Sums.{sum_by-cons}
 use Rattle.live_clauses.specs.Equality.{same_list}
 use Rattle.live_clauses.specs.Laws.{ListsAreToldApart}
-use Rattle.view_settings.specs.Boxes.{Indices, IsBox, halves_of}
-use Rattle.view_settings.specs.Laws.{HalvesPart}
+use Rattle.view_places.specs.Boxes.{Indices, IsBox, halves_of}
+use Rattle.view_places.specs.Laws.{HalvesPart}
 use Rattle.box_chains.specs.Chains.{Descent, Visit, chain, chain_end, chain_within, half_visit, half_with, is_split, next_visit, sides}
 use Rattle.box_chains.specs.Counts.{cost, end_cost, first_lengths, is_first, points_in, spans_in}
 use Rattle.box_chains.specs.Laws.{LayersHold, RedrawnWorkAddsUp}

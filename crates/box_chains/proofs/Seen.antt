@@ -7,8 +7,8 @@ use Rattle.std.proofs.Math.Seq.{take-append_seam}
 use Rattle.live_clauses.specs.Blocks.{list_at}
 use Rattle.live_clauses.specs.Live.{IsWhole}
 use Rattle.live_clauses.specs.declared.step.Step.{Step}
-use Rattle.view_settings.specs.Window.{Window}
-use Rattle.view_settings.specs.declared.lattice.Lattice.{Lattice}
+use Rattle.view_places.specs.Window.{Window}
+use Rattle.view_places.specs.declared.lattice.Lattice.{Lattice}
 use Rattle.box_chains.specs.Desks.{HasMore, Tracing}
 use Rattle.box_chains.specs.Outcomes.{AreFirst, AreSeen, HandsOn, IsHandedOn, all_seen, seen}
 use Rattle.box_chains.specs.declared.outcome.Outcome.{Outcome}

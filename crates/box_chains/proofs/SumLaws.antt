@@ -7,7 +7,7 @@ use Rattle.std.proofs.lemmas.List.Elements.{All-head, All-tail}
 use Rattle.std.proofs.lemmas.Bool.Decides.{nat_tests}
 use Rattle.std.proofs.lemmas.List.Concat.{flat_map-cons}
 use Rattle.std.proofs.lemmas.List.Sums.{sum_by-append, sum_by-cons}
-use Rattle.view_settings.specs.Boxes.{Indices, IsBox, halves_of, halves_x, halves_y, halves_z, middle}
+use Rattle.view_places.specs.Boxes.{Indices, IsBox, halves_of, halves_x, halves_y, halves_z, middle}
 use Rattle.box_chains.specs.Sums.{LiesIn, Sample, size, sum_along, sum_in}
 
 -- a sum over so many numbers from low on

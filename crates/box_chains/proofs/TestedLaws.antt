@@ -4,8 +4,8 @@ use Rattle.std.specs.Prelude.{nat_lt, ◌&&◌}
 use Rattle.std.specs.List.{sum_by}
 use Rattle.std.proofs.lemmas.List.Elements.{All-weaker}
 use Rattle.std.proofs.lemmas.List.Sums.{sum_by-cons}
-use Rattle.view_settings.specs.Boxes.{Indices, IsBox, halves_of}
-use Rattle.view_settings.specs.Laws.{HalvesPart}
+use Rattle.view_places.specs.Boxes.{Indices, IsBox, halves_of}
+use Rattle.view_places.specs.Laws.{HalvesPart}
 use Rattle.box_chains.specs.Chains.{Descent, Visit, chain, chain_end, half_visit, is_split, next_visit, sides}
 use Rattle.box_chains.specs.Counts.{cost, end_cost, is_first, points_in}
 use Rattle.box_chains.specs.Laws.{LayersHold, TestedWorkAddsUp}

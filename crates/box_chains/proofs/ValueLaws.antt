@@ -9,13 +9,13 @@ use Rattle.fixed_ops.specs.Raw.{is_inside}
 use Rattle.interval_ops.specs.Decided.{decided_of}
 use Rattle.interval_ops.specs.Spans.{Holds, Interval}
 use Rattle.live_clauses.specs.Steps.{IsTape, tape_value}
-use Rattle.view_settings.specs.Boxes.{Indices}
-use Rattle.view_settings.specs.Places.{steps_of}
-use Rattle.view_settings.specs.Spans.{IsInRoot, last_of, region_of}
-use Rattle.view_settings.specs.Window.{Window}
-use Rattle.view_settings.specs.declared.lattice.Axis.TheVariants as axes
-use Rattle.view_settings.specs.declared.lattice.Lattice.{Lattice}
-use Rattle.view_settings.specs.declared.lattice.Lattice.TheVariants.{Raster, Height, Grid}
+use Rattle.view_places.specs.Boxes.{Indices}
+use Rattle.view_places.specs.Places.{steps_of}
+use Rattle.view_places.specs.Spans.{IsInRoot, last_of, region_of}
+use Rattle.view_places.specs.Window.{Window}
+use Rattle.view_places.specs.declared.lattice.Axis.TheVariants as axes
+use Rattle.view_places.specs.declared.lattice.Lattice.{Lattice}
+use Rattle.view_places.specs.declared.lattice.Lattice.TheVariants.{Raster, Height, Grid}
 use Rattle.box_chains.specs.Chains.{Descent, Visit, decision, handed_on}
 use Rattle.box_chains.specs.Laws.{LayersHold}
 use Rattle.box_chains.specs.Sums.{LiesIn, Sample}

@@ -6,7 +6,7 @@ use Rattle.std.proofs.Math.Nat.{mul-le-mul, mul-le-mul_left, mul-le-mul_right}
 use Rattle.std.proofs.lemmas.List.Elements.{All-contains, All-contains_itself, All-head, All-tail, All-weaker}
 use Rattle.std.proofs.lemmas.List.Sums.{sum_by-cons}
 use Rattle.live_clauses.specs.Steps.{tape_value}
-use Rattle.view_settings.specs.Boxes.{Indices, IsBox, halves_of}
+use Rattle.view_places.specs.Boxes.{Indices, IsBox, halves_of}
 use Rattle.box_chains.proofs.ChainLaws.{box-has_sides, end-ends, end-goes_on, points-end, points-split, spans-end, spans-split, split-is_long}
 use Rattle.box_chains.specs.Chains.{Descent, Visit, chain_end, decision, half_visit, half_with, handed_on, is_split, next_visit, sides}
 use Rattle.box_chains.specs.Counts.{end_cost, points_in, spans_in}

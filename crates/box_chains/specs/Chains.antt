@@ -5,10 +5,10 @@ use Rattle.choice_trace.specs.Hulls.{choices_over, tape_hull}
 use Rattle.interval_ops.specs.Decided.{decided_of}
 use Rattle.live_clauses.specs.Live.{live_of}
 use Rattle.live_clauses.specs.declared.step.Step.{Step}
-use Rattle.view_settings.specs.Boxes.{Indices, halves_of, has_sample}
-use Rattle.view_settings.specs.Spans.{region_of}
-use Rattle.view_settings.specs.Window.{Window}
-use Rattle.view_settings.specs.declared.lattice.Lattice.{Lattice}
+use Rattle.view_places.specs.Boxes.{Indices, halves_of, has_sample}
+use Rattle.view_places.specs.Spans.{region_of}
+use Rattle.view_places.specs.Window.{Window}
+use Rattle.view_places.specs.declared.lattice.Lattice.{Lattice}
 use Rattle.box_chains.specs.Sums.{Sample}
 
 -- how boxes are looked into: the samples of a lattice over a view, and the longest side that is not halved

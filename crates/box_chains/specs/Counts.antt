@@ -2,8 +2,8 @@
 use Rattle.std.specs.Prelude.{ℕ, ◌*◌, ◌==◌, Bool, ◌&&◌, List, length, Option, Some, None, if◌then◌else◌}
 use Rattle.std.specs.List.{sum_by}
 use Rattle.live_clauses.specs.declared.step.Step.{Step}
-use Rattle.view_settings.specs.Boxes.{Indices, halves_of}
-use Rattle.view_settings.specs.Spans.{root_of}
+use Rattle.view_places.specs.Boxes.{Indices, halves_of}
+use Rattle.view_places.specs.Spans.{root_of}
 use Rattle.box_chains.specs.Chains.{Descent, Visit, chain, chain_end, decision, handed_on, is_long, sum_over}
 use Rattle.box_chains.specs.Sums.{Sample, size, sum_in}
 

@@ -3,10 +3,10 @@ use Rattle.std.specs.Prelude.{◌≡◌, ℕ, ◌<◌, ◌≤◌, List, length}
 use Rattle.live_clauses.specs.Blocks.{list_at}
 use Rattle.live_clauses.specs.Live.{IsWhole}
 use Rattle.live_clauses.specs.declared.step.Step.{Step}
-use Rattle.view_settings.specs.Boxes.{Indices, IsBox}
-use Rattle.view_settings.specs.Spans.{IsInRoot}
-use Rattle.view_settings.specs.Window.{Window}
-use Rattle.view_settings.specs.declared.lattice.Lattice.{Lattice}
+use Rattle.view_places.specs.Boxes.{Indices, IsBox}
+use Rattle.view_places.specs.Spans.{IsInRoot}
+use Rattle.view_places.specs.Window.{Window}
+use Rattle.view_places.specs.declared.lattice.Lattice.{Lattice}
 use Rattle.box_chains.specs.Outcomes.{AreFirst}
 use Rattle.box_chains.specs.Placing.{Sampling}
 use Rattle.box_chains.specs.declared.outcome.Outcome.{Outcome}

@@ -9,9 +9,9 @@ use Rattle.fixed_ops.specs.Raw.{is_inside}
 use Rattle.interval_ops.specs.HullCounts.{CountsHulls}
 use Rattle.live_clauses.specs.Laws.{ChoicesKeepTheValue, ListsAreToldApart, LiveListsAreTapes}
 use Rattle.live_clauses.specs.Steps.{IsTape, tape_value}
-use Rattle.view_settings.specs.Boxes.{Indices, IsBox, halves_of, has_sample}
-use Rattle.view_settings.specs.Laws.{HalvesPart, RangesAreSpans, RangesHold}
-use Rattle.view_settings.specs.Spans.{region_of}
+use Rattle.view_places.specs.Boxes.{Indices, IsBox, halves_of, has_sample}
+use Rattle.view_places.specs.Laws.{HalvesPart, RangesAreSpans, RangesHold}
+use Rattle.view_places.specs.Spans.{region_of}
 use Rattle.box_chains.specs.Chains.{Descent, Visit, chain, chain_end, decision, half_visit, half_with, handed_on, is_long, is_split, next_visit, sides}
 use Rattle.box_chains.specs.Counts.{end_cost, is_first, points_in, spans_in}
 use Rattle.box_chains.specs.Parts.{IsPart}

@@ -2,7 +2,7 @@
 use Rattle.std.specs.Prelude.{ℕ, List}
 use Rattle.std.specs.List.{sum_by}
 use Rattle.live_clauses.specs.declared.step.Step.{Step}
-use Rattle.view_settings.specs.Boxes.{Indices}
+use Rattle.view_places.specs.Boxes.{Indices}
 use Rattle.box_chains.specs.Chains.{Descent}
 use Rattle.box_chains.specs.Counts.{open_points, open_spans}
 use Rattle.box_chains.specs.Outcomes.{outcome_of}

@@ -11,8 +11,8 @@ use Rattle.interval_ops.specs.Decided.{decided_of}
 use Rattle.live_clauses.specs.Blocks.{list_at}
 use Rattle.live_clauses.specs.Live.{IsWhole, live_of}
 use Rattle.live_clauses.specs.declared.step.Step.{Step}
-use Rattle.view_settings.specs.Boxes.{Indices}
-use Rattle.view_settings.specs.Spans.{IsInRoot, region_of}
+use Rattle.view_places.specs.Boxes.{Indices}
+use Rattle.view_places.specs.Spans.{IsInRoot, region_of}
 use Rattle.box_chains.specs.Placing.{Sampling}
 use Rattle.box_chains.specs.declared.asked_box.AskedBox.{AskedBox}
 use Rattle.box_chains.specs.declared.outcome.Outcome.{Outcome}

@@ -1,6 +1,6 @@
 -- Parts of a box.
 use Rattle.std.specs.Prelude.{ℕ, ◌-◌, ◌<◌, ◌≤◌}
-use Rattle.view_settings.specs.Boxes.{Indices}
+use Rattle.view_places.specs.Boxes.{Indices}
 
 -- a part of a side, which is shorter where the side is longer than a leaf's
 pub record IsPartAlong (leaf low high from to : ℕ) : Type 0 where

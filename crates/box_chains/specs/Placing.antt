@@ -1,10 +1,10 @@
 -- The places of all samples of a lattice over a view.
 use Rattle.std.specs.Prelude.{◌+◌, ℤ, List, map}
 use Rattle.std.specs.List.{range_with_len}
-use Rattle.view_settings.specs.Places.{place_of, steps_of}
-use Rattle.view_settings.specs.Window.{Window}
-use Rattle.view_settings.specs.declared.lattice.Axis.{Axis}
-use Rattle.view_settings.specs.declared.lattice.Lattice.{Lattice}
+use Rattle.view_places.specs.Places.{place_of, steps_of}
+use Rattle.view_places.specs.Window.{Window}
+use Rattle.view_places.specs.declared.lattice.Axis.{Axis}
+use Rattle.view_places.specs.declared.lattice.Lattice.{Lattice}
 
 -- a lattice over a view
 pub record Sampling : Type 0 where

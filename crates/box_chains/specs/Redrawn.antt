@@ -4,7 +4,7 @@ use Rattle.std.specs.Prelude.{◌≡◌, ◌≢◌, ℕ, ◌==◌, Bool, ◌&&�
 use Rattle.std.specs.List.{list_any, sum_by}
 use Rattle.live_clauses.specs.Equality.{same_list}
 use Rattle.live_clauses.specs.declared.step.Step.{Step}
-use Rattle.view_settings.specs.Boxes.{Indices}
+use Rattle.view_places.specs.Boxes.{Indices}
 use Rattle.box_chains.specs.Chains.{Descent, Visit, chain, chain_end, half_visit, is_split}
 use Rattle.box_chains.specs.Counts.{cost, is_first, root_visit}
 use Rattle.box_chains.specs.Sums.{Sample, sum_in}

@@ -1,7 +1,7 @@
 -- Sums over the samples of a box.
 use Rattle.std.specs.Prelude.{ℕ, ◌-◌, ◌*◌, ◌≤◌, ◌<◌, List, [], ◌∷◌, max}
 use Rattle.std.specs.List.{range_with_len, sum_by}
-use Rattle.view_settings.specs.Boxes.{Indices}
+use Rattle.view_places.specs.Boxes.{Indices}
 
 -- a sample, by its index along each axis
 pub record Sample : Type 0 where

@@ -2,7 +2,7 @@
 use Rattle.std.specs.Prelude.{ℕ, nat_lt, Bool, ◌&&◌, List, length, if◌then◌else◌}
 use Rattle.std.specs.List.{sum_by}
 use Rattle.live_clauses.specs.declared.step.Step.{Step}
-use Rattle.view_settings.specs.Boxes.{Indices, halves_of}
+use Rattle.view_places.specs.Boxes.{Indices, halves_of}
 use Rattle.box_chains.specs.Chains.{Descent, Visit, chain, is_long, sum_over}
 use Rattle.box_chains.specs.Counts.{cost, is_first}
 use Rattle.box_chains.specs.Sums.{Sample, sum_in}

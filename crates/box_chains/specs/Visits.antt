@@ -1,10 +1,10 @@
 -- Where samples lie, and boxes of samples with lists that can be evaluated.
 use Rattle.fixed_ops.specs.Points.{Point}
 use Rattle.live_clauses.specs.Steps.{IsTape}
-use Rattle.view_settings.specs.Boxes.{IsBox}
-use Rattle.view_settings.specs.Places.{point_of}
-use Rattle.view_settings.specs.Spans.{IsInRoot}
-use Rattle.view_settings.specs.Window.{IsWindow}
+use Rattle.view_places.specs.Boxes.{IsBox}
+use Rattle.view_places.specs.Places.{point_of}
+use Rattle.view_places.specs.Spans.{IsInRoot}
+use Rattle.view_places.specs.Window.{IsWindow}
 use Rattle.box_chains.specs.Chains.{Descent, Visit}
 use Rattle.box_chains.specs.Sums.{Sample}
 

@@ -1,6 +1,6 @@
 // Boxes that a list is traced over.
 
-use view_settings::IndexBox;
+use view_places::IndexBox;
 
 /// A box that a list is traced over. It may be held open: then it hands on a list also where all of
 /// it is inside. The default is not.

@@ -5,7 +5,7 @@ ghost use Rattle.choice_trace.specs.Hulls.{tape_hull};
 ghost use Rattle.interval_ops.specs.Decided.{decided_of};
 ghost use Rattle.interval_ops.specs.HullCounts.{CountsHulls};
 ghost use Rattle.live_clauses.specs.Live.{IsWhole};
-ghost use Rattle.view_settings.specs.Spans.{IsInRoot, region_of, root_of};
+ghost use Rattle.view_places.specs.Spans.{IsInRoot, region_of, root_of};
 ghost use Rattle.box_chains.specs.Desks.{HasMore, Tracing, list_of, samples};
 ghost use Rattle.box_chains.specs.Outcomes.{AreInRoot, HandsOn, all_seen, asked_outcome, asked_outcomes, outcome_of, outcomes_of, seen};
 ghost use Rattle.box_chains.specs.Tallied.{CountsAtMost};
@@ -16,7 +16,7 @@ use fixed_ops::{Fx, Tally};
 use live_clauses::{Lists, Tape};
 use std::alloc::{AllocError, Global};
 use std::marker::Model;
-use view_settings::{IndexBox, Lattice, View};
+use view_places::{IndexBox, Lattice, View};
 
 /// What looking into the boxes of a lattice over a view with a list needs, made once: the places of the
 /// samples, the list and the shorter ones that boxes receive, each with a number, memory for tracing

@@ -4,7 +4,7 @@ ghost use Rattle.box_chains.specs.Laws.{BoxesAreCountedOnce, ChainsGoOn, Lawful,
 use choice_trace::traces_are_right;
 use fixed_ops::tallies_add_up;
 use live_clauses::{choices_keep_the_value, lists_are_told_apart, live_steps_are_the_least};
-use view_settings::{halves_part, ranges_hold};
+use view_places::{halves_part, ranges_hold};
 
 /// What the layers below promise of tallies, boxes, lists and points, and what follows from it of
 /// boxes and their halves, of chains and of work, in one place.

@@ -2,7 +2,7 @@
 ghost use Rattle.std.specs.Prelude.{◌≡◌};
 ghost use Rattle.box_chains.specs.Chains.{is_long};
 
-use view_settings::IndexBox;
+use view_places::IndexBox;
 
 /// The longest side of a leaf of samples.
 pub const LEAF: u32 = 8;

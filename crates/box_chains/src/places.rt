@@ -1,15 +1,15 @@
 // Where the samples of a lattice lie.
 ghost use Rattle.std.specs.Prelude.{◌≡◌, ◌+◌, ◌<◌, ◌≤◌, IfOk};
 ghost use Rattle.std.specs.Int.{int_max, int_min};
-ghost use Rattle.view_settings.specs.Places.{place_of, steps_of};
-ghost use Rattle.view_settings.specs.Spans.{IsInRoot, last_of, range_along, region_of, root_of};
+ghost use Rattle.view_places.specs.Places.{place_of, steps_of};
+ghost use Rattle.view_places.specs.Spans.{IsInRoot, last_of, range_along, region_of, root_of};
 ghost use Rattle.box_chains.specs.Placing.{places_along};
 
 use fixed_ops::{Fx, le};
 use interval_ops::{Region, Span};
 use std::alloc::{AllocError, Global};
 use std::marker::Model;
-use view_settings::{Axis, IndexBox, Lattice, View, root, samples_along};
+use view_places::{Axis, IndexBox, Lattice, View, root, samples_along};
 
 /// The places of the samples of a lattice over a view, each worked out once.
 #[derive(Debug, Drop)]
@@ -23,7 +23,7 @@ pub struct Places {
 
 impl Model for Places {
     ghost use Rattle.std.specs.Prelude.{◌≡◌};
-    ghost use Rattle.view_settings.specs.declared.lattice.Axis.TheVariants.{X, Y, Z};
+    ghost use Rattle.view_places.specs.declared.lattice.Axis.TheVariants.{X, Y, Z};
     ghost use Rattle.box_chains.specs.Placing.{Sampling, places_along};
 
     ghost Value = { Sampling };

@@ -9,7 +9,7 @@ ghost use Rattle.live_clauses.specs.Choices.{AreChoices, lane};
 ghost use Rattle.live_clauses.specs.Blocks.{list_at};
 ghost use Rattle.live_clauses.specs.Live.{IsWhole, live_of};
 ghost use Rattle.live_clauses.specs.declared.step.Step.{Step};
-ghost use Rattle.view_settings.specs.Spans.{region_of};
+ghost use Rattle.view_places.specs.Spans.{region_of};
 ghost use Rattle.box_chains.specs.Outcomes.{AreFirst, AreInRoot, AreSeen, ChoosesNone, HandsOn, IsHandedOn, asked_outcomes, held_decision, lane_outcome, outcome_by, seen};
 ghost use Rattle.box_chains.specs.declared.outcome.Outcome.{Outcome};
 

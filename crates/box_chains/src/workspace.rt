@@ -9,7 +9,7 @@ ghost use Rattle.live_clauses.specs.Choices.{AreChoices};
 ghost use Rattle.live_clauses.specs.Blocks.{list_at};
 ghost use Rattle.live_clauses.specs.Live.{IsWhole, live_of};
 ghost use Rattle.live_clauses.specs.declared.step.Step.{Step};
-ghost use Rattle.view_settings.specs.Spans.{IsInRoot};
+ghost use Rattle.view_places.specs.Spans.{IsInRoot};
 ghost use Rattle.box_chains.specs.Outcomes.{AreFirst, AreInRoot, AreSeen, HandsOn, IsHandedOn, all_seen, asked_outcome, asked_outcomes, outcome_of, outcomes_of, plain_box, seen};
 ghost use Rattle.box_chains.specs.declared.outcome.Outcome.{Outcome};
 ghost use Rattle.box_chains.specs.Tallied.{CountsAtMost};
@@ -23,7 +23,7 @@ use interval_ops::{Choice, Region, Span, decided, hull_counts};
 use live_clauses::{Lists, Steps, live_lists_are_whole, live_steps_are_the_least};
 use std::alloc::{AllocError, Global};
 use std::marker::Model;
-use view_settings::IndexBox;
+use view_places::IndexBox;
 
 /// Memory that looking at boxes needs, made once for lists of at most so many steps. Contracts see
 /// the choices of the list that was traced last, and what stood there behind them.

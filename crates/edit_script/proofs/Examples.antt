@@ -6,7 +6,7 @@ use Rattle.fixed_ops.specs.Numerals.{cut_magnitude, is_unsigned_numeral, nearest
 use Rattle.fixed_ops.specs.declared.operation.Op.TheVariants as ops
 use Rattle.solid_model.specs.declared.edit.Edit.TheVariants as edits
 use Rattle.view_settings.specs.Setting.{setting_of}
-use Rattle.view_settings.specs.Window.{Window, has_room}
+use Rattle.view_places.specs.Window.{Window, has_room}
 use Rattle.clause_reader.specs.declared.read_error.ReadError.TheVariants.{Memory, Defect}
 use Rattle.clause_reader.specs.Gives.{Gives}
 use Rattle.clause_reader.specs.Lines.{tokens_of}

@@ -20,7 +20,7 @@ use Rattle.view_settings.specs.declared.word_fault.WordReason.TheVariants.{Empty
 use Rattle.view_settings.specs.Setting.{setting_of}
 use Rattle.view_settings.specs.Settings.{Given, begun, finished, is_empty, job_with, settled, window_of}
 use Rattle.view_settings.specs.Steps.{◌>>=◌}
-use Rattle.view_settings.specs.Window.{fits_mesh}
+use Rattle.view_places.specs.Window.{fits_mesh}
 use Rattle.view_settings.specs.Words.{after_words, job_after, refused_at}
 use Rattle.edit_script.specs.declared.keyword.Keyword.{Keyword}
 use Rattle.edit_script.specs.declared.keyword.Keyword.TheVariants.{Set, Add, Put, Cut, Render, Height, Mesh, Text}

@@ -14,7 +14,7 @@ use Rattle.view_settings.specs.declared.job.Job.TheVariants as jobs
 use Rattle.view_settings.specs.declared.verb.Verb.{Verb}
 use Rattle.view_settings.specs.declared.verb.Verb.TheVariants as verbs
 use Rattle.view_settings.specs.declared.word_fault.WordFault.{WordFault}
-use Rattle.view_settings.specs.Window.{IsWindow, FitsHeight, FitsMesh}
+use Rattle.view_places.specs.Window.{IsWindow, FitsHeight, FitsMesh}
 use Rattle.view_settings.specs.Words.{job_after}
 use Rattle.edit_script.specs.declared.command.Command.{Command}
 use Rattle.edit_script.specs.declared.command.Command.TheVariants as commands

@@ -3,7 +3,7 @@ ghost use Rattle.std.specs.Prelude.{◌≡◌, length, Ok, IfErr, IfOk, OnErr, O
 ghost use Rattle.clause_reader.specs.ModelText.{model_text};
 ghost use Rattle.solid_model.specs.Edits.{edited, MakesClause};
 ghost use Rattle.solid_model.specs.Refusals.{RefusesAs, WantsMemoryFor};
-ghost use Rattle.view_settings.specs.Window.{FitsHeight, FitsMesh};
+ghost use Rattle.view_places.specs.Window.{FitsHeight, FitsMesh};
 ghost use Rattle.model_frames.specs.Frames.{CanDraw, frame_part};
 ghost use Rattle.model_frames.specs.Heights.{heights_of, plain_depths};
 ghost use Rattle.model_frames.specs.Images.{image_of, plain_points};
@@ -15,7 +15,7 @@ use fixed_ops::Tally;
 use model_frames::Frame;
 use solid_model::{Edit, EditFault, Model};
 use std::alloc::{AllocError, Global};
-use view_settings::View;
+use view_places::View;
 
 /// A model that is edited and drawn. Contracts see the clauses of the model then standing. Each frame
 /// shows that model, whatever was drawn before.

@@ -1,5 +1,5 @@
 // Frames of a ball, and of what edits make of it, worked out by hand.
-ghost use Rattle.view_settings.specs.Window.{FitsHeight, FitsMesh};
+ghost use Rattle.view_places.specs.Window.{FitsHeight, FitsMesh};
 
 use crate::Session;
 use clause_reader::{read_form, read_model};
@@ -8,7 +8,7 @@ use solid_model::{Edit, EditFault, Name};
 use std::alloc::Global;
 use std::process::Abort;
 use std::test::Fail;
-use view_settings::View;
+use view_places::View;
 
 // A ball of radius 0.5.
 const BALL: &[u8] =

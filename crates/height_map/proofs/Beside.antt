@@ -9,8 +9,8 @@ use Rattle.std.proofs.lemmas.List.Concat.{flat_map-cons}
 use Rattle.std.proofs.lemmas.List.Elements.{All-append, All-cons, All-head, All-nil, All-tail, All-weaker}
 use Rattle.std.proofs.lemmas.List.Sums.{sum_by-append, sum_by-cons}
 use Rattle.live_clauses.specs.declared.step.Step.{Step}
-use Rattle.view_settings.specs.Boxes.{Indices, IsBox, halves_of, halves_x, halves_y, middle}
-use Rattle.view_settings.specs.Window.{Window}
+use Rattle.view_places.specs.Boxes.{Indices, IsBox, halves_of, halves_x, halves_y, middle}
+use Rattle.view_places.specs.Window.{Window}
 use Rattle.height_map.specs.Beside.{LieBeside, beside_top, farther, level_halves, nearer}
 use Rattle.height_map.specs.Columns.{covers, leaf_top, lifted}
 use Rattle.height_map.specs.Tops.{inside, top_among}

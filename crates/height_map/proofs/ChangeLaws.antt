@@ -6,7 +6,7 @@ use Rattle.std.proofs.lemmas.Bool.{and_parts, cases_eq, cases_lt, eq-eqb, eqb-tr
 use Rattle.std.proofs.lemmas.Bool.Decides.{nat_tests}
 use Rattle.std.proofs.lemmas.List.{get_or-set_other, get_or-set_same, length-set}
 use Rattle.std.proofs.lemmas.Nat.{div-add-mod', div-mul-add, mod-mul-add}
-use Rattle.view_settings.specs.Boxes.{Indices}
+use Rattle.view_places.specs.Boxes.{Indices}
 use Rattle.height_map.specs.Columns.{Changes, IsAmong, covers, lifted}
 
 pub Changes-none : (c : ℕ → Bool) (f : ℕ → ℕ → ℕ) (xs : List ℕ) → ((p : ℕ) → p < length xs → c p ≡ true → f p (get_or xs p 0) ≡ get_or xs p 0) → Changes c f xs xs

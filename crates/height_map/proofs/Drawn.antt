@@ -15,10 +15,10 @@ use Rattle.box_chains.specs.Laws.{Lawful}
 use Rattle.fixed_ops.specs.Counts.{Counts, RisesBy, points_of}
 use Rattle.fixed_ops.specs.Raw.{is_inside}
 use Rattle.live_clauses.specs.declared.step.Step.{Step}
-use Rattle.view_settings.specs.Boxes.{Indices, IsBox, halves_of}
-use Rattle.view_settings.specs.Spans.{IsInRoot}
-use Rattle.view_settings.specs.Window.{IsWindow, Window}
-use Rattle.view_settings.specs.declared.lattice.Lattice.TheVariants.{Height}
+use Rattle.view_places.specs.Boxes.{Indices, IsBox, halves_of}
+use Rattle.view_places.specs.Spans.{IsInRoot}
+use Rattle.view_places.specs.Window.{IsWindow, Window}
+use Rattle.view_places.specs.declared.lattice.Lattice.TheVariants.{Height}
 use Rattle.box_chains.specs.Tallied.{CountsAtMost}
 use Rattle.height_map.specs.Bound.{layered}
 use Rattle.box_chains.specs.Counts.{open_spans}

@@ -5,7 +5,7 @@ use Rattle.box_chains.specs.Counts.{spans_in}
 use Rattle.fixed_ops.specs.Counts.{Counts}
 use Rattle.fixed_ops.specs.declared.operation.Op.TheVariants.{X, Y, Z, Const, Neg, Sub, Max}
 use Rattle.live_clauses.specs.declared.step.Step.{Step}
-use Rattle.view_settings.specs.Window.{Window}
+use Rattle.view_places.specs.Window.{Window}
 use Rattle.height_map.specs.Bound.{CountsPoints, CountsSpans, height_points, height_spans, near_spans}
 use Rattle.box_chains.specs.Tested.{points_where, spans_where}
 use Rattle.height_map.specs.Tops.{tops_of}

@@ -10,7 +10,7 @@ use Rattle.fixed_ops.specs.Laws.{TalliesAddUp}
 use Rattle.fixed_ops.specs.Raw.{is_inside}
 use Rattle.live_clauses.specs.Steps.{tape_value}
 use Rattle.live_clauses.specs.declared.step.Step.{Step}
-use Rattle.view_settings.specs.Window.{Window}
+use Rattle.view_places.specs.Window.{Window}
 use Rattle.height_map.specs.Columns.{Changes}
 use Rattle.height_map.specs.Layers.{IsColumn, layer_top, nth, point_at, stand_at}
 use Rattle.height_map.specs.Tops.{inside}

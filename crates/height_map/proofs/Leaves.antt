@@ -16,10 +16,10 @@ use Rattle.box_chains.specs.Sums.{LiesIn, Sample, size, sum_along, sum_in}
 use Rattle.box_chains.specs.Laws.{Lawful}
 use Rattle.fixed_ops.specs.Counts.{Counts, RisesBy, points_of}
 use Rattle.live_clauses.specs.declared.step.Step.{Step}
-use Rattle.view_settings.specs.Boxes.{Indices, IsBox}
-use Rattle.view_settings.specs.Spans.{IsInRoot}
-use Rattle.view_settings.specs.declared.lattice.Lattice.TheVariants.{Height}
-use Rattle.view_settings.specs.Window.{Window}
+use Rattle.view_places.specs.Boxes.{Indices, IsBox}
+use Rattle.view_places.specs.Spans.{IsInRoot}
+use Rattle.view_places.specs.declared.lattice.Lattice.TheVariants.{Height}
+use Rattle.view_places.specs.Window.{Window}
 use Rattle.height_map.specs.Columns.{Changes, IsAmong, covers, is_open, leaf_cost, leaf_top, lifted}
 use Rattle.height_map.specs.Layers.{IsColumn, columns_in, columns_of, layer_of, layer_top, open_among, stand_at}
 use Rattle.height_map.specs.Tops.{inside, top_among}

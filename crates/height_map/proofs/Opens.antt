@@ -8,8 +8,8 @@ use Rattle.std.proofs.lemmas.List.Folds.{Any-from_list_any, list_any_at, list_an
 use Rattle.std.proofs.lemmas.List.FromFn.{get_or-range_with_len, length-range_with_len}
 use Rattle.std.proofs.lemmas.List.Sums.{count_by-le-length, length-filter, sum_by-cons}
 use Rattle.live_clauses.specs.declared.step.Step.{Step}
-use Rattle.view_settings.specs.Boxes.{Indices}
-use Rattle.view_settings.specs.Window.{Window}
+use Rattle.view_places.specs.Boxes.{Indices}
+use Rattle.view_places.specs.Window.{Window}
 use Rattle.height_map.specs.Beside.{LieBeside, beside_top}
 use Rattle.height_map.specs.Columns.{HasOpen, covers, has_open, leaf_top}
 

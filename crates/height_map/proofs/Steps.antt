@@ -12,7 +12,7 @@ use Rattle.box_chains.specs.Parts.{IsPart}
 use Rattle.box_chains.specs.Placing.{Sampling}
 use Rattle.box_chains.specs.declared.outcome.Outcome.TheVariants.{Inside as AllInside, Outside as AllOutside, Open}
 use Rattle.live_clauses.specs.Steps.{IsTape}
-use Rattle.view_settings.specs.declared.lattice.Lattice.TheVariants.{Height}
+use Rattle.view_places.specs.declared.lattice.Lattice.TheVariants.{Height}
 use Rattle.height_map.specs.Desks.{IsPlaced, MayDraw, MayOpen}
 use Rattle.box_chains.specs.Outcomes.{HandsOn, IsHandedOn, outcome_by, outcome_of, outcomes_of, all_seen, seen}
 use Rattle.box_chains.specs.Sums.{LiesIn, Sample}
@@ -23,8 +23,8 @@ use Rattle.box_chains.specs.declared.outcome.Outcome.{Outcome}
 use Rattle.fixed_ops.specs.Counts.{Counts}
 use Rattle.interval_ops.specs.HullCounts.{CountsHulls}
 use Rattle.live_clauses.specs.declared.step.Step.{Step}
-use Rattle.view_settings.specs.Boxes.{Indices, IsBox, halves_of}
-use Rattle.view_settings.specs.Window.{Window}
+use Rattle.view_places.specs.Boxes.{Indices, IsBox, halves_of}
+use Rattle.view_places.specs.Window.{Window}
 use Rattle.height_map.specs.Beside.{LieBeside, beside_points, beside_top, beside_traced, farther, nearer}
 use Rattle.height_map.specs.Bound.{CountsPoints, CountsSpans, layered}
 use Rattle.box_chains.specs.Tested.{halves_points_where, halves_spans_where, has_some, points_where, spans_where}

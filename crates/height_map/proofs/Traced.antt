@@ -14,10 +14,10 @@ use Rattle.box_chains.specs.Laws.{Lawful}
 use Rattle.fixed_ops.specs.Counts.{Counts, RisesBy, points_of, risen}
 use Rattle.interval_ops.specs.HullCounts.{CountsHulls}
 use Rattle.live_clauses.specs.declared.step.Step.{Step}
-use Rattle.view_settings.specs.Boxes.{Indices, IsBox, halves_of}
-use Rattle.view_settings.specs.Spans.{root_of}
-use Rattle.view_settings.specs.Window.{Window}
-use Rattle.view_settings.specs.declared.lattice.Lattice.TheVariants.{Height}
+use Rattle.view_places.specs.Boxes.{Indices, IsBox, halves_of}
+use Rattle.view_places.specs.Spans.{root_of}
+use Rattle.view_places.specs.Window.{Window}
+use Rattle.view_places.specs.declared.lattice.Lattice.TheVariants.{Height}
 use Rattle.box_chains.specs.Outcomes.{outcome_by, outcome_of}
 use Rattle.box_chains.specs.Opened.{sampling}
 use Rattle.height_map.specs.Opened.{outcome_traced}

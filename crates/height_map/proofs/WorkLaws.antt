@@ -9,7 +9,7 @@ use Rattle.box_chains.specs.Counts.{end_cost, halves_spans, open_spans, spans_in
 use Rattle.box_chains.specs.Laws.{Lawful}
 use Rattle.box_chains.specs.Sums.{Sample, sum_in}
 use Rattle.box_chains.specs.Tested.{halves_points_where, open_points_where, points_where}
-use Rattle.view_settings.specs.Boxes.{IsBox, halves_of}
+use Rattle.view_places.specs.Boxes.{IsBox, halves_of}
 
 -- A box that is split takes the evaluations of its halves.
 points-split : (laws : Lawful) (test : Sample → Bool) (d : Descent) (v : Visit) → 0 < d.leaf → IsBox v.box → is_split d v ≡ true

@@ -3,8 +3,8 @@ use Rattle.std.specs.Prelude.{ℕ, ◌-◌, ◌≤◌, nat_lt, List, [], ◌∷�
 use Rattle.std.specs.List.{count_by, flat_map, sum_by}
 use Rattle.box_chains.specs.Chains.{visit}
 use Rattle.live_clauses.specs.declared.step.Step.{Step}
-use Rattle.view_settings.specs.Boxes.{Indices, halves_x, halves_y, middle}
-use Rattle.view_settings.specs.Window.{Window}
+use Rattle.view_places.specs.Boxes.{Indices, halves_x, halves_y, middle}
+use Rattle.view_places.specs.Window.{Window}
 use Rattle.height_map.specs.Bound.{layered}
 use Rattle.box_chains.specs.Tested.{points_where, spans_where}
 use Rattle.height_map.specs.Columns.{covers, is_open, leaf_top}

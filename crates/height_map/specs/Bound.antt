@@ -7,8 +7,8 @@ use Rattle.box_chains.specs.Sums.{Sample}
 use Rattle.box_chains.specs.Tested.{points_where, spans_where}
 use Rattle.fixed_ops.specs.Counts.{Counts, risen}
 use Rattle.live_clauses.specs.declared.step.Step.{Step}
-use Rattle.view_settings.specs.Window.{Window}
-use Rattle.view_settings.specs.declared.lattice.Lattice.TheVariants.{Height}
+use Rattle.view_places.specs.Window.{Window}
+use Rattle.view_places.specs.declared.lattice.Lattice.TheVariants.{Height}
 use Rattle.height_map.specs.Tops.{top_of}
 
 -- how the samples of a height map are looked into

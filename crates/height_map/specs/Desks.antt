@@ -6,10 +6,10 @@ use Rattle.box_chains.specs.Visits.{IsVisit}
 use Rattle.box_chains.specs.declared.outcome.Outcome.{Outcome}
 use Rattle.box_chains.specs.declared.outcome.Outcome.TheVariants.{Open}
 use Rattle.live_clauses.specs.Steps.{IsTape}
-use Rattle.view_settings.specs.Boxes.{Indices, IsBox}
-use Rattle.view_settings.specs.Spans.{IsInRoot}
-use Rattle.view_settings.specs.Window.{IsWindow}
-use Rattle.view_settings.specs.declared.lattice.Lattice.TheVariants.{Height}
+use Rattle.view_places.specs.Boxes.{Indices, IsBox}
+use Rattle.view_places.specs.Spans.{IsInRoot}
+use Rattle.view_places.specs.Window.{IsWindow}
+use Rattle.view_places.specs.declared.lattice.Lattice.TheVariants.{Height}
 use Rattle.height_map.specs.Bound.{layered}
 
 -- the box is one of the height map's, whose tops there are, and there is room for the list of a number

@@ -3,10 +3,10 @@ use Rattle.std.specs.Prelude.{◌≡◌, ℕ, ◌+◌, ◌-◌, ◌*◌, ◌/◌
 use Rattle.std.specs.List.{filter, flat_map, list_any, range_with_len}
 use Rattle.fixed_ops.specs.Points.{Point}
 use Rattle.live_clauses.specs.declared.step.Step.{Step}
-use Rattle.view_settings.specs.Boxes.{Indices}
-use Rattle.view_settings.specs.Places.{point_of}
-use Rattle.view_settings.specs.Window.{Window}
-use Rattle.view_settings.specs.declared.lattice.Lattice.TheVariants.{Height}
+use Rattle.view_places.specs.Boxes.{Indices}
+use Rattle.view_places.specs.Places.{point_of}
+use Rattle.view_places.specs.Window.{Window}
+use Rattle.view_places.specs.declared.lattice.Lattice.TheVariants.{Height}
 use Rattle.height_map.specs.Tops.{inside}
 use Rattle.height_map.specs.declared.column.Column.{Column}
 

@@ -2,7 +2,7 @@
 ghost use Rattle.std.specs.Prelude.{◌≡◌, ◌+◌, ◌*◌, ◌<◌, ◌≤◌, ℕ, true, false, length, get_or};
 ghost use Rattle.height_map.specs.Columns.{Changes, HasOpen, IsAmong, covers, lifted};
 
-use view_settings::IndexBox;
+use view_places::IndexBox;
 
 /// Whether each column of a box has a top. A row of the map has w columns.
 pub fn is_covered(w: u32, b: IndexBox, tops: &[u16]) -> bool

@@ -3,7 +3,7 @@ ghost use Rattle.std.specs.Prelude.{◌≡◌, ◌≤◌, true, length, OnOk, Is
 ghost use Rattle.std.specs.List.{All};
 ghost use Rattle.box_chains.specs.Chains.{is_long as is_long_for, visit};
 ghost use Rattle.box_chains.specs.Counts.{halves_spans, open_spans, spans_in};
-ghost use Rattle.view_settings.specs.Boxes.{halves_of};
+ghost use Rattle.view_places.specs.Boxes.{halves_of};
 ghost use Rattle.live_clauses.specs.Live.{IsWhole};
 ghost use Rattle.box_chains.specs.Tallied.{CountsAtMost};
 ghost use Rattle.box_chains.specs.Desks.{HasMore, list_of};
@@ -22,7 +22,7 @@ use crate::leaf::draw_leaf;
 use box_chains::{Desk, LEAF, Outcome, is_long, layers_hold, make_rows};
 use fixed_ops::Tally;
 use std::alloc::AllocError;
-use view_settings::{IndexBox, split};
+use view_places::{IndexBox, split};
 
 /// Draws a box, which receives a list: gives each of its columns that has no top the one that the
 /// samples of the box give it.

@@ -3,12 +3,12 @@ ghost use Rattle.std.specs.Prelude.{◌≡◌, ◌≤◌, drop, length, take};
 ghost use Rattle.std.specs.List.{All, filter};
 ghost use Rattle.height_map.specs.Columns.{IsAmong, has_open};
 ghost use Rattle.height_map.specs.Beside.{farther, nearer};
-ghost use Rattle.view_settings.specs.Boxes.{halves_of};
+ghost use Rattle.view_places.specs.Boxes.{halves_of};
 
 use crate::columns::is_covered;
 use arrayvec::ArrayVec;
 use box_chains::LEAF;
-use view_settings::IndexBox;
+use view_places::IndexBox;
 
 /// How many of the halves of a box are farther ones, which come first.
 #[inline]

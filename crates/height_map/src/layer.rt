@@ -11,7 +11,7 @@ use box_chains::Places;
 use choice_trace::{Inputs, evaluate_lanes};
 use fixed_ops::{Fx, Tally, is_inside, tallies_add_up};
 use live_clauses::Steps;
-use view_settings::Lattice;
+use view_places::Lattice;
 
 /// Gives each of some columns whose sample in layer k is inside the top right above it. One
 /// evaluation of the list is counted for each of these samples.

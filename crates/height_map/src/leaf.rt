@@ -13,7 +13,7 @@ use arrayvec::ArrayVec;
 use box_chains::{Places, layers_hold};
 use fixed_ops::{Fx, Tally};
 use live_clauses::Steps;
-use view_settings::IndexBox;
+use view_places::IndexBox;
 
 /// Gives each column of a leaf that has no top the one that the samples of the leaf give it. One
 /// evaluation of the list is counted for each of these samples from the nearest on, up to the first

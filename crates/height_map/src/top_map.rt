@@ -1,6 +1,6 @@
 // The tops of all columns.
 ghost use Rattle.std.specs.Prelude.{◌≡◌, IfOk, OnOk};
-ghost use Rattle.view_settings.specs.Window.{FitsHeight};
+ghost use Rattle.view_places.specs.Window.{FitsHeight};
 ghost use Rattle.box_chains.specs.Tallied.{CountsAtMost};
 ghost use Rattle.height_map.specs.Bound.{CountsPoints, CountsSpans, height_points, height_spans, near_spans};
 ghost use Rattle.height_map.specs.Tops.{tops_of};
@@ -11,7 +11,7 @@ use fixed_ops::Tally;
 use live_clauses::Tape;
 use std::alloc::{AllocError, Global};
 use std::marker::Model;
-use view_settings::{Lattice, View};
+use view_places::{Lattice, View};
 
 /// A height map: what lies nearest in each column of samples.
 #[derive(Debug, Drop)]

@@ -20,9 +20,9 @@ use Rattle.live_clauses.specs.declared.step.Step.{Step}
 use Rattle.raster_pgm.specs.Samples.{samples_of}
 use Rattle.solid_model.specs.Values.{solid_value}
 use Rattle.solid_model.specs.declared.clause.Clause.{Clause}
-use Rattle.view_settings.specs.Places.{point_of}
-use Rattle.view_settings.specs.Window.{IsWindow, Window}
-use Rattle.view_settings.specs.declared.lattice.Lattice.TheVariants.{Height}
+use Rattle.view_places.specs.Places.{point_of}
+use Rattle.view_places.specs.Window.{IsWindow, Window}
+use Rattle.view_places.specs.declared.lattice.Lattice.TheVariants.{Height}
 use Rattle.model_frames.specs.Heights.{heights_of, plain_depths, top_at, tops_at, tops_of}
 use Rattle.model_frames.specs.Work.{CountsWithin, CountsWork, PointsRiseAtMost, height_work}
 use Rattle.model_frames.proofs.Frames.{plain-within, root-few}

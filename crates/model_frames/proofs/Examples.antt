@@ -13,7 +13,7 @@ use Rattle.fixed_ops.specs.Numerals.{cut_magnitude, is_unsigned_numeral, nearest
 use Rattle.kuhn_cells.specs.Faces.{all_triangles, faces}
 use Rattle.kuhn_cells.specs.Grids.{vertices}
 use Rattle.solid_model.specs.declared.clause.Clause.{Clause}
-use Rattle.view_settings.specs.Window.{Window}
+use Rattle.view_places.specs.Window.{Window}
 use Rattle.model_frames.specs.Heights.{heights_of, plain_depths}
 use Rattle.model_frames.specs.Images.{image_of, plain_points}
 use Rattle.model_frames.specs.Meshes.{grid_of, mesh_text, plain_grid}

@@ -19,8 +19,8 @@ use Rattle.quad_descent.specs.Raster.{Drawing, fresh_points, fresh_spans}
 use Rattle.raster_pgm.specs.Pgm.{pgm_header_of}
 use Rattle.solid_model.specs.Values.{solid_value}
 use Rattle.solid_model.specs.declared.clause.Clause.{Clause}
-use Rattle.view_settings.specs.Places.{raster_point}
-use Rattle.view_settings.specs.Window.{IsWindow, Window}
+use Rattle.view_places.specs.Places.{raster_point}
+use Rattle.view_places.specs.Window.{IsWindow, Window}
 use Rattle.model_frames.specs.Images.{image_of, pixels_of, plain_points}
 use Rattle.model_frames.specs.Work.{CountsWithin, CountsWork, FitsCounts, PointsRiseAtMost, Work, exactly, frame_work}
 

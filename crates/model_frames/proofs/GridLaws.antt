@@ -11,9 +11,9 @@ use Rattle.fixed_ops.specs.Raw.{is_inside}
 use Rattle.kuhn_cells.specs.Cells.{IsBordered}
 use Rattle.kuhn_cells.specs.Grids.{over_block, value_at}
 use Rattle.kuhn_cells.specs.Triangles.{GridPoint, point}
-use Rattle.view_settings.specs.Places.{point_of}
-use Rattle.view_settings.specs.Window.{Window}
-use Rattle.view_settings.specs.declared.lattice.Lattice.TheVariants as lattices
+use Rattle.view_places.specs.Places.{point_of}
+use Rattle.view_places.specs.Window.{Window}
+use Rattle.view_places.specs.declared.lattice.Lattice.TheVariants as lattices
 use Rattle.model_frames.specs.Meshes.{grid_of, grid_value}
 
 -- ---- pieces of one length, joined end to end

@@ -15,7 +15,7 @@ use Rattle.oct_descent.specs.Laws.{MeshPointsAreBounded}
 use Rattle.oct_descent.specs.Trees.{Gridding}
 use Rattle.solid_model.specs.declared.clause.Clause.{Clause}
 use Rattle.tetra_mesh.specs.Sizes.{size_of}
-use Rattle.view_settings.specs.Window.{IsWindow, Window}
+use Rattle.view_places.specs.Window.{IsWindow, Window}
 use Rattle.model_frames.specs.Meshes.{grid_of, plain_grid}
 use Rattle.model_frames.specs.Work.{CountsWithin, CountsWork, PointsRiseAtMost, mesh_work}
 use Rattle.model_frames.proofs.Frames.{on_ok, plain-within, root-few}

@@ -12,8 +12,8 @@ use Rattle.live_clauses.specs.declared.step.Step.{Step}
 use Rattle.oct_descent.specs.Bound.{greatest, has_point, least, lengths_at, long_lengths, long_spans_in, mesh_least, mesh_long_spans, mesh_points, mesh_spans, points_of_grid, sample_of, spans_in, working_lengths}
 use Rattle.oct_descent.specs.Sizes.{size_of}
 use Rattle.oct_descent.specs.Ways.{gridded, is_working, way, way_end, whole}
-use Rattle.view_settings.specs.Boxes.{Indices}
-use Rattle.view_settings.specs.Window.{Window}
+use Rattle.view_places.specs.Boxes.{Indices}
+use Rattle.view_places.specs.Window.{Window}
 
 -- sums over a box of what is nowhere more
 sum-less : (b : Indices) (f g : Sample → ℕ) → ((s : Sample) → f s ≤ g s) → sum_in b f ≤ sum_in b g

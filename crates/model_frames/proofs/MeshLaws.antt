@@ -24,7 +24,7 @@ use Rattle.tetra_mesh.specs.Cuts.{mesh_of, vertex_of}
 use Rattle.mesh_laws.specs.Places.{way_up}
 use Rattle.tetra_mesh.specs.Meshes.{Triangulation}
 use Rattle.tetra_mesh.specs.Places.{IsPlaced}
-use Rattle.view_settings.specs.Window.{Window}
+use Rattle.view_places.specs.Window.{Window}
 use Rattle.model_frames.specs.Meshes.{grid_of, mesh_text}
 use Rattle.model_frames.proofs.GridLaws.{flat_length}
 

@@ -11,8 +11,8 @@ use Rattle.tetra_mesh.specs.Cuts.{mesh_of}
 use Rattle.tetra_mesh.specs.Places.{vertex_place}
 use Rattle.tetra_mesh.specs.Sound.{raw_of}
 use Rattle.tetra_mesh.specs.SoundLaws.{GridMeshesAreSound, GridMeshesLieApart, IsGridOf}
-use Rattle.view_settings.specs.declared.lattice.Axis.TheVariants.{X, Y, Z}
-use Rattle.view_settings.specs.Window.{Window}
+use Rattle.view_places.specs.declared.lattice.Axis.TheVariants.{X, Y, Z}
+use Rattle.view_places.specs.Window.{Window}
 use Rattle.model_frames.specs.Meshes.{grid_of, mesh_text}
 use Rattle.model_frames.specs.SoundTexts.{MeshTextsAreSound}
 use Rattle.model_frames.proofs.GridLaws.{grid_bordered}

@@ -3,7 +3,7 @@ use Rattle.std.specs.Prelude.{ℕ, ◌<◌, ◌^◌, List, All, length, ⊤}
 use Rattle.ply_writer.specs.Ply.{ply_of}
 use Rattle.tetra_mesh.specs.Meshes.{Triangulation}
 use Rattle.tetra_mesh.specs.Places.{IsPlaced}
-use Rattle.view_settings.specs.Window.{Window}
+use Rattle.view_places.specs.Window.{Window}
 use Rattle.model_frames.specs.declared.drawn.Drawn.{Drawn}
 use Rattle.model_frames.specs.declared.drawn.Drawn.TheVariants.{Bytes, Mesh}
 

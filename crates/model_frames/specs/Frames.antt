@@ -2,7 +2,7 @@
 use Rattle.std.specs.Prelude.{ℕ, List, codes, ⊤}
 use Rattle.clause_reader.specs.ModelText.{model_text}
 use Rattle.solid_model.specs.declared.clause.Clause.{Clause}
-use Rattle.view_settings.specs.Window.{FitsHeight, FitsMesh}
+use Rattle.view_places.specs.Window.{FitsHeight, FitsMesh}
 use Rattle.model_frames.specs.Heights.{heights_of}
 use Rattle.model_frames.specs.Images.{image_of}
 use Rattle.model_frames.specs.Meshes.{mesh_text}

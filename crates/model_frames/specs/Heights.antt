@@ -7,9 +7,9 @@ use Rattle.height_map.specs.Tops.{greatest}
 use Rattle.raster_pgm.specs.Samples.{samples_of}
 use Rattle.solid_model.specs.Values.{solid_value}
 use Rattle.solid_model.specs.declared.clause.Clause.{Clause}
-use Rattle.view_settings.specs.Places.{point_of}
-use Rattle.view_settings.specs.Window.{Window}
-use Rattle.view_settings.specs.declared.lattice.Lattice.TheVariants.{Height}
+use Rattle.view_places.specs.Places.{point_of}
+use Rattle.view_places.specs.Window.{Window}
+use Rattle.view_places.specs.declared.lattice.Lattice.TheVariants.{Height}
 
 -- 1 plus the greatest index of a sample that is inside, in column i, counted from the left, of row
 -- j, counted from the top, or 0 where none is

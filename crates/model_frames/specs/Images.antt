@@ -5,8 +5,8 @@ use Rattle.fixed_ops.specs.Raw.{is_inside}
 use Rattle.raster_pgm.specs.Pgm.{pgm_of}
 use Rattle.solid_model.specs.Values.{solid_value}
 use Rattle.solid_model.specs.declared.clause.Clause.{Clause}
-use Rattle.view_settings.specs.Places.{raster_point}
-use Rattle.view_settings.specs.Window.{Window}
+use Rattle.view_places.specs.Places.{raster_point}
+use Rattle.view_places.specs.Window.{Window}
 
 -- the byte of the pixel in column i, counted from the left, and row j, counted from the top
 abbrev pub pixel_at : Window → List Clause → ℕ → ℕ → ℕ

@@ -5,7 +5,7 @@ use Rattle.solid_model.specs.Values.{solid_value}
 use Rattle.solid_model.specs.declared.clause.Clause.{Clause}
 use Rattle.tetra_mesh.specs.Meshes.{Triangulation}
 use Rattle.tetra_mesh.specs.Sound.{IsSound, raw_of}
-use Rattle.view_settings.specs.Window.{FitsMesh, IsWindow, Window}
+use Rattle.view_places.specs.Window.{FitsMesh, IsWindow, Window}
 use Rattle.model_frames.specs.Meshes.{grid_of, mesh_text}
 
 -- A text is that of a mesh which is closed, a manifold, and separates the inside points of a

@@ -7,7 +7,7 @@ use Rattle.box_chains.specs.Tallied.{work_of}
 use Rattle.oct_descent.specs.Bound.{mesh_least, mesh_long_spans, mesh_points, mesh_spans}
 use Rattle.quad_descent.specs.Raster.{fresh_points, fresh_spans}
 use Rattle.solid_model.specs.declared.clause.Clause.{Clause}
-use Rattle.view_settings.specs.Window.{Window}
+use Rattle.view_places.specs.Window.{Window}
 use Rattle.model_frames.specs.Heights.{plain_depths}
 use Rattle.model_frames.specs.Images.{plain_points}
 use Rattle.model_frames.specs.Meshes.{plain_grid}

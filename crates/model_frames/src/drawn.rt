@@ -3,7 +3,7 @@
 use crate::pieces::Pieces;
 use std::alloc::{AllocError, Global};
 use tetra_mesh::Mesh;
-use view_settings::View;
+use view_places::View;
 
 /// What is drawn of a model.
 #[derive(Debug, Drop)]

@@ -8,7 +8,7 @@ use clause_reader::write_model;
 use fixed_ops::Tally;
 use solid_model::Model;
 use std::alloc::{AllocError, Global};
-use view_settings::View;
+use view_places::View;
 
 /// What can be drawn of a model.
 #[derive(Clone, Copy, Debug, PartialEq, Eq)]

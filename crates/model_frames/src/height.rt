@@ -1,6 +1,6 @@
 // The height map of a solid over a view.
 ghost use Rattle.std.specs.Prelude.{◌≡◌, length, IfOk, OnOk};
-ghost use Rattle.view_settings.specs.Window.{FitsHeight};
+ghost use Rattle.view_places.specs.Window.{FitsHeight};
 ghost use Rattle.model_frames.specs.Heights.{heights_of, plain_depths, tops_of};
 ghost use Rattle.model_frames.specs.Work.{CountsWithin, CountsWork, PointsRiseAtMost, height_work};
 
@@ -11,7 +11,7 @@ use live_clauses::root_tape;
 use raster_pgm::samples_text;
 use solid_model::Model;
 use std::alloc::{AllocError, Global};
-use view_settings::View;
+use view_places::View;
 
 // The height map of a model over a view, as PGM text. The work of the samples that do not lie behind
 // a top is counted, and where memory is refused no more than that of a map.

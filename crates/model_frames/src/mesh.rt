@@ -9,7 +9,7 @@ ghost use Rattle.solid_model.specs.Values.{solid_value};
 ghost use Rattle.tetra_mesh.specs.Cuts.{mesh_of};
 ghost use Rattle.tetra_mesh.specs.Places.{IsPlaced};
 ghost use Rattle.tetra_mesh.specs.Sizes.{size_of};
-ghost use Rattle.view_settings.specs.Window.{FitsMesh};
+ghost use Rattle.view_places.specs.Window.{FitsMesh};
 ghost use Rattle.model_frames.specs.Meshes.{grid_of, mesh_text, plain_grid};
 ghost use Rattle.model_frames.specs.SoundTexts.{MeshTextsAreSound};
 ghost use Rattle.model_frames.specs.Work.{CountsWithin, CountsWork, PointsRiseAtMost, mesh_work};
@@ -23,7 +23,7 @@ use ply_writer::ply_text;
 use solid_model::Model;
 use std::alloc::{AllocError, Global};
 use tetra_mesh::{Mesh, build_from, meshes_are_sound};
-use view_settings::View;
+use view_places::View;
 
 // The mesh of a model over a view, as PLY text. The work of the boxes that are looked into and of
 // the corners of working cells is counted, and where memory is refused no more than that of a mesh.

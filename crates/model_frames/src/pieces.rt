@@ -7,7 +7,7 @@ use ply_writer::PlyPieces;
 use std::alloc::{AllocError, Global};
 use std::marker::Model;
 use tetra_mesh::Mesh;
-use view_settings::View;
+use view_places::View;
 
 /// Bytes that go out one piece after the other. No piece after the first takes memory. Contracts see
 /// the piece that stands first, and what comes after it.

@@ -4,7 +4,7 @@ ghost use Rattle.fixed_ops.specs.Points.{Point};
 ghost use Rattle.live_clauses.specs.Live.{root_of};
 ghost use Rattle.live_clauses.specs.Steps.{tape_value};
 ghost use Rattle.solid_model.specs.Values.{solid_value};
-ghost use Rattle.view_settings.specs.Window.{IsWindow};
+ghost use Rattle.view_places.specs.Window.{IsWindow};
 ghost use Rattle.model_frames.specs.Images.{image_of, plain_points};
 ghost use Rattle.model_frames.specs.Work.{CountsWithin, CountsWork, FitsCounts, PointsRiseAtMost, frame_work};
 
@@ -14,7 +14,7 @@ use quad_descent::{QuadTree, draw as draw_list, fresh_work_is_bounded, push_pixe
 use raster_pgm::pgm_header;
 use solid_model::Model;
 use std::alloc::{AllocError, Global};
-use view_settings::View;
+use view_places::View;
 
 // The image of a model over a view, as PGM text. The work of a fresh image is counted.
 pub(crate) fn render(

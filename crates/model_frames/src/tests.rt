@@ -1,5 +1,5 @@
 // Frames of a ball, worked out by hand, as bytes and piece by piece.
-ghost use Rattle.view_settings.specs.Window.{FitsHeight, FitsMesh};
+ghost use Rattle.view_places.specs.Window.{FitsHeight, FitsMesh};
 ghost use Rattle.model_frames.specs.Drawn.{HasText};
 ghost use Rattle.model_frames.specs.Frames.{CanDraw};
 
@@ -10,7 +10,7 @@ use solid_model::Model;
 use std::alloc::Global;
 use std::process::Abort;
 use std::test::Fail;
-use view_settings::View;
+use view_places::View;
 
 // A ball of radius 0.5.
 const BALL: &[u8] =

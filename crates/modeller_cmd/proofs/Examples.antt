@@ -16,7 +16,7 @@ use Rattle.fixed_ops.specs.declared.operation.Op.TheVariants as op
 use Rattle.box_chains.specs.Tested.{points_where, spans_where}
 use Rattle.modeller_io.specs.Count.{last_count}
 use Rattle.view_settings.specs.Setting.{setting_of}
-use Rattle.view_settings.specs.Window.{Window, has_room}
+use Rattle.view_places.specs.Window.{Window, has_room}
 use Rattle.view_settings.specs.declared.job.Job.{Job}
 use Rattle.view_settings.specs.declared.forge.Forge.{Forge as Wanted}
 use Rattle.view_settings.specs.declared.job.Job.TheVariants.{Count, Forge, Height, Mesh, Render}

@@ -13,8 +13,8 @@ use Rattle.quad_descent.specs.Raster.{Drawing}
 use Rattle.solid_model.specs.Values.{solid_value}
 use Rattle.solid_model.specs.declared.clause.Clause.{Clause}
 use Rattle.std.specs.Prelude.{List}
-use Rattle.view_settings.specs.Places.{raster_point}
-use Rattle.view_settings.specs.Window.{Window}
+use Rattle.view_places.specs.Places.{raster_point}
+use Rattle.view_places.specs.Window.{Window}
 use Rattle.modeller_cmd.specs.Forging.{inside_of}
 
 -- where a list of steps has the value of a solid, its image is that of the solid

@@ -15,7 +15,7 @@ use Rattle.view_settings.specs.Settings.{IsJob}
 use Rattle.view_settings.specs.declared.job.Job.{Job}
 use Rattle.view_settings.specs.declared.job.Job.TheVariants.{Mesh, Replay}
 use Rattle.modeller_cmd.specs.Asking.{asked}
-use Rattle.view_settings.specs.Window.{Window}
+use Rattle.view_places.specs.Window.{Window}
 use Rattle.solid_model.specs.declared.clause.Clause.{Clause}
 use Rattle.modeller_cmd.specs.Endings.{IsRead, status_after}
 use Rattle.modeller_cmd.specs.Output.{input_limit, made, of_solid, outcome, output_as, parts_played}

@@ -5,7 +5,7 @@ use Rattle.model_frames.specs.Work.{frame_work}
 use Rattle.model_forge.specs.Forged.{forged}
 use Rattle.solid_model.specs.Named.{placed}
 use Rattle.solid_model.specs.declared.clause.Clause.{Clause}
-use Rattle.view_settings.specs.Window.{Window}
+use Rattle.view_places.specs.Window.{Window}
 use Rattle.view_settings.specs.declared.forge.Forge.{Forge}
 use Rattle.modeller_cmd.specs.CountTexts.{count_text}
 use Rattle.model_frames.specs.Frames.{Part}

@@ -10,7 +10,7 @@ use Rattle.model_frames.specs.Frames.{Part, frame_part}
 use Rattle.model_frames.specs.Work.{frame_work}
 use Rattle.model_frames.specs.declared.frame.Frame.TheVariants as frames
 use Rattle.solid_model.specs.declared.clause.Clause.{Clause}
-use Rattle.view_settings.specs.Window.{Window}
+use Rattle.view_places.specs.Window.{Window}
 use Rattle.view_settings.specs.declared.job.Job.{Job}
 use Rattle.view_settings.specs.declared.job.Job.TheVariants as jobs
 use Rattle.modeller_cmd.specs.Asking.{asked, asks_nothing, input_told}

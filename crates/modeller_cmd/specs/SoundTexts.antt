@@ -8,7 +8,7 @@ use Rattle.edit_script.specs.declared.command.Command.TheVariants as commands
 use Rattle.model_frames.specs.SoundTexts.{IsSoundText}
 use Rattle.solid_model.specs.declared.clause.Clause.{Clause}
 use Rattle.view_settings.specs.declared.job.Job.TheVariants.{Mesh, Replay}
-use Rattle.view_settings.specs.Window.{Window}
+use Rattle.view_places.specs.Window.{Window}
 use Rattle.modeller_cmd.specs.Asking.{asked}
 use Rattle.modeller_cmd.specs.Frames.{frame_of}
 use Rattle.modeller_cmd.specs.Output.{output_of}

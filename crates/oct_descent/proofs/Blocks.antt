@@ -11,7 +11,7 @@ use Rattle.kuhn_cells.specs.Grids.{over_block, value_at}
 use Rattle.kuhn_cells.specs.Triangles.{GridPoint, point}
 use Rattle.kuhn_cells.specs.declared.grid_size.GridSize.{GridSize}
 use Rattle.live_clauses.specs.declared.step.Step.{Step}
-use Rattle.view_settings.specs.Window.{Window}
+use Rattle.view_places.specs.Window.{Window}
 use Rattle.box_chains.specs.Sums.{maximum}
 use Rattle.oct_descent.specs.GridValues.{grid_of, grid_value, value_on}
 use Rattle.oct_descent.specs.Laws.{GridsAreBordered}

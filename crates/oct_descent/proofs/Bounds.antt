@@ -10,8 +10,8 @@ use Rattle.box_chains.specs.Laws.{Lawful}
 use Rattle.kuhn_cells.specs.Triangles.{GridPoint, point}
 use Rattle.live_clauses.specs.Steps.{IsTape}
 use Rattle.live_clauses.specs.declared.step.Step.{Step}
-use Rattle.view_settings.specs.Boxes.{Indices}
-use Rattle.view_settings.specs.Window.{Window, IsWindow}
+use Rattle.view_places.specs.Boxes.{Indices}
+use Rattle.view_places.specs.Window.{Window, IsWindow}
 use Rattle.oct_descent.specs.Bound.{has_point, least, length_in, lengths_at, mesh_points, mesh_spans, points_of_grid, sample_of, working_lengths}
 use Rattle.box_chains.specs.Sums.{maximum}
 use Rattle.oct_descent.specs.Laws.{MeshPointsAreBounded, MeshSpansAreBounded}

@@ -4,7 +4,7 @@ use Rattle.std.specs.Prelude.{Option, Some, None, is_some, nat_lt, not, ◌||◌
 use Rattle.std.proofs.lemmas.Bool.{cases_lt, false≢true}
 use Rattle.std.proofs.lemmas.Bool.Decides.{nat_tests}
 use Rattle.kuhn_cells.specs.Triangles.{GridPoint, further, point}
-use Rattle.view_settings.specs.Boxes.{Indices, IsBox}
+use Rattle.view_places.specs.Boxes.{Indices, IsBox}
 use Rattle.box_chains.specs.Chains.{is_long}
 use Rattle.fixed_ops.specs.Raw.{is_inside}
 use Rattle.oct_descent.specs.Corners.{AllShow, IsSeen, LacksCorner, ShowsCorner, side_seen}

@@ -10,12 +10,12 @@ use Rattle.interval_ops.specs.Decided.{decided_of}
 use Rattle.interval_ops.specs.Spans.{Holds, Interval}
 use Rattle.kuhn_cells.specs.Triangles.{GridPoint}
 use Rattle.live_clauses.specs.Steps.{tape_value}
-use Rattle.view_settings.specs.Boxes.{Indices}
-use Rattle.view_settings.specs.Places.{point_of}
-use Rattle.view_settings.specs.Spans.{region_of}
-use Rattle.view_settings.specs.Window.{Window}
-use Rattle.view_settings.specs.declared.lattice.Axis.TheVariants as axes
-use Rattle.view_settings.specs.declared.lattice.Lattice.TheVariants as lattices
+use Rattle.view_places.specs.Boxes.{Indices}
+use Rattle.view_places.specs.Places.{point_of}
+use Rattle.view_places.specs.Spans.{region_of}
+use Rattle.view_places.specs.Window.{Window}
+use Rattle.view_places.specs.declared.lattice.Axis.TheVariants as axes
+use Rattle.view_places.specs.declared.lattice.Lattice.TheVariants as lattices
 use Rattle.box_chains.specs.Chains.{Visit, decision, handed_on}
 use Rattle.box_chains.specs.Sums.{LiesIn, Sample}
 use Rattle.box_chains.specs.Visits.{IsVisit}

@@ -8,8 +8,8 @@ use Rattle.kuhn_cells.specs.Triangles.{point}
 use Rattle.kuhn_cells.specs.Grids.{is_border}
 use Rattle.kuhn_cells.specs.declared.grid_size.GridSize.{GridSize}
 use Rattle.live_clauses.specs.declared.step.Step.{Step}
-use Rattle.view_settings.specs.Boxes.{Indices}
-use Rattle.view_settings.specs.Window.{Window}
+use Rattle.view_places.specs.Boxes.{Indices}
+use Rattle.view_places.specs.Window.{Window}
 use Rattle.oct_descent.specs.Bound.{CountsAtLeast, CountsHullsAtLeast, least, long_spans_in, mesh_least, mesh_long_spans, mesh_points, mesh_spans, spans_in}
 use Rattle.box_chains.specs.Sums.{maximum}
 use Rattle.oct_descent.specs.Corners.{is_mixed, places_to, side_seen}

@@ -16,8 +16,8 @@ use Rattle.fixed_ops.specs.Counts.{Counts, RisesBy, points_of}
 use Rattle.fixed_ops.specs.Laws.{TalliesAddUp}
 use Rattle.kuhn_cells.specs.Triangles.{GridPoint, further, point}
 use Rattle.live_clauses.specs.declared.step.Step.{Step}
-use Rattle.view_settings.specs.Boxes.{Indices}
-use Rattle.view_settings.specs.Window.{Window}
+use Rattle.view_places.specs.Boxes.{Indices}
+use Rattle.view_places.specs.Window.{Window}
 use Rattle.oct_descent.specs.Bound.{points_of_grid}
 use Rattle.oct_descent.specs.Gaps.{AreGapsBelow, Fills, IsCornerBelow, StandsIn, has_gap, nth, spot}
 use Rattle.oct_descent.specs.GridValues.{grid_value}

@@ -13,7 +13,7 @@ use Rattle.kuhn_cells.specs.Grids.{over_block, value_at}
 use Rattle.kuhn_cells.specs.Triangles.{GridPoint, further, point}
 use Rattle.kuhn_cells.specs.declared.cell_list.CellValues.{CellValues}
 use Rattle.live_clauses.specs.declared.step.Step.{Step}
-use Rattle.view_settings.specs.Window.{Window}
+use Rattle.view_places.specs.Window.{Window}
 use Rattle.oct_descent.specs.Bound.{sample_of}
 use Rattle.oct_descent.specs.Corners.{AreCorners, IsRow, LacksCorner, is_mixed}
 use Rattle.oct_descent.specs.GridValues.{grid_of, grid_value}

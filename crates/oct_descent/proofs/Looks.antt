@@ -28,13 +28,13 @@ use Rattle.kuhn_cells.specs.declared.grid_size.GridSize.{GridSize}
 use Rattle.live_clauses.specs.Live.{live_of}
 use Rattle.live_clauses.specs.Steps.{IsTape}
 use Rattle.live_clauses.specs.declared.step.Step.{Step}
-use Rattle.view_settings.specs.Boxes.{Indices, IsBox, halves_of}
-use Rattle.view_settings.specs.Spans.{IsInRoot, region_of}
+use Rattle.view_places.specs.Boxes.{Indices, IsBox, halves_of}
+use Rattle.view_places.specs.Spans.{IsInRoot, region_of}
 use Rattle.box_chains.specs.Outcomes.{AreInRoot}
 use Rattle.box_chains.specs.Placing.{Sampling}
-use Rattle.view_settings.specs.Window.{Window}
-use Rattle.view_settings.specs.declared.lattice.Lattice.{Lattice}
-use Rattle.view_settings.specs.declared.lattice.Lattice.TheVariants as lattices
+use Rattle.view_places.specs.Window.{Window}
+use Rattle.view_places.specs.declared.lattice.Lattice.{Lattice}
+use Rattle.view_places.specs.declared.lattice.Lattice.TheVariants as lattices
 use Rattle.oct_descent.specs.Bound.{CountsHullsAtLeast, CountsNoHull, long_spans_in, spans_in}
 use Rattle.oct_descent.specs.Corners.{AllShow, IsSeen, IsShown, ShowsCorner}
 use Rattle.oct_descent.specs.Desks.{ChargesBelow, ChargesHalves, PaysHalves, asked_of, halves_long_spans, halves_spans, long_spans_below, longer, own_spans, spans_below}

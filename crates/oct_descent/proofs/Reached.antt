@@ -5,7 +5,7 @@ use Rattle.std.specs.List.{All, AllPairs, Contains, flat_map, sum_by}
 use Rattle.std.proofs.lemmas.List.Elements.{All-contains, All-contains_itself, All-weaker, Contains-append_right}
 use Rattle.std.proofs.lemmas.List.Kept.{AllPairs-cons}
 use Rattle.std.proofs.lemmas.List.Sums.{sum_by-cons}
-use Rattle.view_settings.specs.Boxes.{Indices, IsBox, halves_of, has_sample}
+use Rattle.view_places.specs.Boxes.{Indices, IsBox, halves_of, has_sample}
 use Rattle.box_chains.specs.Chains.{Visit, half_visit, half_with, next_visit, sides}
 use Rattle.box_chains.specs.Laws.{Lawful}
 use Rattle.box_chains.specs.Parts.{IsPart}

@@ -11,8 +11,8 @@ use Rattle.interval_ops.specs.HullCounts.{CountsHulls}
 use Rattle.kuhn_cells.specs.Triangles.{GridPoint, point}
 use Rattle.std.proofs.lemmas.Bool.{false≢true, and_parts, cond-false, cond-true, eq-eqb, eqb-true, ne_eqb}
 use Rattle.kuhn_cells.specs.declared.grid_size.GridSize.{GridSize}
-use Rattle.view_settings.specs.Boxes.{Indices}
-use Rattle.view_settings.specs.Window.{Window}
+use Rattle.view_places.specs.Boxes.{Indices}
+use Rattle.view_places.specs.Window.{Window}
 use Rattle.oct_descent.proofs.Sizes.{size-is, size-none, size-then}
 use Rattle.oct_descent.specs.Bound.{CountsAtLeast, points_of_grid}
 use Rattle.oct_descent.specs.Tables.{AllKnown, AreRight, AreSettled, AreWorked, Charges, Grows, IsNew, IsSame, IsUniform, Pays, PointValues, is_known, known_at, left, same_point}

@@ -6,7 +6,7 @@ use Rattle.std.proofs.Math.Nat.{mul-le-mul, mul-le-mul_left, mul-le-mul_right}
 use Rattle.std.proofs.lemmas.Bool.{and_parts}
 use Rattle.std.proofs.lemmas.List.Elements.{All-contains_itself, All-contains, All-head, All-tail, All-weaker}
 use Rattle.std.proofs.lemmas.List.Sums.{sum_by-cons}
-use Rattle.view_settings.specs.Boxes.{Indices, IsBox, halves_of}
+use Rattle.view_places.specs.Boxes.{Indices, IsBox, halves_of}
 use Rattle.box_chains.specs.Chains.{Visit, half_visit, half_with, handed_on, is_long, next_visit, sides}
 use Rattle.box_chains.specs.Counts.{first_lengths, is_first}
 use Rattle.box_chains.specs.Parts.{IsPart}

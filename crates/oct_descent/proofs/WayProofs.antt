@@ -1,7 +1,7 @@
 -- The laws of ways, from those of the layers below.
 use Rattle.std.proofs.Common.{◌≡◌, ◌+◌, Bool, true, false, cond, [], ◌∷◌, length, refl, arith}
 use Rattle.std.specs.List.{sum_by}
-use Rattle.view_settings.specs.Boxes.{halves_of}
+use Rattle.view_places.specs.Boxes.{halves_of}
 use Rattle.box_chains.specs.Chains.{handed_on, is_long, next_visit, visit}
 use Rattle.box_chains.specs.Laws.{Lawful}
 use Rattle.oct_descent.specs.Bound.{long_spans_in, spans_in}

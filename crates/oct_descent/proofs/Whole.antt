@@ -10,10 +10,10 @@ use Rattle.fixed_ops.specs.Counts.{Counts}
 use Rattle.kuhn_cells.specs.Triangles.{GridPoint, point}
 use Rattle.kuhn_cells.specs.Sizes.{IsBounded, SameSize}
 use Rattle.live_clauses.specs.declared.step.Step.{Step}
-use Rattle.view_settings.specs.Boxes.{Indices}
-use Rattle.view_settings.specs.Spans.{root_of}
-use Rattle.view_settings.specs.Window.{Window}
-use Rattle.view_settings.specs.declared.lattice.Lattice.TheVariants as lattices
+use Rattle.view_places.specs.Boxes.{Indices}
+use Rattle.view_places.specs.Spans.{root_of}
+use Rattle.view_places.specs.Window.{Window}
+use Rattle.view_places.specs.declared.lattice.Lattice.TheVariants as lattices
 use Rattle.oct_descent.proofs.Sizes.{size-from, size-is, size-then}
 use Rattle.oct_descent.specs.Bound.{CountsAtLeast, least, lengths_at, mesh_least, mesh_points, mesh_spans, points_of_grid, working_lengths}
 use Rattle.box_chains.specs.Sums.{maximum}

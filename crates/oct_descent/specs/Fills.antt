@@ -2,7 +2,7 @@
 use Rattle.std.specs.Prelude.{ℕ, ◌≤◌}
 use Rattle.fixed_ops.specs.Counts.{Counts}
 use Rattle.kuhn_cells.specs.Triangles.{GridPoint}
-use Rattle.view_settings.specs.Boxes.{Indices}
+use Rattle.view_places.specs.Boxes.{Indices}
 use Rattle.oct_descent.specs.Tables.{Charges, Pays, PointValues}
 use Rattle.oct_descent.specs.Ways.{Covers}
 

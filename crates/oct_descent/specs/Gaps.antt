@@ -4,9 +4,9 @@ use Rattle.std.specs.List.{All, AllPairs, list_any}
 use Rattle.fixed_ops.specs.Points.{Point}
 use Rattle.kuhn_cells.specs.Sizes.{SameSize}
 use Rattle.kuhn_cells.specs.Triangles.{GridPoint, further, point}
-use Rattle.view_settings.specs.Places.{point_of}
-use Rattle.view_settings.specs.Window.{Window}
-use Rattle.view_settings.specs.declared.lattice.Lattice.TheVariants as lattices
+use Rattle.view_places.specs.Places.{point_of}
+use Rattle.view_places.specs.Window.{Window}
+use Rattle.view_places.specs.declared.lattice.Lattice.TheVariants as lattices
 use Rattle.oct_descent.specs.Tables.{PointValues, is_known, known_at, same_point, stand}
 use Rattle.oct_descent.specs.declared.gap.Gap.{Gap}
 

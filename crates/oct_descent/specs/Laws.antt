@@ -6,8 +6,8 @@ use Rattle.box_chains.specs.Sums.{LiesIn, Sample}
 use Rattle.kuhn_cells.specs.Cells.{IsBordered}
 use Rattle.live_clauses.specs.Steps.{IsTape}
 use Rattle.live_clauses.specs.declared.step.Step.{Step}
-use Rattle.view_settings.specs.Boxes.{IsBox, halves_of}
-use Rattle.view_settings.specs.Window.{Window, IsWindow}
+use Rattle.view_places.specs.Boxes.{IsBox, halves_of}
+use Rattle.view_places.specs.Window.{Window, IsWindow}
 use Rattle.oct_descent.specs.Bound.{long_spans_in, mesh_points, mesh_spans, spans_in}
 use Rattle.oct_descent.specs.GridValues.{grid_of}
 use Rattle.oct_descent.specs.Sizes.{size_of}

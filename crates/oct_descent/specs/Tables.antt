@@ -8,7 +8,7 @@ use Rattle.fixed_ops.specs.Raw.{is_inside}
 use Rattle.kuhn_cells.specs.Triangles.{GridPoint, point}
 use Rattle.kuhn_cells.specs.Sizes.{SameSize}
 use Rattle.kuhn_cells.specs.declared.grid_size.GridSize.{GridSize}
-use Rattle.view_settings.specs.Boxes.{Indices}
+use Rattle.view_places.specs.Boxes.{Indices}
 use Rattle.oct_descent.specs.Bound.{CountsAtLeast, points_of_grid, spans_in}
 use Rattle.oct_descent.specs.Ways.{CellDescent, Covers, is_working, way_end}
 

@@ -9,8 +9,8 @@ ghost use Rattle.interval_ops.specs.HullCounts.{CountsHulls};
 ghost use Rattle.kuhn_cells.specs.Triangles.{GridPoint, point};
 ghost use Rattle.kuhn_cells.specs.Sizes.{SameSize};
 ghost use Rattle.live_clauses.specs.Live.{IsWhole};
-ghost use Rattle.view_settings.specs.Boxes.{halves_of};
-ghost use Rattle.view_settings.specs.Spans.{IsInRoot};
+ghost use Rattle.view_places.specs.Boxes.{halves_of};
+ghost use Rattle.view_places.specs.Spans.{IsInRoot};
 ghost use Rattle.oct_descent.specs.Bound.{CountsHullsAtLeast, CountsNoHull, long_spans_in};
 ghost use Rattle.oct_descent.specs.Corners.{IsSeen, IsShown};
 ghost use Rattle.oct_descent.specs.Desks.{ChargesBelow, ChargesHalves, IsToldAt, MayLook, PaysHalves, asked_of, halves_long_spans, long_spans_below, longer};
@@ -28,7 +28,7 @@ use box_chains::{AskedBox, Desk, Outcome, is_long, layers_hold};
 use fixed_ops::Tally;
 use kuhn_cells::GridSize;
 use std::alloc::AllocError;
-use view_settings::{IndexBox, split};
+use view_places::{IndexBox, split};
 
 /// The longest side of a box that is not split.
 const LEAF: u32 = 1;

@@ -17,7 +17,7 @@ use arrayvec::ArrayVec;
 use box_chains::{Desk, layers_hold, make_rows};
 use fixed_ops::Tally;
 use std::alloc::AllocError;
-use view_settings::IndexBox;
+use view_places::IndexBox;
 
 /// Evaluates the list of a number at those corners of a cell that are not known. AllocError: there is
 /// no memory for their values.

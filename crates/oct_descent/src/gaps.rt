@@ -6,7 +6,7 @@ ghost use Rattle.fixed_ops.specs.Counts.{RisesBy, points_of};
 ghost use Rattle.kuhn_cells.specs.Grids.{bordered};
 ghost use Rattle.kuhn_cells.specs.Sizes.{SameSize};
 ghost use Rattle.kuhn_cells.specs.Triangles.{point};
-ghost use Rattle.view_settings.specs.declared.lattice.Lattice.TheVariants as lattices;
+ghost use Rattle.view_places.specs.declared.lattice.Lattice.TheVariants as lattices;
 ghost use Rattle.oct_descent.specs.Gaps.{Fills, StandsIn, lies_at, nth};
 ghost use Rattle.oct_descent.specs.GridValues.{grid_value};
 ghost use Rattle.oct_descent.specs.Sizes.{size_of};

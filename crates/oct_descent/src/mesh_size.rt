@@ -1,11 +1,11 @@
 // How many cells the grid of a mesh has.
 ghost use Rattle.std.specs.Prelude.{◌≡◌};
 ghost use Rattle.kuhn_cells.specs.Sizes.{IsBounded};
-ghost use Rattle.view_settings.specs.Window.{IsWindow};
+ghost use Rattle.view_places.specs.Window.{IsWindow};
 ghost use Rattle.oct_descent.specs.Sizes.{size_of};
 
 use kuhn_cells::GridSize;
-use view_settings::View;
+use view_places::View;
 
 /// How many cells the grid of a mesh over a view has.
 #[inline]

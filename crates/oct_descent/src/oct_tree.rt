@@ -1,6 +1,6 @@
 // Grids whose boxes are looked into.
 ghost use Rattle.std.specs.Prelude.{◌≡◌, IfOk, OnOk};
-ghost use Rattle.view_settings.specs.Window.{FitsMesh};
+ghost use Rattle.view_places.specs.Window.{FitsMesh};
 ghost use Rattle.box_chains.specs.Tallied.{CountsAtMost};
 ghost use Rattle.oct_descent.specs.Bound.{CountsAtLeast, CountsHullsAtLeast, mesh_least, mesh_long_spans, mesh_points, mesh_spans};
 
@@ -12,7 +12,7 @@ use fixed_ops::Tally;
 use live_clauses::Tape;
 use std::alloc::{AllocError, Global};
 use std::marker::Model;
-use view_settings::{Lattice, View};
+use view_places::{Lattice, View};
 
 /// The cells of the grid of a list of steps over a view, by boxes: the values of the corners of all
 /// cells that have both an inside and an outside one. Contracts see the view and the list.

@@ -4,7 +4,7 @@ use Rattle.std.specs.Fmt.{digits}
 use Rattle.std.specs.Prelude.{codes}
 use Rattle.fixed_ops.specs.NumberTexts.{size_text}
 use Rattle.tetra_mesh.specs.declared.vertex.Vertex.{Vertex}
-use Rattle.view_settings.specs.Window.{Window}
+use Rattle.view_places.specs.Window.{Window}
 use Rattle.ply_writer.specs.Ply.{ply_of}
 
 -- two cells along each axis: x from -1 to 3, y from 0 to 8 and z from 10 to 11

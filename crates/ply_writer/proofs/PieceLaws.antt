@@ -9,8 +9,8 @@ use Rattle.fixed_ops.specs.NumberTexts.{number_text}
 use Rattle.kuhn_cells.specs.Faces.{Face}
 use Rattle.tetra_mesh.specs.declared.vertex.Vertex.{Vertex}
 use Rattle.tetra_mesh.specs.Places.{vertex_place}
-use Rattle.view_settings.specs.declared.lattice.Axis.TheVariants.{X, Y, Z}
-use Rattle.view_settings.specs.Window.{Window}
+use Rattle.view_places.specs.declared.lattice.Axis.TheVariants.{X, Y, Z}
+use Rattle.view_places.specs.Window.{Window}
 use Rattle.ply_writer.specs.Ply.{face_line, ply_header, ply_of, vertex_line}
 
 -- what ends in a line feed has a byte at least

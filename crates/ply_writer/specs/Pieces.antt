@@ -2,7 +2,7 @@
 use Rattle.std.specs.Prelude.{◌≡◌, ℕ, ◌≤◌, List, All, length}
 use Rattle.tetra_mesh.specs.declared.vertex.Vertex.{Vertex}
 use Rattle.tetra_mesh.specs.Places.{IsPlaced}
-use Rattle.view_settings.specs.Window.{Window}
+use Rattle.view_places.specs.Window.{Window}
 use Rattle.ply_writer.specs.declared.triples.Triples.{Triples}
 use Rattle.ply_writer.specs.Triples.{AreTriples}
 use Rattle.ply_writer.specs.declared.line.TheConstants.{BLOCK}

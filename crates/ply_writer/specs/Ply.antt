@@ -5,8 +5,8 @@ use Rattle.fixed_ops.specs.NumberTexts.{number_text}
 use Rattle.kuhn_cells.specs.Faces.{Face}
 use Rattle.tetra_mesh.specs.declared.vertex.Vertex.{Vertex}
 use Rattle.tetra_mesh.specs.Places.{vertex_place}
-use Rattle.view_settings.specs.declared.lattice.Axis.TheVariants.{X, Y, Z}
-use Rattle.view_settings.specs.Window.{Window}
+use Rattle.view_places.specs.declared.lattice.Axis.TheVariants.{X, Y, Z}
+use Rattle.view_places.specs.Window.{Window}
 
 -- what stands before the vertices: the form, how many vertices and faces there are, and what a line
 -- of each has

@@ -8,7 +8,7 @@ ghost use Rattle.ply_writer.specs.Triples.{AreTriples};
 use crate::triples::Triples;
 use fixed_ops::{byte_before, number_before};
 use tetra_mesh::{Face, GridPlaces, Vertex};
-use view_settings::Axis;
+use view_places::Axis;
 
 // The longest line of a vertex: three numbers, two spaces and a line feed.
 const VERTEX: usize = 69;

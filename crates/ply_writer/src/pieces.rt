@@ -9,7 +9,7 @@ use crate::triples::Triples;
 use std::alloc::{AllocError, Global};
 use std::marker::Model;
 use tetra_mesh::{Face, GridPlaces, Mesh, Vertex};
-use view_settings::View;
+use view_places::View;
 
 /// The text of a mesh over a view, made piece by piece in one block. Contracts see the piece that
 /// was made last and what comes after it.

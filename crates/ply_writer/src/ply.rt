@@ -8,7 +8,7 @@ use crate::PlyPieces;
 use crate::room::room_for;
 use std::alloc::{AllocError, Global};
 use tetra_mesh::Mesh;
-use view_settings::View;
+use view_places::View;
 
 /// The text of a mesh over a view: the header, a line for each vertex with its three places, and a
 /// line for each face with the numbers of its vertices. AllocError: there is no memory for it.

@@ -7,7 +7,7 @@ use arrayvec::ArrayVec;
 use fixed_ops::write_raw;
 use itoa::Buffer;
 use tetra_mesh::Mesh;
-use view_settings::View;
+use view_places::View;
 
 /// A bound on the bytes of the text of a mesh, near to them: no number is longer than the longer
 /// end of its axis, and none of a vertex longer than the count of vertices.

@@ -6,7 +6,7 @@ use super::*;
 use kuhn_cells::EdgeKey;
 use std::test::Fail;
 use tetra_mesh::{Face, Mesh, Vertex};
-use view_settings::View;
+use view_places::View;
 
 const ONE: i64 = 1 << 32;
 

@@ -5,9 +5,9 @@ use Rattle.box_chains.specs.Sums.{size}
 use Rattle.box_chains.specs.Visits.{IsVisit}
 use Rattle.live_clauses.specs.Steps.{IsTape}
 use Rattle.live_clauses.specs.declared.step.Step.{Step}
-use Rattle.view_settings.specs.Spans.{root_of}
-use Rattle.view_settings.specs.Window.{Window, IsWindow}
-use Rattle.view_settings.specs.declared.lattice.Lattice.TheVariants.{Raster}
+use Rattle.view_places.specs.Spans.{root_of}
+use Rattle.view_places.specs.Window.{Window, IsWindow}
+use Rattle.view_places.specs.declared.lattice.Lattice.TheVariants.{Raster}
 use Rattle.quad_descent.specs.Laws.{FreshPointsAreBounded, FreshSpansAreBounded}
 use Rattle.quad_descent.specs.Raster.{fresh_points, fresh_spans, raster, whole}
 

@@ -4,8 +4,8 @@ use Rattle.box_chains.specs.Chains.{chain_within}
 use Rattle.box_chains.specs.Counts.{points_in, spans_in}
 use Rattle.fixed_ops.specs.declared.operation.Op.TheVariants.{X, Y, Const, Neg}
 use Rattle.live_clauses.specs.declared.step.Step.{Step}
-use Rattle.view_settings.specs.Window.{Window}
-use Rattle.view_settings.specs.Boxes.{Indices}
+use Rattle.view_places.specs.Window.{Window}
+use Rattle.view_places.specs.Boxes.{Indices}
 use Rattle.quad_descent.specs.Drawn.{count_of}
 use Rattle.quad_descent.specs.Nodes.{bits_of, nodes_of, nodes_within}
 use Rattle.quad_descent.specs.Painting.{covers, meets}

@@ -7,7 +7,7 @@ use Rattle.std.proofs.lemmas.List.Elements.{All-head, All-tail, All-weaker}
 use Rattle.box_chains.specs.Chains.{Descent, Visit, decision, half_visit, is_long, sides}
 use Rattle.box_chains.specs.Parts.{IsPart}
 use Rattle.box_chains.specs.Laws.{Lawful}
-use Rattle.view_settings.specs.Boxes.{Indices, IsBox, halves_of}
+use Rattle.view_places.specs.Boxes.{Indices, IsBox, halves_of}
 use Rattle.quad_descent.specs.Nodes.{box_nodes, nodes_of, nodes_within}
 use Rattle.quad_descent.specs.declared.node.Node.{Node}
 

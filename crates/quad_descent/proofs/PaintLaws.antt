@@ -5,7 +5,7 @@ use Rattle.std.specs.List.{list_any, range_with_len}
 use Rattle.fixed_ops.specs.Raw.{is_inside}
 use Rattle.live_clauses.specs.Steps.{tape_value}
 use Rattle.live_clauses.specs.declared.step.Step.{Step}
-use Rattle.view_settings.specs.Places.{point_of}
+use Rattle.view_places.specs.Places.{point_of}
 use Rattle.std.proofs.lemmas.List.FromFn.{get_or-map-range_with_len}
 use Rattle.quad_descent.specs.Nodes.{bits_of, insides, rows_of}
 use Rattle.quad_descent.specs.Pixels.{pixel_at}
@@ -15,12 +15,12 @@ use Rattle.std.proofs.lemmas.List.{get_or-set_other, get_or-set_same, length-set
 use Rattle.std.proofs.lemmas.Nat.{div-add-mod'}
 use Rattle.std.proofs.lemmas.Bool.{and_cases, and_from, and_parts, cases_eq, cases_lt, cases_order, eq-eqb, eqb-true, le-leb, le-ltb, leb-true, lt-leb, lt-ltb, ltb-false, ltb-true, ne_eqb}
 use Rattle.std.proofs.lemmas.Bool.Decides.{nat_tests}
-use Rattle.view_settings.specs.Boxes.{Indices, IsBox}
-use Rattle.view_settings.specs.Window.{Window}
+use Rattle.view_places.specs.Boxes.{Indices, IsBox}
+use Rattle.view_places.specs.Window.{Window}
 use Rattle.quad_descent.specs.Painting.{IsBand, Paints, among, byte_at, covers, meets}
 use Rattle.quad_descent.specs.declared.band.Band.{Band}
-use Rattle.view_settings.specs.Spans.{IsInRoot}
-use Rattle.view_settings.specs.declared.lattice.Lattice.TheVariants.{Raster}
+use Rattle.view_places.specs.Spans.{IsInRoot}
+use Rattle.view_places.specs.declared.lattice.Lattice.TheVariants.{Raster}
 
 pub Paints-none : (c : ℕ → Bool) (f : ℕ → ℕ) (xs : List ℕ) → ((p : ℕ) → p < length xs → c p ≡ false) → Paints c f xs xs
 Paints-none c f xs none = record { same = refl; each = λ p h. rw (none p h) refl }

@@ -11,13 +11,13 @@ use Rattle.fixed_ops.specs.Laws.{TalliesAddUp}
 use Rattle.fixed_ops.specs.Raw.{is_inside}
 use Rattle.live_clauses.specs.Steps.{tape_value}
 use Rattle.live_clauses.specs.declared.step.Step.{Step}
-use Rattle.view_settings.specs.Boxes.{Indices}
-use Rattle.view_settings.specs.Places.{point_of, steps_of}
-use Rattle.view_settings.specs.Spans.{IsInRoot}
-use Rattle.view_settings.specs.Window.{Window}
-use Rattle.view_settings.specs.declared.lattice.Axis.TheVariants.{Y}
-use Rattle.view_settings.specs.declared.lattice.Lattice.{Lattice}
-use Rattle.view_settings.specs.declared.lattice.Lattice.TheVariants.{Raster, Height, Grid}
+use Rattle.view_places.specs.Boxes.{Indices}
+use Rattle.view_places.specs.Places.{point_of, steps_of}
+use Rattle.view_places.specs.Spans.{IsInRoot}
+use Rattle.view_places.specs.Window.{Window}
+use Rattle.view_places.specs.declared.lattice.Axis.TheVariants.{Y}
+use Rattle.view_places.specs.declared.lattice.Lattice.{Lattice}
+use Rattle.view_places.specs.declared.lattice.Lattice.TheVariants.{Raster, Height, Grid}
 use Rattle.quad_descent.specs.Nodes.{bits_of, insides, rows_of}
 use Rattle.quad_descent.specs.Scans.{cut, insides_upto, nth_point, row_digits, row_of, sample_count}
 use Rattle.quad_descent.proofs.Leaves.{bits-append, bits-below, bits-more}

@@ -4,8 +4,8 @@ use Rattle.box_chains.specs.Sums.{LiesIn, Sample}
 use Rattle.box_chains.specs.Visits.{IsVisit, sample_point}
 use Rattle.live_clauses.specs.Steps.{tape_value}
 use Rattle.live_clauses.specs.declared.step.Step.{Step}
-use Rattle.view_settings.specs.Boxes.{Indices}
-use Rattle.view_settings.specs.Window.{Window}
+use Rattle.view_places.specs.Boxes.{Indices}
+use Rattle.view_places.specs.Window.{Window}
 use Rattle.box_chains.specs.Chains.{visit}
 use Rattle.quad_descent.specs.Nodes.{halves_nodes, nodes_of}
 use Rattle.quad_descent.specs.Raster.{raster, whole}

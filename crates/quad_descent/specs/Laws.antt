@@ -2,7 +2,7 @@
 use Rattle.std.specs.Prelude.{◌+◌, ◌*◌, ◌≤◌, List, length}
 use Rattle.live_clauses.specs.Steps.{IsTape}
 use Rattle.live_clauses.specs.declared.step.Step.{Step}
-use Rattle.view_settings.specs.Window.{Window, IsWindow}
+use Rattle.view_places.specs.Window.{Window, IsWindow}
 use Rattle.quad_descent.specs.Raster.{fresh_points, fresh_spans}
 
 -- no more evaluations than plain evaluation of the list at each sample

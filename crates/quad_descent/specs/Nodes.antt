@@ -4,10 +4,10 @@ use Rattle.std.specs.List.{flat_map, range_with_len}
 use Rattle.box_chains.specs.Chains.{Descent, Visit, decision, half_visit, handed_on, is_long, sides, visit}
 use Rattle.fixed_ops.specs.Raw.{is_inside}
 use Rattle.live_clauses.specs.Steps.{tape_value}
-use Rattle.view_settings.specs.Boxes.{Indices, halves_of}
-use Rattle.view_settings.specs.Places.{point_of}
-use Rattle.view_settings.specs.Window.{Window}
-use Rattle.view_settings.specs.declared.lattice.Lattice.{Lattice}
+use Rattle.view_places.specs.Boxes.{Indices, halves_of}
+use Rattle.view_places.specs.Places.{point_of}
+use Rattle.view_places.specs.Window.{Window}
+use Rattle.view_places.specs.declared.lattice.Lattice.{Lattice}
 use Rattle.live_clauses.specs.declared.step.Step.{Step}
 use Rattle.quad_descent.specs.declared.node.Node.{Node}
 use Rattle.quad_descent.specs.declared.node.Node.TheVariants.{Outside, Inside, Leaf, Split}

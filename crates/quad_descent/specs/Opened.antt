@@ -4,7 +4,7 @@ use Rattle.box_chains.specs.Chains.{Descent}
 use Rattle.box_chains.specs.declared.outcome.Outcome.{Outcome}
 use Rattle.box_chains.specs.declared.outcome.Outcome.TheVariants.{Inside as AllInside, Outside as AllOutside, Open}
 use Rattle.live_clauses.specs.declared.step.Step.{Step}
-use Rattle.view_settings.specs.Boxes.{Indices}
+use Rattle.view_places.specs.Boxes.{Indices}
 use Rattle.quad_descent.specs.Nodes.{open_nodes}
 use Rattle.quad_descent.specs.declared.node.Node.{Node}
 use Rattle.quad_descent.specs.declared.node.Node.TheVariants.{Outside, Inside}

@@ -1,8 +1,8 @@
 -- Rows of pixels that are painted box by box.
 use Rattle.std.specs.Prelude.{◌≡◌, ℕ, ◌+◌, ◌*◌, ◌/◌, ◌%◌, ◌<◌, ◌≤◌, nat_le, nat_lt, Bool, ◌&&◌, List, length, slice_index_or, if◌then◌else◌}
 use Rattle.live_clauses.specs.declared.step.Step.{Step}
-use Rattle.view_settings.specs.Boxes.{Indices, has_sample}
-use Rattle.view_settings.specs.Window.{Window}
+use Rattle.view_places.specs.Boxes.{Indices, has_sample}
+use Rattle.view_places.specs.Window.{Window}
 use Rattle.quad_descent.specs.Pixels.{pixel_at}
 use Rattle.quad_descent.specs.declared.band.Band.{Band}
 

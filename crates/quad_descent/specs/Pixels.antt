@@ -4,8 +4,8 @@ use Rattle.std.specs.List.{flat_map, range_with_len}
 use Rattle.fixed_ops.specs.Raw.{is_inside}
 use Rattle.live_clauses.specs.Steps.{tape_value}
 use Rattle.live_clauses.specs.declared.step.Step.{Step}
-use Rattle.view_settings.specs.Places.{raster_point}
-use Rattle.view_settings.specs.Window.{Window}
+use Rattle.view_places.specs.Places.{raster_point}
+use Rattle.view_places.specs.Window.{Window}
 
 -- the byte of the pixel in column i, from the left on, and row j, from the top on: 255 where the
 -- value of the whole list there is inside, and 0 elsewhere

@@ -4,8 +4,8 @@ use Rattle.box_chains.specs.Chains.{Descent, Visit}
 use Rattle.box_chains.specs.declared.leaves.TheConstants.{LEAF}
 use Rattle.box_chains.specs.Counts.{points_in, root_visit, spans_in}
 use Rattle.live_clauses.specs.declared.step.Step.{Step}
-use Rattle.view_settings.specs.Window.{Window}
-use Rattle.view_settings.specs.declared.lattice.Lattice.TheVariants.{Raster}
+use Rattle.view_places.specs.Window.{Window}
+use Rattle.view_places.specs.declared.lattice.Lattice.TheVariants.{Raster}
 
 -- what an image is drawn of: a list of steps over a view
 pub record Drawing : Type 0 where

@@ -2,7 +2,7 @@
 ghost use Rattle.std.specs.Prelude.{◌≡◌, ◌+◌, ◌≤◌};
 ghost use Rattle.quad_descent.specs.Painting.{meets as meets_box};
 
-use view_settings::IndexBox;
+use view_places::IndexBox;
 
 /// Some rows of an image, from one on.
 #[derive(Clone, Copy, Debug, PartialEq, Eq)]

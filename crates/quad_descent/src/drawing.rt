@@ -4,8 +4,8 @@ ghost use Rattle.box_chains.specs.Chains.{is_long as is_long_for, visit};
 ghost use Rattle.box_chains.specs.Desks.{HasMore, MayOpen, MayTrace, list_of};
 ghost use Rattle.box_chains.specs.Outcomes.{seen};
 ghost use Rattle.box_chains.specs.Counts.{halves_points, halves_spans, open_points, open_spans, points_in, spans_in};
-ghost use Rattle.view_settings.specs.Boxes.{halves_of};
-ghost use Rattle.view_settings.specs.declared.lattice.Lattice.TheVariants.{Raster};
+ghost use Rattle.view_places.specs.Boxes.{halves_of};
+ghost use Rattle.view_places.specs.declared.lattice.Lattice.TheVariants.{Raster};
 ghost use Rattle.live_clauses.specs.Live.{IsWhole};
 ghost use Rattle.quad_descent.specs.Nodes.{halves_nodes, nodes_of, open_nodes, split_node};
 ghost use Rattle.box_chains.specs.Opened.{outcome_points, outcome_spans};
@@ -18,7 +18,7 @@ use crate::node::Node;
 use box_chains::{Desk, LEAF, Outcome, is_long, layers_hold, make_rows};
 use fixed_ops::Tally;
 use std::alloc::AllocError;
-use view_settings::{IndexBox, split};
+use view_places::{IndexBox, split};
 
 /// Draws a box, which receives a list: adds its nodes and those of the boxes below it.
 pub fn draw_box(

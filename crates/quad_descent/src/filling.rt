@@ -1,12 +1,12 @@
 // Rows of pixels of one box.
 ghost use Rattle.std.specs.Prelude.{◌≡◌, ◌+◌, ◌-◌, ◌*◌, ◌<◌, ◌≤◌, ℕ, true, length, if◌then◌else◌, IsTrue};
-ghost use Rattle.view_settings.specs.Spans.{IsInRoot};
+ghost use Rattle.view_places.specs.Spans.{IsInRoot};
 ghost use Rattle.quad_descent.specs.Nodes.{bits_of, insides, rows_of};
 ghost use Rattle.quad_descent.specs.Painting.{IsBand, Paints, among, byte_at, covers, meets};
 
 use crate::QuadTree;
 use crate::band::Band;
-use view_settings::{IndexBox, Lattice};
+use view_places::{IndexBox, Lattice};
 
 impl QuadTree {
     // Paints the samples of a box, which are all inside or all outside.

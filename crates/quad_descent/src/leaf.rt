@@ -2,7 +2,7 @@
 ghost use Rattle.std.specs.Prelude.{◌≡◌, ◌+◌, ◌-◌, ◌*◌, ◌<◌, ◌≤◌, ℕ, length, if◌then◌else◌};
 ghost use Rattle.choice_trace.specs.Lanes.{point_in};
 ghost use Rattle.fixed_ops.specs.Counts.{RisesBy, points_of};
-ghost use Rattle.view_settings.specs.Spans.{IsInRoot};
+ghost use Rattle.view_places.specs.Spans.{IsInRoot};
 ghost use Rattle.quad_descent.specs.Nodes.{rows_of};
 ghost use Rattle.quad_descent.specs.Scans.{IsAtNext, IsTold, cut, nth_point, sample_count};
 
@@ -11,7 +11,7 @@ use box_chains::Places;
 use choice_trace::{Inputs, evaluate_lanes};
 use fixed_ops::{Fx, Tally, is_inside, tallies_add_up};
 use live_clauses::Steps;
-use view_settings::IndexBox;
+use view_places::IndexBox;
 
 /// The rows of a leaf: a binary digit a sample, the last one lowest, and 1 for inside. The list is
 /// evaluated once at each sample.

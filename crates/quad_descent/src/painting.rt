@@ -1,7 +1,7 @@
 // Rows of pixels, painted from the nodes of a tree.
 ghost use Rattle.std.specs.Prelude.{◌≡◌, ◌+◌, ◌≤◌, ◌%◌, ◌/◌, length, IsTrue};
 ghost use Rattle.box_chains.specs.Chains.{is_long};
-ghost use Rattle.view_settings.specs.Boxes.{halves_of};
+ghost use Rattle.view_places.specs.Boxes.{halves_of};
 ghost use Rattle.quad_descent.specs.Drawn.{AreDrawnAt, IsDrawnAt};
 ghost use Rattle.quad_descent.specs.Painting.{IsBand, Paints, byte_at, covers};
 ghost use Rattle.quad_descent.specs.Pixels.{rows_from};
@@ -10,7 +10,7 @@ use crate::QuadTree;
 use crate::band::Band;
 use crate::node::Node;
 use box_chains::{LEAF, layers_hold};
-use view_settings::{IndexBox, Lattice, root, split};
+use view_places::{IndexBox, Lattice, root, split};
 
 /// Paints the rows of an image from `row` on, as many as there are places for. They are the bytes of
 /// the pixels that evaluating the whole list at each sample gives.

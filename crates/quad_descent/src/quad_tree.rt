@@ -10,7 +10,7 @@ use fixed_ops::Tally;
 use live_clauses::Tape;
 use std::alloc::{AllocError, Global};
 use std::marker::Model;
-use view_settings::{Lattice, View};
+use view_places::{Lattice, View};
 
 /// An image of a list of steps over a view, by boxes: which of them are decided, and what the samples
 /// of undecided leaves are. Contracts see the view and the list.

@@ -1,6 +1,6 @@
 // The samples of a leaf, one after another.
 
-use view_settings::IndexBox;
+use view_places::IndexBox;
 
 /// How far the samples of a leaf are told, row by row.
 #[derive(Clone, Copy, Debug, PartialEq, Eq)]

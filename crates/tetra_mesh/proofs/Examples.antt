@@ -4,8 +4,8 @@ use Rattle.tetra_mesh.specs.declared.vertex.Vertex.{Vertex}
 use Rattle.mesh_laws.specs.Places.{way_up}
 use Rattle.tetra_mesh.specs.Places.{IsPlaced, lattice_place, vertex_place}
 use Rattle.tetra_mesh.specs.Sound.{lattice_of, raw_of}
-use Rattle.view_settings.specs.declared.lattice.Axis.TheVariants.{X, Y, Z}
-use Rattle.view_settings.specs.Window.{Window}
+use Rattle.view_places.specs.declared.lattice.Axis.TheVariants.{X, Y, Z}
+use Rattle.view_places.specs.Window.{Window}
 
 -- two cells along each axis, from -1 to 1
 cells : Window

@@ -22,8 +22,8 @@ use Rattle.mesh_laws.specs.Laws.{EdgesArePaired, HaveOneCycle, PlacesAreDistinct
 use Rattle.mesh_laws.specs.Manifold.{IsManifold}
 use Rattle.mesh_laws.specs.Places.{AreAllApart, AreApart, RawPlaces, between, lattice_place as edge_place, place_line, raw_along, raw_place, share}
 use Rattle.mesh_laws.specs.Separating.{IsSeparating}
-use Rattle.view_settings.specs.Samples.{place_up}
-use Rattle.view_settings.specs.Window.{FitsMesh, IsWindow, Window}
+use Rattle.view_places.specs.Samples.{place_up}
+use Rattle.view_places.specs.Window.{FitsMesh, IsWindow, Window}
 use Rattle.tetra_mesh.specs.declared.vertex.Vertex.{Vertex}
 use Rattle.tetra_mesh.specs.Cuts.{vertex_of}
 use Rattle.tetra_mesh.specs.Sound.{lattice_of, raw_of}

@@ -5,11 +5,11 @@ use Rattle.kuhn_cells.specs.Grids.{lower, upper}
 use Rattle.kuhn_cells.specs.Laws.{IsDirection}
 use Rattle.kuhn_cells.specs.Triangles.{GridPoint}
 use Rattle.mesh_laws.specs.Places.{between}
-use Rattle.view_settings.specs.declared.lattice.Axis.{Axis}
-use Rattle.view_settings.specs.declared.lattice.Axis.TheVariants.{X, Y, Z}
-use Rattle.view_settings.specs.declared.lattice.Lattice.TheVariants.{Grid}
-use Rattle.view_settings.specs.Places.{place_of}
-use Rattle.view_settings.specs.Window.{Window}
+use Rattle.view_places.specs.declared.lattice.Axis.{Axis}
+use Rattle.view_places.specs.declared.lattice.Axis.TheVariants.{X, Y, Z}
+use Rattle.view_places.specs.declared.lattice.Lattice.TheVariants.{Grid}
+use Rattle.view_places.specs.Places.{place_of}
+use Rattle.view_places.specs.Window.{Window}
 use Rattle.tetra_mesh.specs.declared.vertex.Vertex.{Vertex}
 use Rattle.tetra_mesh.specs.Sizes.{size_of}
 

@@ -6,8 +6,8 @@ use Rattle.mesh_laws.specs.Closed.{IsClosed}
 use Rattle.mesh_laws.specs.Manifold.{IsManifold}
 use Rattle.mesh_laws.specs.Places.{place_line}
 use Rattle.mesh_laws.specs.Separating.{IsSeparating}
-use Rattle.view_settings.specs.declared.lattice.Axis.TheVariants.{X, Y, Z}
-use Rattle.view_settings.specs.Window.{Window}
+use Rattle.view_places.specs.declared.lattice.Axis.TheVariants.{X, Y, Z}
+use Rattle.view_places.specs.Window.{Window}
 use Rattle.tetra_mesh.specs.declared.vertex.Vertex.{Vertex}
 use Rattle.tetra_mesh.specs.Meshes.{Triangulation}
 use Rattle.tetra_mesh.specs.Places.{lattice_place, vertex_place}

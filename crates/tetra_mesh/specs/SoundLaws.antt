@@ -2,7 +2,7 @@
 use Rattle.std.specs.Prelude.{◌≡◌}
 use Rattle.kuhn_cells.specs.Cells.{IsBordered}
 use Rattle.kuhn_cells.specs.Grids.{Grid}
-use Rattle.view_settings.specs.Window.{FitsMesh, IsWindow, Window}
+use Rattle.view_places.specs.Window.{FitsMesh, IsWindow, Window}
 use Rattle.tetra_mesh.specs.Cuts.{mesh_of}
 use Rattle.tetra_mesh.specs.Sizes.{size_of}
 use Rattle.tetra_mesh.specs.Sound.{IsSound, LieApart}

@@ -1,11 +1,11 @@
 -- Tables of the places of a grid's points.
 use Rattle.std.specs.Prelude.{◌≡◌, ℕ, ◌≤◌, ℤ, pos, List, slice_index_or}
 use Rattle.fixed_ops.specs.Raw.{IsRaw}
-use Rattle.view_settings.specs.declared.lattice.Axis.{Axis}
-use Rattle.view_settings.specs.declared.lattice.Axis.TheVariants.{X, Y, Z}
-use Rattle.view_settings.specs.declared.lattice.Lattice.TheVariants.{Grid}
-use Rattle.view_settings.specs.Places.{place_of, steps_of}
-use Rattle.view_settings.specs.Window.{Window}
+use Rattle.view_places.specs.declared.lattice.Axis.{Axis}
+use Rattle.view_places.specs.declared.lattice.Axis.TheVariants.{X, Y, Z}
+use Rattle.view_places.specs.declared.lattice.Lattice.TheVariants.{Grid}
+use Rattle.view_places.specs.Places.{place_of, steps_of}
+use Rattle.view_places.specs.Window.{Window}
 
 -- a number is the raw place of a point of a grid along an axis
 pub record IsPointPlace (w : Window) (axis : Axis) (i : ℕ) (place : ℤ) : Type 0 where

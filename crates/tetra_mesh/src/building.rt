@@ -8,7 +8,7 @@ ghost use Rattle.tetra_mesh.specs.Shapes.{AreShapes};
 ghost use Rattle.tetra_mesh.specs.Sides.{HasParts, HaveCells, OfCells, sided_of};
 ghost use Rattle.tetra_mesh.specs.Sizes.{size_of};
 ghost use Rattle.tetra_mesh.specs.Sound.{IsSound, LieApart};
-ghost use Rattle.view_settings.specs.Window.{FitsMesh};
+ghost use Rattle.view_places.specs.Window.{FitsMesh};
 
 use crate::faces::push_faces;
 use crate::laws::meshes_are_sound;
@@ -20,7 +20,7 @@ use crate::vertices::vertices_of;
 use crate::{Face, Mesh, Vertex};
 use kuhn_cells::{CellList, CellValues, GridSize, mixed_cells_suffice};
 use std::alloc::{AllocError, Global};
-use view_settings::View;
+use view_places::View;
 
 /// The mesh of a grid of the view's size whose outermost layer is outside, from the list of its
 /// mixed cells. It is closed, a manifold and separating, and its vertices lie apart: on the lattice,

@@ -9,7 +9,7 @@ use fixed_ops::Fx;
 use kuhn_cells::{CellList, CellValues, EdgeKey};
 use std::alloc::{AllocError, Global};
 use std::test::Fail;
-use view_settings::View;
+use view_places::View;
 
 // A view of so many cells along each axis, one or two.
 fn view_of(n: u32) -> View

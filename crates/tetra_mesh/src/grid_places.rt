@@ -1,8 +1,8 @@
 // The places of the points of a grid.
 ghost use Rattle.std.specs.Prelude.{◌≡◌, ◌≤◌};
 ghost use Rattle.fixed_ops.specs.Raw.{IsRaw};
-ghost use Rattle.view_settings.specs.declared.lattice.Lattice.TheVariants.{Grid};
-ghost use Rattle.view_settings.specs.Places.{place_of, steps_of};
+ghost use Rattle.view_places.specs.declared.lattice.Lattice.TheVariants.{Grid};
+ghost use Rattle.view_places.specs.Places.{place_of, steps_of};
 ghost use Rattle.tetra_mesh.specs.Places.{IsPlaced, vertex_place};
 ghost use Rattle.tetra_mesh.specs.Tables.{IsTable};
 
@@ -10,7 +10,7 @@ use crate::Vertex;
 use crate::mesh_size::mesh_size;
 use crate::place::{between, index_along, leads_along};
 use std::marker::Model;
-use view_settings::{Axis, Lattice, View, samples_along};
+use view_places::{Axis, Lattice, View, samples_along};
 
 // A grid has at most so many points along an axis.
 const POINTS: usize = 513;
@@ -26,8 +26,8 @@ pub struct GridPlaces {
 }
 
 impl Model for GridPlaces {
-    ghost use Rattle.view_settings.specs.declared.lattice.Axis.TheVariants.{X, Y, Z};
-    ghost use Rattle.view_settings.specs.Window.{Window};
+    ghost use Rattle.view_places.specs.declared.lattice.Axis.TheVariants.{X, Y, Z};
+    ghost use Rattle.view_places.specs.Window.{Window};
     ghost use Rattle.tetra_mesh.specs.Tables.{AreTables};
 
     ghost Value = { Window };

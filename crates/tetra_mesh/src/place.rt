@@ -7,7 +7,7 @@ ghost use Rattle.mesh_laws.specs.Places.{between as between_of};
 
 use crate::Vertex;
 use kuhn_cells::EdgeKey;
-use view_settings::{Axis, Lattice, View, raw_place};
+use view_places::{Axis, Lattice, View, raw_place};
 
 /// The raw place of a vertex along an axis: that of the lower point of its edge, or, where the edge
 /// leads along the axis, t parts of 65536 further towards the upper point, rounded down.

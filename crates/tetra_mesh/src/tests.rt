@@ -5,7 +5,7 @@ ghost use Rattle.tetra_mesh.specs.Places.{IsPlaced};
 use super::*;
 use fixed_ops::Fx;
 use kuhn_cells::EdgeKey;
-use view_settings::{Axis, View};
+use view_places::{Axis, View};
 
 const ONE: i64 = 1 << 32;
 

@@ -1,6 +1,7 @@
 -- The job that words ask for keeps what each job keeps.
 use Rattle.std.proofs.Common.{◌≡◌, ℕ, ◌-◌, ◌^◌, ◌≤◌, ℤ, pos, Bool, true, false, ◌&&◌, cond, nat_le, List, [], ◌∷◌, ◌++◌, Option, Some, None, Result, Ok, Err, refl, sym, ap, subst, ◌∙◌, arith}
-use Rattle.std.specs.Prelude.{int_lt, ◌||◌}
+use Rattle.std.specs.Prelude.{T, int_lt, ◌*◌, ◌-ℤ◌, ◌≤ℤ◌, ◌||◌}
+use Rattle.std.specs.Int.Signed.{le_z_yes}
 use Rattle.std.specs.List.{AllByRecursion}
 use Rattle.std.specs.Str.Parse.{starts_with_minus, without_leading_sign}
 use Rattle.std.proofs.lemmas.Bool.Decides.{nat_tests}
@@ -25,7 +26,7 @@ use Rattle.view_settings.specs.Kinds.{greatest_of, kind_of}
 use Rattle.view_settings.specs.Names.{name_called}
 use Rattle.view_settings.specs.Setting.{IsSetting, IsValue, is_given, known, parts_of, setting_of, value_read}
 use Rattle.view_settings.specs.Settings.{Given, IsJob, begun, count_or, finished, is_empty, job_with, mesh_job, minus_one, one, raw_or, settled, value_given, window_of}
-use Rattle.view_settings.specs.Window.{AreEnds, FitsMesh, IsCount, IsWindow, Window, fits_mesh, has_room}
+use Rattle.view_places.specs.Window.{AreEnds, FitsMesh, IsCount, IsWindow, Window, fits_mesh, has_room}
 use Rattle.view_settings.specs.Words.{after_words}
 use Rattle.view_settings.proofs.GivenLaws.{count_range, each-push, given_count, given_raw, height_columns, height_rows}
 

@@ -1,4 +1,4 @@
-use Rattle.view_settings.specs.Samples.{place_on}
+use Rattle.view_places.specs.Samples.{place_on}
 use Rattle.box_chains.proofs.Placed.{place-more}
 use Rattle.box_chains.proofs.places.along.Goals as goal
 

@@ -1,6 +1,6 @@
 use Rattle.std.proofs.Common.{map, ap, sym, ◌∙◌, arith}
 use Rattle.std.proofs.lemmas.List.{take_all}
-use Rattle.view_settings.specs.Spans.{region_of}
+use Rattle.view_places.specs.Spans.{region_of}
 use Rattle.box_chains.proofs.rows.regions_of.Goals as goal
 
 pub returns : goal.returns

@@ -1,5 +1,5 @@
 use Rattle.std.proofs.Common.{◌≡◌, length, map, take}
-use Rattle.view_settings.specs.Spans.{region_of}
+use Rattle.view_places.specs.Spans.{region_of}
 use Rattle.box_chains.proofs.rows.regions_of.Given as goal
 
 abbrev pub invariant-loop-l : goal.invariant-loop-l

@@ -10,8 +10,8 @@ use Rattle.box_chains.specs.declared.outcome.Outcome.TheVariants.{Inside as AllI
 use Rattle.box_chains.specs.Sums.{sum_in}
 use Rattle.fixed_ops.specs.Counts.{Counts, RisesBy, points_of}
 use Rattle.live_clauses.specs.declared.step.Step.{Step}
-use Rattle.view_settings.specs.Boxes.{Indices, IsBox}
-use Rattle.view_settings.specs.Window.{Window}
+use Rattle.view_places.specs.Boxes.{Indices, IsBox}
+use Rattle.view_places.specs.Window.{Window}
 use Rattle.height_map.specs.Beside.{LieBeside, beside_points, beside_top, beside_traced, farther, nearer}
 use Rattle.height_map.specs.Bound.{CountsPoints, CountsSpans, layered}
 use Rattle.box_chains.specs.Counts.{halves_spans}

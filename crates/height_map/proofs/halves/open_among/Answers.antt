@@ -1,6 +1,6 @@
 use Rattle.std.proofs.Common.{arith, ap, ◌∙◌}
 use Rattle.arrayvec.specs.ArrayVec.{ArrayVec, array_vec_len}
-use Rattle.view_settings.specs.declared.index_box.IndexBox.{IndexBox}
+use Rattle.view_places.specs.declared.index_box.IndexBox.{IndexBox}
 use Rattle.height_map.specs.Columns.{has_open}
 use Rattle.height_map.proofs.Opens.{covered-told, one-kept, one-left, open-told}
 use Rattle.height_map.proofs.halves.open_among.Goals.{then-not-is_covered, else-not-is_covered}

@@ -1,8 +1,8 @@
 use Rattle.std.proofs.Common.{◌≡◌, ◌<◌, ℕ, length}
 use Rattle.choice_trace.specs.Lanes.{in_lane}
-use Rattle.view_settings.specs.Places.{place_of}
-use Rattle.view_settings.specs.declared.lattice.Axis.TheVariants.{X, Y}
-use Rattle.view_settings.specs.declared.lattice.Lattice.TheVariants.{Height}
+use Rattle.view_places.specs.Places.{place_of}
+use Rattle.view_places.specs.declared.lattice.Axis.TheVariants.{X, Y}
+use Rattle.view_places.specs.declared.lattice.Lattice.TheVariants.{Height}
 use Rattle.height_map.specs.Layers.{nth}
 use Rattle.height_map.proofs.layer.gather.Given as goal
 

@@ -4,7 +4,7 @@ use Rattle.std.specs.Prelude.{◌==◌, get_or}
 use Rattle.std.proofs.lemmas.List.Elements.{All-filter}
 use Rattle.box_chains.specs.Sums.{sum_in}
 use Rattle.fixed_ops.specs.Counts.{RisesBy, points_of}
-use Rattle.view_settings.specs.Boxes.{IsBox}
+use Rattle.view_places.specs.Boxes.{IsBox}
 use Rattle.height_map.specs.Columns.{Changes, covers, leaf_cost, leaf_top}
 use Rattle.height_map.specs.Layers.{IsColumn, columns_of, open_among, stand_at}
 use Rattle.height_map.specs.declared.column.Column.{Column}

@@ -6,7 +6,7 @@ use Rattle.box_chains.specs.Chains.{visit}
 use Rattle.box_chains.specs.Desks.{Tracing, list_of}
 use Rattle.box_chains.specs.Tallied.{CountsAtMost}
 use Rattle.live_clauses.specs.Steps.{IsTape}
-use Rattle.view_settings.specs.Spans.{root_of}
+use Rattle.view_places.specs.Spans.{root_of}
 use Rattle.height_map.specs.Bound.{layered}
 use Rattle.box_chains.specs.Tested.{points_where, spans_where}
 use Rattle.height_map.specs.Columns.{Changes, covers, is_open, leaf_top}

@@ -1,8 +1,8 @@
 use Rattle.std.proofs.Common.{◌<◌, ap, arith, ◌∙◌}
 use Rattle.std.proofs.lemmas.List.{length-set}
-use Rattle.view_settings.specs.Places.{place_of}
-use Rattle.view_settings.specs.declared.lattice.Axis.TheVariants.{X, Y, Z}
-use Rattle.view_settings.specs.declared.lattice.Lattice.TheVariants.{Grid}
+use Rattle.view_places.specs.Places.{place_of}
+use Rattle.view_places.specs.declared.lattice.Axis.TheVariants.{X, Y, Z}
+use Rattle.view_places.specs.declared.lattice.Lattice.TheVariants.{Grid}
 use Rattle.oct_descent.specs.Gaps.{nth}
 use Rattle.oct_descent.proofs.GapLaws.{row-set}
 use Rattle.oct_descent.proofs.gaps.gather.Goals as goal

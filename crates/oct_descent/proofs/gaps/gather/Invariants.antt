@@ -1,8 +1,8 @@
 use Rattle.std.proofs.Common.{◌≡◌, ◌<◌, ℕ, length}
 use Rattle.choice_trace.specs.Lanes.{in_lane}
-use Rattle.view_settings.specs.Places.{place_of}
-use Rattle.view_settings.specs.declared.lattice.Axis.TheVariants.{X, Y, Z}
-use Rattle.view_settings.specs.declared.lattice.Lattice.TheVariants.{Grid}
+use Rattle.view_places.specs.Places.{place_of}
+use Rattle.view_places.specs.declared.lattice.Axis.TheVariants.{X, Y, Z}
+use Rattle.view_places.specs.declared.lattice.Lattice.TheVariants.{Grid}
 use Rattle.oct_descent.specs.Gaps.{nth}
 use Rattle.oct_descent.proofs.gaps.gather.Given as goal
 

@@ -6,9 +6,9 @@ use Rattle.box_chains.specs.declared.outcome.Outcome.TheVariants.{Inside as AllI
 use Rattle.box_chains.specs.Tallied.{CountsAtMost, CountsExactly}
 use Rattle.fixed_ops.specs.Counts.{RisesBy, points_of}
 use Rattle.live_clauses.specs.declared.step.Step.{Step}
-use Rattle.view_settings.specs.Boxes.{halves_of}
-use Rattle.view_settings.specs.Spans.{IsInRoot}
-use Rattle.view_settings.specs.declared.lattice.Lattice.TheVariants.{Raster}
+use Rattle.view_places.specs.Boxes.{halves_of}
+use Rattle.view_places.specs.Spans.{IsInRoot}
+use Rattle.view_places.specs.declared.lattice.Lattice.TheVariants.{Raster}
 use Rattle.quad_descent.specs.Nodes.{halves_nodes}
 use Rattle.box_chains.specs.Counts.{halves_points, halves_spans}
 use Rattle.box_chains.specs.Opened.{outcome_points, outcome_spans}

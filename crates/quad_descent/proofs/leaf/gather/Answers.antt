@@ -1,6 +1,6 @@
 use Rattle.std.proofs.Common.{◌≤◌, ap, arith, subst, sym}
-use Rattle.view_settings.specs.Places.{steps_of}
-use Rattle.view_settings.specs.declared.lattice.Axis.TheVariants.{Y}
+use Rattle.view_places.specs.Places.{steps_of}
+use Rattle.view_places.specs.declared.lattice.Axis.TheVariants.{Y}
 use Rattle.quad_descent.proofs.Scans.{row-within}
 use Rattle.quad_descent.proofs.leaf.gather.Goals as goal
 

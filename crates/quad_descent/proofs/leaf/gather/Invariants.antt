@@ -1,7 +1,7 @@
 use Rattle.std.proofs.Common.{◌≡◌, ◌+◌, ◌<◌, ℕ, length}
 use Rattle.choice_trace.specs.Lanes.{in_lane}
-use Rattle.view_settings.specs.Places.{place_of}
-use Rattle.view_settings.specs.declared.lattice.Axis.TheVariants.{X, Y}
+use Rattle.view_places.specs.Places.{place_of}
+use Rattle.view_places.specs.declared.lattice.Axis.TheVariants.{X, Y}
 use Rattle.quad_descent.specs.Scans.{IsAtNext, column_of, row_of}
 use Rattle.quad_descent.proofs.leaf.gather.Given as goal
 

@@ -1,8 +1,8 @@
 use Rattle.std.proofs.Common.{◌/◌, ◌<◌, [], arith, ap, sym, subst, ◌∙◌, refl, append-nil, length}
 use Rattle.std.proofs.lemmas.Nat.{div-add-mod'}
 use Rattle.box_chains.specs.Visits.{IsVisit}
-use Rattle.view_settings.specs.Spans.{root_of}
-use Rattle.view_settings.specs.declared.lattice.Lattice.TheVariants.{Raster}
+use Rattle.view_places.specs.Spans.{root_of}
+use Rattle.view_places.specs.declared.lattice.Lattice.TheVariants.{Raster}
 use Rattle.quad_descent.specs.Drawn.{IsDrawnAt}
 use Rattle.quad_descent.specs.Nodes.{nodes_of}
 use Rattle.quad_descent.specs.Raster.{raster, whole}

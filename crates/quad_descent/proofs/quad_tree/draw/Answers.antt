@@ -3,7 +3,7 @@ use Rattle.box_chains.specs.Counts.{points_in, spans_in}
 use Rattle.box_chains.specs.Chains.{visit}
 use Rattle.box_chains.specs.Desks.{Tracing, list_of}
 use Rattle.box_chains.specs.Tallied.{CountsAtMost, CountsExactly}
-use Rattle.view_settings.specs.Spans.{root_of}
+use Rattle.view_places.specs.Spans.{root_of}
 use Rattle.quad_descent.specs.Raster.{fresh_points, fresh_spans, raster}
 use Rattle.quad_descent.proofs.Drawn.{on_err}
 use Rattle.quad_descent.proofs.quad_tree.draw.Goals as goal

@@ -2,8 +2,8 @@
 use Rattle.std.proofs.Common.{◌≡◌, ◌≢◌, ◌<◌, ◌∙◌, ap, length, length-set, w64, to_z, of_z, arith, below_more, get_or-set_other, get_or-set_same, subst}
 use Rattle.std.proofs.lemmas.Int.{ints}
 use Rattle.kuhn_cells.specs.Sizes.{IsBounded}
-use Rattle.view_settings.specs.Samples.{place_on}
-use Rattle.view_settings.specs.declared.axis_samples.AxisSamples.{AxisSamples}
+use Rattle.view_places.specs.Samples.{place_on}
+use Rattle.view_places.specs.declared.axis_samples.AxisSamples.{AxisSamples}
 use Rattle.tetra_mesh.proofs.grid_places.table.Goals as goal
 
 pub bounds-places-i : goal.bounds-places-i

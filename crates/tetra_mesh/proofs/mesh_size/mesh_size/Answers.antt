@@ -1,5 +1,5 @@
 use Rattle.std.proofs.Common.{subst}
-use Rattle.view_settings.specs.Window.{IsWindow}
+use Rattle.view_places.specs.Window.{IsWindow}
 use Rattle.tetra_mesh.proofs.mesh_size.mesh_size.Goals as goal
 
 pub returns-clause-window : goal.returns-clause-window

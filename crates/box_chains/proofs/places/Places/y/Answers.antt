@@ -1,6 +1,6 @@
 use Rattle.std.proofs.Common.{◌≤◌, arith, ap, subst, sym, ◌∙◌}
-use Rattle.view_settings.specs.Places.{place_of, steps_of}
-use Rattle.view_settings.specs.declared.lattice.Axis.TheVariants.{Y}
+use Rattle.view_places.specs.Places.{place_of, steps_of}
+use Rattle.view_places.specs.declared.lattice.Axis.TheVariants.{Y}
 use Rattle.box_chains.proofs.Placed.{place-read, within}
 use Rattle.box_chains.proofs.places.Places.y.Goals as goal
 

@@ -1,5 +1,5 @@
 use Rattle.std.proofs.Common.{◌-◌, ◌*◌, ◌<◌, arith, ap, subst, ◌∙◌, refl, length}
-use Rattle.view_settings.specs.Boxes.{IsBox}
+use Rattle.view_places.specs.Boxes.{IsBox}
 use Rattle.quad_descent.specs.Painting.{byte_at}
 use Rattle.quad_descent.proofs.PaintLaws.{met-rows, row-filled, rows-painted}
 use Rattle.quad_descent.proofs.quad_tree.QuadTree.fill_box.Goals as goal

@@ -1,7 +1,7 @@
 use Rattle.std.proofs.Common.{◌-◌, ◌+◌, ◌*◌, ◌<◌, arith, ap, sym, subst, ◌∙◌, refl, length}
-use Rattle.view_settings.specs.Boxes.{IsBox}
-use Rattle.view_settings.specs.Spans.{IsInRoot}
-use Rattle.view_settings.specs.declared.lattice.Lattice.TheVariants.{Raster}
+use Rattle.view_places.specs.Boxes.{IsBox}
+use Rattle.view_places.specs.Spans.{IsInRoot}
+use Rattle.view_places.specs.declared.lattice.Lattice.TheVariants.{Raster}
 use Rattle.quad_descent.specs.Nodes.{bits_of, insides}
 use Rattle.quad_descent.specs.Painting.{Paints, among, byte_at}
 use Rattle.quad_descent.proofs.PaintLaws.{met-rows, row-painted, row-read, rows-painted}

@@ -1,9 +1,9 @@
 use Rattle.std.proofs.Common.{◌-◌, ◌*◌, ◌<◌, ℕ, Bool, cond, arith, ap, subst, ◌∙◌, refl, length}
 use Rattle.fixed_ops.specs.Raw.{is_inside}
 use Rattle.live_clauses.specs.Steps.{tape_value}
-use Rattle.view_settings.specs.Boxes.{IsBox}
-use Rattle.view_settings.specs.Places.{point_of}
-use Rattle.view_settings.specs.declared.lattice.Lattice.TheVariants.{Raster}
+use Rattle.view_places.specs.Boxes.{IsBox}
+use Rattle.view_places.specs.Places.{point_of}
+use Rattle.view_places.specs.declared.lattice.Lattice.TheVariants.{Raster}
 use Rattle.quad_descent.proofs.PaintLaws.{digit-painted, digit-read}
 use Rattle.quad_descent.proofs.quad_tree.QuadTree.paint_row.Goals as goal
 

@@ -2,8 +2,8 @@ use Rattle.std.proofs.Common.{◌≡◌, ◌+◌, ◌-◌, ◌*◌, map}
 use Rattle.std.specs.List.{range_with_len}
 use Rattle.fixed_ops.specs.Raw.{is_inside}
 use Rattle.live_clauses.specs.Steps.{tape_value}
-use Rattle.view_settings.specs.Places.{point_of}
-use Rattle.view_settings.specs.declared.lattice.Lattice.TheVariants.{Raster}
+use Rattle.view_places.specs.Places.{point_of}
+use Rattle.view_places.specs.declared.lattice.Lattice.TheVariants.{Raster}
 use Rattle.quad_descent.specs.Nodes.{bits_of}
 use Rattle.quad_descent.specs.Painting.{Paints, among, byte_at}
 use Rattle.quad_descent.proofs.quad_tree.QuadTree.paint_row.Given as goal
