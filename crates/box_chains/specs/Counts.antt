@@ -3,7 +3,7 @@ use Rattle.std.specs.Prelude.{ℕ, ◌*◌, ◌==◌, Bool, ◌&&◌, List, leng
 use Rattle.std.specs.List.{sum_by}
 use Rattle.live_clauses.specs.declared.step.Step.{Step}
 use Rattle.view_places.specs.Boxes.{Indices, halves_of}
-use Rattle.view_places.specs.Spans.{root_of}
+use Rattle.view_places.specs.Spans.{root_box_of}
 use Rattle.box_chains.specs.Chains.{Descent, Visit, chain, chain_end, decision, handed_on, is_long, sum_over}
 use Rattle.box_chains.specs.Sums.{Sample, size, sum_in}
 
@@ -39,7 +39,7 @@ spans_in d v = sum_in v.box (λ s. first_lengths s (chain d v s))
 
 -- the box of all samples, which receives the whole list
 abbrev pub root_visit : Descent → List Step → Visit
-root_visit d list = record { box = root_of d.view d.lattice; list = list }
+root_visit d list = record { box = root_box_of d.view d.lattice; list = list }
 
 -- the evaluations that some boxes take that receive a list, and the steps that are traced over them
 abbrev pub halves_points : Descent → List Step → List Indices → ℕ

@@ -5,7 +5,7 @@ ghost use Rattle.choice_trace.specs.Hulls.{tape_hull};
 ghost use Rattle.interval_ops.specs.Decided.{decided_of};
 ghost use Rattle.interval_ops.specs.HullCounts.{CountsHulls};
 ghost use Rattle.live_clauses.specs.Live.{IsWhole};
-ghost use Rattle.view_places.specs.Spans.{IsInRoot, region_of, root_of};
+ghost use Rattle.view_places.specs.Spans.{IsInRoot, region_of, root_box_of};
 ghost use Rattle.box_chains.specs.Desks.{HasMore, Tracing, list_of, samples};
 ghost use Rattle.box_chains.specs.Outcomes.{AreInRoot, HandsOn, all_seen, asked_outcome, asked_outcomes, outcome_of, outcomes_of, seen};
 ghost use Rattle.box_chains.specs.Tallied.{CountsAtMost};
@@ -78,7 +78,7 @@ impl Desk {
     /// The box of all samples.
     #[inline]
     pub fn root(&self) -> IndexBox
-        ensures { result ≡ root_of self.now.view self.now.lattice }
+        ensures { result ≡ root_box_of self.now.view self.now.lattice }
     {
         self.places.root()
     }

@@ -1,8 +1,8 @@
 // Where the samples of a lattice lie.
 ghost use Rattle.std.specs.Prelude.{◌≡◌, ◌+◌, ◌<◌, ◌≤◌, IfOk};
 ghost use Rattle.std.specs.Int.{int_max, int_min};
-ghost use Rattle.view_places.specs.Places.{place_of, steps_of};
-ghost use Rattle.view_places.specs.Spans.{IsInRoot, last_of, range_along, region_of, root_of};
+ghost use Rattle.view_places.specs.Places.{sample_place, steps_of};
+ghost use Rattle.view_places.specs.Spans.{IsInRoot, last_of, range_along, region_of, root_box_of};
 ghost use Rattle.box_chains.specs.Placing.{places_along};
 
 use fixed_ops::{Fx, le};
@@ -55,7 +55,7 @@ impl Places {
     /// The box of all samples.
     #[inline]
     pub fn root(&self) -> IndexBox
-        ensures { result ≡ root_of self.now.view self.now.lattice }
+        ensures { result ≡ root_box_of self.now.view self.now.lattice }
     {
         root(&self.view, self.lattice)
     }
@@ -72,7 +72,7 @@ impl Places {
     #[inline]
     pub fn x(&self, i: u32) -> Fx
         requires { i ≤ steps_of self.now.view self.now.lattice Axis.X }
-        ensures { result ≡ place_of self.now.view self.now.lattice Axis.X i }
+        ensures { result ≡ sample_place self.now.view self.now.lattice Axis.X i }
     {
         self.x[i as usize]
     }
@@ -81,7 +81,7 @@ impl Places {
     #[inline]
     pub fn y(&self, j: u32) -> Fx
         requires { j ≤ steps_of self.now.view self.now.lattice Axis.Y }
-        ensures { result ≡ place_of self.now.view self.now.lattice Axis.Y j }
+        ensures { result ≡ sample_place self.now.view self.now.lattice Axis.Y j }
     {
         self.y[j as usize]
     }
@@ -90,7 +90,7 @@ impl Places {
     #[inline]
     pub fn z(&self, k: u32) -> Fx
         requires { k ≤ steps_of self.now.view self.now.lattice Axis.Z }
-        ensures { result ≡ place_of self.now.view self.now.lattice Axis.Z k }
+        ensures { result ≡ sample_place self.now.view self.now.lattice Axis.Z k }
     {
         self.z[k as usize]
     }

@@ -10,7 +10,7 @@ use Rattle.clause_reader.specs.declared.form_defect.FormDefect.TheVariants.{NoOp
 use Rattle.clause_reader.specs.declared.form_fault.FormFault.TheVariants.{BadName, NoMemory}
 use Rattle.clause_reader.specs.declared.read_error.ReadError.{ReadError}
 use Rattle.clause_reader.specs.declared.read_error.ReadError.TheVariants.{Memory, Defect}
-use Rattle.clause_reader.specs.Forms.{operation_of, takes, operands, numerals, is_no_numeral, written, unless_comment, with_names, form_said, form_read, GivesForm, HasOperands}
+use Rattle.clause_reader.specs.Forms.{operation_of, takes, operands, numerals, is_no_numeral, parts_written, unless_comment, with_names, form_said, form_read, GivesForm, HasOperands}
 use Rattle.clause_reader.specs.Gives.{Gives}
 use Rattle.clause_reader.specs.Lines.{begins_comment}
 use Rattle.clause_reader.specs.Reading.{clauses_with}
@@ -34,16 +34,16 @@ form_read-named (word ∷ args) = by (operation_of word) refl
         at false false false a n b = rw (e, a, n, b) refl
 
 -- a clause line is what its tokens say
-pub clauses_with-written : (clauses : List Clause) (name : List ℕ) (tokens : List (List ℕ)) → clauses_with clauses (name ∷ tokens) ≡ extended clauses name (written tokens)
+pub clauses_with-written : (clauses : List Clause) (name : List ℕ) (tokens : List (List ℕ)) → clauses_with clauses (name ∷ tokens) ≡ extended clauses name (parts_written tokens)
 clauses_with-written clauses name [] = refl
 clauses_with-written clauses name (word ∷ args) = by (operation_of word) refl
   where
-    by : (o : Option Op) → operation_of word ≡ o → clauses_with clauses (name ∷ word ∷ args) ≡ extended clauses name (written (word ∷ args))
+    by : (o : Option Op) → operation_of word ≡ o → clauses_with clauses (name ∷ word ∷ args) ≡ extended clauses name (parts_written (word ∷ args))
     by None e = rw e refl
     by (Some op) e = at (not (eqb (length args) (takes op))) (list_any is_no_numeral (numerals op args)) refl refl
       where
         at : (arity number : Bool) → not (eqb (length args) (takes op)) ≡ arity → list_any is_no_numeral (numerals op args) ≡ number
-            → clauses_with clauses (name ∷ word ∷ args) ≡ extended clauses name (written (word ∷ args))
+            → clauses_with clauses (name ∷ word ∷ args) ≡ extended clauses name (parts_written (word ∷ args))
         at true number a n = rw (e, a) refl
         at false true a n = rw (e, a, n) refl
         at false false a n = rw (e, a, n) refl
@@ -61,10 +61,10 @@ found-memory (Some form) e = (cc)
 found-memory None e = (cc)
 
 -- memory is refused for the operands that the form has, and so it is read
-pub has-operands : (tokens : List (List ℕ)) (parts : Parts) → written tokens ≡ Ok parts → unless_comment parts ≡ Some parts → parts.args ≢ [] → HasOperands tokens
+pub has-operands : (tokens : List (List ℕ)) (parts : Parts) → parts_written tokens ≡ Ok parts → unless_comment parts ≡ Some parts → parts.args ≢ [] → HasOperands tokens
 has-operands tokens parts e named some = record { form = parts; said = ap with_names e ∙ ap Ok named; some = some }
 
-pub said-ok : (tokens : List (List ℕ)) (parts : Parts) → written tokens ≡ Ok parts → IsOk (form_said tokens)
+pub said-ok : (tokens : List (List ℕ)) (parts : Parts) → parts_written tokens ≡ Ok parts → IsOk (form_said tokens)
 said-ok tokens parts e = rw e refl
 
 read-operands : (tokens : List (List ℕ)) (has : HasOperands tokens) → form_read tokens ≡ Ok has.form

@@ -60,9 +60,9 @@ with_arguments op args =
     else Ok (parts_of op args)
 
 -- what tokens say, or the first of the defects that need no look-up of a name
-abbrev pub written : List (List ℕ) → Result Parts FormDefect
-written [] = Err defects.NoOperation
-written (word ∷ args) = on_operation (operation_of word)
+abbrev pub parts_written : List (List ℕ) → Result Parts FormDefect
+parts_written [] = Err defects.NoOperation
+parts_written (word ∷ args) = on_operation (operation_of word)
   where
     on_operation : Option Op → Result Parts FormDefect
     on_operation None = Err defects.UnknownOperation
@@ -79,7 +79,7 @@ with_names (Err defect) = Err defect
 
 -- what tokens say as a form, or none where an operand begins a comment, or the first of the defects
 abbrev pub form_said : List (List ℕ) → Result (Option Parts) FormDefect
-form_said tokens = with_names (written tokens)
+form_said tokens = with_names (parts_written tokens)
 
 -- tokens say a form with operands, none of which begins a comment
 pub record HasOperands (tokens : List (List ℕ)) : Type 0 where

@@ -1,7 +1,7 @@
 // An operation with its arguments, as they stand in a line.
 ghost use Rattle.std.specs.Prelude.{◌≡◌, Ok, Err, MatchResult, IfOk};
 ghost use Rattle.solid_model.specs.Parts.{IsForm};
-ghost use Rattle.clause_reader.specs.Forms.{with_arguments, written};
+ghost use Rattle.clause_reader.specs.Forms.{with_arguments, parts_written};
 ghost use Rattle.clause_reader.specs.Written.{names_in, parts_in};
 
 use crate::operands::{Operands, operands_of};
@@ -18,8 +18,8 @@ pub(crate) struct WrittenForm<'t> {
 
 /// The form that tokens say.
 pub(crate) fn form_of<'t>(mut tokens: Tokens<'t>) -> Result<WrittenForm<'t>, FormDefect>
-    ensures form { MatchResult result (λ form. written tokens.entry ≡ Ok (parts_in form))
-        (λ defect. written tokens.entry ≡ Err defect) }
+    ensures form { MatchResult result (λ form. parts_written tokens.entry ≡ Ok (parts_in form))
+        (λ defect. parts_written tokens.entry ≡ Err defect) }
     ensures is_form { IfOk result (λ form. IsForm (parts_in form)) }
 {
     let Some(word) = tokens.next() else {

@@ -5,9 +5,9 @@ use Rattle.std.specs.Str.{bytes_eq}
 use Rattle.std.proofs.lemmas.Slice.Eq.{bytes_eq-Decides}
 use Rattle.edit_script.specs.declared.keyword.Keyword.{Keyword}
 use Rattle.edit_script.specs.declared.keyword.Keyword.TheVariants.{Set, Add, Put, Cut, Render, Height, Mesh, Text}
-use Rattle.edit_script.specs.Keywords.{keyword_named, written}
+use Rattle.edit_script.specs.Keywords.{keyword_named, keyword_text}
 
-keyword_named-written : (keyword : Keyword) → keyword_named (written keyword) ≡ Some keyword
+keyword_named-written : (keyword : Keyword) → keyword_named (keyword_text keyword) ≡ Some keyword
 keyword_named-written Set = refl
 keyword_named-written Add = refl
 keyword_named-written Put = refl
@@ -26,8 +26,8 @@ told_apart word other apart = by (bytes_eq word other) refl
     by false e = refl
 
 -- what the search for a keyword gives
-pub keyword_found : (word : List ℕ) (found : Option Keyword) → IfSome found (λ keyword. word ≡ written keyword)
-    → IfNone found ((keyword : Keyword) → word ≢ written keyword) → found ≡ keyword_named word
+pub keyword_found : (word : List ℕ) (found : Option Keyword) → IfSome found (λ keyword. word ≡ keyword_text keyword)
+    → IfNone found ((keyword : Keyword) → word ≢ keyword_text keyword) → found ≡ keyword_named word
 keyword_found word (Some keyword) is none = rw is (sym (keyword_named-written keyword))
 keyword_found word None is none =
     rw (told_apart _ _ (none Set), told_apart _ _ (none Add), told_apart _ _ (none Put), told_apart _ _ (none Cut), told_apart _ _ (none Render), told_apart _ _ (none Height), told_apart _ _ (none Mesh), told_apart _ _ (none Text)) refl

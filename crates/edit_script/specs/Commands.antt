@@ -95,9 +95,9 @@ cut_read line (name ∷ []) =
 cut_read line (name ∷ next ∷ others) = Err WrongArity
 
 -- `text`
-abbrev pub text_read : List (List ℕ) → Result Command ScriptReason
-text_read [] = Ok commands.Text
-text_read (next ∷ others) = Err WrongArity
+abbrev pub text_command_read : List (List ℕ) → Result Command ScriptReason
+text_command_read [] = Ok commands.Text
+text_command_read (next ∷ others) = Err WrongArity
 
 -- the command of a job that draws
 abbrev pub draw_of : Job → Result Command ScriptReason
@@ -128,7 +128,7 @@ after_keyword line keywords.Cut tokens = cut_read line tokens
 after_keyword line keywords.Render tokens = draw_read verbs.Render tokens
 after_keyword line keywords.Height tokens = draw_read verbs.Height tokens
 after_keyword line keywords.Mesh tokens = draw_read verbs.Mesh tokens
-after_keyword line keywords.Text tokens = text_read tokens
+after_keyword line keywords.Text tokens = text_command_read tokens
 
 -- the command of a keyword and the tokens after it
 abbrev pub keyword_read : ℕ → Option Keyword → List (List ℕ) → Result Command ScriptReason

@@ -5,19 +5,19 @@ use Rattle.edit_script.specs.declared.keyword.Keyword.{Keyword}
 use Rattle.edit_script.specs.declared.keyword.Keyword.TheVariants.{Set, Add, Put, Cut, Render, Height, Mesh, Text}
 
 -- the bytes of a keyword
-abbrev pub written : Keyword → List ℕ
-written Set = codes "set"
-written Add = codes "add"
-written Put = codes "put"
-written Cut = codes "cut"
-written Render = codes "render"
-written Height = codes "height"
-written Mesh = codes "mesh"
-written Text = codes "text"
+abbrev pub keyword_text : Keyword → List ℕ
+keyword_text Set = codes "set"
+keyword_text Add = codes "add"
+keyword_text Put = codes "put"
+keyword_text Cut = codes "cut"
+keyword_text Render = codes "render"
+keyword_text Height = codes "height"
+keyword_text Mesh = codes "mesh"
+keyword_text Text = codes "text"
 
 abbrev pub keywords : List Keyword
 keywords = Set ∷ Add ∷ Put ∷ Cut ∷ Render ∷ Height ∷ Mesh ∷ Text ∷ []
 
 -- the keyword that is written so
 abbrev pub keyword_named : List ℕ → Option Keyword
-keyword_named word = find (λ keyword. bytes_eq word (written keyword)) keywords
+keyword_named word = find (λ keyword. bytes_eq word (keyword_text keyword)) keywords

@@ -1,6 +1,6 @@
 // Draws, and the text.
 ghost use Rattle.std.specs.Prelude.{◌≡◌, IfOk};
-ghost use Rattle.edit_script.specs.Commands.{draw_read, job_or_bad, text_read, IsCommand};
+ghost use Rattle.edit_script.specs.Commands.{draw_read, job_or_bad, text_command_read, IsCommand};
 ghost use Rattle.view_settings.specs.Settings.{IsJob};
 ghost use Rattle.view_settings.specs.Words.{job_after};
 
@@ -40,7 +40,7 @@ fn read_settings(verb: Verb, mut tokens: Tokens<'_>) -> Result<Job, ScriptReason
 
 /// The command of `text`, after which no token stands.
 pub(crate) fn read_text(tokens: Tokens<'_>) -> Result<Command, ScriptReason>
-    ensures value { result ≡ text_read tokens.entry }
+    ensures value { result ≡ text_command_read tokens.entry }
     ensures keeps { IfOk result IsCommand }
 {
     if tokens.is_empty() {

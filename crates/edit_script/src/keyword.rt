@@ -1,7 +1,7 @@
 // The words with which commands begin.
 ghost use Rattle.std.specs.Prelude.{◌≡◌, ◌≢◌, IfNone, IfSome};
 ghost use Rattle.edit_script.specs.declared.keyword.Keyword.{Keyword};
-ghost use Rattle.edit_script.specs.Keywords.{written};
+ghost use Rattle.edit_script.specs.Keywords.{keyword_text};
 
 /// The word with which a command begins.
 #[derive(Clone, Copy, Debug, PartialEq, Eq)]
@@ -26,8 +26,8 @@ pub(crate) enum Keyword {
 
 // The keyword that is written so.
 pub(crate) fn read_keyword(word: &[u8]) -> Option<Keyword>
-    ensures found { IfSome result (λ keyword. word.now ≡ written keyword) }
-    ensures missing { IfNone result ((keyword : Keyword) → word.now ≢ written keyword) }
+    ensures found { IfSome result (λ keyword. word.now ≡ keyword_text keyword) }
+    ensures missing { IfNone result ((keyword : Keyword) → word.now ≢ keyword_text keyword) }
 {
     match word {
         b"set" => Some(Keyword::Set),

@@ -7,7 +7,7 @@ use Rattle.std.proofs.lemmas.Int.{ints, clamps}
 use Rattle.std.proofs.Math.Nat.{mul-le-mul}
 use Rattle.fixed_ops.specs.declared.operation.Op.{Op}
 use Rattle.fixed_ops.specs.declared.operation.Op.TheVariants.{X, Y, Z, Const, Neg, Square, Sqrt, Abs, Floor, Add, Sub, Mul, Div, Min, Max}
-use Rattle.fixed_ops.specs.Operations.{op_result, root_of}
+use Rattle.fixed_ops.specs.Operations.{op_result, square_root_of}
 use Rattle.fixed_ops.specs.Quotient.{quotient_of, over_zero}
 use Rattle.fixed_ops.specs.Raw.{IsRaw, floor_div}
 use Rattle.fixed_ops.specs.Root.{IsRoot, IsRawRoot, root_up_to, floor_root}
@@ -54,13 +54,13 @@ pub root_is : (n r : ℕ) → IsRoot n r → r ≡ floor_root n
 root_is n r h = root_unique n r (floor_root n) h (floor_root_is_root n)
 
 -- the root of what is not above 0
-pub root_of_low : (a : ℤ) → a ≤ℤ pos 0 → root_of a ≡ pos 0
+pub root_of_low : (a : ℤ) → a ≤ℤ pos 0 → square_root_of a ≡ pos 0
 root_of_low (pos zero) h = ap pos (sym (root_is 0 0 (omega arith, omega arith)))
 root_of_low (pos (suc n)) h = absurd (omega (arith, ints, h))
 root_of_low (negsuc n) h = refl
 
 -- the root of a raw number is its root
-pub root_of_is_root : (a : ℤ) → IsRawRoot a (root_of a)
+pub root_of_is_root : (a : ℤ) → IsRawRoot a (square_root_of a)
 root_of_is_root (pos n) = (floor_root (n * 2 ^ 32), refl, floor_root_is_root (n * 2 ^ 32))
 root_of_is_root (negsuc n) = refl
 
@@ -74,7 +74,7 @@ IsRaw-quotient_of a (pos zero) = IsRaw-over_zero a
 IsRaw-quotient_of a (pos (suc d)) = IsRaw-clamp (floor_div (a *ℤ pos (2 ^ 32)) (suc d))
 IsRaw-quotient_of a (negsuc d) = IsRaw-clamp (floor_div (neg_ℤ a *ℤ pos (2 ^ 32)) (suc d))
 
-IsRaw-root_of : (a : ℤ) → IsRaw a → IsRaw (root_of a)
+IsRaw-root_of : (a : ℤ) → IsRaw a → IsRaw (square_root_of a)
 IsRaw-root_of (pos n) h =
     let root = floor_root_is_root (n * 2 ^ 32) in
     let below : floor_root (n * 2 ^ 32) < 2 ^ 47 =

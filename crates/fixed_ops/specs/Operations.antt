@@ -17,9 +17,9 @@ abbrev pub whole_of : ℤ → ℤ
 whole_of a = clamp (floor_div a (2 ^ 32) *ℤ pos (2 ^ 32))
 
 -- the square root of a raw number, rounded down, and 0 below 0
-abbrev pub root_of : ℤ → ℤ
-root_of (pos n) = pos (floor_root (n * 2 ^ 32))
-root_of (negsuc n) = pos 0
+abbrev pub square_root_of : ℤ → ℤ
+square_root_of (pos n) = pos (floor_root (n * 2 ^ 32))
+square_root_of (negsuc n) = pos 0
 
 -- The result of an operation on raw numbers. A coordinate and a constant are handed on as the first of them.
 abbrev pub op_result : Op → ℤ → ℤ → ℤ
@@ -29,7 +29,7 @@ op_result Z a b = a
 op_result Const a b = a
 op_result Neg a b = neg_ℤ a
 op_result Square a b = product_of a a
-op_result Sqrt a b = root_of a
+op_result Sqrt a b = square_root_of a
 op_result Abs a b = int_max a (neg_ℤ a)
 op_result Floor a b = whole_of a
 op_result Add a b = clamp (a +ℤ b)

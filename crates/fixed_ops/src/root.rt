@@ -1,6 +1,6 @@
 // Square roots of raw numbers.
 ghost use Rattle.std.specs.Prelude.{◌≡◌, ◌+◌, ◌*◌, ◌^◌, ◌<◌, ◌≤◌};
-ghost use Rattle.fixed_ops.specs.Operations.{root_of};
+ghost use Rattle.fixed_ops.specs.Operations.{square_root_of};
 ghost use Rattle.fixed_ops.specs.Raw.{IsRaw};
 ghost use Rattle.fixed_ops.specs.Root.{IsRoot, floor_root};
 
@@ -9,7 +9,7 @@ ghost use Rattle.fixed_ops.specs.Root.{IsRoot, floor_root};
 #[inline(never)]
 pub(crate) fn root(a: i64) -> i64
     requires { IsRaw a }
-    ensures value { result ≡ root_of a }
+    ensures value { result ≡ square_root_of a }
     ensures raw { IsRaw result }
 {
     if a <= 0 {

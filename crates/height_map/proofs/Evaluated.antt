@@ -11,13 +11,13 @@ use Rattle.fixed_ops.specs.Counts.{Counts, RisesBy, points_of, risen}
 use Rattle.interval_ops.specs.HullCounts.{CountsHulls}
 use Rattle.live_clauses.specs.declared.step.Step.{Step}
 use Rattle.view_places.specs.Boxes.{Indices, halves_of}
-use Rattle.view_places.specs.Spans.{root_of}
+use Rattle.view_places.specs.Spans.{root_box_of}
 use Rattle.view_places.specs.Window.{Window}
 use Rattle.view_places.specs.declared.lattice.Lattice.TheVariants.{Height}
 use Rattle.box_chains.specs.Outcomes.{outcome_by, outcome_of}
 use Rattle.box_chains.specs.Opened.{sampling}
 use Rattle.height_map.specs.Opened.{outcome_points}
-use Rattle.height_map.specs.Bound.{CountsPoints, height_points, is_near, layered, whole}
+use Rattle.height_map.specs.Bound.{CountsPoints, height_points, is_near, layered, layers_root}
 use Rattle.box_chains.specs.Tested.{halves_points_where, open_points_where, points_where}
 use Rattle.height_map.specs.Columns.{IsAmong, covers, is_open, leaf_cost}
 use Rattle.height_map.specs.Tops.{top_among, top_of}
@@ -122,15 +122,15 @@ no_tops (suc n) zero = refl
 no_tops (suc n) (suc p) = no_tops n p
 
 -- over no tops the samples are open that do not lie behind a top
-pub map-open : (view : Window) (list : List Step) (n : ℕ) (tops : List ℕ) → tops ≡ replicate n 0 → (s : Sample) → is_open view list (root_of view Height) tops s ≡ is_near view list s
+pub map-open : (view : Window) (list : List Step) (n : ℕ) (tops : List ℕ) → tops ≡ replicate n 0 → (s : Sample) → is_open view list (root_box_of view Height) tops s ≡ is_near view list s
 map-open view list n tops empty s =
     let p = s.j * view.w + s.i in
     ap (λ t. t == 0 && nat_le (top_of view list s.i s.j) (s.k + 1)) (ap (λ l. get_or l p 0) empty ∙ no_tops n p)
 
 -- the evaluations of the box of all samples, over no tops
-pub map-points : (laws : Lawful) (view : Window) (list : List Step) (b : Indices) (n : ℕ) (tops : List ℕ) (before after : Counts) → b ≡ root_of view Height → tops ≡ replicate n 0
+pub map-points : (laws : Lawful) (view : Window) (list : List Step) (b : Indices) (n : ℕ) (tops : List ℕ) (before after : Counts) → b ≡ root_box_of view Height → tops ≡ replicate n 0
     → CountsPoints (points_where (is_open view list b tops) (layered view) (visit b list)) before after → CountsPoints (height_points view list) before after
 map-points laws view list b n tops before after is empty h =
     points-are before after _ (height_points view list)
-    (laws.tested.points_same (is_open view list (root_of view Height) tops) (is_near view list) (layered view) (whole view list) (λ s lies. map-open view list n tops empty s))
+    (laws.tested.points_same (is_open view list (root_box_of view Height) tops) (is_near view list) (layered view) (layers_root view list) (λ s lies. map-open view list n tops empty s))
     (subst (λ c. CountsPoints (points_where (is_open view list c tops) (layered view) (visit c list)) before after) is h)

@@ -13,12 +13,12 @@ use Rattle.box_chains.specs.Counts.{spans_in}
 use Rattle.fixed_ops.specs.Counts.{Counts}
 use Rattle.live_clauses.specs.declared.step.Step.{Step}
 use Rattle.view_places.specs.Boxes.{Indices}
-use Rattle.view_places.specs.Spans.{root_of}
+use Rattle.view_places.specs.Spans.{root_box_of}
 use Rattle.view_places.specs.Window.{Window}
 use Rattle.view_places.specs.declared.lattice.Lattice.TheVariants.{Height}
 use Rattle.box_chains.specs.Chains.{visit}
 use Rattle.box_chains.specs.Tallied.{CountsAtMost}
-use Rattle.height_map.specs.Bound.{height_points, height_spans, is_near, layered, whole}
+use Rattle.height_map.specs.Bound.{height_points, height_spans, is_near, layered, layers_root}
 use Rattle.box_chains.specs.Tested.{points_where}
 use Rattle.box_chains.specs.Laws.{Lawful}
 use Rattle.height_map.specs.Columns.{Changes, covers, is_open, leaf_top}
@@ -90,7 +90,7 @@ row-below w rows p within = by (cases_lt (p / w) rows)
         absurd (omega (arith, all, div-add-mod' p w, within))
 
 -- once the box of all samples is drawn over no tops, they are the map's
-pub map-drawn : (view : Window) (list : List Step) (b : Indices) (w : ℕ) (before after : List ℕ) → b ≡ root_of view Height → w ≡ view.w → 0 < view.w → before ≡ replicate (view.h * view.w) 0
+pub map-drawn : (view : Window) (list : List Step) (b : Indices) (w : ℕ) (before after : List ℕ) → b ≡ root_box_of view Height → w ≡ view.w → 0 < view.w → before ≡ replicate (view.h * view.w) 0
     → Changes (covers w b) (leaf_top view list b) before after → after ≡ tops_of view list
 map-drawn view list b w before after is width some empty changed =
     fill_by_all (top_at view list) after (view.h * view.w) 0 (changed.same ∙ count) each ∙ rows-places view list view.h
@@ -105,20 +105,20 @@ map-drawn view list b w before after is width some empty changed =
         let x1 = lt-ltb (p % view.w) view.w (mod-lt p some) in
         let y0 : nat_le 0 (p / view.w) ≡ true = le-leb 0 (p / view.w) (omega arith) in
         let y1 = lt-ltb (p / view.w) view.h (row-below view.w view.h p h) in
-        let inside : covers view.w (root_of view Height) p ≡ true = rw (x0, x1, y0, y1) refl in
+        let inside : covers view.w (root_box_of view Height) p ≡ true = rw (x0, x1, y0, y1) refl in
         changed.each p (omega (arith, h, count))
         ∙ ap (λ t. cond t (leaf_top view list b p (get_or before p 0)) (get_or before p 0)) (ap (λ n. covers n b p) width ∙ ap (λ c. covers view.w c p) is ∙ inside)
         ∙ ap (λ c. leaf_top view list c p (get_or before p 0)) is
         ∙ lifted-none (top_at view list p) (get_or before p 0) none
 
 -- and its work is at most the map's
-pub map-counted : (laws : Lawful) (view : Window) (list : List Step) (b : Indices) (tops : List ℕ) (before after : Counts) → b ≡ root_of view Height
+pub map-counted : (laws : Lawful) (view : Window) (list : List Step) (b : Indices) (tops : List ℕ) (before after : Counts) → b ≡ root_box_of view Height
     → CountsAtMost (points_where (is_open view list b tops) (layered view) (visit b list)) (spans_in (layered view) (visit b list)) before after
     → CountsAtMost (height_points view list) (height_spans view list) before after
 map-counted laws view list b tops before after is h =
     let at = subst (λ c. CountsAtMost (points_where (is_open view list c tops) (layered view) (visit c list)) (spans_in (layered view) (visit c list)) before after) is h in
-    laws.bounds.more before after (points_where (is_open view list (root_of view Height) tops) (layered view) (whole view list)) (height_spans view list) (height_points view list) (height_spans view list)
-    (laws.tested.points_more (is_open view list (root_of view Height) tops) (is_near view list) (layered view) (whole view list)
+    laws.bounds.more before after (points_where (is_open view list (root_box_of view Height) tops) (layered view) (layers_root view list)) (height_spans view list) (height_points view list) (height_spans view list)
+    (laws.tested.points_more (is_open view list (root_box_of view Height) tops) (is_near view list) (layered view) (layers_root view list)
     (λ s lies e. (and_parts (get_or tops (s.j * view.w + s.i) 0 == 0) (nat_le (top_of view list s.i s.j) (s.k + 1)) e).1)) (omega arith) at
 
 -- height maps are equal where each part of them is

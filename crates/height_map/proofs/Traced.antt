@@ -15,13 +15,13 @@ use Rattle.fixed_ops.specs.Counts.{Counts, RisesBy, points_of, risen}
 use Rattle.interval_ops.specs.HullCounts.{CountsHulls}
 use Rattle.live_clauses.specs.declared.step.Step.{Step}
 use Rattle.view_places.specs.Boxes.{Indices, IsBox, halves_of}
-use Rattle.view_places.specs.Spans.{root_of}
+use Rattle.view_places.specs.Spans.{root_box_of}
 use Rattle.view_places.specs.Window.{Window}
 use Rattle.view_places.specs.declared.lattice.Lattice.TheVariants.{Height}
 use Rattle.box_chains.specs.Outcomes.{outcome_by, outcome_of}
 use Rattle.box_chains.specs.Opened.{sampling}
 use Rattle.height_map.specs.Opened.{outcome_traced}
-use Rattle.height_map.specs.Bound.{CountsSpans, is_near, layered, near_spans, whole}
+use Rattle.height_map.specs.Bound.{CountsSpans, is_near, layered, near_spans, layers_root}
 use Rattle.box_chains.specs.Tested.{halves_spans_where, has_some, lengths_where, open_spans_where, spans_where}
 use Rattle.height_map.specs.Columns.{HasOpen, IsAmong, covers, is_open}
 use Rattle.height_map.specs.Tops.{inside, top_among}
@@ -179,9 +179,9 @@ pub traced-halves : (view : Window) (list : List Step) (b : Indices) (tops : Lis
 traced-halves view list b tops before after long h = rw long h
 
 -- the box of all samples, over no tops
-pub map-traced : (laws : Lawful) (view : Window) (list : List Step) (b : Indices) (n : ℕ) (tops : List ℕ) (before after : Counts) → b ≡ root_of view Height → IsBox (root_of view Height) → tops ≡ replicate n 0
+pub map-traced : (laws : Lawful) (view : Window) (list : List Step) (b : Indices) (n : ℕ) (tops : List ℕ) (before after : Counts) → b ≡ root_box_of view Height → IsBox (root_box_of view Height) → tops ≡ replicate n 0
     → CountsSpans (spans_where (is_open view list b tops) (layered view) (visit b list)) before after → CountsSpans (near_spans view list) before after
 map-traced laws view list b n tops before after is box empty h =
     spans-are before after _ (near_spans view list)
-    (laws.tested.spans_same (is_open view list (root_of view Height) tops) (is_near view list) (layered view) (whole view list) (omega arith) box (λ s lies. map-open view list n tops empty s))
+    (laws.tested.spans_same (is_open view list (root_box_of view Height) tops) (is_near view list) (layered view) (layers_root view list) (omega arith) box (λ s lies. map-open view list n tops empty s))
     (subst (λ c. CountsSpans (spans_where (is_open view list c tops) (layered view) (visit c list)) before after) is h)

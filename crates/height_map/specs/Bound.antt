@@ -16,8 +16,8 @@ abbrev pub layered : Window → Descent
 layered view = record { view = view; lattice = Height; leaf = LEAF }
 
 -- the box of all samples, with the whole list
-abbrev pub whole : Window → List Step → Visit
-whole view list = root_visit (layered view) list
+abbrev pub layers_root : Window → List Step → Visit
+layers_root view list = root_visit (layered view) list
 
 -- a sample does not lie behind the top of its column
 abbrev pub is_near : Window → List Step → Sample → Bool
@@ -26,15 +26,15 @@ is_near view list s = nat_le (top_of view list s.i s.j) (s.k + 1)
 -- what a height map takes at most: the evaluations of the samples that do not lie behind a top, and
 -- the steps that are traced over all boxes
 abbrev pub height_points : Window → List Step → ℕ
-height_points view list = points_where (is_near view list) (layered view) (whole view list)
+height_points view list = points_where (is_near view list) (layered view) (layers_root view list)
 
 abbrev pub height_spans : Window → List Step → ℕ
-height_spans view list = spans_in (layered view) (whole view list)
+height_spans view list = spans_in (layered view) (layers_root view list)
 
 -- the steps that a height map takes: those that are traced over the boxes on the ways to the
 -- samples that do not lie behind a top
 abbrev pub near_spans : Window → List Step → ℕ
-near_spans view list = spans_where (is_near view list) (layered view) (whole view list)
+near_spans view list = spans_where (is_near view list) (layered view) (layers_root view list)
 
 -- a tally's count of evaluations rises by exactly so many
 abbrev pub CountsPoints : ℕ → Counts → Counts → Type 0

@@ -7,7 +7,7 @@ use Rattle.std.proofs.lemmas.Nat.{le-div}
 use Rattle.std.proofs.Math.Nat.{mul-le-mul, mul-le-mul_right, div-mul-le_self}
 use borrow.Author.Differences.{up, down}
 use Rattle.fixed_ops.specs.Laws.{RootHolds}
-use Rattle.fixed_ops.specs.Operations.{op_result, root_of}
+use Rattle.fixed_ops.specs.Operations.{op_result, square_root_of}
 use Rattle.fixed_ops.specs.Raw.{clamp, floor_div}
 use Rattle.fixed_ops.specs.Root.{floor_root}
 use Rattle.fixed_ops.specs.declared.operation.Op.{Op}
@@ -60,7 +60,7 @@ floor_root_le is_root m n h =
     (λ (le : floor_root m ≤ floor_root n). le)
     (cases_lt (floor_root n) (floor_root m))
 
-root_of_le : RootHolds → (a b : ℤ) → a ≤ℤ b → root_of a ≤ℤ root_of b
+root_of_le : RootHolds → (a b : ℤ) → a ≤ℤ b → square_root_of a ≤ℤ square_root_of b
 root_of_le is_root (pos m) (pos n) h =
     omega (arith, ints, floor_root_le is_root (m * 2 ^ 32) (n * 2 ^ 32) (omega (arith, ints)))
 root_of_le is_root (pos m) (negsuc n) h = absurd (omega (arith, ints, h))

@@ -11,7 +11,7 @@ use Rattle.fixed_ops.specs.Raw.{is_inside}
 use Rattle.kuhn_cells.specs.declared.cell_list.CellValues.{CellValues}
 use Rattle.kuhn_cells.specs.declared.edge_key.EdgeKey.{EdgeKey}
 use Rattle.kuhn_cells.specs.Arrangement.{differ}
-use Rattle.kuhn_cells.specs.Cells.{HasCell, IsBordered, IsCellOf, cell_at, directions_of, edges_of, has_inside, is_mixed_cell, is_outermost, mixed_cells, place_of, triangles_of_cell}
+use Rattle.kuhn_cells.specs.Cells.{HasCell, IsBordered, IsCellOf, cell_at, directions_of, edges_of, has_inside, is_mixed_cell, is_outermost, mixed_cells, lowest_corner, triangles_of_cell}
 use Rattle.kuhn_cells.specs.Corners.{along_x, along_y, along_z}
 use Rattle.kuhn_cells.specs.Faces.{all_triangles, cell_triangles}
 use Rattle.kuhn_cells.specs.Grids.{Grid, is_inside_at, is_mixed, is_point, lower, over_block, upper, vertices}
@@ -133,7 +133,7 @@ no_triangles : (c : CellValues) → is_mixed_cell c ≡ false → length c.value
 unfolding triangles_of_cell
 no_triangles c h eight =
     let v = has_inside c 0 in
-    let p = place_of c in
+    let p = lowest_corner c in
     let at = λ (k : ℕ) (few : k < 8). agree c k h (omega (arith, few, eight)) in
     let x = at 1 (omega arith) in
     let y = at 2 (omega arith) in
@@ -249,18 +249,18 @@ cells_have_vertices g border =
     ap (filter mixed) (filter_block within (g.x + 1) (g.y + 1) (g.z + 1) from)
     ∙ filter_block mixed (g.x + 1) (g.y + 1) (g.z + 1) (λ p. filter within (from p))
     ∙ trimmed g.x g.y g.z (own g) (none_from_last g border)
-    ∙ over_cells g edges_of (own g) (own_in_cell g) (λ p h. ap (map (edge_from (place_of (cell_at g p)))) (no_directions (cell_at g p) h refl))
+    ∙ over_cells g edges_of (own g) (own_in_cell g) (λ p h. ap (map (edge_from (lowest_corner (cell_at g p)))) (no_directions (cell_at g p) h refl))
 
 -- ---- the cells
 
-lone_cell : (g : Grid) (p : GridPoint) → p.x < g.x → p.y < g.y → p.z < g.z → All (λ c. (c.x < g.x) × (c.y < g.y) × (c.z < g.z) × (c ≡ cell_at g (place_of c))) (cell_at g p ∷ [])
-lone_cell g p x y z = All-cons (λ c. (c.x < g.x) × (c.y < g.y) × (c.z < g.z) × (c ≡ cell_at g (place_of c))) (cell_at g p) [] (x, y, z, refl) (All-nil (λ c. (c.x < g.x) × (c.y < g.y) × (c.z < g.z) × (c ≡ cell_at g (place_of c))))
+lone_cell : (g : Grid) (p : GridPoint) → p.x < g.x → p.y < g.y → p.z < g.z → All (λ c. (c.x < g.x) × (c.y < g.y) × (c.z < g.z) × (c ≡ cell_at g (lowest_corner c))) (cell_at g p ∷ [])
+lone_cell g p x y z = All-cons (λ c. (c.x < g.x) × (c.y < g.y) × (c.z < g.z) × (c ≡ cell_at g (lowest_corner c))) (cell_at g p) [] (x, y, z, refl) (All-nil (λ c. (c.x < g.x) × (c.y < g.y) × (c.z < g.z) × (c ≡ cell_at g (lowest_corner c))))
 
 pub cells_are_of_the_grid : CellsAreOfTheGrid
 unfolding mixed_cells
 cells_are_of_the_grid g k d within =
     let all = over_block g.x g.y g.z (λ p. cell_at g p ∷ []) in
-    let P = λ (c : CellValues). (c.x < g.x) × (c.y < g.y) × (c.z < g.z) × (c ≡ cell_at g (place_of c)) in
+    let P = λ (c : CellValues). (c.x < g.x) × (c.y < g.y) × (c.z < g.z) × (c ≡ cell_at g (lowest_corner c)) in
     let h = All-filter is_mixed_cell P all (all_in_block P g.x g.y g.z (λ p. cell_at g p ∷ []) (lone_cell g)) k d within in
     record { x = h.0; y = h.1; z = h.2; «is» = h.3; mixed = filter_passes is_mixed_cell all k d within }
 
@@ -344,12 +344,12 @@ moved {A} xs ys x y same equal h =
     let Q : A → Type 0 = λ a. Contains ys a in
     subst Q equal (subst P same h)
 
-cell_of_edge : (g : Grid) → IsBordered g → (c : CellValues) → IsCellOf g c → (e : EdgeKey) → IsParting (is_inside_at g) (place_of c) e → HasCell (mixed_cells g) c e
+cell_of_edge : (g : Grid) → IsBordered g → (c : CellValues) → IsCellOf g c → (e : EdgeKey) → IsParting (is_inside_at g) (lowest_corner c) e → HasCell (mixed_cells g) c e
 cell_of_edge g border c is e h =
-    let vertex = in_vertices g e (vertex_of g (place_of c) e is.x is.y is.z h) in
+    let vertex = in_vertices g e (vertex_of g (lowest_corner c) e is.x is.y is.z h) in
     let listed = moved (vertices g) (flat_map edges_of (mixed_cells g)) e e (cells_have_vertices g border) refl vertex in
     let owner = from_flat edges_of (mixed_cells g) e listed in
-    let dir = from_map (edge_from (place_of owner.0)) (directions_of owner.0) e owner.2 in
+    let dir = from_map (edge_from (lowest_corner owner.0)) (directions_of owner.0) e owner.2 in
     let near = h.near_z in
     record {
       cell = owner.0;
@@ -367,5 +367,5 @@ edges_have_cells g border k d within =
     let is = cells_are_of_the_grid g k d within in
     let inside = is_inside_at g in
     let has = cell_of_edge g border c is in
-    All-same (OfEdges (HasCell (mixed_cells g) c)) (triangles_of_cell c) (cell_triangles inside (place_of c)) (ap triangles_of_cell is.«is»)
-    (All-weaker (OfEdges (IsParting inside (place_of c))) (OfEdges (HasCell (mixed_cells g) c)) (λ t h. record { a = has t.a h.a; b = has t.b h.b; c = has t.c h.c }) (cell_triangles inside (place_of c)) (all_tetrahedra inside (place_of c)))
+    All-same (OfEdges (HasCell (mixed_cells g) c)) (triangles_of_cell c) (cell_triangles inside (lowest_corner c)) (ap triangles_of_cell is.«is»)
+    (All-weaker (OfEdges (IsParting inside (lowest_corner c))) (OfEdges (HasCell (mixed_cells g) c)) (λ t h. record { a = has t.a h.a; b = has t.b h.b; c = has t.c h.c }) (cell_triangles inside (lowest_corner c)) (all_tetrahedra inside (lowest_corner c)))

@@ -10,8 +10,8 @@ use Rattle.kuhn_cells.specs.Grids.{Grid, grid_size, is_border, is_inside_at, is_
 use Rattle.kuhn_cells.specs.Triangles.{GridPoint, edge_from, further, point, triangles_in}
 
 -- where a cell lies, by its lowest corner
-abbrev pub place_of : CellValues → GridPoint
-place_of c = point c.x c.y c.z
+abbrev pub lowest_corner : CellValues → GridPoint
+lowest_corner c = point c.x c.y c.z
 
 -- a corner of a cell is inside
 abbrev pub has_inside : CellValues → ℕ → Bool
@@ -50,19 +50,19 @@ directions_of c = filter (λ d. differ (has_inside c 0) (has_inside c d)) (range
 
 -- the edges from the lowest corner of a cell with exactly one inside end
 abbrev pub edges_of : CellValues → List EdgeKey
-edges_of c = map (edge_from (place_of c)) (directions_of c)
+edges_of c = map (edge_from (lowest_corner c)) (directions_of c)
 
 -- the triangles of a cell
 unfoldable pub triangles_of_cell : CellValues → List Triple
 triangles_of_cell c =
-    flat_map (λ tetra. triangles_in (place_of c) tetra (has_inside c)) (range_with_len 0 6)
+    flat_map (λ tetra. triangles_in (lowest_corner c) tetra (has_inside c)) (range_with_len 0 6)
 
 -- a mixed cell of a grid
 pub record IsCellOf (g : Grid) (c : CellValues) : Type 0 where
   pub x : c.x < g.x
   pub y : c.y < g.y
   pub z : c.z < g.z
-  pub «is» : c ≡ cell_at g (place_of c)
+  pub «is» : c ≡ cell_at g (lowest_corner c)
   pub mixed : is_mixed_cell c ≡ true
 
 -- A list has the cell at the lower point of an edge, and there the edge has exactly one inside end. The lower
@@ -70,7 +70,7 @@ pub record IsCellOf (g : Grid) (c : CellValues) : Type 0 where
 pub record HasCell (cells : List CellValues) (from : CellValues) (e : EdgeKey) : Type 0 where
   pub cell : CellValues
   pub listed : Contains cells cell
-  pub place : place_of cell ≡ lower e
+  pub place : lowest_corner cell ≡ lower e
   pub direction : Contains (directions_of cell) e.dir
   pub above : from.z ≤ e.z
   pub near : e.z ≤ from.z + 1

@@ -2,7 +2,7 @@
 use Rattle.std.specs.Prelude.{◌≡◌, ℕ, ◌+◌, ◌==◌, ◌<◌, ◌≤◌, pos, int_lt, ◌&&◌, not, List, [], ◌∷◌, map, filter, get_or, All, AllPairs, Contains, if◌then◌else◌}
 use Rattle.kuhn_cells.specs.Arrangement.{positions}
 use Rattle.kuhn_cells.specs.Corners.{corner, corner_place}
-use Rattle.kuhn_cells.specs.Vectors.{Vector, determinant, way}
+use Rattle.kuhn_cells.specs.Vectors.{Vector, determinant, vector_between}
 
 -- A tetrahedron of a cell has an edge of a direction that starts at a corner. Both are told by a
 -- pair of the corner and the tetrahedron's number.
@@ -18,7 +18,7 @@ corners_off dir m =
 
 -- where a corner lies from the start of the edge
 abbrev pub from_start : ℕ × ℕ → ℕ → Vector
-from_start m c = way (corner_place m.0) (corner_place c)
+from_start m c = vector_between (corner_place m.0) (corner_place c)
 
 -- the two corners off the edge, as the tetrahedron lies between them where one turns round the
 -- edge, counterclockwise seen from its upper end

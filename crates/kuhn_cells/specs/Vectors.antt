@@ -7,8 +7,8 @@ pub record Vector : Type 0 where
   pub z : ℤ
 
 -- the way from one place to another
-abbrev pub way : Vector → Vector → Vector
-way p q = record { x = q.x -ℤ p.x; y = q.y -ℤ p.y; z = q.z -ℤ p.z }
+abbrev pub vector_between : Vector → Vector → Vector
+vector_between p q = record { x = q.x -ℤ p.x; y = q.y -ℤ p.y; z = q.z -ℤ p.z }
 
 -- the determinant of three vectors: it is positive where they turn as the axes x, y and z do
 abbrev pub determinant : Vector → Vector → Vector → ℤ
@@ -19,4 +19,4 @@ determinant u v w =
 
 -- the determinant of the ways from the first of four places to the others
 abbrev pub determinant_at : Vector → Vector → Vector → Vector → ℤ
-determinant_at p q r s = determinant (way p q) (way p r) (way p s)
+determinant_at p q r s = determinant (vector_between p q) (vector_between p r) (vector_between p s)

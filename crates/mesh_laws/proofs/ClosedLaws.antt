@@ -10,7 +10,7 @@ use Rattle.kuhn_cells.specs.declared.triple.Triple.{Triple}
 use Rattle.kuhn_cells.specs.Faces.{all_triangles, face_among, faces, number_among}
 use Rattle.kuhn_cells.specs.Grids.{Grid, vertices}
 use Rattle.kuhn_cells.specs.Laws.{IsVertex, NumbersArePlaces, OfEdges, TrianglesHaveVertices}
-use Rattle.mesh_laws.specs.Closed.{IsTriangle, directed_edges, edges_of, goes, occurrences}
+use Rattle.mesh_laws.specs.Closed.{IsTriangle, directed_edges, directed_edges_of, goes, occurrences}
 use Rattle.mesh_laws.specs.Laws.{EdgesArePaired}
 use Rattle.mesh_laws.proofs.Blocks.{first_before, rest_in_order}
 use Rattle.mesh_laws.proofs.Members.{head_or_tail, in_map, not_in_none}
@@ -93,7 +93,7 @@ tells numbers g x y p q same =
 edges_are_turns : (g : Grid) → directed_edges (faces g) ≡ map (numbered g) (all_turns g)
 unfolding faces
 edges_are_turns g =
-    flat_after_map edges_of (face_among (vertices g)) (all_triangles g)
+    flat_after_map directed_edges_of (face_among (vertices g)) (all_triangles g)
     ∙ flat_of_maps (numbered g) turns_of (all_triangles g)
     ∙ ap (map (numbered g)) (turns_are_all g)
 

@@ -13,7 +13,7 @@ use Rattle.kuhn_cells.specs.Faces.{Face, all_triangles, faces}
 use Rattle.kuhn_cells.specs.Grids.{Grid, is_inside_at, lower, upper, vertices}
 use Rattle.kuhn_cells.specs.Laws.{IsBefore, IsDirection, IsVertex, NumbersArePlaces, TrianglesHaveVertices, VerticesAreMixedEdges, VerticesRise}
 use Rattle.kuhn_cells.specs.Triangles.{GridPoint, further}
-use Rattle.mesh_laws.specs.Closed.{directed_edges, edges_of, goes, occurrences}
+use Rattle.mesh_laws.specs.Closed.{directed_edges, directed_edges_of, goes, occurrences}
 use Rattle.mesh_laws.specs.Frames.{IsFramed}
 use Rattle.mesh_laws.specs.Laws.{HaveOneCycle}
 use Rattle.mesh_laws.specs.Manifold.{HasFan, arcs, arcs_at, arcs_on, cycle_arcs}
@@ -82,7 +82,7 @@ fewer [] u v w = omega arith
 fewer (f ∷ fs) u v w =
     let count = λ (x : ℕ × ℕ). cond (goes v w x) 1 0 in
     let here = sum_by-append count (arcs_at u f.a f.b f.c) (arcs fs u) in
-    let there = sum_by-append count (edges_of f) (directed_edges fs) in
+    let there = sum_by-append count (directed_edges_of f) (directed_edges fs) in
     let first = fewer_at u v w f.a f.b f.c in
     let rest = fewer fs u v w in
     rw (here, there) (omega (arith, first, rest))

@@ -11,7 +11,7 @@ use Rattle.kuhn_cells.specs.Corners.{along_x, along_y, along_z}
 use Rattle.kuhn_cells.specs.Grids.{Grid}
 use Rattle.kuhn_cells.specs.Laws.{IsVertex}
 use Rattle.kuhn_cells.specs.Vectors.{Vector}
-use Rattle.mesh_laws.specs.Places.{AreApart, AreAllApart, RawPlaces, between, raw_along, raw_place, share}
+use Rattle.mesh_laws.specs.Places.{AreApart, AreAllApart, RawPlaces, place_between, raw_along, raw_place, share}
 use Rattle.mesh_laws.proofs.Lines.{IsRawPlace}
 use Rattle.mesh_laws.proofs.Lattice.{IsSameStart, IsShare, few_steps, same_start, share_is_share}
 
@@ -35,10 +35,10 @@ record LiesBetween (p r q : ℤ) : Type 0 where
   low : p <ℤ r
   high : r <ℤ q
 
-lies_between : (p q : ℤ) (t : ℕ) → IsShare t → (p +ℤ pos 65536) ≤ℤ q → LiesBetween p (between p q t) q
+lies_between : (p q : ℤ) (t : ℕ) → IsShare t → (p +ℤ pos 65536) ≤ℤ q → LiesBetween p (place_between p q t) q
 lies_between p q t s h =
     let d = distance p q h in
-    let e : between p q t ≡ p +ℤ pos (d.0 * t / 65536) = rw d.1 refl in
+    let e : place_between p q t ≡ p +ℤ pos (d.0 * t / 65536) = rw d.1 refl in
     let low = part_low d.0 t d.2 s.some in
     let high = part_high d.0 t d.2 s.few in
     let at = d.1 in
@@ -105,9 +105,9 @@ lies_along count xs apart a (suc (suc d)) t one few s = absurd (omega (arith, on
 further_on : (count : ℕ) (xs : List ℤ) → AreApart count xs → (a b d c : ℕ) (v w : ℤ) → a < b → b ≤ count → LiesAlong count xs a d v → LiesAlong count xs b c w → v ≡ w → ⊥
 further_on count xs apart a b d c v w less most p q same =
     let high = p.below (omega (arith, less, most)) in
-    let between = rises count xs apart (a + 1) b (omega (arith, less)) most in
+    let place_between = rises count xs apart (a + 1) b (omega (arith, less)) most in
     let low = q.low in
-    omega (arith, ints, high, between, low, same)
+    omega (arith, ints, high, place_between, low, same)
 
 same_steps : (count : ℕ) (xs : List ℤ) (a d c : ℕ) (v w : ℤ) → d ≤ 1 → c ≤ 1 → LiesAlong count xs a d v → LiesAlong count xs a c w → v ≡ w → d ≡ c
 same_steps count xs a zero zero v w fd fc p q same = refl

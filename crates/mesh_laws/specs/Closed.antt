@@ -3,12 +3,12 @@ use Rattle.std.specs.Prelude.{◌≡◌, ℕ, ◌==◌, Bool, ◌&&◌, List, []
 use Rattle.kuhn_cells.specs.Faces.{Face}
 
 -- the directed edges of a face: each goes from one vertex to the next
-abbrev pub edges_of : Face → List (ℕ × ℕ)
-edges_of f = (f.a, f.b) ∷ (f.b, f.c) ∷ (f.c, f.a) ∷ []
+abbrev pub directed_edges_of : Face → List (ℕ × ℕ)
+directed_edges_of f = (f.a, f.b) ∷ (f.b, f.c) ∷ (f.c, f.a) ∷ []
 
 -- the directed edges of all faces
 abbrev pub directed_edges : List Face → List (ℕ × ℕ)
-directed_edges faces = flat_map edges_of faces
+directed_edges faces = flat_map directed_edges_of faces
 
 -- a directed edge goes from u to v
 abbrev pub goes : ℕ → ℕ → ℕ × ℕ → Bool

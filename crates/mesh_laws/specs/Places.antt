@@ -46,15 +46,15 @@ inner_end g e = inner_of g (lower e) (upper e)
 
 -- Where a vertex lies between the raw places of the lower and of the upper end of its edge along an
 -- axis that the edge runs along, by the share of the way: rounded down.
-abbrev pub between : ℤ → ℤ → ℕ → ℤ
-between p q t = p +ℤ floor_div ((q -ℤ p) *ℤ pos t) 65536
+abbrev pub place_between : ℤ → ℤ → ℕ → ℤ
+place_between p q t = p +ℤ floor_div ((q -ℤ p) *ℤ pos t) 65536
 
 -- the raw place of a vertex along an axis: index and steps are those of its edge's lower end and of
 -- its direction
 abbrev pub raw_along : List ℤ → ℕ → ℕ → ℕ → ℤ
 raw_along places index steps t =
     let at = λ (k : ℕ). get_or places k (pos 0) in
-    if steps == 1 then between (at index) (at (index + 1)) t else at index
+    if steps == 1 then place_between (at index) (at (index + 1)) t else at index
 
 -- the raw places of the points of a grid along each axis
 pub record RawPlaces : Type 0 where

@@ -7,7 +7,7 @@ use Rattle.box_chains.specs.Counts.{points_in, spans_in}
 use Rattle.clause_reader.specs.Reading.{text_read}
 use Rattle.clause_reader.specs.declared.text_fault.TextFault.{TextFault}
 use Rattle.box_chains.specs.Tested.{points_where, spans_where}
-use Rattle.oct_descent.specs.Bound.{long_spans_in, mesh_least, mesh_points, spans_in as spans_of_cells}
+use Rattle.oct_descent.specs.Bound.{long_spans_in, mesh_least, mesh_points, cell_spans_in as spans_of_cells}
 use Rattle.oct_descent.specs.Ways.{way_within}
 use Rattle.fixed_ops.specs.Numerals.{cut_magnitude, is_unsigned_numeral, nearest_raw, unsigned_raw}
 use Rattle.kuhn_cells.specs.Faces.{all_triangles, faces}

@@ -21,7 +21,7 @@ use Rattle.solid_model.specs.Values.{solid_value}
 use Rattle.solid_model.specs.declared.clause.Clause.{Clause}
 use Rattle.view_places.specs.Places.{raster_point}
 use Rattle.view_places.specs.Window.{IsWindow, Window}
-use Rattle.model_frames.specs.Images.{image_of, pixels_of, plain_points}
+use Rattle.model_frames.specs.Images.{image_of, solid_pixels, plain_points}
 use Rattle.model_frames.specs.Work.{CountsWithin, CountsWork, FitsCounts, PointsRiseAtMost, Work, exactly, frame_work}
 
 -- an error says what holds anyway
@@ -41,7 +41,7 @@ either_way (Err e) P Q R f g p q = g q
 
 -- a pixel is of its own value: where a list has the solid's value, its image is the solid's
 pub pixels-same : (view : Window) (clauses : List Clause) (list : List Step) → ((p : Point) → tape_value p list ≡ solid_value p clauses)
-    → drawn_pixels view list ≡ pixels_of view clauses
+    → drawn_pixels view list ≡ solid_pixels view clauses
 pixels-same view clauses list same =
     λ k. flat_map (λ j. map (λ i. if is_inside (same (raster_point view i j) k) then 255 else 0) (range_with_len 0 view.w)) (range_with_len 0 view.h)
 
@@ -52,7 +52,7 @@ pub image-same : (view : Window) (clauses : List Clause) (tree : Drawing) (heade
 image-same view clauses tree header bytes w h is values wide high made put =
     put ∙ ap (λ v. header ++ drawn_pixels v tree.list) (ap (λ t. t.view) is)
     ∙ ap (λ pixels. header ++ pixels) (pixels-same view clauses tree.list values)
-    ∙ ap (λ front. front ++ pixels_of view clauses) (made ∙ ap (λ n. pgm_header_of n h) wide ∙ ap (pgm_header_of view.w) high)
+    ∙ ap (λ front. front ++ solid_pixels view clauses) (made ∙ ap (λ n. pgm_header_of n h) wide ∙ ap (pgm_header_of view.w) high)
 
 -- no more steps are kept than there are
 kept-few : (steps : List Step) (choices : List Choice) (n : ℕ) → length (live_below steps choices n) ≤ n

@@ -10,7 +10,7 @@ use Rattle.live_clauses.specs.Live.{root_of}
 use Rattle.live_clauses.specs.Steps.{IsTape, tape_value}
 use Rattle.live_clauses.specs.declared.step.Step.{Step}
 use Rattle.oct_descent.specs.Bound.{CountsAtLeast, CountsHullsAtLeast, mesh_least, mesh_long_spans, mesh_points, mesh_spans}
-use Rattle.oct_descent.specs.GridValues.{grid_of as list_grid}
+use Rattle.oct_descent.specs.GridValues.{list_grid as list_grid}
 use Rattle.oct_descent.specs.Laws.{MeshPointsAreBounded}
 use Rattle.oct_descent.specs.Trees.{Gridding}
 use Rattle.solid_model.specs.declared.clause.Clause.{Clause}

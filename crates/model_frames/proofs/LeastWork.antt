@@ -9,9 +9,9 @@ use Rattle.box_chains.specs.Sums.{Sample, sum_in}
 use Rattle.kuhn_cells.specs.Grids.{over_block}
 use Rattle.kuhn_cells.specs.Triangles.{GridPoint, point}
 use Rattle.live_clauses.specs.declared.step.Step.{Step}
-use Rattle.oct_descent.specs.Bound.{greatest, has_point, least, lengths_at, long_lengths, long_spans_in, mesh_least, mesh_long_spans, mesh_points, mesh_spans, points_of_grid, sample_of, spans_in, working_lengths}
+use Rattle.oct_descent.specs.Bound.{greatest, has_point, least, lengths_at, long_lengths, long_spans_in, mesh_least, mesh_long_spans, mesh_points, mesh_spans, points_of_grid, sample_of, cell_spans_in, working_lengths}
 use Rattle.oct_descent.specs.Sizes.{size_of}
-use Rattle.oct_descent.specs.Ways.{gridded, is_working, way, way_end, whole}
+use Rattle.oct_descent.specs.Ways.{gridded, is_working, way, way_end, grid_root}
 use Rattle.view_places.specs.Boxes.{Indices}
 use Rattle.view_places.specs.Window.{Window}
 
@@ -70,7 +70,7 @@ least-most view list =
     at p =
         let n = size_of view in
         let d = gridded view in
-        let v = whole view list in
+        let v = grid_root view list in
         let few = greatest-block n.x n.y n.z
         (λ cell. if has_point (d.cell (sample_of cell)) p && is_working d v (sample_of cell) then length (way_end d v (sample_of cell)).list ∷ [] else [])
         (λ cell. if has_point (d.cell (sample_of cell)) p then (if is_working d v (sample_of cell) then length (way_end d v (sample_of cell)).list else 0) ∷ [] else [])
@@ -85,10 +85,10 @@ long-less false false n = omega arith
 
 -- the steps traced over the boxes of more than one cell are some of those traced over all
 pub long-all : (view : Window) (list : List Step) → mesh_long_spans view list ≤ mesh_spans view list
-unfolding long_spans_in spans_in
+unfolding long_spans_in cell_spans_in
 long-all view list =
     let d = gridded view in
-    let v = whole view list in
+    let v = grid_root view list in
     sum-less v.box (λ s. long_lengths d s (way d v s)) (λ s. first_lengths s (way d v s))
     (λ s. sum_by-le-sum_by (λ w. if is_long d.boxes.leaf w.box && is_first w.box s then length w.list else 0)
     (λ w. if is_first w.box s then length w.list else 0) (way d v s)

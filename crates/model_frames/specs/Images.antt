@@ -18,12 +18,12 @@ abbrev pub row_at : Window → List Clause → ℕ → List ℕ
 row_at view clauses j = map (λ i. pixel_at view clauses i j) (range_with_len 0 view.w)
 
 -- the bytes of the rows, from the top on
-abbrev pub pixels_of : Window → List Clause → List ℕ
-pixels_of view clauses = flat_map (row_at view clauses) (range_with_len 0 view.h)
+abbrev pub solid_pixels : Window → List Clause → List ℕ
+solid_pixels view clauses = flat_map (row_at view clauses) (range_with_len 0 view.h)
 
 -- the whole image, as PGM text
 abbrev pub image_of : Window → List Clause → List ℕ
-image_of view clauses = pgm_of view.w view.h (pixels_of view clauses)
+image_of view clauses = pgm_of view.w view.h (solid_pixels view clauses)
 
 -- how many evaluations evaluating each of so many clauses once at each sample takes
 abbrev pub plain_points : Window → ℕ → ℕ

@@ -2,7 +2,7 @@
 use Rattle.std.proofs.Common.{◌≡◌, ℕ, ◌==◌, map, if◌then◌else◌, ap, ◌∙◌}
 use Rattle.std.specs.Prelude.{count_by}
 use Rattle.std.specs.List.{flat_map, range_with_len}
-use Rattle.model_frames.specs.Images.{pixels_of}
+use Rattle.model_frames.specs.Images.{solid_pixels}
 use Rattle.fixed_ops.specs.Points.{Point}
 use Rattle.fixed_ops.specs.Raw.{is_inside}
 use Rattle.live_clauses.specs.Live.{root_of}
@@ -19,7 +19,7 @@ use Rattle.modeller_cmd.specs.Forging.{inside_of}
 
 -- where a list of steps has the value of a solid, its image is that of the solid
 pixels-same : (view : Window) (clauses : List Clause) (list : List Step) → ((p : Point) → tape_value p list ≡ solid_value p clauses)
-    → drawn_pixels view list ≡ pixels_of view clauses
+    → drawn_pixels view list ≡ solid_pixels view clauses
 pixels-same view clauses list same =
     λ k. flat_map (λ j. map (λ i. if is_inside (same (raster_point view i j) k) then 255 else 0) (range_with_len 0 view.w)) (range_with_len 0 view.h)
 

@@ -1,6 +1,6 @@
 -- What `forge` writes of the solid that it makes.
 use Rattle.std.specs.Prelude.{ℕ, ◌==◌, List, ◌++◌, length, codes, count_by, decimal}
-use Rattle.model_frames.specs.Images.{pixels_of}
+use Rattle.model_frames.specs.Images.{solid_pixels}
 use Rattle.model_frames.specs.Work.{frame_work}
 use Rattle.model_forge.specs.Forged.{forged}
 use Rattle.solid_model.specs.Named.{placed}
@@ -16,7 +16,7 @@ forged_clauses forge = placed (forged forge.seed forge.solids)
 
 -- how many pixels of the image of a solid over a view are inside
 abbrev pub inside_of : Window → List Clause → ℕ
-inside_of view clauses = count_by (λ pixel. pixel == 255) (pixels_of view clauses)
+inside_of view clauses = count_by (λ pixel. pixel == 255) (solid_pixels view clauses)
 
 -- the five lines that tell of a solid and of the work of its image
 abbrev pub forge_text : Window → List Clause → List ℕ

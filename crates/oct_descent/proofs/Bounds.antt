@@ -17,7 +17,7 @@ use Rattle.box_chains.specs.Sums.{maximum}
 use Rattle.oct_descent.specs.Laws.{MeshPointsAreBounded, MeshSpansAreBounded}
 use Rattle.oct_descent.specs.Sizes.{size_of}
 use Rattle.oct_descent.specs.Tables.{AreWorked, IsDue, IsEnough, PointValues, is_known, known_at}
-use Rattle.oct_descent.specs.Ways.{CellDescent, Covers, cell_box, gridded, is_working, way_end, whole}
+use Rattle.oct_descent.specs.Ways.{CellDescent, Covers, cell_box, gridded, is_working, way_end, grid_root}
 use Rattle.oct_descent.proofs.Members.{all_in_block, head_or_tail, in_block, in_head, not_in_none}
 use Rattle.oct_descent.proofs.Blocks.{greatest-block, greatest-block_most}
 use Rattle.oct_descent.proofs.WayLaws.{end-below, spans-below}
@@ -28,9 +28,9 @@ has_corner cell p = has_point (cell_box (sample_of cell)) p
 
 -- the length of the list that a working cell of the grid of a mesh receives
 abbrev working_length : Window → List Step → GridPoint → ℕ
-working_length view list = length_in (gridded view) (whole view list)
+working_length view list = length_in (gridded view) (grid_root view list)
 
-pub whole-visit : (view : Window) (list : List Step) → IsWindow view → IsTape list → IsVisit (gridded view).boxes (whole view list)
+pub whole-visit : (view : Window) (list : List Step) → IsWindow view → IsTape list → IsVisit (gridded view).boxes (grid_root view list)
 whole-visit view list window tape = record {
   window = window;
   box = record { x = window.n.some; y = window.n.some; z = window.n.some };
@@ -47,15 +47,15 @@ sum_in-most laws b f c less =
 
 at-most : (laws : Lawful) (view : Window) (list : List Step) (p cell : GridPoint) → IsWindow view → IsTape list → cell.x < view.n → cell.y < view.n → cell.z < view.n
     → maximum (cond (has_corner cell p) (working_length view list cell ∷ []) []) ≤ length list
-at-most laws view list p cell window tape x y z = by (has_corner cell p) (is_working (gridded view) (whole view list) (sample_of cell)) refl
+at-most laws view list p cell window tape x y z = by (has_corner cell p) (is_working (gridded view) (grid_root view list) (sample_of cell)) refl
   where
-    lies : LiesIn (whole view list).box (sample_of cell)
+    lies : LiesIn (grid_root view list).box (sample_of cell)
     lies = record { x = (omega arith, x); y = (omega arith, y); z = (omega arith, z) }
 
-    end : length (way_end (gridded view) (whole view list) (sample_of cell)).list ≤ length list
-    end = end-below laws (gridded view) (whole view list) (sample_of cell) (omega arith) (whole-visit view list window tape) lies
+    end : length (way_end (gridded view) (grid_root view list) (sample_of cell)).list ≤ length list
+    end = end-below laws (gridded view) (grid_root view list) (sample_of cell) (omega arith) (whole-visit view list window tape) lies
 
-    by : (t u : Bool) → is_working (gridded view) (whole view list) (sample_of cell) ≡ u → maximum (cond t (working_length view list cell ∷ []) []) ≤ length list
+    by : (t u : Bool) → is_working (gridded view) (grid_root view list) (sample_of cell) ≡ u → maximum (cond t (working_length view list cell ∷ []) []) ≤ length list
     by false u e = omega arith
     by true true e = rw e (omega (arith, end))
     by true false e = rw e (omega arith)
@@ -74,7 +74,7 @@ points_bounded laws view list window tape =
 pub spans_bounded : Lawful → MeshSpansAreBounded
 spans_bounded laws view list window tape =
     let side : view.n - 0 ≡ view.n = omega arith in
-    subst (λ (n : ℕ). mesh_spans view list ≤ n * (n * n) * ((n + n + n) * length list)) side (spans-below laws (gridded view) (whole view list) (omega arith) (whole-visit view list window tape))
+    subst (λ (n : ℕ). mesh_spans view list ≤ n * (n * n) * ((n + n + n) * length list)) side (spans-below laws (gridded view) (grid_root view list) (omega arith) (whole-visit view list window tape))
 
 -- ---- what is due
 
@@ -117,7 +117,7 @@ covers-has_corner s p covers =
     (and_from (nat_le s.k p.z) _ (le-leb s.k p.z covers.z.0) (le-leb p.z (s.k + 1) covers.z.1)))))
 
 -- what a grid's points take at least is due for the box of all cells
-pub points_due : (view : Window) (list : List Step) → IsDue (λ p. least (working_lengths view list p)) (gridded view) (whole view list)
+pub points_due : (view : Window) (list : List Step) → IsDue (λ p. least (working_lengths view list p)) (gridded view) (grid_root view list)
 points_due view list s lies works p covers =
     least-of (working_lengths view list p) (length (way_end d w s).list)
     (in_block view.n view.n view.n at (point s.i s.j s.k) (length (way_end d w s).list) lies.x.1 lies.y.1 lies.z.1 (subst (λ (ns : List ℕ). Contains ns (length (way_end d w s).list)) (sym here) (in_head [] (length (way_end d w s).list))))
@@ -126,7 +126,7 @@ points_due view list s lies works p covers =
     d = gridded view
 
     w : Visit
-    w = whole view list
+    w = grid_root view list
 
     at : GridPoint → List ℕ
     at cell = cond (has_corner cell p && is_working d w (sample_of cell)) (length (way_end d w (sample_of cell)).list ∷ []) []
@@ -135,7 +135,7 @@ points_due view list s lies works p covers =
     here = ap (λ t. cond t (length (way_end d w s).list ∷ []) []) (and_from (has_corner (point s.i s.j s.k) p) _ (covers-has_corner s p covers) works)
 
 -- and a point takes nothing that is not known once all working cells are
-pub none_due : (view : Window) (list : List Step) (t : PointValues) (p : GridPoint) → AreWorked (gridded view) (whole view list) t → is_known (known_at t p) ≡ false → least (working_lengths view list p) ≡ 0
+pub none_due : (view : Window) (list : List Step) (t : PointValues) (p : GridPoint) → AreWorked (gridded view) (grid_root view list) t → is_known (known_at t p) ≡ false → least (working_lengths view list p) ≡ 0
 none_due view list t p worked unknown =
     least-none (working_lengths view list p) (all_in_block (λ n. ⊥) view.n view.n view.n at (λ cell x y z. by cell x y z (has_corner cell p && is_working d w (sample_of cell)) refl))
   where
@@ -143,7 +143,7 @@ none_due view list t p worked unknown =
     d = gridded view
 
     w : Visit
-    w = whole view list
+    w = grid_root view list
 
     at : GridPoint → List ℕ
     at cell = cond (has_corner cell p && is_working d w (sample_of cell)) (length (way_end d w (sample_of cell)).list ∷ []) []
@@ -156,14 +156,14 @@ none_due view list t p worked unknown =
     by cell x y z false e = All-nil (λ n. ⊥)
 
 -- what a grid's points take is enough for the box of all cells
-pub points_suffice : (view : Window) (list : List Step) → IsEnough (λ p. maximum (lengths_at view list p)) (gridded view) (whole view list)
+pub points_suffice : (view : Window) (list : List Step) → IsEnough (λ p. maximum (lengths_at view list p)) (gridded view) (grid_root view list)
 points_suffice view list s lies works p covers =
     let cell = point s.i s.j s.k in
     let one = greatest-block view.n view.n view.n (λ cell. cond (has_corner cell p) (working_length view list cell ∷ []) []) cell lies.x.1 lies.y.1 lies.z.1 in
     let corner : has_corner cell p ≡ true = and_from (nat_le s.i p.x) _ (le-leb s.i p.x covers.x.0) (and_from (nat_le p.x (s.i + 1)) _ (le-leb p.x (s.i + 1) covers.x.1)
     (and_from (nat_le s.j p.y) _ (le-leb s.j p.y covers.y.0) (and_from (nat_le p.y (s.j + 1)) _ (le-leb p.y (s.j + 1) covers.y.1)
     (and_from (nat_le s.k p.z) _ (le-leb s.k p.z covers.z.0) (le-leb p.z (s.k + 1) covers.z.1))))) in
-    let here : maximum (cond (has_corner cell p) (working_length view list cell ∷ []) []) ≡ max (length (way_end (gridded view) (whole view list) s).list) 0 =
+    let here : maximum (cond (has_corner cell p) (working_length view list cell ∷ []) []) ≡ max (length (way_end (gridded view) (grid_root view list) s).list) 0 =
     ap (λ t. maximum (cond t (working_length view list cell ∷ []) [])) corner
-    ∙ ap (λ t. maximum (cond t (length (way_end (gridded view) (whole view list) s).list) 0 ∷ [])) works in
+    ∙ ap (λ t. maximum (cond t (length (way_end (gridded view) (grid_root view list) s).list) 0 ∷ [])) works in
     omega (arith, one, here)

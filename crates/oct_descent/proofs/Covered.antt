@@ -22,7 +22,7 @@ use Rattle.box_chains.specs.Visits.{IsVisit}
 use Rattle.box_chains.specs.Laws.{Lawful}
 use Rattle.kuhn_cells.specs.Grids.{bordered, is_border}
 use Rattle.kuhn_cells.specs.declared.grid_size.GridSize.{GridSize}
-use Rattle.oct_descent.specs.GridValues.{grid_value, value_on}
+use Rattle.oct_descent.specs.GridValues.{list_grid_value, value_on}
 use Rattle.oct_descent.specs.Sizes.{size_of}
 use Rattle.oct_descent.specs.Tables.{IsUniform}
 use Rattle.oct_descent.specs.Ways.{Covers, cell_box, gridded, meets_border}
@@ -47,7 +47,7 @@ region-holds laws view v p is covers =
 
 -- the list that a box hands on has the value of the one that it receives at each point that it covers
 pub handed-grid_value : (laws : Lawful) (view : Window) (v : Visit) (p : GridPoint) → IsVisit (gridded view).boxes v → Covers v.box p
-    → grid_value view (handed_on (gridded view).boxes v) p ≡ grid_value view v.list p
+    → list_grid_value view (handed_on (gridded view).boxes v) p ≡ list_grid_value view v.list p
 handed-grid_value laws view v p is covers =
     let region = region_of view lattices.Grid v.box in
     let at = point_of view lattices.Grid p.x p.y p.z in
@@ -82,7 +82,7 @@ bordered-stays n p v e = by (is_border n p)
     by false = e
 
 pub outside-uniform : (laws : Lawful) (view : Window) (v : Visit) (s : Sample) → IsVisit (gridded view).boxes v → LiesIn v.box s → decision (gridded view).boxes v ≡ Some false
-    → IsUniform (grid_value view v.list) (cell_box s)
+    → IsUniform (list_grid_value view v.list) (cell_box s)
 outside-uniform laws view v s is lies e = record {
   inside = false;
   each = λ p covers. bordered-stays (size_of view) p (value_on view v.list p) (decision-right laws view v p false is (corner-covered v.box s p lies covers) e);
@@ -106,7 +106,7 @@ border-apart n b p x y z covers e =
     rw (ex, ey, ez) refl
 
 pub inside-uniform : (laws : Lawful) (view : Window) (v : Visit) (s : Sample) → IsVisit (gridded view).boxes v → LiesIn v.box s → decision (gridded view).boxes v ≡ Some true → meets_border (size_of view) v.box ≡ false
-    → IsUniform (grid_value view v.list) (cell_box s)
+    → IsUniform (list_grid_value view v.list) (cell_box s)
 inside-uniform laws view v s is lies e apart = record {
   inside = true;
   each = λ p covers.

@@ -10,10 +10,10 @@ use Rattle.kuhn_cells.specs.declared.grid_size.GridSize.{GridSize}
 use Rattle.live_clauses.specs.declared.step.Step.{Step}
 use Rattle.view_places.specs.Boxes.{Indices}
 use Rattle.view_places.specs.Window.{Window}
-use Rattle.oct_descent.specs.Bound.{CountsAtLeast, CountsHullsAtLeast, least, long_spans_in, mesh_least, mesh_long_spans, mesh_points, mesh_spans, spans_in}
+use Rattle.oct_descent.specs.Bound.{CountsAtLeast, CountsHullsAtLeast, least, long_spans_in, mesh_least, mesh_long_spans, mesh_points, mesh_spans, cell_spans_in}
 use Rattle.box_chains.specs.Sums.{maximum}
-use Rattle.oct_descent.specs.Corners.{is_mixed, places_to, side_seen}
-use Rattle.oct_descent.specs.GridValues.{grid_of, grid_value}
+use Rattle.oct_descent.specs.Corners.{are_mixed, places_to, side_seen}
+use Rattle.oct_descent.specs.GridValues.{list_grid, list_grid_value}
 use Rattle.oct_descent.specs.declared.seen.Seen.{Seen}
 use Rattle.oct_descent.specs.Tables.{brick_of, is_within, same_point, slot, stand_in}
 use Rattle.oct_descent.specs.Ways.{is_open_by, meets_border, way_within}
@@ -54,7 +54,7 @@ unfolding mesh_least way_within
 full_least = refl
 
 full_spans : mesh_spans (window 2) full ≡ 9
-unfolding spans_in way_within
+unfolding cell_spans_in way_within
 full_spans = refl
 
 -- and what is outside everywhere
@@ -66,7 +66,7 @@ unfolding mesh_points way_within
 empty_points = refl
 
 empty_spans : mesh_spans (window 2) empty ≡ 1
-unfolding spans_in way_within
+unfolding cell_spans_in way_within
 empty_spans = refl
 
 -- the coordinate x: the cells with x from 0 on are decided outside, and the others have points of the outermost layer
@@ -78,7 +78,7 @@ unfolding mesh_points way_within
 half_points = refl
 
 half_spans : mesh_spans (window 2) half ≡ 9
-unfolding spans_in way_within
+unfolding cell_spans_in way_within
 half_spans = refl
 
 -- its other side, in two steps: the cells with x up to 0 are decided outside
@@ -90,7 +90,7 @@ unfolding mesh_points way_within
 other_half_points = refl
 
 other_half_spans : mesh_spans (window 2) other_half ≡ 18
-unfolding spans_in way_within
+unfolding cell_spans_in way_within
 other_half_spans = refl
 
 -- the greatest of x, -y and z, which is undecided in the one cell with x and z up to 0 and y from 0 on: all other cells are
@@ -107,7 +107,7 @@ unfolding mesh_least way_within
 one_cell_least = refl
 
 one_cell_spans : mesh_spans (window 2) one_cell ≡ 54
-unfolding spans_in way_within
+unfolding cell_spans_in way_within
 one_cell_spans = refl
 
 -- and the cell opposite, by the greatest of -x, y and -z
@@ -124,7 +124,7 @@ cell_opposite_least = refl
 
 -- three cells along each axis: 8 boxes, of which 7 are split into 26 cells
 uneven_spans : mesh_spans (window 3) full ≡ 35
-unfolding spans_in way_within
+unfolding cell_spans_in way_within
 uneven_spans = refl
 
 -- of these the first box and 7 of the 8 have more than one cell
@@ -150,7 +150,7 @@ unfolding mesh_least way_within
 lesser_least = refl
 
 lesser_spans : mesh_spans (window 3) lesser ≡ 87
-unfolding spans_in way_within
+unfolding cell_spans_in way_within
 lesser_spans = refl
 
 lesser_long : mesh_long_spans (window 3) lesser ≡ 24
@@ -186,15 +186,15 @@ total = record { op = X; a = 0; b = 0; value = pos 0 } ∷ record { op = Y; a = 
 
 -- all points are outermost: -6 and -5 are raised to 0
 values_of_total :
-    (grid_of uneven total).values ≡ pos 0 ∷ pos 0 ∷ pos 24 ∷ pos 25 ∷ pos 91 ∷ pos 92 ∷ pos 121 ∷ pos 122 ∷ []
-unfolding grid_of
+    (list_grid uneven total).values ≡ pos 0 ∷ pos 0 ∷ pos 24 ∷ pos 25 ∷ pos 91 ∷ pos 92 ∷ pos 121 ∷ pos 122 ∷ []
+unfolding list_grid
 values_of_total = refl
 
 -- the middle point keeps its value
-middle_of_full : grid_value (window 2) full (point 1 1 1) ≡ negsuc 4294967295
+middle_of_full : list_grid_value (window 2) full (point 1 1 1) ≡ negsuc 4294967295
 middle_of_full = refl
 
-side_of_full : grid_value (window 2) full (point 2 1 1) ≡ pos 0
+side_of_full : list_grid_value (window 2) full (point 2 1 1) ≡ pos 0
 side_of_full = refl
 
 -- ---- the outermost layer, on each side alone
@@ -318,7 +318,7 @@ sides_stay_seen : map (λ corner. side_seen (seen true true true) corner)
     ≡ seen true true true ∷ seen true true true ∷ seen false true true ∷ []
 sides_stay_seen = refl
 
-both_sides_are_mixed : map is_mixed
+both_sides_are_mixed : map are_mixed
     ((negsuc 0 ∷ pos 0 ∷ []) ∷ (negsuc 0 ∷ negsuc 4 ∷ []) ∷ (pos 0 ∷ pos 4 ∷ []) ∷ [])
     ≡ true ∷ false ∷ false ∷ []
 both_sides_are_mixed = refl

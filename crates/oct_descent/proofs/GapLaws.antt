@@ -20,7 +20,7 @@ use Rattle.view_places.specs.Boxes.{Indices}
 use Rattle.view_places.specs.Window.{Window}
 use Rattle.oct_descent.specs.Bound.{points_of_grid}
 use Rattle.oct_descent.specs.Gaps.{AreGapsBelow, Fills, IsCornerBelow, StandsIn, has_gap, nth, spot}
-use Rattle.oct_descent.specs.GridValues.{grid_value}
+use Rattle.oct_descent.specs.GridValues.{list_grid_value}
 use Rattle.oct_descent.specs.Tables.{AllKnown, Charges, Grows, IsNew, IsSame, KeepsPlaces, Pays, PointValues, Sets, is_known, known_at, left, same_point}
 use Rattle.oct_descent.specs.Ways.{Covers}
 use Rattle.oct_descent.specs.declared.gap.Gap.{Gap}
@@ -305,12 +305,12 @@ pub record AreFilled (g : GridPoint → ℤ) (b : Indices) (gaps : List Gap) (ol
   pub fills : Fills g gaps before after
 
 pub are-filled : (view is : Window) (list : List Step) (b : Indices) (p : GridPoint) (gaps items : List Gap) (old before after : PointValues) → IsOne b → is ≡ view → p ≡ point b.x0 b.y0 b.z0 → gaps ≡ items → IsSame old before
-    → AreGapsBelow 8 before p items → Fills (grid_value is list) gaps before after → AreFilled (grid_value view list) b gaps old before after
+    → AreGapsBelow 8 before p items → Fills (list_grid_value is list) gaps before after → AreFilled (list_grid_value view list) b gaps old before after
 are-filled view is list b p gaps items old before after one same corner all kept gaps_are fills = record {
   one = one;
   same = kept;
   gaps_are = subst (λ q. AreGapsBelow 8 before q gaps) corner (subst (AreGapsBelow 8 before p) (sym all) gaps_are);
-  fills = subst (λ v. Fills (grid_value v list) gaps before after) same fills;
+  fills = subst (λ v. Fills (list_grid_value v list) gaps before after) same fills;
 }
 
 pub gaps-charged : (laws : Lawful) (f : GridPoint → ℕ) (g : GridPoint → ℤ) (b : Indices) (len : ℕ) (gaps : List Gap) (old before after : PointValues) (told now : Counts) → AreFilled g b gaps old before after

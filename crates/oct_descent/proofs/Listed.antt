@@ -15,8 +15,8 @@ use Rattle.kuhn_cells.specs.declared.cell_list.CellValues.{CellValues}
 use Rattle.live_clauses.specs.declared.step.Step.{Step}
 use Rattle.view_places.specs.Window.{Window}
 use Rattle.oct_descent.specs.Bound.{sample_of}
-use Rattle.oct_descent.specs.Corners.{AreCorners, IsRow, LacksCorner, is_mixed}
-use Rattle.oct_descent.specs.GridValues.{grid_of, grid_value}
+use Rattle.oct_descent.specs.Corners.{AreCorners, IsRow, LacksCorner, are_mixed}
+use Rattle.oct_descent.specs.GridValues.{list_grid, list_grid_value}
 use Rattle.oct_descent.specs.Rows.{cells_at, cells_between, cells_in_layer}
 use Rattle.oct_descent.specs.Tables.{AllKnown, IsUniform, PointValues, brick_of, is_known, known_at, read, stand}
 use Rattle.oct_descent.specs.Trees.{IsTold}
@@ -108,45 +108,45 @@ filter-block p nx ny nz at =
     (λ y. filter-flat p (λ x. at (point x y z)) (range_with_len 0 nx)))
 
 -- the mixed cells are those of the layers
-pub layers-mixed : (view : Window) (list : List Step) → flat_map (cells_in_layer view list) (range_with_len 0 view.n) ≡ mixed_cells (grid_of view list)
-unfolding mixed_cells grid_of
-layers-mixed view list = sym (filter-block is_mixed_cell view.n view.n view.n (λ p. cell_at (grid_of view list) p ∷ []))
+pub layers-mixed : (view : Window) (list : List Step) → flat_map (cells_in_layer view list) (range_with_len 0 view.n) ≡ mixed_cells (list_grid view list)
+unfolding mixed_cells list_grid
+layers-mixed view list = sym (filter-block is_mixed_cell view.n view.n view.n (λ p. cell_at (list_grid view list) p ∷ []))
 
 -- ---- one cell
 
 -- a cell whose corners are known has their values
 corner-value : (view : Window) (list : List Step) (t : PointValues) (p : GridPoint) (values : List ℤ) (k : ℕ) → IsTold view list t → p.x < view.n → p.y < view.n → p.z < view.n → AreCorners t p values → k < 8
-    → get_or values k (pos 0) ≡ value_at (grid_of view list) (further p k)
+    → get_or values k (pos 0) ≡ value_at (list_grid view list) (further p k)
 corner-value view list t p values k told x y z corners few =
     let q = further p k in
     let read = corners.each k few in
     let right = told.right q (ap is_known read) in
-    let same : get_or values k (pos 0) ≡ grid_value view list q = ap (λ o. unwrap_or o (pos 0)) (sym read ∙ right) in
+    let same : get_or values k (pos 0) ≡ list_grid_value view list q = ap (λ o. unwrap_or o (pos 0)) (sym read ∙ right) in
     same ∙ sym (value-at_grid view list q (omega (arith, x)) (omega (arith, y)) (omega (arith, z)))
 
 cell-is : (view : Window) (list : List Step) (t : PointValues) (p : GridPoint) (values : List ℤ) → IsTold view list t → p.x < view.n → p.y < view.n → p.z < view.n → AreCorners t p values
-    → record { x = p.x; y = p.y; z = p.z; values = values } ≡ cell_at (grid_of view list) p
+    → record { x = p.x; y = p.y; z = p.z; values = values } ≡ cell_at (list_grid view list) p
 cell-is view list t p values told x y z corners =
-    let g = grid_of view list in
+    let g = list_grid view list in
     let make : List ℤ → CellValues = λ l. record { x = p.x; y = p.y; z = p.z; values = l } in
     ap make (ext_get_or (pos 0) values (map (λ c. value_at g (further p c)) (range_with_len 0 8)) corners.all
     (λ k less.
     let few : k < 8 = omega (arith, less, corners.all) in
     corner-value view list t p values k told x y z corners few ∙ sym (get_or-map-range_with_len (λ c. value_at g (further p c)) 0 8 k k (pos 0) few (omega arith))))
 
-pub listed-mixed : (view : Window) (list : List Step) (t : PointValues) (p : GridPoint) (values : List ℤ) → IsTold view list t → p.x < view.n → p.y < view.n → p.z < view.n → AreCorners t p values → is_mixed values ≡ true
+pub listed-mixed : (view : Window) (list : List Step) (t : PointValues) (p : GridPoint) (values : List ℤ) → IsTold view list t → p.x < view.n → p.y < view.n → p.z < view.n → AreCorners t p values → are_mixed values ≡ true
     → record { x = p.x; y = p.y; z = p.z; values = values } ∷ [] ≡ cells_at view list p
 listed-mixed view list t p values told x y z corners e =
     let same = cell-is view list t p values told x y z corners in
-    let mixed : is_mixed_cell (cell_at (grid_of view list) p) ≡ true = ap is_mixed_cell (sym same) ∙ e in
-    ap (λ c. c ∷ []) same ∙ sym (ap (λ b. cond b (cell_at (grid_of view list) p ∷ []) []) mixed)
+    let mixed : is_mixed_cell (cell_at (list_grid view list) p) ≡ true = ap is_mixed_cell (sym same) ∙ e in
+    ap (λ c. c ∷ []) same ∙ sym (ap (λ b. cond b (cell_at (list_grid view list) p ∷ []) []) mixed)
 
-pub listed-not : (view : Window) (list : List Step) (t : PointValues) (p : GridPoint) (values : List ℤ) → IsTold view list t → p.x < view.n → p.y < view.n → p.z < view.n → AreCorners t p values → is_mixed values ≡ false
+pub listed-not : (view : Window) (list : List Step) (t : PointValues) (p : GridPoint) (values : List ℤ) → IsTold view list t → p.x < view.n → p.y < view.n → p.z < view.n → AreCorners t p values → are_mixed values ≡ false
     → [] ≡ cells_at view list p
 listed-not view list t p values told x y z corners e =
     let same = cell-is view list t p values told x y z corners in
-    let mixed : is_mixed_cell (cell_at (grid_of view list) p) ≡ false = ap is_mixed_cell (sym same) ∙ e in
-    sym (ap (λ b. cond b (cell_at (grid_of view list) p ∷ []) []) mixed)
+    let mixed : is_mixed_cell (cell_at (list_grid view list) p) ≡ false = ap is_mixed_cell (sym same) ∙ e in
+    sym (ap (λ b. cond b (cell_at (list_grid view list) p ∷ []) []) mixed)
 
 none-any : {X : Type 0} (test : X → Bool) (xs : List X) → All (λ x. test x ≡ false) xs → list_any test xs ≡ false
 none-any test [] none = refl
@@ -157,7 +157,7 @@ and-false true b e = e
 and-false false b e = refl
 
 -- values on one side are not mixed
-one-side : (inside : Bool) (values : List ℤ) → All (λ v. is_inside v ≡ inside) values → is_mixed values ≡ false
+one-side : (inside : Bool) (values : List ℤ) → All (λ v. is_inside v ≡ inside) values → are_mixed values ≡ false
 one-side true values same =
     and-false (list_any is_inside values) (list_any (λ v. not (is_inside v)) values) (none-any (λ v. not (is_inside v)) values (λ k d less. ap not (same k d less)))
 one-side false values same = rw (none-any is_inside values same) refl
@@ -167,35 +167,35 @@ pub listed-none : (view : Window) (list : List Step) (t : PointValues) (p : Grid
 listed-none view list t p told x y z lacks = by (told.settled (sample_of p) (record { x = (omega arith, x); y = (omega arith, y); z = (omega arith, z) }))
   where
     g : GridPoint → ℤ
-    g = grid_value view list
+    g = list_grid_value view list
 
     one : IsOne (cell_box (sample_of p))
     one = record { x = refl; y = refl; z = refl }
 
-    side : (uniform : IsUniform g (cell_box (sample_of p))) → is_mixed_cell (cell_at (grid_of view list) p) ≡ false
+    side : (uniform : IsUniform g (cell_box (sample_of p))) → is_mixed_cell (cell_at (list_grid view list) p) ≡ false
     side uniform =
-        one-side uniform.inside (map (λ c. value_at (grid_of view list) (further p c)) (range_with_len 0 8))
+        one-side uniform.inside (map (λ c. value_at (list_grid view list) (further p c)) (range_with_len 0 8))
         (λ k d less.
         let few : k < 8 = omega (arith, less) in
-        ap is_inside (get_or-map-range_with_len (λ c. value_at (grid_of view list) (further p c)) 0 8 k k d few (omega arith) ∙ value-at_grid view list (further p k) (omega (arith, x)) (omega (arith, y)) (omega (arith, z)))
+        ap is_inside (get_or-map-range_with_len (λ c. value_at (list_grid view list) (further p c)) 0 8 k k d few (omega arith) ∙ value-at_grid view list (further p k) (omega (arith, x)) (omega (arith, y)) (omega (arith, z)))
         ∙ uniform.each (further p k) (mask-covered (cell_box (sample_of p)) k one))
 
     by : AllKnown t (cell_box (sample_of p)) ⊎ IsUniform g (cell_box (sample_of p)) → [] ≡ cells_at view list p
     by (inl known) = absurd (false≢true (sym lacks.unknown ∙ known (further p lacks.corner) (mask-covered (cell_box (sample_of p)) lacks.corner one)))
-    by (inr uniform) = sym (ap (λ b. cond b (cell_at (grid_of view list) p ∷ []) []) (side uniform))
+    by (inr uniform) = sym (ap (λ b. cond b (cell_at (list_grid view list) p ∷ []) []) (side uniform))
 
 -- ---- the grid
 
-pub grid-x : (view : Window) (list : List Step) → (grid_of view list).x ≡ view.n
-unfolding grid_of
+pub grid-x : (view : Window) (list : List Step) → (list_grid view list).x ≡ view.n
+unfolding list_grid
 grid-x view list = refl
 
-pub grid-y : (view : Window) (list : List Step) → (grid_of view list).y ≡ view.n
-unfolding grid_of
+pub grid-y : (view : Window) (list : List Step) → (list_grid view list).y ≡ view.n
+unfolding list_grid
 grid-y view list = refl
 
-pub grid-z : (view : Window) (list : List Step) → (grid_of view list).z ≡ view.n
-unfolding grid_of
+pub grid-z : (view : Window) (list : List Step) → (list_grid view list).z ≡ view.n
+unfolding list_grid
 grid-z view list = refl
 
 -- no cell of a row is mixed whose lowest corner is not known

@@ -35,11 +35,11 @@ use Rattle.box_chains.specs.Placing.{Sampling}
 use Rattle.view_places.specs.Window.{Window}
 use Rattle.view_places.specs.declared.lattice.Lattice.{Lattice}
 use Rattle.view_places.specs.declared.lattice.Lattice.TheVariants as lattices
-use Rattle.oct_descent.specs.Bound.{CountsHullsAtLeast, CountsNoHull, long_spans_in, spans_in}
+use Rattle.oct_descent.specs.Bound.{CountsHullsAtLeast, CountsNoHull, long_spans_in, cell_spans_in}
 use Rattle.oct_descent.specs.Corners.{AllShow, IsSeen, IsShown, ShowsCorner}
 use Rattle.oct_descent.specs.Desks.{ChargesBelow, ChargesHalves, PaysHalves, asked_of, halves_long_spans, halves_spans, long_spans_below, longer, own_spans, spans_below}
 use Rattle.oct_descent.specs.Fills.{ChargesCorners, PaysCorners}
-use Rattle.oct_descent.specs.GridValues.{grid_value}
+use Rattle.oct_descent.specs.GridValues.{list_grid_value}
 use Rattle.oct_descent.specs.Sizes.{size_of}
 use Rattle.oct_descent.specs.Tables.{AllKnown, AreRight, AreSettled, AreWorked, Charges, ChargesBox, Grows, IsDue, IsEnough, IsUniform, PaysBox, PointValues, is_known}
 use Rattle.oct_descent.specs.Ways.{CellDescent, Covers, cell_box, gridded, is_cut, is_open, is_open_by, is_working, meets_border, way_end}
@@ -76,15 +76,15 @@ pub opened : (view : Window) (b : Indices) (list : List Step) (n : GridSize) (to
 opened view b list n told open' same tells is = ap (is_open_by (meets_border (size_of view)) b) tells ∙ ap (λ m. is_open_by (meets_border m) b told) (sym same) ∙ sym is
 
 -- each cell of a box that does not stay open has all corners on one side
-closed-uniform : (laws : Lawful) (view : Window) (v : Visit) (s : Sample) → IsVisit (gridded view).boxes v → is_open (gridded view) v ≡ false → LiesIn v.box s → IsUniform (grid_value view v.list) (cell_box s)
+closed-uniform : (laws : Lawful) (view : Window) (v : Visit) (s : Sample) → IsVisit (gridded view).boxes v → is_open (gridded view) v ≡ false → LiesIn v.box s → IsUniform (list_grid_value view v.list) (cell_box s)
 closed-uniform laws view v s is e lies = by (decision (gridded view).boxes v) refl
   where
-    by : (o : Option Bool) → decision (gridded view).boxes v ≡ o → IsUniform (grid_value view v.list) (cell_box s)
+    by : (o : Option Bool) → decision (gridded view).boxes v ≡ o → IsUniform (list_grid_value view v.list) (cell_box s)
     by None h = absurd (false≢true (sym e ∙ ap (is_open_by (meets_border (size_of view)) v.box) h))
     by (Some false) h = outside-uniform laws view v s is lies h
     by (Some true) h = inside-uniform laws view v s is lies h (sym (ap (is_open_by (meets_border (size_of view)) v.box) h) ∙ e)
 
-pub closed-settled : (laws : Lawful) (view : Window) (v : Visit) (t : PointValues) → IsVisit (gridded view).boxes v → is_open (gridded view) v ≡ false → AreSettled (gridded view) (grid_value view v.list) v.box t
+pub closed-settled : (laws : Lawful) (view : Window) (v : Visit) (t : PointValues) → IsVisit (gridded view).boxes v → is_open (gridded view) v ≡ false → AreSettled (gridded view) (list_grid_value view v.list) v.box t
 closed-settled laws view v t is e s lies = inr (closed-uniform laws view v s is e lies)
 
 -- and no working one
@@ -103,12 +103,12 @@ closed-worked view v t is e s lies works = absurd (false≢true (sym idle ∙ wo
 -- a box takes at least its own trace
 pub trace-charged : (laws : Lawful) (d : CellDescent) (v : Visit) (t : PointValues) (told now : Counts) → 0 < d.boxes.leaf → IsBox v.box → CountsHulls (length v.list) told now → ChargesBox d v t t told now
 trace-charged laws d v t told now some is h f enough =
-    charges-more laws f (length v.list) (spans_in d v) t t told now (spans-some laws d v some is) (charges-hulls laws f (length v.list) t told now h)
+    charges-more laws f (length v.list) (cell_spans_in d v) t t told now (spans-some laws d v some is) (charges-hulls laws f (length v.list) t told now h)
 
 -- and no more than that, where it is not looked into
 pub look-charged : (laws : Lawful) (d : CellDescent) (v : Visit) (t : PointValues) (told now : Counts) → 0 < d.boxes.leaf → IsBox v.box → CountsAtMost 0 (length v.list) told now → ChargesBox d v t t told now
 look-charged laws d v t told now some is h f enough =
-    charges-more laws f (length v.list) (spans_in d v) t t told now (spans-some laws d v some is) (charges-most f (length v.list) t told now h)
+    charges-more laws f (length v.list) (cell_spans_in d v) t t told now (spans-some laws d v some is) (charges-most f (length v.list) t told now h)
 
 -- nothing is due for a box that is not looked into
 pub look-paid : (d : CellDescent) (v : Visit) (t : PointValues) (told now : Counts) → CountsAtMost 0 (length v.list) told now → PaysBox d v t t told now
@@ -116,7 +116,7 @@ look-paid d v t told now h f due = pays-most f 0 (length v.list) t told now h
 
 -- two known corners on either side show that a cell stays open
 pub sides-open : (laws : Lawful) (view : Window) (v : Visit) (t : PointValues) → IsVisit (gridded view).boxes v → is_long 1 v.box ≡ false
-    → AreRight (grid_value view v.list) v.box t → ShowsCorner t (point v.box.x0 v.box.y0 v.box.z0) true
+    → AreRight (list_grid_value view v.list) v.box t → ShowsCorner t (point v.box.x0 v.box.y0 v.box.z0) true
     → ShowsCorner t (point v.box.x0 v.box.y0 v.box.z0) false → is_open (gridded view) v ≡ true
 sides-open laws view v t is short right inner outer = by (is_open (gridded view) v) refl
   where
@@ -136,7 +136,7 @@ sides-open laws view v t is short right inner outer = by (is_open (gridded view)
     own c = mask-covered (cell_box s) c (record { x = refl; y = refl; z = refl })
 
     -- the side that a corner shows is that of its grid value
-    shown : (inside : Bool) (h : ShowsCorner t (point v.box.x0 v.box.y0 v.box.z0) inside) → is_inside (grid_value view v.list (corner h.corner)) ≡ inside
+    shown : (inside : Bool) (h : ShowsCorner t (point v.box.x0 v.box.y0 v.box.z0) inside) → is_inside (list_grid_value view v.list (corner h.corner)) ≡ inside
     shown inside h =
         let known = right (corner h.corner) (mask-covered v.box h.corner one) (ap is_known h.known) in
         ap (λ o. is_inside (unwrap_or o h.value)) (sym known ∙ h.known) ∙ h.side
@@ -201,7 +201,7 @@ pub cell-charged : (laws : Lawful) (view : Window) (v : Visit) (before after : P
     → CountsAtMost 0 (length v.list) told since → ChargesCorners v.box (length v.list) before after since now → ChargesBox (gridded view) v before after told now
 cell-charged laws view v before after told since now is open' short hulls corners f enough =
     let uncut : is_cut (gridded view) v ≡ false = rw (open', short) refl in
-    charges-then laws f (length v.list) 0 (spans_in (gridded view) v) before before after told since now (omega (arith, spans-end laws (gridded view) v is.box uncut))
+    charges-then laws f (length v.list) 0 (cell_spans_in (gridded view) v) before before after told since now (omega (arith, spans-end laws (gridded view) v is.box uncut))
     (charges-most f (length v.list) before told since hulls) (corners f (cell-corners view v (λ n p. n ≤ f p) is open' short enough))
 
 -- and what it takes is paid
@@ -222,21 +222,21 @@ handed-tape laws view v live is same =
 
 -- what the halves of a box change by the list that it hands on, it changes by the one that it receives
 pub handed-grows : (laws : Lawful) (view : Window) (v : Visit) (live : List Step) (before after : PointValues) → IsVisit (gridded view).boxes v → live ≡ handed_on (gridded view).boxes v
-    → Grows (grid_value view live) v.box before after → Grows (grid_value view v.list) v.box before after
+    → Grows (list_grid_value view live) v.box before after → Grows (list_grid_value view v.list) v.box before after
 handed-grows laws view v live before after is same grows =
-    grows-wider (grid_value view live) (grid_value view v.list) v.box v.box before after (λ p covers. covers)
-    (λ p covers. ap (λ l. grid_value view l p) same ∙ handed-grid_value laws view v p is covers) grows
+    grows-wider (list_grid_value view live) (list_grid_value view v.list) v.box v.box before after (λ p covers. covers)
+    (λ p covers. ap (λ l. list_grid_value view l p) same ∙ handed-grid_value laws view v p is covers) grows
 
 pub handed-right : (laws : Lawful) (view : Window) (v : Visit) (live : List Step) (t : PointValues) → IsVisit (gridded view).boxes v → live ≡ handed_on (gridded view).boxes v
-    → AreRight (grid_value view v.list) v.box t → AreRight (grid_value view live) v.box t
+    → AreRight (list_grid_value view v.list) v.box t → AreRight (list_grid_value view live) v.box t
 handed-right laws view v live t is same right =
-    right-same (grid_value view v.list) (grid_value view live) v.box t (λ p covers. sym (ap (λ l. grid_value view l p) same ∙ handed-grid_value laws view v p is covers)) right
+    right-same (list_grid_value view v.list) (list_grid_value view live) v.box t (λ p covers. sym (ap (λ l. list_grid_value view l p) same ∙ handed-grid_value laws view v p is covers)) right
 
 pub handed-settled : (laws : Lawful) (view : Window) (v : Visit) (live : List Step) (t : PointValues) → IsVisit (gridded view).boxes v → live ≡ handed_on (gridded view).boxes v
-    → AreSettled (gridded view) (grid_value view live) v.box t → AreSettled (gridded view) (grid_value view v.list) v.box t
+    → AreSettled (gridded view) (list_grid_value view live) v.box t → AreSettled (gridded view) (list_grid_value view v.list) v.box t
 handed-settled laws view v live t is same settled =
-    settled-same (gridded view) (grid_value view live) (grid_value view v.list) v.box t
-    (λ s p lies covers. ap (λ l. grid_value view l p) same ∙ handed-grid_value laws view v p is (corner-covered v.box s p lies covers)) settled
+    settled-same (gridded view) (list_grid_value view live) (list_grid_value view v.list) v.box t
+    (λ s p lies covers. ap (λ l. list_grid_value view l p) same ∙ handed-grid_value laws view v p is (corner-covered v.box s p lies covers)) settled
 
 -- a cell has no trace of its own, and a longer box one
 pub own-short : (v : Visit) → is_long 1 v.box ≡ false → own_spans v ≡ 0
@@ -246,10 +246,10 @@ pub own-long : (v : Visit) → is_long 1 v.box ≡ true → own_spans v ≡ leng
 own-long v long = ap (λ t. cond {A = ℕ} t (length v.list) 0) long
 
 -- that trace is among those of the box
-pub own-among : (laws : Lawful) (d : CellDescent) (v : Visit) → 0 < d.boxes.leaf → IsBox v.box → own_spans v ≤ spans_in d v
+pub own-among : (laws : Lawful) (d : CellDescent) (v : Visit) → 0 < d.boxes.leaf → IsBox v.box → own_spans v ≤ cell_spans_in d v
 own-among laws d v some is = by (is_long 1 v.box)
   where
-    by : (long : Bool) → cond {A = ℕ} long (length v.list) 0 ≤ spans_in d v
+    by : (long : Bool) → cond {A = ℕ} long (length v.list) 0 ≤ cell_spans_in d v
     by true = spans-some laws d v some is
     by false = omega arith
 
@@ -257,7 +257,7 @@ own-among laws d v some is = by (is_long 1 v.box)
 pub below-charged : (laws : Lawful) (view : Window) (v : Visit) (before after : PointValues) (told since now : Counts) → IsBox v.box → is_long 1 v.box ≡ true
     → CountsHulls (length v.list) told since → ChargesBelow (gridded view) v before after since now → ChargesBox (gridded view) v before after told now
 below-charged laws view v before after told since now is long hulls below f enough =
-    charges-then laws f (length v.list) (spans_below (gridded view) v) (spans_in (gridded view) v) before before after told since now
+    charges-then laws f (length v.list) (spans_below (gridded view) v) (cell_spans_in (gridded view) v) before before after told since now
     (omega (arith, own-among laws (gridded view) v (omega arith) is, own-long v long)) (charges-hulls laws f (length v.list) before told since hulls) (below f enough)
 
 pub below-paid : (laws : Lawful) (d : CellDescent) (v : Visit) (before after : PointValues) (told since now : Counts) → CountsHulls (length v.list) told since → PaysBox d v before after since now → PaysBox d v before after told now
@@ -267,7 +267,7 @@ below-paid laws d v before after told since now hulls paid f due =
 -- a cell takes as much
 pub cell-below : (laws : Lawful) (d : CellDescent) (v : Visit) (before after : PointValues) (told now : Counts) → is_long 1 v.box ≡ false → ChargesBox d v before after told now → ChargesBelow d v before after told now
 cell-below laws d v before after told now short charged f enough =
-    charges-more laws f (spans_in d v) (spans_below d v) before after told now (omega (arith, own-short v short)) (charged f enough)
+    charges-more laws f (cell_spans_in d v) (spans_below d v) before after told now (omega (arith, own-short v short)) (charged f enough)
 
 -- the way to a cell of a half of a box that is split ends as that from the half on
 half-works : (laws : Lawful) (view : Window) (v : Visit) (live : List Step) (half : Indices) (s : Sample) → IsVisit (gridded view).boxes v → is_cut (gridded view) v ≡ true → live ≡ handed_on (gridded view).boxes v
@@ -380,7 +380,7 @@ owned-below laws view list (h ∷ hs) each = omega (
   arith,
   sum_by-cons (λ b. own_spans (visit b list)) h hs,
   sum_by-cons (λ b. spans_below (gridded view) (visit b list)) h hs,
-  sum_by-cons (λ b. spans_in (gridded view) (visit b list)) h hs,
+  sum_by-cons (λ b. cell_spans_in (gridded view) (visit b list)) h hs,
   own-among laws (gridded view) (visit h list) (omega arith) (All-head IsBox h hs each),
   owned-below laws view list hs (All-tail IsBox h hs each),
 )
@@ -464,35 +464,35 @@ part-covers b half p part covers = record {
   z = (omega (arith, part.z.above, covers.z), omega (arith, part.z.below, covers.z));
 }
 
-pub half-grows : (view other : Window) (list : List Step) (b half : Indices) (before after : PointValues) → other ≡ view → IsPart 1 b half → Grows (grid_value other list) half before after
-    → Grows (grid_value view list) b before after
+pub half-grows : (view other : Window) (list : List Step) (b half : Indices) (before after : PointValues) → other ≡ view → IsPart 1 b half → Grows (list_grid_value other list) half before after
+    → Grows (list_grid_value view list) b before after
 half-grows view other list b half before after same part grows =
-    grows-wider (grid_value other list) (grid_value view list) half b before after (λ p covers. part-covers b half p part covers) (λ p covers. ap (λ v. grid_value v list p) same) grows
+    grows-wider (list_grid_value other list) (list_grid_value view list) half b before after (λ p covers. part-covers b half p part covers) (λ p covers. ap (λ v. list_grid_value v list p) same) grows
 
 -- one more half is settled
 pub next-settled : (view other : Window) (list : List Step) (b half : Indices) (halves : List Indices) (i : ℕ) (before after : PointValues) → other ≡ view → i < length halves → half ≡ get_or halves i half
-    → Grows (grid_value view list) b before after → AreSettled (gridded other) (grid_value other list) half after → All (λ h. AreSettled (gridded view) (grid_value view list) h before) (take i halves)
-    → All (λ h. AreSettled (gridded view) (grid_value view list) h after) (take (i + 1) halves)
+    → Grows (list_grid_value view list) b before after → AreSettled (gridded other) (list_grid_value other list) half after → All (λ h. AreSettled (gridded view) (list_grid_value view list) h before) (take i halves)
+    → All (λ h. AreSettled (gridded view) (list_grid_value view list) h after) (take (i + 1) halves)
 next-settled view other list b half halves i before after same within read grows here earlier =
     subst (λ hs. All P hs) (sym (take_more halves i half within ∙ ap (λ h. take i halves ++ h ∷ []) (sym read)))
     (All-append P (take i halves) (half ∷ [])
     (All-weaker (λ h. AreSettled (gridded view) g h before) P (λ h settled. settled-stays (gridded view) g g b h before after grows settled) (take i halves) earlier)
-    (All-cons P half [] (subst (λ v. AreSettled (gridded v) (grid_value v list) half after) same here) (All-nil P)))
+    (All-cons P half [] (subst (λ v. AreSettled (gridded v) (list_grid_value v list) half after) same here) (All-nil P)))
   where
     g : GridPoint → ℤ
-    g = grid_value view list
+    g = list_grid_value view list
 
     P : Indices → Type 0
     P h = AreSettled (gridded view) g h after
 
 -- and worked
 pub next-worked : (view other : Window) (list : List Step) (b half : Indices) (halves : List Indices) (i : ℕ) (before after : PointValues) → other ≡ view → i < length halves → half ≡ get_or halves i half
-    → Grows (grid_value view list) b before after → AreWorked (gridded other) (visit half list) after → All (λ h. AreWorked (gridded view) (visit h list) before) (take i halves)
+    → Grows (list_grid_value view list) b before after → AreWorked (gridded other) (visit half list) after → All (λ h. AreWorked (gridded view) (visit h list) before) (take i halves)
     → All (λ h. AreWorked (gridded view) (visit h list) after) (take (i + 1) halves)
 next-worked view other list b half halves i before after same within read grows here earlier =
     subst (λ hs. All P hs) (sym (take_more halves i half within ∙ ap (λ h. take i halves ++ h ∷ []) (sym read)))
     (All-append P (take i halves) (half ∷ [])
-    (All-weaker (λ h. AreWorked (gridded view) (visit h list) before) P (λ h worked. worked-stays (grid_value view list) (gridded view) (visit h list) b before after grows worked) (take i halves) earlier)
+    (All-weaker (λ h. AreWorked (gridded view) (visit h list) before) P (λ h worked. worked-stays (list_grid_value view list) (gridded view) (visit h list) b before after grows worked) (take i halves) earlier)
     (All-cons P half [] (subst (λ v. AreWorked (gridded v) (visit half list) after) same here) (All-nil P)))
   where
     P : Indices → Type 0

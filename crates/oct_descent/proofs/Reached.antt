@@ -10,7 +10,7 @@ use Rattle.box_chains.specs.Chains.{Visit, half_visit, half_with, next_visit, si
 use Rattle.box_chains.specs.Laws.{Lawful}
 use Rattle.box_chains.specs.Parts.{IsPart}
 use Rattle.box_chains.specs.Sums.{LiesIn, Sample}
-use Rattle.oct_descent.specs.Bound.{spans_in}
+use Rattle.oct_descent.specs.Bound.{cell_spans_in}
 use Rattle.oct_descent.specs.Laws.{IsOnWay, ReachedBoxesAreCountedOnce}
 use Rattle.oct_descent.specs.Ways.{CellDescent, is_cut, way}
 use Rattle.oct_descent.proofs.Joined.{Contains-flat_map, head-or-tail, pairs-flat_map, pairs-nil, pairs-weaker, parts-of, sum_by-flat_map}
@@ -280,7 +280,7 @@ way-reached (suc n) d v w s some is law few lies on =
 
 -- the steps that are traced are those of the boxes that are reached
 reached-sum : (n : ℕ) (d : CellDescent) (v : Visit) → 0 < d.boxes.leaf → IsBox v.box → Lawful
-    → sides v.box ≤ n → spans_in d v ≡ sum_by (λ w. length w.list) (reached_within n d v)
+    → sides v.box ≤ n → cell_spans_in d v ≡ sum_by (λ w. length w.list) (reached_within n d v)
 unfolding reached_within
 reached-sum zero d v some is law few = absurd (omega (arith, box-has_sides v.box is, few))
 reached-sum (suc n) d v some is law few =
@@ -294,13 +294,13 @@ reached-sum (suc n) d v some is law few =
     below half = reached_within n d (half_visit d.boxes v half)
 
     by : (t : Bool) → is_cut d v ≡ t → ((half : Indices) → IsBox half → sides half < sides v.box
-        → spans_in d (half_visit d.boxes v half) ≡ sum_by lengths (below half))
-        → spans_in d v ≡ sum_by lengths (v ∷ cond t (flat_map below (halves_of d.boxes.leaf v.box)) [])
+        → cell_spans_in d (half_visit d.boxes v half) ≡ sum_by lengths (below half))
+        → cell_spans_in d v ≡ sum_by lengths (v ∷ cond t (flat_map below (halves_of d.boxes.leaf v.box)) [])
     by false e each = omega (arith, spans-end law d v is e, sum_by-cons lengths v [])
     by true e each =
-        let same = sum_by-equal (λ half. spans_in d (half_visit d.boxes v half))
+        let same = sum_by-equal (λ half. cell_spans_in d (half_visit d.boxes v half))
         (λ half. sum_by lengths (below half)) (halves_of d.boxes.leaf v.box)
-        (All-weaker (IsPart d.boxes.leaf v.box) (λ half. spans_in d (half_visit d.boxes v half) ≡ sum_by lengths
+        (All-weaker (IsPart d.boxes.leaf v.box) (λ half. cell_spans_in d (half_visit d.boxes v half) ≡ sum_by lengths
         (below half))
         (λ half part. each half (law.parts.box d.boxes.leaf v.box half part)
         (law.parts.shorter d.boxes.leaf v.box half (cut-is_long d v e) part))

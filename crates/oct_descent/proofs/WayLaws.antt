@@ -13,7 +13,7 @@ use Rattle.box_chains.specs.Parts.{IsPart}
 use Rattle.box_chains.specs.Sums.{LiesIn, Sample, size, sum_in}
 use Rattle.box_chains.specs.Visits.{IsVisit}
 use Rattle.box_chains.specs.Laws.{Lawful}
-use Rattle.oct_descent.specs.Bound.{long_lengths, long_spans_in, spans_in}
+use Rattle.oct_descent.specs.Bound.{long_lengths, long_spans_in, cell_spans_in}
 use Rattle.oct_descent.specs.Ways.{CellDescent, is_cut, is_open, way, way_end, way_within}
 
 pub box-has_sides : (b : Indices) → IsBox b → 0 < sides b
@@ -128,8 +128,8 @@ own-once laws v is = laws.sums.first v.box (length v.list) is
 
 -- The steps traced over a box that is split are its own list's and those of its halves.
 pub spans-split : (laws : Lawful) (d : CellDescent) (v : Visit) → 0 < d.boxes.leaf → IsBox v.box → is_cut d v ≡ true
-    → spans_in d v ≡ length v.list + sum_by (λ half. spans_in d (half_visit d.boxes v half)) (halves_of d.boxes.leaf v.box)
-unfolding spans_in
+    → cell_spans_in d v ≡ length v.list + sum_by (λ half. cell_spans_in d (half_visit d.boxes v half)) (halves_of d.boxes.leaf v.box)
+unfolding cell_spans_in
 spans-split laws d v some is e =
     let rest : Sample → ℕ = λ s. first_lengths s (way d (next_visit d.boxes v s) s) in
     let apart = laws.sums.same v.box (λ s. first_lengths s (way d v s)) (λ s. own_length v s + rest s)
@@ -140,8 +140,8 @@ spans-split laws d v some is e =
     omega (arith, apart, laws.sums.plus v.box (own_length v) rest, own-once laws v is, below)
 
 -- Those of a box that is not are its own list's.
-pub spans-end : (laws : Lawful) (d : CellDescent) (v : Visit) → IsBox v.box → is_cut d v ≡ false → spans_in d v ≡ length v.list
-unfolding spans_in
+pub spans-end : (laws : Lawful) (d : CellDescent) (v : Visit) → IsBox v.box → is_cut d v ≡ false → cell_spans_in d v ≡ length v.list
+unfolding cell_spans_in
 spans-end laws d v is e =
     let apart = laws.sums.same v.box (λ s. first_lengths s (way d v s)) (own_length v)
     (λ s lies. ap (first_lengths s) (way-ends d v s is e) ∙ zero-add (own_length v s)) in
@@ -178,10 +178,10 @@ long-end laws d v is e =
     omega (arith, apart, own_long-once laws (is_long d.boxes.leaf v.box) v is)
 
 -- a box takes at least its own trace
-pub spans-some : (laws : Lawful) (d : CellDescent) (v : Visit) → 0 < d.boxes.leaf → IsBox v.box → length v.list ≤ spans_in d v
+pub spans-some : (laws : Lawful) (d : CellDescent) (v : Visit) → 0 < d.boxes.leaf → IsBox v.box → length v.list ≤ cell_spans_in d v
 spans-some laws d v some is = by (is_cut d v) refl
   where
-    by : (t : Bool) → is_cut d v ≡ t → length v.list ≤ spans_in d v
+    by : (t : Bool) → is_cut d v ≡ t → length v.list ≤ cell_spans_in d v
     by false e = omega (arith, spans-end laws d v is e)
     by true e = omega (arith, spans-split laws d v some is e)
 
@@ -222,7 +222,7 @@ one-more s t u n some is =
 
 -- The steps that are traced over a box and those below it are bounded: each cell lies in fewer boxes than there are
 -- sides.
-spans-below-within : (n : ℕ) (laws : Lawful) (d : CellDescent) (v : Visit) → 0 < d.boxes.leaf → IsVisit d.boxes v → sides v.box ≤ n → spans_in d v ≤ size v.box * (sides v.box * length v.list)
+spans-below-within : (n : ℕ) (laws : Lawful) (d : CellDescent) (v : Visit) → 0 < d.boxes.leaf → IsVisit d.boxes v → sides v.box ≤ n → cell_spans_in d v ≤ size v.box * (sides v.box * length v.list)
 spans-below-within zero laws d v some is few = absurd (omega (arith, box-has_sides v.box is.box, few))
 spans-below-within (suc n) laws d v some is few =
     by (is_cut d v) refl (λ half among less. spans-below-within n laws d (half_visit d.boxes v half) some (laws.visits.halves d.boxes v half some is among) (omega (arith, less, few)))
@@ -237,22 +237,22 @@ spans-below-within (suc n) laws d v some is few =
     more = one-more (size v.box) t (sides v.box) (length v.list) (size-some v.box is.box) whole
 
     by : (b : Bool) → is_cut d v ≡ b
-        → ((half : Indices) → Contains (halves_of d.boxes.leaf v.box) half → sides half < sides v.box → spans_in d (half_visit d.boxes v half) ≤ size half * (sides half * length (handed_on d.boxes v)))
-        → spans_in d v ≤ size v.box * (sides v.box * length v.list)
+        → ((half : Indices) → Contains (halves_of d.boxes.leaf v.box) half → sides half < sides v.box → cell_spans_in d (half_visit d.boxes v half) ≤ size half * (sides half * length (handed_on d.boxes v)))
+        → cell_spans_in d v ≤ size v.box * (sides v.box * length v.list)
     by false e below = omega (arith, spans-end laws d v is.box e, more)
     by true e below =
         let shorter : (half : Indices) → sides half < sides v.box → sides half * length (handed_on d.boxes v) ≤ t * length v.list =
         λ half less. let sides_fewer : sides half ≤ t = omega (arith, less, whole) in mul-le-mul sides_fewer ((laws.visits.handed d.boxes v is).1) in
-        let each = All-weaker (Contains (halves_of d.boxes.leaf v.box)) (λ half. spans_in d (half_visit d.boxes v half) ≤ size half * (t * length v.list))
+        let each = All-weaker (Contains (halves_of d.boxes.leaf v.box)) (λ half. cell_spans_in d (half_visit d.boxes v half) ≤ size half * (t * length v.list))
         (λ half among.
         let less = half-is_shorter laws d v half some is.box e among in
         let products : size half * (sides half * length (handed_on d.boxes v)) ≤ size half * (t * length v.list) = mul-le-mul_left (size half) (shorter half less) in
         omega (arith, below half among less, products))
         (halves_of d.boxes.leaf v.box) (All-contains_itself (halves_of d.boxes.leaf v.box)) in
-        let sums = sum_by-below (λ half. spans_in d (half_visit d.boxes v half)) (λ half. size half * (t * length v.list)) (halves_of d.boxes.leaf v.box) each in
+        let sums = sum_by-below (λ half. cell_spans_in d (half_visit d.boxes v half)) (λ half. size half * (t * length v.list)) (halves_of d.boxes.leaf v.box) each in
         omega (arith, spans-split laws d v some is.box e, sums, halves-const laws d v.box (t * length v.list), more)
 
-pub spans-below : (laws : Lawful) (d : CellDescent) (v : Visit) → 0 < d.boxes.leaf → IsVisit d.boxes v → spans_in d v ≤ size v.box * (sides v.box * length v.list)
+pub spans-below : (laws : Lawful) (d : CellDescent) (v : Visit) → 0 < d.boxes.leaf → IsVisit d.boxes v → cell_spans_in d v ≤ size v.box * (sides v.box * length v.list)
 spans-below laws d v some is = spans-below-within (sides v.box) laws d v some is (omega arith)
 
 -- the list that a working cell receives is no longer than the one that the box receives

@@ -4,7 +4,7 @@ use Rattle.std.specs.List.{sum_by}
 use Rattle.view_places.specs.Boxes.{halves_of}
 use Rattle.box_chains.specs.Chains.{handed_on, is_long, next_visit, visit}
 use Rattle.box_chains.specs.Laws.{Lawful}
-use Rattle.oct_descent.specs.Bound.{long_spans_in, spans_in}
+use Rattle.oct_descent.specs.Bound.{long_spans_in, cell_spans_in}
 use Rattle.oct_descent.specs.Laws.{LongMeshSpansAddUp, MeshSpansAddUp, WaysGoOn}
 use Rattle.oct_descent.specs.Ways.{is_cut, way}
 use Rattle.oct_descent.proofs.WayLaws.{cut-is_long, long-end, long-split, spans-end, spans-split, way-ends, way-goes_on}
@@ -20,8 +20,8 @@ pub spans_add_up_is : Lawful → MeshSpansAddUp
 spans_add_up_is laws d v some is = by (is_cut d v) refl
   where
     by : (t : Bool) → is_cut d v ≡ t
-        → spans_in d v
-        ≡ length v.list + cond t (sum_by (λ half. spans_in d (visit half (handed_on d.boxes v))) (halves_of d.boxes.leaf v.box)) 0
+        → cell_spans_in d v
+        ≡ length v.list + cond t (sum_by (λ half. cell_spans_in d (visit half (handed_on d.boxes v))) (halves_of d.boxes.leaf v.box)) 0
     by false e = omega (arith, spans-end laws d v is e)
     by true e = spans-split laws d v some is e
 

@@ -11,17 +11,17 @@ use Rattle.kuhn_cells.specs.Triangles.{GridPoint, point}
 use Rattle.kuhn_cells.specs.Sizes.{IsBounded, SameSize}
 use Rattle.live_clauses.specs.declared.step.Step.{Step}
 use Rattle.view_places.specs.Boxes.{Indices}
-use Rattle.view_places.specs.Spans.{root_of}
+use Rattle.view_places.specs.Spans.{root_box_of}
 use Rattle.view_places.specs.Window.{Window}
 use Rattle.view_places.specs.declared.lattice.Lattice.TheVariants as lattices
 use Rattle.oct_descent.proofs.Sizes.{size-from, size-is, size-then}
 use Rattle.oct_descent.specs.Bound.{CountsAtLeast, least, lengths_at, mesh_least, mesh_points, mesh_spans, points_of_grid, working_lengths}
 use Rattle.box_chains.specs.Sums.{maximum}
-use Rattle.oct_descent.specs.GridValues.{grid_value}
+use Rattle.oct_descent.specs.GridValues.{list_grid_value}
 use Rattle.oct_descent.specs.Sizes.{size_of}
 use Rattle.oct_descent.specs.Tables.{AreSettled, AreWorked, ChargesBox, Grows, IsNew, PaysBox, PointValues, is_known, known_at, left}
 use Rattle.oct_descent.specs.Trees.{IsTold}
-use Rattle.oct_descent.specs.Ways.{gridded, whole}
+use Rattle.oct_descent.specs.Ways.{gridded, grid_root}
 use Rattle.oct_descent.proofs.Bounds.{none_due, points_due, points_suffice}
 
 -- while nothing is known, all points are left
@@ -36,11 +36,11 @@ mesh-left laws view list t same none =
     left-all laws (λ p. maximum (lengths_at view list p)) t none ∙ ap (λ n. sum_in (points_of_grid n) (λ s. maximum (lengths_at view list (point s.i s.j s.k)))) same
 
 -- the work of the box of all cells is within that of the grid
-pub whole-counted : (laws : Lawful) (view other : Window) (list : List Step) (b : Indices) (before after : PointValues) (told now : Counts) → other ≡ view → b ≡ root_of view lattices.Grid → before.n ≡ size_of view
+pub whole-counted : (laws : Lawful) (view other : Window) (list : List Step) (b : Indices) (before after : PointValues) (told now : Counts) → other ≡ view → b ≡ root_box_of view lattices.Grid → before.n ≡ size_of view
     → ((p : GridPoint) → known_at before p ≡ None) → ChargesBox (gridded other) (visit b list) before after told now → CountsAtMost (mesh_points view list) (mesh_spans view list) told now
 whole-counted laws view other list b before after told now same root n none charges =
     let f : GridPoint → ℕ = λ p. maximum (lengths_at view list p) in
-    let here = subst (λ v. ChargesBox (gridded v) (visit (root_of view lattices.Grid) list) before after told now) same (subst (λ c. ChargesBox (gridded other) (visit c list) before after told now) root charges) in
+    let here = subst (λ v. ChargesBox (gridded v) (visit (root_box_of view lattices.Grid) list) before after told now) same (subst (λ c. ChargesBox (gridded other) (visit c list) before after told now) root charges) in
     let h = here f (points_suffice view list) in
     laws.bounds.more told now h.points (mesh_spans view list) (mesh_points view list) (mesh_spans view list) (omega (arith, h.enough, mesh-left laws view list before n none)) (omega arith) h.counts
 
@@ -50,7 +50,7 @@ mesh-due laws view list t same none =
     left-all laws (λ p. least (working_lengths view list p)) t none ∙ ap (λ n. sum_in (points_of_grid n) (λ s. least (working_lengths view list (point s.i s.j s.k)))) same
 
 -- once all working cells are known, nothing is left that is due
-none-left : (laws : Lawful) (view : Window) (list : List Step) (t : PointValues) → AreWorked (gridded view) (whole view list) t → left (λ p. least (working_lengths view list p)) t ≡ 0
+none-left : (laws : Lawful) (view : Window) (list : List Step) (t : PointValues) → AreWorked (gridded view) (grid_root view list) t → left (λ p. least (working_lengths view list p)) t ≡ 0
 none-left laws view list t worked =
     laws.sums.same (points_of_grid t.n) (λ s. cond (is_known (known_at t (point s.i s.j s.k))) 0 (least (working_lengths view list (point s.i s.j s.k)))) (λ s. 0)
     (λ s lies. by (point s.i s.j s.k) (is_known (known_at t (point s.i s.j s.k))) refl)
@@ -61,28 +61,28 @@ none-left laws view list t worked =
     by p false e = none_due view list t p worked e
 
 -- and no less work is counted than what is due
-pub whole-paid : (laws : Lawful) (view other : Window) (list : List Step) (b : Indices) (before after : PointValues) (told now : Counts) → other ≡ view → b ≡ root_of view lattices.Grid → before.n ≡ size_of view
+pub whole-paid : (laws : Lawful) (view other : Window) (list : List Step) (b : Indices) (before after : PointValues) (told now : Counts) → other ≡ view → b ≡ root_box_of view lattices.Grid → before.n ≡ size_of view
     → ((p : GridPoint) → known_at before p ≡ None) → AreWorked (gridded other) (visit b list) after → PaysBox (gridded other) (visit b list) before after told now → CountsAtLeast (mesh_least view list) told now
 whole-paid laws view other list b before after told now same root n none worked pays =
     let f : GridPoint → ℕ = λ p. least (working_lengths view list p) in
-    let here = subst (λ v. PaysBox (gridded v) (visit (root_of view lattices.Grid) list) before after told now) same (subst (λ c. PaysBox (gridded other) (visit c list) before after told now) root pays) in
-    let there = subst (λ v. AreWorked (gridded v) (visit (root_of view lattices.Grid) list) after) same (subst (λ c. AreWorked (gridded other) (visit c list) after) root worked) in
+    let here = subst (λ v. PaysBox (gridded v) (visit (root_box_of view lattices.Grid) list) before after told now) same (subst (λ c. PaysBox (gridded other) (visit c list) before after told now) root pays) in
+    let there = subst (λ v. AreWorked (gridded v) (visit (root_box_of view lattices.Grid) list) after) same (subst (λ c. AreWorked (gridded other) (visit c list) after) root worked) in
     let h = here f (points_due view list) in
     record { by = h.counts.by; many = omega (arith, h.due, h.counts.many, mesh-due laws view list before n none, none-left laws view list after there); rises = h.counts.rises }
 
 -- and what it leaves tells the grid
-pub whole-told : (view other : Window) (list : List Step) (b : Indices) (before after : PointValues) → other ≡ view → b ≡ root_of view lattices.Grid → before.n ≡ size_of view → IsBounded (size_of view)
-    → ((p : GridPoint) → known_at before p ≡ None) → Grows (grid_value other list) b before after → AreSettled (gridded other) (grid_value other list) b after → IsTold view list after
+pub whole-told : (view other : Window) (list : List Step) (b : Indices) (before after : PointValues) → other ≡ view → b ≡ root_box_of view lattices.Grid → before.n ≡ size_of view → IsBounded (size_of view)
+    → ((p : GridPoint) → known_at before p ≡ None) → Grows (list_grid_value other list) b before after → AreSettled (gridded other) (list_grid_value other list) b after → IsTold view list after
 whole-told view other list b before after same root n few none grows settled = record {
   n = size-then after.n before.n (size_of view) grows.n all;
   few = subst IsBounded (sym (size-is after.n (size_of view) (size-then after.n before.n (size_of view) grows.n all))) few;
   right = λ p known. by p known (grows.each p);
-  settled = subst (λ v. AreSettled (gridded v) (grid_value v list) (root_of view lattices.Grid) after) same (subst (λ c. AreSettled (gridded other) (grid_value other list) c after) root settled);
+  settled = subst (λ v. AreSettled (gridded v) (list_grid_value v list) (root_box_of view lattices.Grid) after) same (subst (λ c. AreSettled (gridded other) (list_grid_value other list) c after) root settled);
 }
   where
     all : SameSize before.n (size_of view)
     all = size-from before.n (size_of view) n
 
-    by : (p : GridPoint) → is_known (known_at after p) ≡ true → (known_at after p ≡ known_at before p) ⊎ IsNew (grid_value other list) b before after p → known_at after p ≡ Some (grid_value view list p)
+    by : (p : GridPoint) → is_known (known_at after p) ≡ true → (known_at after p ≡ known_at before p) ⊎ IsNew (list_grid_value other list) b before after p → known_at after p ≡ Some (list_grid_value view list p)
     by p known (inl stays) = absurd (false≢true (sym (ap is_known (stays ∙ none p)) ∙ known))
-    by p known (inr new) = new.value ∙ ap (λ v. Some (grid_value v list p)) same
+    by p known (inr new) = new.value ∙ ap (λ v. Some (list_grid_value v list p)) same

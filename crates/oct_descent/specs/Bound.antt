@@ -13,17 +13,17 @@ use Rattle.live_clauses.specs.declared.step.Step.{Step}
 use Rattle.view_places.specs.Boxes.{Indices}
 use Rattle.view_places.specs.Window.{Window}
 use Rattle.oct_descent.specs.Sizes.{size_of}
-use Rattle.oct_descent.specs.Ways.{CellDescent, gridded, is_working, way, way_end, whole}
+use Rattle.oct_descent.specs.Ways.{CellDescent, gridded, is_working, way, way_end, grid_root}
 
 -- The steps that are traced over a box of cells and the boxes below it: the lengths of the lists
 -- that the boxes on the ways to its cells receive. A box is on the way to each of its cells, and is
 -- counted at the first.
-unfoldable pub spans_in : CellDescent → Visit → ℕ
-spans_in d v = sum_in v.box (λ s. first_lengths s (way d v s))
+unfoldable pub cell_spans_in : CellDescent → Visit → ℕ
+cell_spans_in d v = sum_in v.box (λ s. first_lengths s (way d v s))
 
 -- what the boxes of a grid take at most
 abbrev pub mesh_spans : Window → List Step → ℕ
-mesh_spans view list = spans_in (gridded view) (whole view list)
+mesh_spans view list = cell_spans_in (gridded view) (grid_root view list)
 
 -- the lengths of the lists of those boxes of more than one cell that have a cell as their first
 abbrev pub long_lengths : CellDescent → Sample → List Visit → ℕ
@@ -37,7 +37,7 @@ long_spans_in d v = sum_in v.box (λ s. long_lengths d s (way d v s))
 -- What the boxes of a grid take at least: each box of more than one cell on the way to a cell is
 -- traced. A cell alone need not be, where its known corners tell enough.
 abbrev pub mesh_long_spans : Window → List Step → ℕ
-mesh_long_spans view list = long_spans_in (gridded view) (whole view list)
+mesh_long_spans view list = long_spans_in (gridded view) (grid_root view list)
 
 -- a cell, as what a way leads to
 abbrev pub sample_of : GridPoint → Sample
@@ -62,7 +62,7 @@ lengths_in n d v p =
 
 -- those of the grid of a mesh
 abbrev pub lengths_at : Window → List Step → GridPoint → List ℕ
-lengths_at view list = lengths_in (size_of view) (gridded view) (whole view list)
+lengths_at view list = lengths_in (size_of view) (gridded view) (grid_root view list)
 
 -- the box of all points of a grid
 abbrev pub points_of_grid : GridSize → Indices
@@ -92,7 +92,7 @@ working_lengths_in n d v p =
 
 -- those of the grid of a mesh
 abbrev pub working_lengths : Window → List Step → GridPoint → List ℕ
-working_lengths view list = working_lengths_in (size_of view) (gridded view) (whole view list)
+working_lengths view list = working_lengths_in (size_of view) (gridded view) (grid_root view list)
 
 -- What the points of a grid take at least: each corner of a working cell the length of the shortest
 -- list that a working cell receives that has it as a corner.

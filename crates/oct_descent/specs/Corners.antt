@@ -72,5 +72,5 @@ side_seen seen (Some v) = record {
 }
 
 -- some value is inside and some value is outside
-abbrev pub is_mixed : List ℤ → Bool
-is_mixed values = list_any is_inside values && list_any (λ v. not (is_inside v)) values
+abbrev pub are_mixed : List ℤ → Bool
+are_mixed values = list_any is_inside values && list_any (λ v. not (is_inside v)) values

@@ -16,8 +16,8 @@ use Rattle.kuhn_cells.specs.declared.grid_size.GridSize.{GridSize}
 use Rattle.live_clauses.specs.declared.step.Step.{Step}
 use Rattle.view_places.specs.Boxes.{Indices}
 use Rattle.view_places.specs.declared.lattice.Lattice.TheVariants as lattices
-use Rattle.oct_descent.specs.Bound.{long_spans_in, spans_in}
-use Rattle.oct_descent.specs.GridValues.{grid_value}
+use Rattle.oct_descent.specs.Bound.{long_spans_in, cell_spans_in}
+use Rattle.oct_descent.specs.GridValues.{list_grid_value}
 use Rattle.oct_descent.specs.Sizes.{size_of}
 use Rattle.oct_descent.specs.Tables.{AreRight, Charges, IsDue, IsEnough, Pays, PointValues}
 use Rattle.oct_descent.specs.Ways.{CellDescent, gridded, meets_border}
@@ -30,11 +30,11 @@ pub record MayLook (desk : Tracing) (b : Indices) (at : ℕ) (t : PointValues) :
   pub n : SameSize t.n (size_of desk.view)
   pub among : at < length desk.lists
   pub room : length (list_of desk at) ≤ desk.room
-  pub right : AreRight (grid_value desk.view (list_of desk at)) b t
+  pub right : AreRight (list_grid_value desk.view (list_of desk at)) b t
 
 -- the steps that are traced over some halves of a box, which receive a list
 abbrev pub halves_spans : CellDescent → List Step → List Indices → ℕ
-halves_spans d list halves = sum_over (spans_in d) list halves
+halves_spans d list halves = sum_over (cell_spans_in d) list halves
 
 -- and of these, those that are traced over boxes of more than one cell
 abbrev pub halves_long_spans : CellDescent → List Step → List Indices → ℕ
@@ -60,7 +60,7 @@ own_spans v = if is_long 1 v.box then length v.list else 0
 
 -- the steps that are traced over a box while it is looked into
 abbrev pub spans_below : CellDescent → Visit → ℕ
-spans_below d v = spans_in d v - own_spans v
+spans_below d v = cell_spans_in d v - own_spans v
 
 -- and of these, those that are traced over boxes of more than one cell
 abbrev pub long_spans_below : CellDescent → Visit → ℕ

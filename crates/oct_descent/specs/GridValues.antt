@@ -14,9 +14,9 @@ abbrev pub value_on : Window → List Step → GridPoint → ℤ
 value_on view list p = tape_value (point_of view lattices.Grid p.x p.y p.z) list
 
 -- the grid value of a list at a point
-abbrev pub grid_value : Window → List Step → GridPoint → ℤ
-grid_value view list p = bordered (size_of view) p (value_on view list p)
+abbrev pub list_grid_value : Window → List Step → GridPoint → ℤ
+list_grid_value view list p = bordered (size_of view) p (value_on view list p)
 
 -- the grid of a list over a view: the grid value of each point, by z, then by y, then by x
-unfoldable pub grid_of : Window → List Step → Grid
-grid_of view list = grid_over (size_of view) (grid_value view list)
+unfoldable pub list_grid : Window → List Step → Grid
+list_grid view list = grid_over (size_of view) (list_grid_value view list)

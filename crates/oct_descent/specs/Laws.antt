@@ -8,14 +8,14 @@ use Rattle.live_clauses.specs.Steps.{IsTape}
 use Rattle.live_clauses.specs.declared.step.Step.{Step}
 use Rattle.view_places.specs.Boxes.{IsBox, halves_of}
 use Rattle.view_places.specs.Window.{Window, IsWindow}
-use Rattle.oct_descent.specs.Bound.{long_spans_in, mesh_points, mesh_spans, spans_in}
-use Rattle.oct_descent.specs.GridValues.{grid_of}
+use Rattle.oct_descent.specs.Bound.{long_spans_in, mesh_points, mesh_spans, cell_spans_in}
+use Rattle.oct_descent.specs.GridValues.{list_grid}
 use Rattle.oct_descent.specs.Sizes.{size_of}
 use Rattle.oct_descent.specs.Ways.{CellDescent, is_cut, way}
 
 -- every point of the outermost layer of a list's grid is outside
 abbrev pub GridsAreBordered : Type 0
-GridsAreBordered = (view : Window) (list : List Step) → IsBordered (grid_of view list)
+GridsAreBordered = (view : Window) (list : List Step) → IsBordered (list_grid view list)
 
 -- the points take no more evaluations than the list has steps, at each of them
 abbrev pub MeshPointsAreBounded : Type 0
@@ -39,8 +39,8 @@ WaysGoOn = (d : CellDescent) (v : Visit) (s : Sample) → 0 < d.boxes.leaf → I
 -- halves too, which receive what it hands on
 abbrev pub MeshSpansAddUp : Type 0
 MeshSpansAddUp = (d : CellDescent) (v : Visit) → 0 < d.boxes.leaf → IsBox v.box
-    → spans_in d v ≡ length v.list + (if is_cut d v then sum_by
-    (λ half. spans_in d (visit half (handed_on d.boxes v))) (halves_of d.boxes.leaf v.box) else 0)
+    → cell_spans_in d v ≡ length v.list + (if is_cut d v then sum_by
+    (λ half. cell_spans_in d (visit half (handed_on d.boxes v))) (halves_of d.boxes.leaf v.box) else 0)
 
 -- and those traced over boxes of more than one cell are those of its own list, where it is one, and of
 -- its halves
@@ -63,7 +63,7 @@ pub record CountsReachedOnce (d : CellDescent) (v : Visit) : Type 0 where
   pub different : AllPairs (λ a b. a.box ≢ b.box) boxes
   pub each : (w : Visit) → Contains boxes w → IsOnWay d v w
   pub all : (w : Visit) → IsOnWay d v w → Contains boxes w
-  pub sum : spans_in d v ≡ sum_by (λ w. length w.list) boxes
+  pub sum : cell_spans_in d v ≡ sum_by (λ w. length w.list) boxes
 
 abbrev pub ReachedBoxesAreCountedOnce : Type 0
 ReachedBoxesAreCountedOnce = (d : CellDescent) (v : Visit) → 0 < d.boxes.leaf → IsBox v.box

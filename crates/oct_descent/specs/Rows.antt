@@ -6,12 +6,12 @@ use Rattle.kuhn_cells.specs.Triangles.{GridPoint, point}
 use Rattle.kuhn_cells.specs.declared.cell_list.CellValues.{CellValues}
 use Rattle.live_clauses.specs.declared.step.Step.{Step}
 use Rattle.view_places.specs.Window.{Window}
-use Rattle.oct_descent.specs.GridValues.{grid_of}
+use Rattle.oct_descent.specs.GridValues.{list_grid}
 use Rattle.oct_descent.specs.Sizes.{size_of}
 
 -- the cell at a place, where it is mixed
 abbrev pub cells_at : Window → List Step → GridPoint → List CellValues
-cells_at view list p = filter is_mixed_cell (cell_at (grid_of view list) p ∷ [])
+cells_at view list p = filter is_mixed_cell (cell_at (list_grid view list) p ∷ [])
 
 -- those mixed cells of row y of layer z that lie from low on, below high
 abbrev pub cells_between : Window → List Step → ℕ → ℕ → ℕ → ℕ → List CellValues

@@ -9,7 +9,7 @@ use Rattle.kuhn_cells.specs.Triangles.{GridPoint, point}
 use Rattle.kuhn_cells.specs.Sizes.{SameSize}
 use Rattle.kuhn_cells.specs.declared.grid_size.GridSize.{GridSize}
 use Rattle.view_places.specs.Boxes.{Indices}
-use Rattle.oct_descent.specs.Bound.{CountsAtLeast, points_of_grid, spans_in}
+use Rattle.oct_descent.specs.Bound.{CountsAtLeast, points_of_grid, cell_spans_in}
 use Rattle.oct_descent.specs.Ways.{CellDescent, Covers, is_working, way_end}
 
 -- the values that are known of some points: a mark and a value for each place, where a value counts
@@ -142,7 +142,7 @@ IsEnough f d v = (s : Sample) → LiesIn v.box s → is_working d v s ≡ true �
 -- whatever points take, if it is enough for a box, no more is counted
 abbrev pub ChargesBox : CellDescent → Visit → PointValues → PointValues → Counts → Counts → Type 0
 ChargesBox d v before after told now =
-    (f : GridPoint → ℕ) → IsEnough f d v → Charges f (spans_in d v) before after told now
+    (f : GridPoint → ℕ) → IsEnough f d v → Charges f (cell_spans_in d v) before after told now
 
 -- no fewer evaluations are counted than the points take that become known
 pub record Pays (f : GridPoint → ℕ)

@@ -3,10 +3,10 @@ use Rattle.std.specs.Prelude.{◌≡◌, List, true, Some}
 use Rattle.kuhn_cells.specs.Triangles.{GridPoint}
 use Rattle.kuhn_cells.specs.Sizes.{IsBounded, SameSize}
 use Rattle.live_clauses.specs.declared.step.Step.{Step}
-use Rattle.view_places.specs.Spans.{root_of}
+use Rattle.view_places.specs.Spans.{root_box_of}
 use Rattle.view_places.specs.Window.{Window}
 use Rattle.view_places.specs.declared.lattice.Lattice.TheVariants as lattices
-use Rattle.oct_descent.specs.GridValues.{grid_value}
+use Rattle.oct_descent.specs.GridValues.{list_grid_value}
 use Rattle.oct_descent.specs.Sizes.{size_of}
 use Rattle.oct_descent.specs.Tables.{AreSettled, PointValues, is_known, known_at}
 use Rattle.oct_descent.specs.Ways.{gridded}
@@ -21,5 +21,5 @@ pub record IsTold (view : Window) (list : List Step) (t : PointValues) : Type 0 
   pub n : SameSize t.n (size_of view)
   pub few : IsBounded t.n
   pub right : (p : GridPoint) → is_known (known_at t p) ≡ true
-      → known_at t p ≡ Some (grid_value view list p)
-  pub settled : AreSettled (gridded view) (grid_value view list) (root_of view lattices.Grid) t
+      → known_at t p ≡ Some (list_grid_value view list p)
+  pub settled : AreSettled (gridded view) (list_grid_value view list) (root_box_of view lattices.Grid) t

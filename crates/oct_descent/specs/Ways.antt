@@ -75,5 +75,5 @@ gridded view = record {
 }
 
 -- the box of all cells, with the whole list
-abbrev pub whole : Window → List Step → Visit
-whole view list = root_visit (gridded view).boxes list
+abbrev pub grid_root : Window → List Step → Visit
+grid_root view list = root_visit (gridded view).boxes list

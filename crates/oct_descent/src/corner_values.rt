@@ -2,7 +2,7 @@
 ghost use Rattle.std.specs.Prelude.{◌≡◌, ◌<◌, ◌≤◌, None, IfSome};
 ghost use Rattle.kuhn_cells.specs.Triangles.{point};
 ghost use Rattle.kuhn_cells.specs.Sizes.{IsBounded};
-ghost use Rattle.oct_descent.specs.Corners.{AreCorners, IsSeen, LacksCorner, is_mixed as is_mixed_of, side_seen};
+ghost use Rattle.oct_descent.specs.Corners.{AreCorners, IsSeen, LacksCorner, are_mixed as is_mixed_of, side_seen};
 
 use crate::grid_values::GridValues;
 use crate::seen::Seen;

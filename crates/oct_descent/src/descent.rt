@@ -14,7 +14,7 @@ ghost use Rattle.view_places.specs.Spans.{IsInRoot};
 ghost use Rattle.oct_descent.specs.Bound.{CountsHullsAtLeast, CountsNoHull, long_spans_in};
 ghost use Rattle.oct_descent.specs.Corners.{IsSeen, IsShown};
 ghost use Rattle.oct_descent.specs.Desks.{ChargesBelow, ChargesHalves, IsToldAt, MayLook, PaysHalves, asked_of, halves_long_spans, long_spans_below, longer};
-ghost use Rattle.oct_descent.specs.GridValues.{grid_value};
+ghost use Rattle.oct_descent.specs.GridValues.{list_grid_value};
 ghost use Rattle.oct_descent.specs.Sizes.{size_of};
 ghost use Rattle.oct_descent.specs.Tables.{AreSettled, AreWorked, ChargesBox, Grows, PaysBox, PointValues};
 ghost use Rattle.oct_descent.specs.Ways.{gridded, is_open as is_open_for, is_open_by, meets_border as meets_border_of};
@@ -44,11 +44,11 @@ pub fn look_into(
 ) -> Result<(), AllocError>
     requires { MayLook desk.old b received values.old }
     ensures settled { OnOk result
-        (AreSettled (gridded desk.old.view) (grid_value desk.old.view (list_of desk.old received)) b
+        (AreSettled (gridded desk.old.view) (list_grid_value desk.old.view (list_of desk.old received)) b
         values.new) }
     ensures worked { OnOk result
         (AreWorked (gridded desk.old.view) (visit b (list_of desk.old received)) values.new) }
-    ensures grows { Grows (grid_value desk.old.view (list_of desk.old received)) b values.old
+    ensures grows { Grows (list_grid_value desk.old.view (list_of desk.old received)) b values.old
         values.new }
     ensures counted { ChargesBox (gridded desk.old.view) (visit b (list_of desk.old received))
         values.old values.new tally.old tally.new }
@@ -85,11 +85,11 @@ fn look_into_told(
     requires told { IsToldAt (samples desk.old) (list_of desk.old received) b desk.old.lists
         outcomes.now at }
     ensures settled { OnOk result
-        (AreSettled (gridded desk.old.view) (grid_value desk.old.view (list_of desk.old received)) b
+        (AreSettled (gridded desk.old.view) (list_grid_value desk.old.view (list_of desk.old received)) b
         values.new) }
     ensures worked { OnOk result
         (AreWorked (gridded desk.old.view) (visit b (list_of desk.old received)) values.new) }
-    ensures grows { Grows (grid_value desk.old.view (list_of desk.old received)) b values.old
+    ensures grows { Grows (list_grid_value desk.old.view (list_of desk.old received)) b values.old
         values.new }
     ensures counted { ChargesBelow (gridded desk.old.view) (visit b (list_of desk.old received))
         values.old values.new tally.old tally.new }
@@ -123,12 +123,12 @@ fn look_into_halves(
     requires whole { IsWhole (list_of desk.old live) }
     requires long { IsTrue (is_long_for 1 b) }
     ensures settled { OnOk result
-        (AreSettled (gridded desk.old.view) (grid_value desk.old.view (list_of desk.old live)) b
+        (AreSettled (gridded desk.old.view) (list_grid_value desk.old.view (list_of desk.old live)) b
         values.new) }
     ensures worked { OnOk result
         (All (λ half. AreWorked (gridded desk.old.view) (visit half (list_of desk.old live))
         values.new) (halves_of 1 b)) }
-    ensures grows { Grows (grid_value desk.old.view (list_of desk.old live)) b values.old
+    ensures grows { Grows (list_grid_value desk.old.view (list_of desk.old live)) b values.old
         values.new }
     ensures counted { ChargesHalves (gridded desk.old.view) (list_of desk.old live) (halves_of 1 b)
         values.old values.new tally.old tally.new }
@@ -159,12 +159,12 @@ fn look_into_each_half(
     requires whole { IsWhole (list_of desk.old live) }
     requires long { IsTrue (is_long_for 1 b) }
     ensures settled { OnOk result
-        (AreSettled (gridded desk.old.view) (grid_value desk.old.view (list_of desk.old live)) b
+        (AreSettled (gridded desk.old.view) (list_grid_value desk.old.view (list_of desk.old live)) b
         values.new) }
     ensures worked { OnOk result
         (All (λ half. AreWorked (gridded desk.old.view) (visit half (list_of desk.old live))
         values.new) (halves_of 1 b)) }
-    ensures grows { Grows (grid_value desk.old.view (list_of desk.old live)) b values.old
+    ensures grows { Grows (list_grid_value desk.old.view (list_of desk.old live)) b values.old
         values.new }
     ensures counted { ChargesHalves (gridded desk.old.view) (list_of desk.old live) (halves_of 1 b)
         values.old values.new tally.old tally.new }
@@ -256,11 +256,11 @@ fn look_into_cell(
     requires may { MayLook desk.old b received values.old }
     requires one { is_long_for 1 b ≡ false }
     ensures settled { OnOk result
-        (AreSettled (gridded desk.old.view) (grid_value desk.old.view (list_of desk.old received)) b
+        (AreSettled (gridded desk.old.view) (list_grid_value desk.old.view (list_of desk.old received)) b
         values.new) }
     ensures worked { OnOk result
         (AreWorked (gridded desk.old.view) (visit b (list_of desk.old received)) values.new) }
-    ensures grows { Grows (grid_value desk.old.view (list_of desk.old received)) b values.old
+    ensures grows { Grows (list_grid_value desk.old.view (list_of desk.old received)) b values.old
         values.new }
     ensures counted { ChargesBox (gridded desk.old.view) (visit b (list_of desk.old received))
         values.old values.new tally.old tally.new }

@@ -7,7 +7,7 @@ ghost use Rattle.kuhn_cells.specs.Triangles.{point};
 ghost use Rattle.oct_descent.specs.Desks.{MayLook};
 ghost use Rattle.oct_descent.specs.Fills.{ChargesCorners, PaysCorners};
 ghost use Rattle.oct_descent.specs.Gaps.{AreGaps};
-ghost use Rattle.oct_descent.specs.GridValues.{grid_value};
+ghost use Rattle.oct_descent.specs.GridValues.{list_grid_value};
 ghost use Rattle.oct_descent.specs.Tables.{AllKnown, Grows, IsSame};
 
 use crate::gap::Gap;
@@ -31,7 +31,7 @@ pub fn fill_cell(
     requires may { MayLook desk.old b received values.old }
     requires one { is_long_for 1 b ≡ false }
     ensures known { OnOk result (AllKnown values.new b) }
-    ensures grows { Grows (grid_value desk.old.view (list_of desk.old received)) b values.old
+    ensures grows { Grows (list_grid_value desk.old.view (list_of desk.old received)) b values.old
         values.new }
     ensures counted { ChargesCorners b (length (list_of desk.old received)) values.old values.new
         tally.old tally.new }

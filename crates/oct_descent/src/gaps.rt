@@ -8,7 +8,7 @@ ghost use Rattle.kuhn_cells.specs.Sizes.{SameSize};
 ghost use Rattle.kuhn_cells.specs.Triangles.{point};
 ghost use Rattle.view_places.specs.declared.lattice.Lattice.TheVariants as lattices;
 ghost use Rattle.oct_descent.specs.Gaps.{Fills, StandsIn, lies_at, nth};
-ghost use Rattle.oct_descent.specs.GridValues.{grid_value};
+ghost use Rattle.oct_descent.specs.GridValues.{list_grid_value};
 ghost use Rattle.oct_descent.specs.Sizes.{size_of};
 ghost use Rattle.oct_descent.specs.Tables.{KeepsPlaces};
 
@@ -33,7 +33,7 @@ pub fn fill_gaps(
     requires n { SameSize values.old.n (size_of places.now.view) }
     requires room { length list.now ≤ length rows.old }
     requires stand { All (StandsIn values.old) gaps.now }
-    ensures fills { Fills (grid_value places.now.view list.now) gaps.now values.old values.new }
+    ensures fills { Fills (list_grid_value places.now.view list.now) gaps.now values.old values.new }
     ensures counted { RisesBy tally.old tally.new (points_of (length gaps.now * length list.now)) }
 {
     tallies_add_up();
@@ -61,7 +61,7 @@ fn fill_some(
     requires stand { All (StandsIn values.old) gaps.now }
     ensures some { 0 < result }
     ensures few { result ≤ length gaps.now }
-    ensures fills { Fills (grid_value places.now.view list.now) (take result gaps.now) values.old
+    ensures fills { Fills (list_grid_value places.now.view list.now) (take result gaps.now) values.old
         values.new }
     ensures keeps { KeepsPlaces values.old values.new }
     ensures counted { RisesBy tally.old tally.new (points_of (result * length list.now)) }
@@ -96,7 +96,7 @@ fn fill_lanes<const L: usize>(
     requires n { SameSize values.old.n (size_of places.now.view) }
     requires room { length list.now ≤ length rows.old }
     requires stand { All (StandsIn values.old) gaps.now }
-    ensures fills { Fills (grid_value places.now.view list.now) gaps.now values.old values.new }
+    ensures fills { Fills (list_grid_value places.now.view list.now) gaps.now values.old values.new }
     ensures keeps { KeepsPlaces values.old values.new }
     ensures counted { RisesBy tally.old tally.new (points_of (L * length list.now)) }
 {

@@ -2,7 +2,7 @@
 ghost use Rattle.std.specs.Prelude.{◌≡◌, ◌+◌, ◌%◌, ◌<◌, ◌++◌, min, IfOk, OnOk};
 ghost use Rattle.kuhn_cells.specs.Lists.{ListsCells};
 ghost use Rattle.kuhn_cells.specs.Triangles.{point};
-ghost use Rattle.oct_descent.specs.GridValues.{grid_of};
+ghost use Rattle.oct_descent.specs.GridValues.{list_grid};
 ghost use Rattle.oct_descent.specs.Rows.{cells_at, cells_between, cells_in_layer, cells_in_row};
 ghost use Rattle.oct_descent.specs.Sizes.{size_of};
 
@@ -16,7 +16,7 @@ use std::alloc::{AllocError, Global};
 /// corners, by z, then by y, then by x. AllocError: there is no memory for them.
 pub fn cell_list(alloc: Global, tree: &OctTree) -> Result<CellList, AllocError>
     ensures { IfOk result (λ list. ListsCells (size_of tree.now.view) list
-        (grid_of tree.now.view tree.now.list)) }
+        (list_grid tree.now.view tree.now.list)) }
 {
     let mut cells = Vec::new(alloc);
     for z in 0..mesh_size(&tree.view).z {

@@ -21,7 +21,7 @@ use Rattle.live_clauses.specs.Steps.{tape_value}
 use Rattle.live_clauses.specs.declared.step.Step.{Step}
 use Rattle.view_places.specs.Boxes.{Indices, IsBox, halves_of}
 use Rattle.view_places.specs.Places.{point_of}
-use Rattle.view_places.specs.Spans.{root_of}
+use Rattle.view_places.specs.Spans.{root_box_of}
 use Rattle.view_places.specs.Window.{Window}
 use Rattle.view_places.specs.declared.lattice.Lattice.TheVariants.{Raster}
 use Rattle.quad_descent.specs.Drawn.{AreDrawnAt, HasValues, IsDrawnAt, StandsAt, count_of}
@@ -29,7 +29,7 @@ use Rattle.quad_descent.proofs.NodeLaws.{nodes-are}
 use Rattle.quad_descent.specs.Nodes.{bits_of, box_nodes, halves_nodes, insides, nodes_of, rows_of}
 use Rattle.quad_descent.specs.Painting.{Paints, byte_at, covers}
 use Rattle.quad_descent.specs.Pixels.{pixel_at, row_at, rows_from}
-use Rattle.quad_descent.specs.Raster.{raster, whole}
+use Rattle.quad_descent.specs.Raster.{raster, raster_root}
 use Rattle.quad_descent.specs.declared.node.Node.{Node}
 use Rattle.quad_descent.specs.declared.node.Node.TheVariants.{Outside, Inside, Leaf, Split}
 use Rattle.quad_descent.proofs.Drawn.{half-part, half-within}
@@ -174,8 +174,8 @@ halves-drawn laws view list at b drawn node below is halves = record {
     tape = (laws.visits.handed (raster view) (visit b drawn.received) drawn.visit_is).0;
   };
   values = handed-values laws view list at b drawn;
-  stands = subst (λ l. StandsAt (nodes_of (raster view) (whole view list)) l (at + 1)) halves
-      (stands-below (nodes_of (raster view) (whole view list)) (nodes_of (raster view) (visit b drawn.received)) below node at drawn.stands is);
+  stands = subst (λ l. StandsAt (nodes_of (raster view) (raster_root view list)) l (at + 1)) halves
+      (stands-below (nodes_of (raster view) (raster_root view list)) (nodes_of (raster view) (visit b drawn.received)) below node at drawn.stands is);
 }
 
 -- the first of some halves is drawn where they begin
@@ -189,8 +189,8 @@ half-drawn laws view list at b half rest drawn part = record {
     tape = drawn.visit_is.tape;
   };
   values = λ s lies. drawn.values s (laws.parts.lies 8 b half s part lies);
-  stands = stands-first (nodes_of (raster view) (whole view list)) (nodes_of (raster view) (visit half drawn.live)) (halves_nodes (raster view) drawn.live rest) at
-      (subst (λ l. StandsAt (nodes_of (raster view) (whole view list)) l at) (flat_map-cons (λ h. nodes_of (raster view) (visit h drawn.live)) half rest) drawn.stands);
+  stands = stands-first (nodes_of (raster view) (raster_root view list)) (nodes_of (raster view) (visit half drawn.live)) (halves_nodes (raster view) drawn.live rest) at
+      (subst (λ l. StandsAt (nodes_of (raster view) (raster_root view list)) l at) (flat_map-cons (λ h. nodes_of (raster view) (visit h drawn.live)) half rest) drawn.stands);
 }
 
 -- and the others behind it
@@ -200,9 +200,9 @@ others-drawn view list at next b half rest drawn behind = record {
   live = drawn.live;
   visit_is = drawn.visit_is;
   values = drawn.values;
-  stands = subst (λ n. StandsAt (nodes_of (raster view) (whole view list)) (halves_nodes (raster view) drawn.live rest) n) (sym behind)
-      (stands-more (nodes_of (raster view) (whole view list)) (nodes_of (raster view) (visit half drawn.live)) (halves_nodes (raster view) drawn.live rest) at
-      (subst (λ l. StandsAt (nodes_of (raster view) (whole view list)) l at) (flat_map-cons (λ h. nodes_of (raster view) (visit h drawn.live)) half rest) drawn.stands));
+  stands = subst (λ n. StandsAt (nodes_of (raster view) (raster_root view list)) (halves_nodes (raster view) drawn.live rest) n) (sym behind)
+      (stands-more (nodes_of (raster view) (raster_root view list)) (nodes_of (raster view) (visit half drawn.live)) (halves_nodes (raster view) drawn.live rest) at
+      (subst (λ l. StandsAt (nodes_of (raster view) (raster_root view list)) l at) (flat_map-cons (λ h. nodes_of (raster view) (visit h drawn.live)) half rest) drawn.stands));
 }
 
 -- one more half is covered
@@ -244,28 +244,28 @@ head-drawn laws view list at b drawn = head-of laws (raster view) (visit b drawn
 
 -- the node that is read where a box is drawn is its first
 pub box-read : (laws : Lawful) (view : Window) (list : List Step) (nodes : List Node) (at : ℕ) (b : Indices) (drawn : IsDrawnAt view list at b) (r : Node)
-    → nodes ≡ nodes_of (raster view) (whole view list) → r ≡ get_or nodes at r → r ≡ (head-drawn laws view list at b drawn).node
+    → nodes ≡ nodes_of (raster view) (raster_root view list) → r ≡ get_or nodes at r → r ≡ (head-drawn laws view list at b drawn).node
 box-read laws view list nodes at b drawn r all read =
     let head = head-drawn laws view list at b drawn in
-    stands-read (nodes_of (raster view) (whole view list)) (nodes_of (raster view) (visit b drawn.received)) head.below head.node r at drawn.stands head.is (read ∙ ap (λ l. get_or l at r) all)
+    stands-read (nodes_of (raster view) (raster_root view list)) (nodes_of (raster view) (visit b drawn.received)) head.below head.node r at drawn.stands head.is (read ∙ ap (λ l. get_or l at r) all)
 
-pub box-within : (laws : Lawful) (view : Window) (list : List Step) (nodes : List Node) (at : ℕ) (b : Indices) (drawn : IsDrawnAt view list at b) → nodes ≡ nodes_of (raster view) (whole view list)
+pub box-within : (laws : Lawful) (view : Window) (list : List Step) (nodes : List Node) (at : ℕ) (b : Indices) (drawn : IsDrawnAt view list at b) → nodes ≡ nodes_of (raster view) (raster_root view list)
     → (at < length nodes) × (at + length (nodes_of (raster view) (visit b drawn.received)) ≤ length nodes)
 box-within laws view list nodes at b drawn all =
     let head = head-drawn laws view list at b drawn in
-    let within = stands-within (nodes_of (raster view) (whole view list)) (nodes_of (raster view) (visit b drawn.received)) at drawn.stands in
+    let within = stands-within (nodes_of (raster view) (raster_root view list)) (nodes_of (raster view) (visit b drawn.received)) at drawn.stands in
     (omega (arith, within, ap length all, ap length head.is), omega (arith, within, ap length all))
 
 -- what a node that is read says
 pub box-says : (laws : Lawful) (view : Window) (list : List Step) (nodes : List Node) (at : ℕ) (b : Indices) (drawn : IsDrawnAt view list at b) (r : Node)
-    → nodes ≡ nodes_of (raster view) (whole view list) → r ≡ get_or nodes at r
+    → nodes ≡ nodes_of (raster view) (raster_root view list) → r ≡ get_or nodes at r
     → Says (raster view) (visit b drawn.received) r (head-drawn laws view list at b drawn).below
 box-says laws view list nodes at b drawn r all read =
     let head = head-drawn laws view list at b drawn in
     subst (λ n. Says (raster view) (visit b drawn.received) n head.below) (sym (box-read laws view list nodes at b drawn r all read)) head.says
 
 pub box-counts : (laws : Lawful) (view : Window) (list : List Step) (nodes : List Node) (at : ℕ) (b : Indices) (drawn : IsDrawnAt view list at b) (r : Node)
-    → nodes ≡ nodes_of (raster view) (whole view list) → r ≡ get_or nodes at r → count_of r ≡ length (nodes_of (raster view) (visit b drawn.received))
+    → nodes ≡ nodes_of (raster view) (raster_root view list) → r ≡ get_or nodes at r → count_of r ≡ length (nodes_of (raster view) (visit b drawn.received))
 box-counts laws view list nodes at b drawn r all read =
     let head = head-drawn laws view list at b drawn in
     ap count_of (box-read laws view list nodes at b drawn r all read) ∙ head.count ∙ ap length (sym head.is)
@@ -291,7 +291,7 @@ next-drawn laws view list at i b half halves each within read drawn =
 
 -- and the others behind it, where its first node counts
 pub rest-drawn : (laws : Lawful) (view : Window) (list : List Step) (nodes : List Node) (at i count : ℕ) (b half : Indices) (halves : List Indices) (r : Node) → halves ≡ halves_of 8 b → i < length halves → half ≡ get_or halves i half
-    → (drawn : AreDrawnAt view list at b (drop i halves)) → nodes ≡ nodes_of (raster view) (whole view list) → r ≡ get_or nodes at r → count ≡ count_of r → AreDrawnAt view list (at + count) b (drop (i + 1) halves)
+    → (drawn : AreDrawnAt view list at b (drop i halves)) → nodes ≡ nodes_of (raster view) (raster_root view list) → r ≡ get_or nodes at r → count ≡ count_of r → AreDrawnAt view list (at + count) b (drop (i + 1) halves)
 unfolding halves-next next-drawn half-drawn
 rest-drawn laws view list nodes at i count b half halves r each within read drawn all at_read counted =
     others-drawn view list at (at + count) b half (drop (i + 1) halves) (halves-next view list at i b half halves within read drawn)
@@ -339,14 +339,14 @@ rows-places view list row (suc n) =
     more = omega arith
 
 -- a band whose places are all painted has the bytes of its rows
-pub band-painted : (laws : Lawful) (view : Window) (list : List Step) (row rows : ℕ) (b : Indices) (xs ys : List ℕ) → b ≡ root_of view Raster → length xs ≡ rows * view.w → row + rows ≤ view.h → 0 < view.w
+pub band-painted : (laws : Lawful) (view : Window) (list : List Step) (row rows : ℕ) (b : Indices) (xs ys : List ℕ) → b ≡ root_box_of view Raster → length xs ≡ rows * view.w → row + rows ≤ view.h → 0 < view.w
     → Paints (covers view.w row b) (byte_at view list row) xs ys → ys ≡ rows_from view list row rows
 band-painted laws view list row rows b xs ys is count within some painted =
     fill_by_all (byte_at view list row) ys (rows * view.w) 0 (painted.same ∙ count)
-    (λ p h. painted.each p (omega (arith, h, count)) ∙ ap (λ t. cond t (byte_at view list row p) (get_or xs p 0)) (ap (λ a. covers view.w row a p) is ∙ laws.parts.has (root_of view Raster) (sample_at view.w row p) (inside p h)))
+    (λ p h. painted.each p (omega (arith, h, count)) ∙ ap (λ t. cond t (byte_at view list row p) (get_or xs p 0)) (ap (λ a. covers view.w row a p) is ∙ laws.parts.has (root_box_of view Raster) (sample_at view.w row p) (inside p h)))
     ∙ rows-places view list row rows
   where
-    inside : (p : ℕ) → p < rows * view.w → LiesIn (root_of view Raster) (sample_at view.w row p)
+    inside : (p : ℕ) → p < rows * view.w → LiesIn (root_box_of view Raster) (sample_at view.w row p)
     inside p h = record {
       x = (omega arith, mod-lt p some);
       y = (omega arith, omega (arith, within, row-below view.w rows p h));

@@ -8,7 +8,7 @@ use Rattle.view_places.specs.Boxes.{Indices}
 use Rattle.view_places.specs.Window.{Window}
 use Rattle.box_chains.specs.Chains.{visit}
 use Rattle.quad_descent.specs.Nodes.{halves_nodes, nodes_of}
-use Rattle.quad_descent.specs.Raster.{raster, whole}
+use Rattle.quad_descent.specs.Raster.{raster, raster_root}
 use Rattle.quad_descent.specs.declared.node.Node.{Node}
 use Rattle.quad_descent.specs.declared.node.Node.TheVariants.{Split}
 
@@ -30,7 +30,7 @@ pub record IsDrawnAt (view : Window) (list : List Step) (at : ℕ) (b : Indices)
   pub received : List Step
   pub visit_is : IsVisit (raster view) (visit b received)
   pub values : HasValues view b received list
-  pub stands : StandsAt (nodes_of (raster view) (whole view list))
+  pub stands : StandsAt (nodes_of (raster view) (raster_root view list))
       (nodes_of (raster view) (visit b received)) at
 
 -- the nodes of some halves of a box that hands on a list stand from a place on
@@ -39,7 +39,7 @@ pub record AreDrawnAt (view : Window) (list : List Step) (at : ℕ) (b : Indices
   pub live : List Step
   pub visit_is : IsVisit (raster view) (visit b live)
   pub values : HasValues view b live list
-  pub stands : StandsAt (nodes_of (raster view) (whole view list))
+  pub stands : StandsAt (nodes_of (raster view) (raster_root view list))
       (halves_nodes (raster view) live halves) at
 
 -- how many nodes a node stands for: itself and those below its box

@@ -17,12 +17,12 @@ abbrev pub raster : Window → Descent
 raster view = record { view = view; lattice = Raster; leaf = LEAF }
 
 -- the box of all samples, with the whole list
-abbrev pub whole : Window → List Step → Visit
-whole view list = root_visit (raster view) list
+abbrev pub raster_root : Window → List Step → Visit
+raster_root view list = root_visit (raster view) list
 
 -- the evaluations that a fresh image takes, and the steps that are traced for it
 abbrev pub fresh_points : Window → List Step → ℕ
-fresh_points view list = points_in (raster view) (whole view list)
+fresh_points view list = points_in (raster view) (raster_root view list)
 
 abbrev pub fresh_spans : Window → List Step → ℕ
-fresh_spans view list = spans_in (raster view) (whole view list)
+fresh_spans view list = spans_in (raster view) (raster_root view list)

@@ -25,14 +25,14 @@ impl Model for QuadTree {
     ghost use Rattle.std.specs.Prelude.{◌≡◌};
     ghost use Rattle.box_chains.specs.Visits.{IsVisit};
     ghost use Rattle.quad_descent.specs.Nodes.{nodes_of};
-    ghost use Rattle.quad_descent.specs.Raster.{Drawing, raster, whole};
+    ghost use Rattle.quad_descent.specs.Raster.{Drawing, raster, raster_root};
 
     ghost Value = { Drawing };
 
     ghost view = { λ t. record { view = t.view; list = t.list } };
 
-    ghost invariant = { λ t. (t.nodes.items ≡ nodes_of (raster t.view) (whole t.view t.list))
-        × IsVisit (raster t.view) (whole t.view t.list) };
+    ghost invariant = { λ t. (t.nodes.items ≡ nodes_of (raster t.view) (raster_root t.view t.list))
+        × IsVisit (raster t.view) (raster_root t.view t.list) };
 }
 
 /// Draws a list of steps over a view. Each step that is traced over a box is counted, at most four

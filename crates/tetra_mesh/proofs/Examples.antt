@@ -2,7 +2,7 @@
 use Rattle.std.proofs.Common.{◌≡◌, ℕ, ◌≤◌, pos, negsuc, refl, arith}
 use Rattle.tetra_mesh.specs.declared.vertex.Vertex.{Vertex}
 use Rattle.mesh_laws.specs.Places.{way_up}
-use Rattle.tetra_mesh.specs.Places.{IsPlaced, lattice_place, vertex_place}
+use Rattle.tetra_mesh.specs.Places.{IsPlaced, lattice_place_along, vertex_place}
 use Rattle.tetra_mesh.specs.Sound.{lattice_of, raw_of}
 use Rattle.view_places.specs.declared.lattice.Axis.TheVariants.{X, Y, Z}
 use Rattle.view_places.specs.Window.{Window}
@@ -28,10 +28,10 @@ abbrev from_side : ℕ → ℕ → Vertex
 from_side dir t = record { key = record { x = 1; y = 0; z = 1; dir = dir }; t = t }
 
 -- along an axis of the direction the part is added, and along no other
-lattice_along : lattice_place (from_side 6 8192) Z ≡ 73728
+lattice_along : lattice_place_along (from_side 6 8192) Z ≡ 73728
 lattice_along = refl
 
-lattice_beside : lattice_place (from_side 6 8192) X ≡ 65536
+lattice_beside : lattice_place_along (from_side 6 8192) X ≡ 65536
 lattice_beside = refl
 
 -- so are the raw places, which are rounded down
@@ -67,13 +67,13 @@ uneven = record {
 abbrev quarter : Vertex
 quarter = record { key = record { x = 2; y = 0; z = 1; dir = 5 }; t = 16384 }
 
-quarter_along_x : lattice_place quarter X ≡ 147456
+quarter_along_x : lattice_place_along quarter X ≡ 147456
 quarter_along_x = refl
 
-quarter_beside_y : lattice_place quarter Y ≡ 0
+quarter_beside_y : lattice_place_along quarter Y ≡ 0
 quarter_beside_y = refl
 
-quarter_along_z : lattice_place quarter Z ≡ 81920
+quarter_along_z : lattice_place_along quarter Z ≡ 81920
 quarter_along_z = refl
 
 raw_quarter_along_x : vertex_place uneven quarter X ≡ pos 225

@@ -7,7 +7,7 @@ use Rattle.std.proofs.lemmas.List.Elements.{All-contains, All-head, All-tail, Al
 use Rattle.kuhn_cells.specs.declared.cell_list.CellValues.{CellValues}
 use Rattle.kuhn_cells.specs.declared.edge_key.EdgeKey.{EdgeKey}
 use Rattle.kuhn_cells.specs.declared.grid_size.GridSize.{GridSize}
-use Rattle.kuhn_cells.specs.Cells.{HasCell, directions_of, edges_of, place_of, triangles_of_cell}
+use Rattle.kuhn_cells.specs.Cells.{HasCell, directions_of, edges_of, lowest_corner, triangles_of_cell}
 use Rattle.kuhn_cells.specs.Faces.{Face, face_among, number_among}
 use Rattle.kuhn_cells.specs.Grids.{lower}
 use Rattle.kuhn_cells.specs.Laws.{OfEdges}
@@ -50,7 +50,7 @@ looked_up cells n s c e are is below reached h =
     let within = h.listed.1 in
     let b = get_or cells j h.cell in
     let same : b ≡ h.cell = h.listed.2 in
-    let place : place_of b ≡ lower e = ap place_of same ∙ h.place in
+    let place : lowest_corner b ≡ lower e = ap lowest_corner same ∙ h.place in
     let z : b.z ≡ e.z = ap (λ (p : GridPoint). p.z) place in
     let above = h.above in
     let near = h.near in
@@ -60,7 +60,7 @@ looked_up cells n s c e are is below reached h =
     let slot = ap (λ (p : GridPoint). slot_of n p.x p.y p.z) place in
     let P : CellValues → Type 0 = λ x. Contains (directions_of x) e.dir in
     let direction = subst P (sym same) h.direction in
-    let key : edge_from (place_of b) e.dir ≡ e = ap (λ p. edge_from p e.dir) place in
+    let key : edge_from (lowest_corner b) e.dir ≡ e = ap (λ p. edge_from p e.dir) place in
     ap (λ i. number (get_or s.slots.items i no_entry)) (sym slot)
     ∙ ap number kept
     ∙ sym (number_by_cells cells j e.dir h.cell are.rise within direction)

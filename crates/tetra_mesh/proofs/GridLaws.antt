@@ -9,7 +9,7 @@ use Rattle.kuhn_cells.specs.declared.cell_list.CellList.{CellList}
 use Rattle.kuhn_cells.specs.declared.cell_list.CellValues.{CellValues}
 use Rattle.kuhn_cells.specs.declared.grid_size.GridSize.{GridSize}
 use Rattle.kuhn_cells.specs.Arrangement.{differ}
-use Rattle.kuhn_cells.specs.Cells.{IsBordered, IsCellOf, cell_at, directions_of, edges_of, has_inside, mixed_cells, place_of}
+use Rattle.kuhn_cells.specs.Cells.{IsBordered, IsCellOf, cell_at, directions_of, edges_of, has_inside, mixed_cells, lowest_corner}
 use Rattle.kuhn_cells.specs.Faces.{Face, all_triangles, face_among, faces}
 use Rattle.kuhn_cells.specs.Grids.{Grid, value_at, vertices}
 use Rattle.kuhn_cells.specs.Laws.{CellsAreFew, CellsAreOfTheGrid, CellsHaveTriangles, CellsHaveVertices, CellsRise, EdgesHaveCells}
@@ -78,13 +78,13 @@ starts : (p : GridPoint) → further p 0 ≡ p
 starts p = rw (add-zero p.x, add-zero p.y, add-zero p.z) refl
 
 -- the value at a corner of a cell
-corner_value : (g : Grid) (c : CellValues) (k : ℕ) → c ≡ cell_at g (place_of c) → k < 8 → get_or c.values k (pos 0) ≡ value_at g (further (place_of c) k)
+corner_value : (g : Grid) (c : CellValues) (k : ℕ) → c ≡ cell_at g (lowest_corner c) → k < 8 → get_or c.values k (pos 0) ≡ value_at g (further (lowest_corner c) k)
 corner_value g c k is few =
-    ap (λ (x : CellValues). get_or x.values k (pos 0)) is ∙ get_or-map-range_with_len (λ d. value_at g (further (place_of c) d)) 0 8 k k (pos 0) few (omega arith)
+    ap (λ (x : CellValues). get_or x.values k (pos 0)) is ∙ get_or-map-range_with_len (λ d. value_at g (further (lowest_corner c) d)) 0 8 k k (pos 0) few (omega arith)
 
 vertices_of_cell : (g : Grid) (c : CellValues) → IsCellOf g c → map (vertex_of g) (edges_of c) ≡ vertices_on c
 vertices_of_cell g c is =
-    let p = place_of c in
+    let p = lowest_corner c in
     let low = sym (ap (value_at g) (starts p)) ∙ sym (corner_value g c 0 is.«is» (omega arith)) in
     map_map (vertex_of g) (edge_from p) (vertex_on c) (directions_of c)
     (All-weaker (λ d. d < 8) (λ d. vertex_of g (edge_from p d) ≡ vertex_on c d) (λ d few.

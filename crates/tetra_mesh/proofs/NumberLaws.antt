@@ -10,7 +10,7 @@ use Rattle.std.proofs.lemmas.List.FromFn.{get_or-range_with_len, length-range_wi
 use Rattle.kuhn_cells.specs.declared.cell_list.CellValues.{CellValues}
 use Rattle.kuhn_cells.specs.declared.edge_key.EdgeKey.{EdgeKey}
 use Rattle.kuhn_cells.specs.Arrangement.{differ}
-use Rattle.kuhn_cells.specs.Cells.{directions_of, edges_of, has_inside, place_of}
+use Rattle.kuhn_cells.specs.Cells.{directions_of, edges_of, has_inside, lowest_corner}
 use Rattle.kuhn_cells.specs.Faces.{number_among, same_edge}
 use Rattle.kuhn_cells.specs.Laws.{IsCellBefore}
 use Rattle.kuhn_cells.specs.Triangles.{edge_from}
@@ -83,27 +83,27 @@ not_before b c x y z (inr rest) = by rest.1
     by (inr more) = last more
 
 -- a cell that lies before another has no edge from its lowest corner
-not_there : (b c : CellValues) (dir : ℕ) → IsCellBefore b c → All (λ e. same_edge (edge_from (place_of c) dir) e ≡ false) (edges_of b)
+not_there : (b c : CellValues) (dir : ℕ) → IsCellBefore b c → All (λ e. same_edge (edge_from (lowest_corner c) dir) e ≡ false) (edges_of b)
 not_there b c dir before =
-    All-map (λ e. same_edge (edge_from (place_of c) dir) e ≡ false) (edge_from (place_of b)) (directions_of b) (λ k d within. false_from_ne_true _ (apart (get_or (directions_of b) k d)))
+    All-map (λ e. same_edge (edge_from (lowest_corner c) dir) e ≡ false) (edge_from (lowest_corner b)) (directions_of b) (λ k d within. false_from_ne_true _ (apart (get_or (directions_of b) k d)))
   where
-    apart : (d : ℕ) → same_edge (edge_from (place_of c) dir) (edge_from (place_of b) d) ≡ true → ⊥
+    apart : (d : ℕ) → same_edge (edge_from (lowest_corner c) dir) (edge_from (lowest_corner b) d) ≡ true → ⊥
     apart d e =
         let x = and_parts _ _ e in
         let y = and_parts _ _ x.1 in
         let z = and_parts _ _ y.1 in
         not_before b c (eqb-true c.x b.x x.0) (eqb-true c.y b.y y.0) (eqb-true c.z b.z z.0) before
 
-none_before : (c : CellValues) (dir : ℕ) (cells : List CellValues) → All (λ b. IsCellBefore b c) cells → All (λ e. same_edge (edge_from (place_of c) dir) e ≡ false) (flat_map edges_of cells)
-none_before c dir [] h = All-nil (λ e. same_edge (edge_from (place_of c) dir) e ≡ false)
+none_before : (c : CellValues) (dir : ℕ) (cells : List CellValues) → All (λ b. IsCellBefore b c) cells → All (λ e. same_edge (edge_from (lowest_corner c) dir) e ≡ false) (flat_map edges_of cells)
+none_before c dir [] h = All-nil (λ e. same_edge (edge_from (lowest_corner c) dir) e ≡ false)
 none_before c dir (b ∷ cells) h =
-    All-append (λ e. same_edge (edge_from (place_of c) dir) e ≡ false) (edges_of b) (flat_map edges_of cells) (not_there b c dir (All-head (λ b. IsCellBefore b c) b cells h)) (none_before c dir cells (All-tail (λ b. IsCellBefore b c) b cells h))
+    All-append (λ e. same_edge (edge_from (lowest_corner c) dir) e ≡ false) (edges_of b) (flat_map edges_of cells) (not_there b c dir (All-head (λ b. IsCellBefore b c) b cells h)) (none_before c dir cells (All-tail (λ b. IsCellBefore b c) b cells h))
 
-none_below : (c : CellValues) (dir : ℕ) → All (λ e. same_edge (edge_from (place_of c) dir) e ≡ false) (map (edge_from (place_of c)) (directions_below c dir))
+none_below : (c : CellValues) (dir : ℕ) → All (λ e. same_edge (edge_from (lowest_corner c) dir) e ≡ false) (map (edge_from (lowest_corner c)) (directions_below c dir))
 none_below c dir =
-    All-map (λ e. same_edge (edge_from (place_of c) dir) e ≡ false) (edge_from (place_of c)) (directions_below c dir) (λ k d within. false_from_ne_true _ (apart (get_or (directions_below c dir) k d) (below_less c dir k d within)))
+    All-map (λ e. same_edge (edge_from (lowest_corner c) dir) e ≡ false) (edge_from (lowest_corner c)) (directions_below c dir) (λ k d within. false_from_ne_true _ (apart (get_or (directions_below c dir) k d) (below_less c dir k d within)))
   where
-    apart : (d : ℕ) → d < dir → same_edge (edge_from (place_of c) dir) (edge_from (place_of c) d) ≡ true → ⊥
+    apart : (d : ℕ) → d < dir → same_edge (edge_from (lowest_corner c) dir) (edge_from (lowest_corner c) d) ≡ true → ⊥
     apart d less e =
         let x = and_parts (c.x == c.x) (c.y == c.y && (c.z == c.z && dir == d)) e in
         let y = and_parts (c.y == c.y) (c.z == c.z && dir == d) x.1 in
@@ -124,10 +124,10 @@ earlier cells j d rise within =
 rejoined : {A : Type 0} (a b : List A) (e : A) (d c : List A) → a ++ ((b ++ e ∷ d) ++ c) ≡ (a ++ b) ++ e ∷ (d ++ c)
 rejoined a b e d c = ap (λ l. a ++ l) (append_assoc b (e ∷ d) c) ∙ sym (append_assoc a b (e ∷ (d ++ c)))
 
-pub number_by_cells : (cells : List CellValues) (j dir : ℕ) (d : CellValues) → AllPairs IsCellBefore cells → j < length cells → Contains (directions_of (get_or cells j d)) dir → number_among (flat_map edges_of cells) (edge_from (place_of (get_or cells j d)) dir) ≡ length (flat_map edges_of (take j cells)) + rank_of (mask_of (get_or cells j d)) dir
+pub number_by_cells : (cells : List CellValues) (j dir : ℕ) (d : CellValues) → AllPairs IsCellBefore cells → j < length cells → Contains (directions_of (get_or cells j d)) dir → number_among (flat_map edges_of cells) (edge_from (lowest_corner (get_or cells j d)) dir) ≡ length (flat_map edges_of (take j cells)) + rank_of (mask_of (get_or cells j d)) dir
 number_by_cells cells j dir d rise within h =
     let c = get_or cells j d in
-    let p = place_of c in
+    let p = lowest_corner c in
     let e = edge_from p dir in
     let is = is_direction c dir h in
     let parts = directions_parts c dir is.0 is.1 is.2 in

@@ -10,7 +10,7 @@ use Rattle.std.proofs.lemmas.Nat.{div-mul-add, mod-mul-add}
 use Rattle.kuhn_cells.specs.declared.cell_list.CellValues.{CellValues}
 use Rattle.kuhn_cells.specs.declared.grid_size.GridSize.{GridSize}
 use Rattle.kuhn_cells.specs.Arrangement.{differ}
-use Rattle.kuhn_cells.specs.Cells.{directions_of, edges_of, has_inside, place_of}
+use Rattle.kuhn_cells.specs.Cells.{directions_of, edges_of, has_inside, lowest_corner}
 use Rattle.kuhn_cells.specs.Laws.{IsCellBefore}
 use Rattle.kuhn_cells.specs.Triangles.{edge_from}
 use Rattle.tetra_mesh.specs.declared.entry.Entry.{Entry}
@@ -35,7 +35,7 @@ seven c = filter_length (λ d. differ (has_inside c 0) (has_inside c d)) (range_
 edges_few : (cells : List CellValues) → length (flat_map edges_of cells) ≤ 7 * length cells
 edges_few [] = omega arith
 edges_few (c ∷ cells) =
-    omega (arith, length-append (edges_of c) (flat_map edges_of cells), length-map (directions_of c) (edge_from (place_of c)), seven c, edges_few cells)
+    omega (arith, length-append (edges_of c) (flat_map edges_of cells), length-map (directions_of c) (edge_from (lowest_corner c)), seven c, edges_few cells)
 
 pub room_left : (cells : List CellValues) (n : GridSize) (s : Numbering) → AreCells n cells → IsNumbered cells n s → s.vertices < 2 ^ 31
 room_left cells n s are is =

@@ -5,7 +5,7 @@ use Rattle.std.specs.Int.RustNames.{count_ones}
 use Rattle.std.proofs.lemmas.List.{get_or-map, get_or_default, length-map}
 use Rattle.kuhn_cells.specs.declared.cell_list.CellValues.{CellValues}
 use Rattle.kuhn_cells.specs.declared.grid_size.GridSize.{GridSize}
-use Rattle.kuhn_cells.specs.Cells.{directions_of, edges_of, place_of}
+use Rattle.kuhn_cells.specs.Cells.{directions_of, edges_of, lowest_corner}
 use Rattle.kuhn_cells.specs.Triangles.{edge_from}
 use Rattle.tetra_mesh.specs.declared.entry.Entry.{Entry}
 use Rattle.tetra_mesh.specs.declared.numbering.Numbering.{Numbering}
@@ -65,6 +65,6 @@ numbers_cell c s old new same numbers =
     record {
       width = step.width;
       ahead = step.ahead;
-      vertices = step.vertices ∙ ap (λ n. old.vertices + n) (ap count_ones (mask_is c) ∙ ones c ∙ sym (length-map (directions_of c) (edge_from (place_of c))));
+      vertices = step.vertices ∙ ap (λ n. old.vertices + n) (ap count_ones (mask_is c) ∙ ones c ∙ sym (length-map (directions_of c) (edge_from (lowest_corner c))));
       slots = step.slots ∙ ap (λ m. set old.slots.items (slot_of old.n c.x c.y c.z) (make m)) (mask_is c);
     }

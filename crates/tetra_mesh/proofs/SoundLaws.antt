@@ -20,7 +20,7 @@ use Rattle.kuhn_cells.specs.Triangles.{GridPoint}
 use Rattle.mesh_laws.specs.Frames.{IsFramed, IsOuter}
 use Rattle.mesh_laws.specs.Laws.{EdgesArePaired, HaveOneCycle, PlacesAreDistinct, Separates}
 use Rattle.mesh_laws.specs.Manifold.{IsManifold}
-use Rattle.mesh_laws.specs.Places.{AreAllApart, AreApart, RawPlaces, between, lattice_place as edge_place, place_line, raw_along, raw_place, share}
+use Rattle.mesh_laws.specs.Places.{AreAllApart, AreApart, RawPlaces, place_between, lattice_place as edge_place, place_line, raw_along, raw_place, share}
 use Rattle.mesh_laws.specs.Separating.{IsSeparating}
 use Rattle.view_places.specs.Samples.{place_up}
 use Rattle.view_places.specs.Window.{FitsMesh, IsWindow, Window}
@@ -121,7 +121,7 @@ unfolding along
 along-at low high n i d few = get_or-map-range_with_len (place_up low high n) 0 (n + 1) i i d (omega (arith, few)) (omega arith)
 
 axis_same : (low high : ℤ) (n index steps t : ℕ) → steps ≤ 1 → index + steps ≤ n
-    → (if steps == 1 then between (place_up low high n index) (place_up low high n (index + steps)) t else place_up low high n index) ≡ raw_along (along low high n) index steps t
+    → (if steps == 1 then place_between (place_up low high n index) (place_up low high n (index + steps)) t else place_up low high n index) ≡ raw_along (along low high n) index steps t
 axis_same low high n index zero t few within = sym (along-at low high n index (pos 0) (omega (arith, within)))
 axis_same low high n index (suc zero) t few within =
     let first = along-at low high n index (pos 0) (omega (arith, within)) in

@@ -11,7 +11,7 @@ use Rattle.kuhn_cells.specs.declared.cell_list.CellValues.{CellValues}
 use Rattle.kuhn_cells.specs.declared.edge_key.EdgeKey.{EdgeKey}
 use Rattle.kuhn_cells.specs.declared.triple.Triple.{Triple}
 use Rattle.kuhn_cells.specs.Arrangement.{arrangement, inside_count, pattern_of}
-use Rattle.kuhn_cells.specs.Cells.{has_inside, place_of, triangles_of_cell}
+use Rattle.kuhn_cells.specs.Cells.{has_inside, lowest_corner, triangles_of_cell}
 use Rattle.kuhn_cells.specs.Corners.{along_x, along_y, along_z, corner}
 use Rattle.kuhn_cells.specs.Triangles.{edge_between, has_sign, point, triangles_among, triangles_by, triangles_in, triangles_of}
 use Rattle.tetra_mesh.specs.declared.sided_cell.SidedCell.{SidedCell}
@@ -30,10 +30,10 @@ unfolding signs_of
 sign c k few = digit (has_inside c) k few
 
 -- the triangles by the signs are those by the values
-pub by_signs : (c : CellValues) (tetra : ℕ) → tetra < 6 → triangles_of c.x c.y c.z tetra (signs_of c) ≡ triangles_in (place_of c) tetra (has_inside c)
+pub by_signs : (c : CellValues) (tetra : ℕ) → tetra < 6 → triangles_of c.x c.y c.z tetra (signs_of c) ≡ triangles_in (lowest_corner c) tetra (has_inside c)
 by_signs c tetra few =
     let at = λ (which : ℕ) (fw : which < 4). sign c (corner tetra which) (corners_few tetra which few fw) in
-    ap (triangles_by (place_of c) tetra) (four _ _ _ _ _ _ _ _ (at 0 (omega arith)) (at 1 (omega arith)) (at 2 (omega arith)) (at 3 (omega arith)))
+    ap (triangles_by (lowest_corner c) tetra) (four _ _ _ _ _ _ _ _ (at 0 (omega arith)) (at 1 (omega arith)) (at 2 (omega arith)) (at 3 (omega arith)))
   where
     four : (a b d e a' b' d' e' : Bool) → a ≡ a' → b ≡ b' → d ≡ d' → e ≡ e' → a ∷ b ∷ d ∷ e ∷ [] ≡ a' ∷ b' ∷ d' ∷ e' ∷ []
     four a b d e a' b' d' e' h i j k = cc
@@ -53,14 +53,14 @@ among_moved f edge far same count a b c d = by (count == 1) (count == 3) (count 
     by false false true = rw (same a c, same a d, same b d, same b c) refl
     by false false false = refl
 
-edge_moved : (c : CellValues) (i j : ℕ) → moved (sided_of c) (edge_between (point 0 0 0) i j) ≡ edge_between (place_of c) i j
+edge_moved : (c : CellValues) (i j : ℕ) → moved (sided_of c) (edge_between (point 0 0 0) i j) ≡ edge_between (lowest_corner c) i j
 edge_moved c i j = rw (zero-add (along_x (min i j)), zero-add (along_y (min i j)), zero-add (along_z (min i j))) refl
 
 tetra_moved : (c : CellValues) (tetra signs : ℕ) → map (moved_triple (sided_of c)) (triangles_of 0 0 0 tetra signs) ≡ triangles_of c.x c.y c.z tetra signs
 tetra_moved c tetra signs =
     let pattern = pattern_of (has_sign signs) tetra in
     let corners = arrangement tetra pattern in
-    among_moved (moved (sided_of c)) (edge_between (point 0 0 0)) (edge_between (place_of c)) (edge_moved c) (inside_count pattern) (get_or corners 0 0) (get_or corners 1 0) (get_or corners 2 0) (get_or corners 3 0)
+    among_moved (moved (sided_of c)) (edge_between (point 0 0 0)) (edge_between (lowest_corner c)) (edge_moved c) (inside_count pattern) (get_or corners 0 0) (get_or corners 1 0) (get_or corners 2 0) (get_or corners 3 0)
 
 map_flat : {X A B : Type 0} (f : A → B) (h : X → List A) (xs : List X) → map f (flat_map h xs) ≡ flat_map (λ x. map f (h x)) xs
 map_flat f h [] = refl
@@ -78,7 +78,7 @@ pub shape_moved : (c : CellValues) → sided_triangles (sided_of c) ≡ triangle
 unfolding shape_of triangles_of_cell
 shape_moved c =
     map_flat (moved_triple (sided_of c)) (λ tetra. triangles_of 0 0 0 tetra (signs_of c)) (range_with_len 0 6)
-    ∙ flat_same (λ tetra. map (moved_triple (sided_of c)) (triangles_of 0 0 0 tetra (signs_of c))) (λ tetra. triangles_in (place_of c) tetra (has_inside c)) 0 6 (λ tetra few. tetra_moved c tetra (signs_of c) ∙ by_signs c tetra (omega (arith, few)))
+    ∙ flat_same (λ tetra. map (moved_triple (sided_of c)) (triangles_of 0 0 0 tetra (signs_of c))) (λ tetra. triangles_in (lowest_corner c) tetra (has_inside c)) 0 6 (λ tetra few. tetra_moved c tetra (signs_of c) ∙ by_signs c tetra (omega (arith, few)))
 
 map_map : {X A B : Type 0} (f : A → B) (h : X → A) (xs : List X) → map (λ x. f (h x)) xs ≡ map f (map h xs)
 map_map f h [] = refl

@@ -8,7 +8,7 @@ use mathlib.Core.Bool.{beq}
 use Rattle.fixed_ops.specs.Raw.{is_inside}
 use Rattle.kuhn_cells.specs.declared.cell_list.CellValues.{CellValues}
 use Rattle.kuhn_cells.specs.Arrangement.{differ}
-use Rattle.kuhn_cells.specs.Cells.{directions_of, has_inside, place_of}
+use Rattle.kuhn_cells.specs.Cells.{directions_of, has_inside, lowest_corner}
 use Rattle.kuhn_cells.specs.Triangles.{edge_from}
 use Rattle.tetra_mesh.specs.declared.vertex.Vertex.{Vertex}
 use Rattle.mesh_laws.specs.Places.{way_up}
@@ -34,11 +34,11 @@ side_read c j k v w t eight same few h =
     let high = value_read c j k w eight same few in
     sym (ap (λ n. differ (is_inside n) (is_inside (get_or c.values j w))) low ∙ ap (λ n. differ (has_inside c 0) (is_inside n)) high) ∙ h
 
-pub vertex_read : (c : CellValues) (j k t : ℕ) (v w : ℤ) → length c.values ≡ 8 → j ≡ k → k < 8 → t ≡ way_up (get_or c.values 0 v) (get_or c.values j w) → record { key = edge_from (place_of c) k; t = t } ≡ vertex_on c k
+pub vertex_read : (c : CellValues) (j k t : ℕ) (v w : ℤ) → length c.values ≡ 8 → j ≡ k → k < 8 → t ≡ way_up (get_or c.values 0 v) (get_or c.values j w) → record { key = edge_from (lowest_corner c) k; t = t } ≡ vertex_on c k
 vertex_read c j k t v w eight same few h =
     let low = value_read c 0 0 v eight refl (omega arith) in
     let high = value_read c j k w eight same few in
-    let make : ℕ → Vertex = λ n. record { key = edge_from (place_of c) k; t = n } in
+    let make : ℕ → Vertex = λ n. record { key = edge_from (lowest_corner c) k; t = n } in
     ap make (h ∙ ap (λ n. way_up n (get_or c.values j w)) low ∙ ap (λ n. way_up (get_or c.values 0 (pos 0)) n) high)
 
 -- one more direction

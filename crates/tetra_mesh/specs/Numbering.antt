@@ -7,7 +7,7 @@ use Rattle.kuhn_cells.specs.declared.edge_key.EdgeKey.{EdgeKey}
 use Rattle.kuhn_cells.specs.declared.grid_size.GridSize.{GridSize}
 use Rattle.kuhn_cells.specs.declared.triple.Triple.{Triple}
 use Rattle.kuhn_cells.specs.Arrangement.{differ}
-use Rattle.kuhn_cells.specs.Cells.{HasCell, directions_of, edges_of, has_inside, place_of, triangles_of_cell}
+use Rattle.kuhn_cells.specs.Cells.{HasCell, directions_of, edges_of, has_inside, lowest_corner, triangles_of_cell}
 use Rattle.kuhn_cells.specs.Faces.{Face, face_among}
 use Rattle.kuhn_cells.specs.Laws.{IsCellBefore, OfEdges}
 use Rattle.kuhn_cells.specs.Sizes.{IsBounded}
@@ -46,7 +46,7 @@ directions_below c dir =
 -- the vertices on the edges from the lowest corner of a cell
 abbrev pub vertex_on : CellValues → ℕ → Vertex
 vertex_on c d = record {
-  key = edge_from (place_of c) d;
+  key = edge_from (lowest_corner c) d;
   t = way_up (get_or c.values 0 (pos 0)) (get_or c.values d (pos 0));
 }
 

@@ -4,11 +4,11 @@ use Rattle.kuhn_cells.specs.Corners.{along_x, along_y, along_z}
 use Rattle.kuhn_cells.specs.Grids.{lower, upper}
 use Rattle.kuhn_cells.specs.Laws.{IsDirection}
 use Rattle.kuhn_cells.specs.Triangles.{GridPoint}
-use Rattle.mesh_laws.specs.Places.{between}
+use Rattle.mesh_laws.specs.Places.{place_between}
 use Rattle.view_places.specs.declared.lattice.Axis.{Axis}
 use Rattle.view_places.specs.declared.lattice.Axis.TheVariants.{X, Y, Z}
 use Rattle.view_places.specs.declared.lattice.Lattice.TheVariants.{Grid}
-use Rattle.view_places.specs.Places.{place_of}
+use Rattle.view_places.specs.Places.{sample_place}
 use Rattle.view_places.specs.Window.{Window}
 use Rattle.tetra_mesh.specs.declared.vertex.Vertex.{Vertex}
 use Rattle.tetra_mesh.specs.Sizes.{size_of}
@@ -26,16 +26,16 @@ steps_along Y dir = along_y dir
 steps_along Z dir = along_z dir
 
 -- the lattice place of a vertex along an axis, in parts of 65536 of a cell
-abbrev pub lattice_place : Vertex → Axis → ℕ
-lattice_place v axis =
+abbrev pub lattice_place_along : Vertex → Axis → ℕ
+lattice_place_along v axis =
     65536 * index_along axis (lower v.key) + (if steps_along axis v.key.dir == 1 then v.t else 0)
 
 -- the raw place of a vertex along an axis
 abbrev pub vertex_place : Window → Vertex → Axis → ℤ
 vertex_place w v axis =
-    let at = place_of w Grid axis in
+    let at = sample_place w Grid axis in
     if steps_along axis v.key.dir == 1
-    then between (at (index_along axis (lower v.key))) (at (index_along axis (upper v.key))) v.t
+    then place_between (at (index_along axis (lower v.key))) (at (index_along axis (upper v.key))) v.t
     else at (index_along axis (lower v.key))
 
 -- a point of the grid of a view: along each axis the points are one more than the cells

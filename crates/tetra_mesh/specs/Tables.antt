@@ -4,12 +4,12 @@ use Rattle.fixed_ops.specs.Raw.{IsRaw}
 use Rattle.view_places.specs.declared.lattice.Axis.{Axis}
 use Rattle.view_places.specs.declared.lattice.Axis.TheVariants.{X, Y, Z}
 use Rattle.view_places.specs.declared.lattice.Lattice.TheVariants.{Grid}
-use Rattle.view_places.specs.Places.{place_of, steps_of}
+use Rattle.view_places.specs.Places.{sample_place, steps_of}
 use Rattle.view_places.specs.Window.{Window}
 
 -- a number is the raw place of a point of a grid along an axis
 pub record IsPointPlace (w : Window) (axis : Axis) (i : ℕ) (place : ℤ) : Type 0 where
-  pub is : place ≡ place_of w Grid axis i
+  pub is : place ≡ sample_place w Grid axis i
   pub raw : IsRaw place
 
 -- a list has the raw places of a grid's points along an axis, of which there are at most 513

@@ -2,7 +2,7 @@
 ghost use Rattle.std.specs.Prelude.{◌≡◌, ◌≤◌};
 ghost use Rattle.fixed_ops.specs.Raw.{IsRaw};
 ghost use Rattle.view_places.specs.declared.lattice.Lattice.TheVariants.{Grid};
-ghost use Rattle.view_places.specs.Places.{place_of, steps_of};
+ghost use Rattle.view_places.specs.Places.{sample_place, steps_of};
 ghost use Rattle.tetra_mesh.specs.Places.{IsPlaced, vertex_place};
 ghost use Rattle.tetra_mesh.specs.Tables.{IsTable};
 
@@ -69,7 +69,7 @@ impl GridPlaces {
     #[inline]
     fn point(&self, axis: Axis, index: u32) -> i64
         requires { index ≤ steps_of self.now Grid axis }
-        ensures place { result ≡ place_of self.now Grid axis index }
+        ensures place { result ≡ sample_place self.now Grid axis index }
         ensures raw { IsRaw result }
     {
         match axis {

@@ -3,7 +3,7 @@ ghost use Rattle.std.specs.Prelude.{◌≡◌, ◌==◌, ◌≤◌, ◌*ℤ◌, 
 ghost use Rattle.fixed_ops.specs.Raw.{IsRaw, floor_div};
 ghost use Rattle.kuhn_cells.specs.Grids.{lower, upper};
 ghost use Rattle.tetra_mesh.specs.Places.{IsPlaced, index_along as index_along_of, steps_along, vertex_place};
-ghost use Rattle.mesh_laws.specs.Places.{between as between_of};
+ghost use Rattle.mesh_laws.specs.Places.{place_between as between_of};
 
 use crate::Vertex;
 use kuhn_cells::EdgeKey;

@@ -5,8 +5,8 @@ use Rattle.fixed_ops.specs.Raw.{IsRaw, greatest, least}
 use Rattle.view_places.specs.declared.lattice.Axis.TheVariants as axes
 use Rattle.view_places.specs.declared.lattice.Lattice.TheVariants.{Raster, Height, Grid}
 use Rattle.view_places.specs.Boxes.{Indices, IsBox, middle, one_sample}
-use Rattle.view_places.specs.Places.{place_of, point_of, raster_point, steps_of}
-use Rattle.view_places.specs.Spans.{IsInRoot, IsPlaceAmong, region_of, root_of}
+use Rattle.view_places.specs.Places.{sample_place, point_of, raster_point, steps_of}
+use Rattle.view_places.specs.Spans.{IsInRoot, IsPlaceAmong, region_of, root_box_of}
 use Rattle.view_places.specs.Window.{AreEnds, FitsHeight, IsCount, IsWindow, Window, fits_mesh, has_room}
 
 -- from -1 to 1, with this count along each axis
@@ -26,17 +26,17 @@ counted n = record {
 }
 
 -- a third of 2^33 is not whole: columns are rounded down, and rows the other way
-column_rounds_down : place_of (counted 4) Raster axes.X 1 ≡ negsuc 1431655765
+column_rounds_down : sample_place (counted 4) Raster axes.X 1 ≡ negsuc 1431655765
 column_rounds_down = refl
 
-row_rounds_up : place_of (counted 4) Raster axes.Y 1 ≡ pos 1431655766
+row_rounds_up : sample_place (counted 4) Raster axes.Y 1 ≡ pos 1431655766
 row_rounds_up = refl
 
-layer_rounds_down : place_of (counted 4) Height axes.Z 2 ≡ pos 1431655765
+layer_rounds_down : sample_place (counted 4) Height axes.Z 2 ≡ pos 1431655765
 layer_rounds_down = refl
 
 -- the rows of a mesh rise
-mesh_rows_rise : place_of (counted 3) Grid axes.Y 1 ≡ negsuc 1431655765
+mesh_rows_rise : sample_place (counted 3) Grid axes.Y 1 ≡ negsuc 1431655765
 mesh_rows_rise = refl
 
 -- a lone column lies at the lower end, a lone row at the upper one
@@ -84,7 +84,7 @@ none_along_z : IsBox (sides_to 4 6 7) → ⊥
 none_along_z h = omega (arith, h.z)
 
 -- an image of one pixel is the box of the one index 0 on each axis
-lone_pixel : root_of (counted 1) Raster ≡ one_sample
+lone_pixel : root_box_of (counted 1) Raster ≡ one_sample
 lone_pixel = refl
 
 -- ---- a view whose axes differ: 3 columns, 4 rows, 5 layers and 6 cells
@@ -117,13 +117,13 @@ uneven_corner : point_of uneven Grid 1 2 4 ≡ record { x = pos 11; y = pos 30; 
 uneven_corner = refl
 
 -- the samples of an image, of a height map and of a mesh, along each axis
-uneven_pixels : root_of uneven Raster ≡ record { x0 = 0; x1 = 3; y0 = 0; y1 = 4; z0 = 0; z1 = 1 }
+uneven_pixels : root_box_of uneven Raster ≡ record { x0 = 0; x1 = 3; y0 = 0; y1 = 4; z0 = 0; z1 = 1 }
 uneven_pixels = refl
 
-uneven_layers : root_of uneven Height ≡ record { x0 = 0; x1 = 3; y0 = 0; y1 = 4; z0 = 0; z1 = 5 }
+uneven_layers : root_box_of uneven Height ≡ record { x0 = 0; x1 = 3; y0 = 0; y1 = 4; z0 = 0; z1 = 5 }
 uneven_layers = refl
 
-uneven_cells : root_of uneven Grid ≡ record { x0 = 0; x1 = 6; y0 = 0; y1 = 6; z0 = 0; z1 = 6 }
+uneven_cells : root_box_of uneven Grid ≡ record { x0 = 0; x1 = 6; y0 = 0; y1 = 6; z0 = 0; z1 = 6 }
 uneven_cells = refl
 
 -- the ranges of columns 1 and 2 and of rows 0 to 2, and those of the corners of some cells
@@ -194,7 +194,7 @@ steps_of_cells = refl
 place_before : IsPlaceAmong uneven Raster axes.X 1 2 (pos 10) → ⊥
 place_before h = by h.index h.above h.below h.is
   where
-    by : (i : ℕ) → 1 ≤ i → i ≤ 2 → place_of uneven Raster axes.X i ≡ pos 10 → ⊥
+    by : (i : ℕ) → 1 ≤ i → i ≤ 2 → sample_place uneven Raster axes.X i ≡ pos 10 → ⊥
     by zero some few e = omega (arith, some)
     by (suc zero) some few e = cc
     by (suc (suc zero)) some few e = cc

@@ -10,8 +10,8 @@ use Rattle.view_places.specs.declared.lattice.Axis.TheVariants as axes
 use Rattle.view_places.specs.declared.lattice.Lattice.{Lattice}
 use Rattle.view_places.specs.declared.lattice.Lattice.TheVariants.{Raster, Height, Grid}
 use Rattle.view_places.specs.Laws.{RangesAreSpans, RangesHold}
-use Rattle.view_places.specs.Places.{place_of, steps_of}
-use Rattle.view_places.specs.Samples.{place_up, place_down, way}
+use Rattle.view_places.specs.Places.{sample_place, steps_of}
+use Rattle.view_places.specs.Samples.{place_up, place_down, distance_of}
 use Rattle.view_places.specs.Spans.{IsRange, last_of, range_along}
 use Rattle.view_places.specs.Window.{Window, AreEnds, IsWindow}
 
@@ -20,7 +20,7 @@ either true x y le = omega (arith, ints)
 either false x y le = omega (arith, ints, le)
 
 -- the way grows
-way_grows : (whole : ℤ) (steps i j : ℕ) → pos 0 ≤ℤ whole → i ≤ j → way whole steps i ≤ℤ way whole steps j
+way_grows : (whole : ℤ) (steps i j : ℕ) → pos 0 ≤ℤ whole → i ≤ j → distance_of whole steps i ≤ℤ distance_of whole steps j
 way_grows (pos n) zero i j h le = omega (arith, ints)
 way_grows (pos n) (suc d) i j h le =
     let products : n * i ≤ n * j = mul-le-mul_left n le in
@@ -36,7 +36,7 @@ falls low high steps i j ends le = omega (arith, ints, way_grows (high -ℤ low)
 
 -- places that rise have their range from the first to the last
 rising : (v : Window) (lattice : Lattice) (axis : Axis) (low high : ℕ) → low ≤ last_of lattice high
-    → ((i j : ℕ) → i ≤ j → place_of v lattice axis i ≤ℤ place_of v lattice axis j)
+    → ((i j : ℕ) → i ≤ j → sample_place v lattice axis i ≤ℤ sample_place v lattice axis j)
     → IsRange v lattice axis low (last_of lattice high) (range_along v lattice axis low high)
 rising v lattice axis low high le rise =
     let last = last_of lattice high in
@@ -49,7 +49,7 @@ rising v lattice axis low high le rise =
 
 -- and those that fall from the last to the first
 falling : (v : Window) (lattice : Lattice) (axis : Axis) (low high : ℕ) → low ≤ last_of lattice high
-    → ((i j : ℕ) → i ≤ j → place_of v lattice axis j ≤ℤ place_of v lattice axis i)
+    → ((i j : ℕ) → i ≤ j → sample_place v lattice axis j ≤ℤ sample_place v lattice axis i)
     → IsRange v lattice axis low (last_of lattice high) (range_along v lattice axis low high)
 falling v lattice axis low high le fall =
     let last = last_of lattice high in
@@ -72,7 +72,7 @@ ranges v Grid axes.Y low high is le = rising v Grid axes.Y low high le (λ i j. 
 ranges v Grid axes.Z low high is le = rising v Grid axes.Z low high le (λ i j. rises v.z0 v.z1 v.n i j is.z_ends)
 
 -- the way is no longer than the whole
-way_short : (n steps i : ℕ) → i ≤ steps → way (pos n) steps i ≤ℤ pos n
+way_short : (n steps i : ℕ) → i ≤ steps → distance_of (pos n) steps i ≤ℤ pos n
 way_short n zero i le = omega (arith, ints)
 way_short n (suc d) i le =
     let products : n * i ≤ n * suc d = mul-le-mul_left n le in
@@ -84,7 +84,7 @@ way_short n (suc d) i le =
     by true h = omega (arith, ints)
     by false h = omega (arith, ints, h)
 
-way_ahead : (n steps i : ℕ) → pos 0 ≤ℤ way (pos n) steps i
+way_ahead : (n steps i : ℕ) → pos 0 ≤ℤ distance_of (pos n) steps i
 way_ahead n zero i = omega (arith, ints)
 way_ahead n (suc d) i = by (suc d == 0)
   where
@@ -93,10 +93,10 @@ way_ahead n (suc d) i = by (suc d == 0)
     by false = omega (arith, ints)
 
 -- places lie between the ends of the axis
-way_within : (low high : ℤ) (steps i : ℕ) → AreEnds low high → i ≤ steps → (pos 0 ≤ℤ way (high -ℤ low) steps i) × (way (high -ℤ low) steps i ≤ℤ (high -ℤ low))
+way_within : (low high : ℤ) (steps i : ℕ) → AreEnds low high → i ≤ steps → (pos 0 ≤ℤ distance_of (high -ℤ low) steps i) × (distance_of (high -ℤ low) steps i ≤ℤ (high -ℤ low))
 way_within low high steps i ends le = by (high -ℤ low) (omega (arith, ints, ends.ordered))
   where
-    by : (whole : ℤ) → pos 0 ≤ℤ whole → (pos 0 ≤ℤ way whole steps i) × (way whole steps i ≤ℤ whole)
+    by : (whole : ℤ) → pos 0 ≤ℤ whole → (pos 0 ≤ℤ distance_of whole steps i) × (distance_of whole steps i ≤ℤ whole)
     by (pos n) h = (way_ahead n steps i, way_short n steps i le)
     by (negsuc n) h = absurd (omega (arith, ints, h))
 
@@ -110,7 +110,7 @@ raw_down low high steps i ends le =
     let w = way_within low high steps i ends le in
     (omega (arith, ints, w.1, ends.low_raw), omega (arith, ints, w.0, ends.high_raw))
 
-raw_place_of : (v : Window) (lattice : Lattice) (axis : Axis) (i : ℕ) → IsWindow v → i ≤ steps_of v lattice axis → IsRaw (place_of v lattice axis i)
+raw_place_of : (v : Window) (lattice : Lattice) (axis : Axis) (i : ℕ) → IsWindow v → i ≤ steps_of v lattice axis → IsRaw (sample_place v lattice axis i)
 raw_place_of v Raster axes.X i is le = raw_up v.x0 v.x1 (v.w - 1) i is.x le
 raw_place_of v Raster axes.Y i is le = raw_down v.y0 v.y1 (v.h - 1) i is.y le
 raw_place_of v Raster axes.Z i is le = is.z

@@ -43,13 +43,13 @@ abbrev pub steps_of : Window → Lattice → Axis → ℕ
 steps_of v lattice axis = (samples_along v lattice axis).steps
 
 -- the raw place of a sample
-abbrev pub place_of : Window → Lattice → Axis → ℕ → ℤ
-place_of v lattice axis i = place_on (samples_along v lattice axis) i
+abbrev pub sample_place : Window → Lattice → Axis → ℕ → ℤ
+sample_place v lattice axis i = place_on (samples_along v lattice axis) i
 
 -- the point of a sample of a lattice
 abbrev pub point_of : Window → Lattice → ℕ → ℕ → ℕ → Point
 point_of v lattice i j k =
-    record { x = place_of v lattice X i; y = place_of v lattice Y j; z = place_of v lattice Z k }
+    record { x = sample_place v lattice X i; y = sample_place v lattice Y j; z = sample_place v lattice Z k }
 
 -- the point of the pixel in column i, from the left on, and row j, from the top on
 abbrev pub raster_point : Window → ℕ → ℕ → Point

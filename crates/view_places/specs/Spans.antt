@@ -8,20 +8,20 @@ use Rattle.view_places.specs.declared.lattice.Axis.TheVariants.{X, Y, Z}
 use Rattle.view_places.specs.declared.lattice.Lattice.{Lattice}
 use Rattle.view_places.specs.declared.lattice.Lattice.TheVariants.{Raster, Height, Grid}
 use Rattle.view_places.specs.Boxes.{Indices}
-use Rattle.view_places.specs.Places.{place_of}
+use Rattle.view_places.specs.Places.{sample_place}
 use Rattle.view_places.specs.Window.{Window}
 
 -- the box of all samples of a lattice; of a grid, the box of all its cells
-abbrev pub root_of : Window → Lattice → Indices
-root_of v Raster = record { x0 = 0; x1 = v.w; y0 = 0; y1 = v.h; z0 = 0; z1 = 1 }
-root_of v Height = record { x0 = 0; x1 = v.w; y0 = 0; y1 = v.h; z0 = 0; z1 = v.d }
-root_of v Grid = record { x0 = 0; x1 = v.n; y0 = 0; y1 = v.n; z0 = 0; z1 = v.n }
+abbrev pub root_box_of : Window → Lattice → Indices
+root_box_of v Raster = record { x0 = 0; x1 = v.w; y0 = 0; y1 = v.h; z0 = 0; z1 = 1 }
+root_box_of v Height = record { x0 = 0; x1 = v.w; y0 = 0; y1 = v.h; z0 = 0; z1 = v.d }
+root_box_of v Grid = record { x0 = 0; x1 = v.n; y0 = 0; y1 = v.n; z0 = 0; z1 = v.n }
 
 -- a box lies in the root box
 pub record IsInRoot (v : Window) (lattice : Lattice) (b : Indices) : Type 0 where
-  pub x : b.x1 ≤ (root_of v lattice).x1
-  pub y : b.y1 ≤ (root_of v lattice).y1
-  pub z : b.z1 ≤ (root_of v lattice).z1
+  pub x : b.x1 ≤ (root_box_of v lattice).x1
+  pub y : b.y1 ≤ (root_box_of v lattice).y1
+  pub z : b.z1 ≤ (root_box_of v lattice).z1
 
 -- the last sample of a box that ends so: its cells' upper corners are samples of a box of a grid
 abbrev pub last_of : Lattice → ℕ → ℕ
@@ -32,8 +32,8 @@ last_of Grid high = high
 -- The least and the greatest place along an axis. Places rise or fall along it, so they are at its ends.
 abbrev pub range_along : Window → Lattice → Axis → ℕ → ℕ → Interval
 range_along v lattice axis low high = record {
-  lo = int_min (place_of v lattice axis low) (place_of v lattice axis (last_of lattice high));
-  hi = int_max (place_of v lattice axis low) (place_of v lattice axis (last_of lattice high));
+  lo = int_min (sample_place v lattice axis low) (sample_place v lattice axis (last_of lattice high));
+  hi = int_max (sample_place v lattice axis low) (sample_place v lattice axis (last_of lattice high));
 }
 
 -- the ranges of a box
@@ -50,11 +50,11 @@ pub record IsPlaceAmong (v : Window) (lattice : Lattice) (axis : Axis)
   pub index : ℕ
   pub above : first ≤ index
   pub below : index ≤ last
-  pub is : place_of v lattice axis index ≡ place
+  pub is : sample_place v lattice axis index ≡ place
 
 -- the ends are the least and the greatest of these places
 pub record IsRange (v : Window) (lattice : Lattice) (axis : Axis)
     (first last : ℕ) (s : Interval) : Type 0 where
-  pub holds : (i : ℕ) → first ≤ i → i ≤ last → Holds s (place_of v lattice axis i)
+  pub holds : (i : ℕ) → first ≤ i → i ≤ last → Holds s (sample_place v lattice axis i)
   pub least : IsPlaceAmong v lattice axis first last s.lo
   pub greatest : IsPlaceAmong v lattice axis first last s.hi

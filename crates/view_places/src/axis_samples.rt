@@ -1,7 +1,7 @@
 // The samples along an axis of a lattice.
 ghost use Rattle.std.specs.Prelude.{◌≡◌, ◌<◌, ◌≤◌, ◌-ℤ◌, ◌≤ℤ◌, pos};
 ghost use Rattle.fixed_ops.specs.Raw.{IsRaw};
-ghost use Rattle.view_places.specs.Samples.{place_down, place_on, place_up, way as way_of};
+ghost use Rattle.view_places.specs.Samples.{place_down, place_on, place_up, distance_of as way_of};
 ghost use Rattle.view_places.specs.Window.{AreEnds};
 
 use crate::Course;

@@ -1,8 +1,8 @@
 // Where samples lie.
 ghost use Rattle.std.specs.Prelude.{◌≡◌, ◌<◌, ◌≤◌};
 ghost use Rattle.fixed_ops.specs.Raw.{IsRaw};
-ghost use Rattle.view_places.specs.Places.{place_of, samples_along as samples_along_of, steps_of};
-ghost use Rattle.view_places.specs.Spans.{root_of};
+ghost use Rattle.view_places.specs.Places.{sample_place, samples_along as samples_along_of, steps_of};
+ghost use Rattle.view_places.specs.Spans.{root_box_of};
 ghost use Rattle.view_places.specs.Window.{AreEnds};
 
 use crate::{Axis, AxisSamples, Course, IndexBox, Lattice, View};
@@ -44,7 +44,7 @@ pub fn samples_along(view: &View, lattice: Lattice, axis: Axis) -> AxisSamples
 
 /// The box of all samples of a lattice over a view; of a grid, the box of all its cells.
 pub fn root(view: &View, lattice: Lattice) -> IndexBox
-    ensures { result ≡ root_of view.now lattice }
+    ensures { result ≡ root_box_of view.now lattice }
 {
     let (x1, y1, z1) = match lattice {
         Lattice::Raster => (view.w, view.h, 1),
@@ -65,7 +65,7 @@ pub fn root(view: &View, lattice: Lattice) -> IndexBox
 #[inline]
 pub fn raw_place(view: &View, lattice: Lattice, axis: Axis, i: u32) -> i64
     requires { i ≤ steps_of view.now lattice axis }
-    ensures place { result ≡ place_of view.now lattice axis i }
+    ensures place { result ≡ sample_place view.now lattice axis i }
     ensures raw { IsRaw result }
 {
     samples_along(view, lattice, axis).place(i)
@@ -75,7 +75,7 @@ pub fn raw_place(view: &View, lattice: Lattice, axis: Axis, i: u32) -> i64
 #[inline]
 pub fn sample(view: &View, lattice: Lattice, axis: Axis, i: u32) -> Fx
     requires { i ≤ steps_of view.now lattice axis }
-    ensures { result ≡ place_of view.now lattice axis i }
+    ensures { result ≡ sample_place view.now lattice axis i }
 {
     samples_along(view, lattice, axis).sample(i)
 }

@@ -8,8 +8,8 @@ use Rattle.view_settings.specs.declared.name.Name.{Name}
 use Rattle.view_settings.specs.declared.name.Name.TheVariants as names
 use Rattle.view_settings.specs.declared.verb.Verb.{Verb}
 use Rattle.view_settings.specs.declared.verb.Verb.TheVariants as verbs
-use Rattle.view_settings.specs.Names.{name_called, written, number_of, is_same, names as all_names}
-use Rattle.view_settings.specs.Verbs.{verb_named, written as verb_written}
+use Rattle.view_settings.specs.Names.{name_called, name_text, number_of, is_same, names as all_names}
+use Rattle.view_settings.specs.Verbs.{verb_named, verb_text as verb_written}
 
 verb_named-written : (verb : Verb) → verb_named (verb_written verb) ≡ Some verb
 verb_named-written verbs.Render = refl
@@ -20,7 +20,7 @@ verb_named-written verbs.Text = refl
 verb_named-written verbs.Replay = refl
 verb_named-written verbs.Forge = refl
 
-name_called-written : (name : Name) → name_called (written name) ≡ Some name
+name_called-written : (name : Name) → name_called (name_text name) ≡ Some name
 name_called-written names.X0 = refl
 name_called-written names.X1 = refl
 name_called-written names.Y0 = refl
@@ -50,7 +50,7 @@ verb_found word None is none =
     rw (told_apart _ _ (none verbs.Render), told_apart _ _ (none verbs.Height), told_apart _ _ (none verbs.Mesh), told_apart _ _ (none verbs.Count), told_apart _ _ (none verbs.Text), told_apart _ _ (none verbs.Replay), told_apart _ _ (none verbs.Forge)) refl
 
 -- what the search for a name gives
-pub name_found : (text : List ℕ) (found : Option Name) → IfSome found (λ name. text ≡ written name) → IfNone found ((name : Name) → text ≢ written name) → found ≡ name_called text
+pub name_found : (text : List ℕ) (found : Option Name) → IfSome found (λ name. text ≡ name_text name) → IfNone found ((name : Name) → text ≢ name_text name) → found ≡ name_called text
 name_found text (Some name) is none = rw is (sym (name_called-written name))
 name_found text None is none =
     rw (told_apart _ _ (none names.X0), told_apart _ _ (none names.X1), told_apart _ _ (none names.Y0), told_apart _ _ (none names.Y1), told_apart _ _ (none names.Z0), told_apart _ _ (none names.Z1), told_apart _ _ (none names.Z)) (rw (told_apart _ _ (none names.W), told_apart _ _ (none names.H), told_apart _ _ (none names.D), told_apart _ _ (none names.N), told_apart _ _ (none names.Seed), told_apart _ _ (none names.Solids)) refl)

@@ -5,27 +5,27 @@ use Rattle.view_settings.specs.declared.name.Name.{Name}
 use Rattle.view_settings.specs.declared.name.Name.TheVariants.{X0, X1, Y0, Y1, Z0, Z1, Z, W, H, D, N, Seed, Solids}
 
 -- the bytes of a name
-abbrev pub written : Name → List ℕ
-written X0 = codes "x0"
-written X1 = codes "x1"
-written Y0 = codes "y0"
-written Y1 = codes "y1"
-written Z0 = codes "z0"
-written Z1 = codes "z1"
-written Z = codes "z"
-written W = codes "w"
-written H = codes "h"
-written D = codes "d"
-written N = codes "n"
-written Seed = codes "seed"
-written Solids = codes "solids"
+abbrev pub name_text : Name → List ℕ
+name_text X0 = codes "x0"
+name_text X1 = codes "x1"
+name_text Y0 = codes "y0"
+name_text Y1 = codes "y1"
+name_text Z0 = codes "z0"
+name_text Z1 = codes "z1"
+name_text Z = codes "z"
+name_text W = codes "w"
+name_text H = codes "h"
+name_text D = codes "d"
+name_text N = codes "n"
+name_text Seed = codes "seed"
+name_text Solids = codes "solids"
 
 abbrev pub names : List Name
 names = X0 ∷ X1 ∷ Y0 ∷ Y1 ∷ Z0 ∷ Z1 ∷ Z ∷ W ∷ H ∷ D ∷ N ∷ Seed ∷ Solids ∷ []
 
 -- the name that is written so
 abbrev pub name_called : List ℕ → Option Name
-name_called text = find (λ name. bytes_eq text (written name)) names
+name_called text = find (λ name. bytes_eq text (name_text name)) names
 
 -- where a name stands among the names
 abbrev pub number_of : Name → ℕ

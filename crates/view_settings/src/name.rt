@@ -1,7 +1,7 @@
 // The names of settings.
 ghost use Rattle.std.specs.Prelude.{◌≡◌, ◌≢◌, IfSome, IfNone};
 ghost use Rattle.view_settings.specs.declared.name.Name.{Name};
-ghost use Rattle.view_settings.specs.Names.{written};
+ghost use Rattle.view_settings.specs.Names.{name_text};
 
 /// What a setting sets.
 #[derive(Clone, Copy, Debug, Default, PartialEq, Eq)]
@@ -24,8 +24,8 @@ pub enum Name {
 
 // The name that is written so.
 pub(crate) fn read_name(text: &[u8]) -> Option<Name>
-    ensures found { IfSome result (λ name. text.now ≡ written name) }
-    ensures missing { IfNone result ((name : Name) → text.now ≢ written name) }
+    ensures found { IfSome result (λ name. text.now ≡ name_text name) }
+    ensures missing { IfNone result ((name : Name) → text.now ≢ name_text name) }
 {
     match text {
         b"x0" => Some(Name::X0),

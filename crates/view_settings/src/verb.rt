@@ -1,7 +1,7 @@
 // What a run is asked to do.
 ghost use Rattle.std.specs.Prelude.{◌≡◌, ◌≢◌, IfSome, IfNone};
 ghost use Rattle.view_settings.specs.declared.verb.Verb.{Verb};
-ghost use Rattle.view_settings.specs.Verbs.{written};
+ghost use Rattle.view_settings.specs.Verbs.{verb_text};
 
 /// What a run is asked to do.
 #[derive(Clone, Copy, Debug, PartialEq, Eq)]
@@ -24,8 +24,8 @@ pub enum Verb {
 
 // The verb that is written so.
 pub(crate) fn read_verb(word: &[u8]) -> Option<Verb>
-    ensures found { IfSome result (λ verb. word.now ≡ written verb) }
-    ensures missing { IfNone result ((verb : Verb) → word.now ≢ written verb) }
+    ensures found { IfSome result (λ verb. word.now ≡ verb_text verb) }
+    ensures missing { IfNone result ((verb : Verb) → word.now ≢ verb_text verb) }
 {
     match word {
         b"render" => Some(Verb::Render),

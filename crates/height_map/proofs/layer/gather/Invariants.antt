@@ -1,6 +1,6 @@
 use Rattle.std.proofs.Common.{◌≡◌, ◌<◌, ℕ, length}
 use Rattle.choice_trace.specs.Lanes.{in_lane}
-use Rattle.view_places.specs.Places.{place_of}
+use Rattle.view_places.specs.Places.{sample_place}
 use Rattle.view_places.specs.declared.lattice.Axis.TheVariants.{X, Y}
 use Rattle.view_places.specs.declared.lattice.Lattice.TheVariants.{Height}
 use Rattle.height_map.specs.Layers.{nth}
@@ -10,6 +10,6 @@ abbrev pub invariant-loop-lane : goal.invariant-loop-lane
 invariant-loop-lane g l = record {
   wide : length l.x ≡ 8;
   high : length l.y ≡ 8;
-  columns : (n : ℕ) → n < l.lane → in_lane n l.x ≡ place_of l.places.view Height X (nth l.columns n).i;
-  rows : (n : ℕ) → n < l.lane → in_lane n l.y ≡ place_of l.places.view Height Y (nth l.columns n).j;
+  columns : (n : ℕ) → n < l.lane → in_lane n l.x ≡ sample_place l.places.view Height X (nth l.columns n).i;
+  rows : (n : ℕ) → n < l.lane → in_lane n l.y ≡ sample_place l.places.view Height Y (nth l.columns n).j;
 }

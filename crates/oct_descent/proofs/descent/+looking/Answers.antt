@@ -12,7 +12,7 @@ use Rattle.kuhn_cells.specs.Sizes.{SameSize}
 use Rattle.oct_descent.proofs.Sizes.{size-is, size-then}
 use Rattle.oct_descent.specs.Bound.{CountsHullsAtLeast}
 use Rattle.oct_descent.specs.Desks.{ChargesBelow, ChargesHalves, IsToldAt, PaysHalves, halves_long_spans, long_spans_below, longer}
-use Rattle.oct_descent.specs.GridValues.{grid_value}
+use Rattle.oct_descent.specs.GridValues.{list_grid_value}
 use Rattle.oct_descent.specs.Sizes.{size_of}
 use Rattle.oct_descent.specs.Tables.{AreRight, AreSettled, AreWorked, Grows, PaysBox}
 use Rattle.oct_descent.specs.Ways.{gridded}
@@ -212,8 +212,8 @@ look_into_each_half-loop-half-init t c =
       told = ap (all_seen c.trace_longer.new.desk.lists) c.as_slice-outcomes.ensures.value ∙ c.in_ok-outcomes.ensures.outcomes ∙ ap (λ hs. asked_outcomes (samples c.args.desk.now) live (longer c.n.result hs)) same
           ∙ ap (λ n. asked_outcomes (samples c.args.desk.now) live (longer n halves)) (c.n.ensures ∙ size-is c.args.values.now.n (size_of view) c.requires.may.n);
       hand = subst (All (HandsOn (length live) c.trace_longer.new.desk.lists)) (sym c.as_slice-outcomes.ensures.value) c.in_ok-outcomes.ensures.hand;
-      settled = All-nil (λ h. AreSettled (gridded view) (grid_value view live) h c.args.values.now);
-      grows = grows-none (grid_value view live) c.args.b c.args.values.now;
+      settled = All-nil (λ h. AreSettled (gridded view) (list_grid_value view live) h c.args.values.now);
+      grows = grows-none (list_grid_value view live) c.args.b c.args.values.now;
       counted = first-charged c.layers_hold.ensures (gridded view) live halves c.n.result c.args.values.now c.args.tally.now c.trace_longer.new.tally hulls;
       worked = All-nil (λ h. AreWorked (gridded view) (visit h live) c.args.values.now);
       paid = begun-paid (gridded view) live halves _ c.args.values.now c.args.tally.now c.trace_longer.new.tally (c.layers_hold.ensures.bounds.hulls c.args.tally.now c.trace_longer.new.tally _ hulls);
@@ -243,9 +243,9 @@ look_into_each_half-look_into_told-requires t c =
           n = subst (λ w. SameSize c.loop-half.values.n (size_of w)) (sym more.view) (size-then c.loop-half.values.n c.args.values.now.n (size_of places.view) c.loop-half.invariant.grows.n c.requires.may.n);
           among = among-stays c.args.desk.now c.loop-half.desk c.args.live more c.requires.may.among;
           room = omega (arith, more.room, c.requires.may.room, ap length same);
-          right = subst (λ l. AreRight (grid_value c.loop-half.desk.view l) half c.loop-half.values) (sym same)
-              (subst (λ w. AreRight (grid_value w live) half c.loop-half.values) (sym more.view)
-              (right-grows (grid_value places.view live) half c.args.b c.args.values.now c.loop-half.values (λ p covers. part-covers c.args.b half p part covers) c.loop-half.invariant.grows c.requires.may.right));
+          right = subst (λ l. AreRight (list_grid_value c.loop-half.desk.view l) half c.loop-half.values) (sym same)
+              (subst (λ w. AreRight (list_grid_value w live) half c.loop-half.values) (sym more.view)
+              (right-grows (list_grid_value places.view live) half c.args.b c.args.values.now c.loop-half.values (λ p covers. part-covers c.args.b half p part covers) c.loop-half.invariant.grows c.requires.may.right));
         },
         subst (λ l. IsToldAt (samples c.loop-half.desk) l half here c.as_slice-outcomes.result.now c.loop-half.at) (sym same)
             (subst (λ w. IsToldAt w live half here c.as_slice-outcomes.result.now c.loop-half.at) (sym (more-samples c.args.desk.now c.loop-half.desk more)) step.told),
@@ -263,8 +263,8 @@ look_into_each_half-returns-in_err-look_into_told-clause-grows t c =
     let half = c.half-item.result in
     let part = half-part c.layers_hold.ensures c.args.b half c.as_slice-half-items.result.now c.loop-half.half-index c.requires.may.visit_is.box all c.loop-half-test.true c.half-item.is in
     let same = c.loop-half.invariant.more.view in
-    grows-then (grid_value view (list_of c.args.desk.now c.args.live)) c.args.b c.args.values.now c.loop-half.values c.look_into_told.new.values c.loop-half.invariant.grows
-    (half-grows view c.loop-half.desk.view (list_of c.args.desk.now c.args.live) c.args.b half c.loop-half.values c.look_into_told.new.values same part (subst (λ l. Grows (grid_value c.loop-half.desk.view l) c.half-item.result c.loop-half.values c.look_into_told.new.values) (list-stays c.args.desk.now c.loop-half.desk c.args.live c.loop-half.invariant.more c.requires.may.among) c.in_err-look_into_told.ensures.grows))
+    grows-then (list_grid_value view (list_of c.args.desk.now c.args.live)) c.args.b c.args.values.now c.loop-half.values c.look_into_told.new.values c.loop-half.invariant.grows
+    (half-grows view c.loop-half.desk.view (list_of c.args.desk.now c.args.live) c.args.b half c.loop-half.values c.look_into_told.new.values same part (subst (λ l. Grows (list_grid_value c.loop-half.desk.view l) c.half-item.result c.loop-half.values c.look_into_told.new.values) (list-stays c.args.desk.now c.loop-half.desk c.args.live c.loop-half.invariant.more c.requires.may.among) c.in_err-look_into_told.ensures.grows))
 
 pub look_into_each_half-returns-in_err-look_into_told-clause-counted : goal.look_into_each_half-returns-in_err-look_into_told-clause-counted
 look_into_each_half-returns-in_err-look_into_told-clause-counted t c =
@@ -301,17 +301,17 @@ look_into_each_half-loop-half-preserved t c =
     let here = c.loop-half.desk.lists in
     let hands = c.loop-half.invariant.hand in
     let step = step-told places live halves half c.loop-half.half-index here c.as_slice-outcomes.result.now c.loop-half.at _ c.loop-half-test.true c.half-item.is hands c.loop-half.invariant.told (ap (λ k. c.loop-half.at + k) (c.from-at.ensures ∙ byte-is c.is_long.result ∙ ap (λ (t : Bool). cond {A = ℕ} t 1 0) c.is_long.ensures)) in
-    let g = grid_value view live in
+    let g = list_grid_value view live in
     let before = c.loop-half.invariant in
     let after = c.in_ok-look_into_told.ensures in
     let same = before.more.view in
-    let grown = half-grows view c.loop-half.desk.view live c.args.b half c.loop-half.values c.look_into_told.new.values same part (subst (λ l. Grows (grid_value c.loop-half.desk.view l) c.half-item.result c.loop-half.values c.look_into_told.new.values) (list-stays c.args.desk.now c.loop-half.desk c.args.live c.loop-half.invariant.more c.requires.may.among) c.in_ok-look_into_told.ensures.grows) in
+    let grown = half-grows view c.loop-half.desk.view live c.args.b half c.loop-half.values c.look_into_told.new.values same part (subst (λ l. Grows (list_grid_value c.loop-half.desk.view l) c.half-item.result c.loop-half.values c.look_into_told.new.values) (list-stays c.args.desk.now c.loop-half.desk c.args.live c.loop-half.invariant.more c.requires.may.among) c.in_ok-look_into_told.ensures.grows) in
     record {
       more = subst (HasMore c.args.desk.now) (sym after.kept) before.more;
       hand = subst (λ (d : Tracing). All (HandsOn (length live) d.lists) c.as_slice-outcomes.result.now) (sym after.kept) before.hand;
       few = omega (arith, c.loop-half.invariant.few, c.from-at.ensures, byte-most c.is_long.result);
       told = ap (λ (d : Tracing). drop (c.loop-half.at + c.from-at.result) (all_seen d.lists c.as_slice-outcomes.result.now)) after.kept ∙ step.rest;
-      settled = next-settled view c.loop-half.desk.view live c.args.b half halves c.loop-half.half-index c.loop-half.values c.look_into_told.new.values same c.loop-half-test.true c.half-item.is grown (subst (λ l. AreSettled (gridded c.loop-half.desk.view) (grid_value c.loop-half.desk.view l) c.half-item.result c.look_into_told.new.values) (list-stays c.args.desk.now c.loop-half.desk c.args.live c.loop-half.invariant.more c.requires.may.among) c.in_ok-look_into_told.ensures.settled) before.settled;
+      settled = next-settled view c.loop-half.desk.view live c.args.b half halves c.loop-half.half-index c.loop-half.values c.look_into_told.new.values same c.loop-half-test.true c.half-item.is grown (subst (λ l. AreSettled (gridded c.loop-half.desk.view) (list_grid_value c.loop-half.desk.view l) c.half-item.result c.look_into_told.new.values) (list-stays c.args.desk.now c.loop-half.desk c.args.live c.loop-half.invariant.more c.requires.may.among) c.in_ok-look_into_told.ensures.settled) before.settled;
       grows = grows-then g c.args.b c.args.values.now c.loop-half.values c.look_into_told.new.values before.grows grown;
       counted = next-charged c.layers_hold.ensures view c.loop-half.desk.view live half halves c.loop-half.half-index _ c.args.values.now c.loop-half.values c.look_into_told.new.values c.args.tally.now c.loop-half.tally c.look_into_told.new.tally
           same c.loop-half-test.true c.half-item.is before.counted (subst (λ l. ChargesBelow (gridded c.loop-half.desk.view) (visit c.half-item.result l) c.loop-half.values c.look_into_told.new.values c.loop-half.tally c.look_into_told.new.tally) (list-stays c.args.desk.now c.loop-half.desk c.args.live c.loop-half.invariant.more c.requires.may.among) c.in_ok-look_into_told.ensures.counted);
@@ -325,7 +325,7 @@ look_into_each_half-loop-half-preserved t c =
 pub look_into_each_half-returns-clause-settled : goal.look_into_each_half-returns-clause-settled
 look_into_each_half-returns-clause-settled t c =
     let view = c.args.desk.now.view in
-    let g = grid_value view (list_of c.args.desk.now c.args.live) in
+    let g = list_grid_value view (list_of c.args.desk.now c.args.live) in
     let all = c.as_slice-half-items.ensures.value ∙ c.split-halves.ensures in
     let halves = c.as_slice-half-items.result.now in
     all-settled c.layers_hold.ensures (gridded view) g c.args.b c.loop-half.values

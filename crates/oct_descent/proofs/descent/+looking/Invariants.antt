@@ -6,7 +6,7 @@ use Rattle.box_chains.specs.Outcomes.{HandsOn, all_seen, asked_outcomes}
 use Rattle.kuhn_cells.specs.Triangles.{GridPoint}
 use Rattle.oct_descent.specs.Bound.{CountsHullsAtLeast}
 use Rattle.oct_descent.specs.Desks.{PaysHalves, longer}
-use Rattle.oct_descent.specs.GridValues.{grid_value}
+use Rattle.oct_descent.specs.GridValues.{list_grid_value}
 use Rattle.oct_descent.specs.Sizes.{size_of}
 use Rattle.oct_descent.specs.Tables.{AreSettled, AreWorked, Charges, Grows, IsEnough}
 use Rattle.oct_descent.specs.Ways.{gridded}
@@ -29,8 +29,8 @@ invariant-look_into_each_half-loop-half l = let list = list_of l.fn.desk l.live 
   few : l.at ≤ l.half-index;
   told : drop l.at (all_seen l.desk.lists l.outcomes) ≡ asked_outcomes (samples l.fn.desk) list (longer (size_of l.fn.desk.view) (drop l.half-index l.half-items));
   hand : All (HandsOn (length list) l.desk.lists) l.outcomes;
-  settled : All (λ h. AreSettled (gridded l.fn.desk.view) (grid_value l.fn.desk.view list) h l.values) (take l.half-index l.half-items);
-  grows : Grows (grid_value l.fn.desk.view list) l.fn.b l.fn.values l.values;
+  settled : All (λ h. AreSettled (gridded l.fn.desk.view) (list_grid_value l.fn.desk.view list) h l.values) (take l.half-index l.half-items);
+  grows : Grows (list_grid_value l.fn.desk.view list) l.fn.b l.fn.values l.values;
   counted : (f : GridPoint → ℕ) → All (λ h. IsEnough f (gridded l.fn.desk.view) (visit h list)) l.half-items
       → Charges f (owned list l.half-items + halves_below (gridded l.fn.desk.view) list (take l.half-index l.half-items)) l.fn.values l.values l.fn.tally l.tally;
   worked : All (λ h. AreWorked (gridded l.fn.desk.view) (visit h list) l.values) (take l.half-index l.half-items);

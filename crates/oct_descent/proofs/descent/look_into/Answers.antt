@@ -4,7 +4,7 @@ use Rattle.box_chains.specs.Chains.{visit}
 use Rattle.box_chains.specs.Desks.{list_of}
 use Rattle.oct_descent.specs.Bound.{CountsHullsAtLeast}
 use Rattle.oct_descent.specs.Desks.{ChargesBelow, long_spans_below}
-use Rattle.oct_descent.specs.GridValues.{grid_value}
+use Rattle.oct_descent.specs.GridValues.{list_grid_value}
 use Rattle.oct_descent.specs.Tables.{AreSettled, AreWorked, Grows, PaysBox}
 use Rattle.oct_descent.specs.Ways.{gridded}
 use Rattle.oct_descent.proofs.Looks.{below-charged, below-paid, below-traced, cell-traced, look-paid, on_ok, on_ok-then, trace-charged}
@@ -48,7 +48,7 @@ returns-clause-traced c =
 
 pub returns-clause-settled : goal.returns-clause-settled
 returns-clause-settled c =
-    subst (λ w. OnOk c.look_into_told.result (AreSettled (gridded w) (grid_value w (list_of c.args.desk.now c.args.received)) c.args.b c.look_into_told.new.values)) c.in_ok-told.ensures.more.view (subst (λ l. OnOk c.look_into_told.result (AreSettled (gridded c.trace_asked_box.new.self.view) (grid_value c.trace_asked_box.new.self.view l) c.args.b c.look_into_told.new.values)) (list-stays c.args.desk.now c.trace_asked_box.new.self c.args.received c.in_ok-told.ensures.more c.requires.among) c.look_into_told.ensures.settled)
+    subst (λ w. OnOk c.look_into_told.result (AreSettled (gridded w) (list_grid_value w (list_of c.args.desk.now c.args.received)) c.args.b c.look_into_told.new.values)) c.in_ok-told.ensures.more.view (subst (λ l. OnOk c.look_into_told.result (AreSettled (gridded c.trace_asked_box.new.self.view) (list_grid_value c.trace_asked_box.new.self.view l) c.args.b c.look_into_told.new.values)) (list-stays c.args.desk.now c.trace_asked_box.new.self c.args.received c.in_ok-told.ensures.more c.requires.among) c.look_into_told.ensures.settled)
 
 pub returns-clause-worked : goal.returns-clause-worked
 returns-clause-worked c =
@@ -56,4 +56,4 @@ returns-clause-worked c =
 
 pub returns-clause-grows : goal.returns-clause-grows
 returns-clause-grows c =
-    subst (λ w. Grows (grid_value w (list_of c.args.desk.now c.args.received)) c.args.b c.args.values.now c.look_into_told.new.values) c.in_ok-told.ensures.more.view (subst (λ l. Grows (grid_value c.trace_asked_box.new.self.view l) c.args.b c.args.values.now c.look_into_told.new.values) (list-stays c.args.desk.now c.trace_asked_box.new.self c.args.received c.in_ok-told.ensures.more c.requires.among) c.look_into_told.ensures.grows)
+    subst (λ w. Grows (list_grid_value w (list_of c.args.desk.now c.args.received)) c.args.b c.args.values.now c.look_into_told.new.values) c.in_ok-told.ensures.more.view (subst (λ l. Grows (list_grid_value c.trace_asked_box.new.self.view l) c.args.b c.args.values.now c.look_into_told.new.values) (list-stays c.args.desk.now c.trace_asked_box.new.self c.args.received c.in_ok-told.ensures.more c.requires.among) c.look_into_told.ensures.grows)

@@ -4,7 +4,7 @@ use Rattle.box_chains.specs.Desks.{Tracing, list_of}
 use Rattle.kuhn_cells.specs.Triangles.{further, point}
 use Rattle.oct_descent.specs.Corners.{IsShown}
 use Rattle.oct_descent.specs.Fills.{ChargesCorners, PaysCorners}
-use Rattle.oct_descent.specs.GridValues.{grid_value}
+use Rattle.oct_descent.specs.GridValues.{list_grid_value}
 use Rattle.oct_descent.specs.Tables.{is_known, known_at}
 use Rattle.oct_descent.specs.Ways.{gridded}
 use Rattle.oct_descent.proofs.Corners.{all-known, short-one}
@@ -15,7 +15,7 @@ use Rattle.oct_descent.proofs.descent.look_into_cell.Goals as goal
 pub returns-then-seen-clause-settled : goal.returns-then-seen-clause-settled
 returns-then-seen-clause-settled c =
     let b = c.args.b in
-    known-settled c.args.desk.now.view (grid_value c.args.desk.now.view (list_of c.args.desk.now c.args.received)) b c.args.values.now
+    known-settled c.args.desk.now.view (list_grid_value c.args.desk.now.view (list_of c.args.desk.now c.args.received)) b c.args.values.now
     (all-known b c.args.values.now (short-one b c.requires.may.visit_is.box c.requires.one)
     (λ k less. ap (λ i. is_known (known_at c.args.values.now (further (point i.x0 i.y0 i.z0) k))) (sym c.b.view_is) ∙ c.seen-seen.ensures.all c.if-seen.true k less))
 

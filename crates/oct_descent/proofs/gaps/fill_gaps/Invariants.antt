@@ -1,7 +1,7 @@
 use Rattle.std.proofs.Common.{◌≡◌, ◌-◌, ◌*◌, ◌≤◌, length, take}
 use Rattle.fixed_ops.specs.Counts.{RisesBy, points_of}
 use Rattle.oct_descent.specs.Gaps.{Fills}
-use Rattle.oct_descent.specs.GridValues.{grid_value}
+use Rattle.oct_descent.specs.GridValues.{list_grid_value}
 use Rattle.oct_descent.specs.Tables.{KeepsPlaces}
 use Rattle.oct_descent.proofs.gaps.fill_gaps.Given as goal
 
@@ -9,7 +9,7 @@ abbrev pub invariant-loop-at : goal.invariant-loop-at
 invariant-loop-at l = record {
   within : l.at ≤ length l.gaps;
   room : length l.rows ≡ length l.fn.rows;
-  fills : Fills (grid_value l.places.view l.list) (take l.at l.gaps) l.fn.values l.values;
+  fills : Fills (list_grid_value l.places.view l.list) (take l.at l.gaps) l.fn.values l.values;
   keeps : KeepsPlaces l.fn.values l.values;
   counted : RisesBy l.fn.tally l.tally (points_of (l.at * length l.list));
 }

@@ -3,7 +3,7 @@ use Rattle.std.proofs.lemmas.List.{get_or_read}
 use Rattle.kuhn_cells.specs.Grids.{bordered}
 use Rattle.live_clauses.specs.Steps.{tape_value}
 use Rattle.oct_descent.specs.Gaps.{StandsIn, lies_at, nth, spot}
-use Rattle.oct_descent.specs.GridValues.{grid_value}
+use Rattle.oct_descent.specs.GridValues.{list_grid_value}
 use Rattle.oct_descent.specs.Sizes.{size_of}
 use Rattle.oct_descent.proofs.Bricks.{keeps-then, within-from}
 use Rattle.oct_descent.proofs.GapLaws.{fills-one, nth-stands, stands-kept}
@@ -27,10 +27,10 @@ loop-lane-preserved g c =
     get_or_read c.evaluate_lanes-row.result lane c.index-row-lane.result (search rules) c.index-row-lane.is (pos 0)
     ∙ c.evaluate_lanes-row.ensures.values lane c.loop-lane-test.true
     ∙ ap (λ p. tape_value p list) (c.gather-inputs.ensures lane c.loop-lane-test.true) in
-    let closed : c.closed.result ≡ grid_value view list (spot gap) =
+    let closed : c.closed.result ≡ list_grid_value view list (spot gap) =
     c.closed.ensures ∙ ap (bordered c.n-n.result (spot gap)) (sym c.index-row-lane.is) ∙ ap (λ m. bordered m (spot gap) c.index-row-lane.result) n ∙ ap (bordered (size_of view) (spot gap)) value in
     record {
-      fills = fills-one (grid_value view list) lane c.closed.result gaps old mid c.set.new.self within closed was.fills
+      fills = fills-one (list_grid_value view list) lane c.closed.result gaps old mid c.set.new.self within closed was.fills
           (c.set.ensures.sets (spot gap) (within-from mid.n (spot gap) is.x is.y is.z) is.stands);
       keeps = keeps-then old mid c.set.new.self was.keeps c.set.ensures.keeps;
     }

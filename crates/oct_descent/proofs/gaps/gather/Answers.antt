@@ -1,6 +1,6 @@
 use Rattle.std.proofs.Common.{◌<◌, ap, arith, ◌∙◌}
 use Rattle.std.proofs.lemmas.List.{length-set}
-use Rattle.view_places.specs.Places.{place_of}
+use Rattle.view_places.specs.Places.{sample_place}
 use Rattle.view_places.specs.declared.lattice.Axis.TheVariants.{X, Y, Z}
 use Rattle.view_places.specs.declared.lattice.Lattice.TheVariants.{Grid}
 use Rattle.oct_descent.specs.Gaps.{nth}
@@ -18,7 +18,7 @@ loop-lane-preserved g c =
       wide = length-set c.loop-lane.x lane c.x.result ∙ was.wide;
       high = length-set c.loop-lane.y lane c.y.result ∙ was.high;
       deep = length-set c.loop-lane.z lane c.z.result ∙ was.deep;
-      xs = row-set c.loop-lane.x (λ n. place_of view Grid X (nth gaps n).x) lane c.x.result (omega (arith, few, was.wide)) was.xs (c.x.ensures ∙ ap (λ l. place_of view l X (nth gaps lane).x) c.requires.lattice);
-      ys = row-set c.loop-lane.y (λ n. place_of view Grid Y (nth gaps n).y) lane c.y.result (omega (arith, few, was.high)) was.ys (c.y.ensures ∙ ap (λ l. place_of view l Y (nth gaps lane).y) c.requires.lattice);
-      zs = row-set c.loop-lane.z (λ n. place_of view Grid Z (nth gaps n).z) lane c.z.result (omega (arith, few, was.deep)) was.zs (c.z.ensures ∙ ap (λ l. place_of view l Z (nth gaps lane).z) c.requires.lattice);
+      xs = row-set c.loop-lane.x (λ n. sample_place view Grid X (nth gaps n).x) lane c.x.result (omega (arith, few, was.wide)) was.xs (c.x.ensures ∙ ap (λ l. sample_place view l X (nth gaps lane).x) c.requires.lattice);
+      ys = row-set c.loop-lane.y (λ n. sample_place view Grid Y (nth gaps n).y) lane c.y.result (omega (arith, few, was.high)) was.ys (c.y.ensures ∙ ap (λ l. sample_place view l Y (nth gaps lane).y) c.requires.lattice);
+      zs = row-set c.loop-lane.z (λ n. sample_place view Grid Z (nth gaps n).z) lane c.z.result (omega (arith, few, was.deep)) was.zs (c.z.ensures ∙ ap (λ l. sample_place view l Z (nth gaps lane).z) c.requires.lattice);
     }

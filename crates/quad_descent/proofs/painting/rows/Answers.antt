@@ -1,11 +1,11 @@
 use Rattle.std.proofs.Common.{◌/◌, ◌<◌, [], arith, ap, sym, subst, ◌∙◌, refl, append-nil, length}
 use Rattle.std.proofs.lemmas.Nat.{div-add-mod'}
 use Rattle.box_chains.specs.Visits.{IsVisit}
-use Rattle.view_places.specs.Spans.{root_of}
+use Rattle.view_places.specs.Spans.{root_box_of}
 use Rattle.view_places.specs.declared.lattice.Lattice.TheVariants.{Raster}
 use Rattle.quad_descent.specs.Drawn.{IsDrawnAt}
 use Rattle.quad_descent.specs.Nodes.{nodes_of}
-use Rattle.quad_descent.specs.Raster.{raster, whole}
+use Rattle.quad_descent.specs.Raster.{raster, raster_root}
 use Rattle.quad_descent.proofs.Painted.{band-painted}
 use Rattle.quad_descent.proofs.painting.rows.Goals as goal
 
@@ -13,12 +13,12 @@ pub paint_box-requires-clause-drawn : goal.paint_box-requires-clause-drawn
 paint_box-requires-clause-drawn c =
     let view = c.args.tree.now.view in
     let list = c.args.tree.now.list in
-    subst (λ b. IsDrawnAt view list 0 b) (sym (c.root.ensures ∙ ap (λ s. root_of s.view Raster) c.tree.view_is))
+    subst (λ b. IsDrawnAt view list 0 b) (sym (c.root.ensures ∙ ap (λ s. root_box_of s.view Raster) c.tree.view_is))
     (record {
       received = list;
-      visit_is = subst (λ s. IsVisit (raster s.view) (whole s.view s.list)) c.tree.view_is c.tree.invariant.1;
+      visit_is = subst (λ s. IsVisit (raster s.view) (raster_root s.view s.list)) c.tree.view_is c.tree.invariant.1;
       values = λ s lies. refl;
-      stands = record { front = []; rest = []; place = refl; is = sym (append-nil (nodes_of (raster view) (whole view list))) };
+      stands = record { front = []; rest = []; place = refl; is = sym (append-nil (nodes_of (raster view) (raster_root view list))) };
     })
 
 pub returns : goal.returns
@@ -27,5 +27,5 @@ returns c =
     let w = ap (λ s. s.view.w) c.tree-inside.view_is ∙ ap (λ s. s.view.w) c.tree.view_is in
     let some : 0 < view.w = omega (arith, w, c.tree-inside.invariant.w.some) in
     let parts = div-add-mod' (length c.args.pixels.now) view.w in
-    band-painted c.layers_hold.ensures view c.args.tree.now.list c.args.row (length c.args.pixels.now / view.w) c.root.result c.args.pixels.now c.paint_box.new.pixels (c.root.ensures ∙ ap (λ s. root_of s.view Raster) c.tree.view_is)
+    band-painted c.layers_hold.ensures view c.args.tree.now.list c.args.row (length c.args.pixels.now / view.w) c.root.result c.args.pixels.now c.paint_box.new.pixels (c.root.ensures ∙ ap (λ s. root_box_of s.view Raster) c.tree.view_is)
     (omega (arith, parts, c.requires.whole)) c.requires.within some c.paint_box.ensures
