@@ -32,9 +32,6 @@ leaf-rise : (is view : Window) (list : List Step) (b : Indices) (tops : List ℕ
     → RisesBy before after (points_of (sum_in b (leaf_cost view list b tops)))
 leaf-rise is view list b tops before after same h = subst (λ v. RisesBy before after (points_of (sum_in b (leaf_cost v list b tops)))) same h
 
-pub draw_undecided-returns-in_err-make_rows-clause-at_most : goal.draw_undecided-returns-in_err-make_rows-clause-at_most
-draw_undecided-returns-in_err-make_rows-clause-at_most t c = c.layers_hold.ensures.bounds.none c.args.tally.now _ _
-
 pub draw_undecided-returns-in_ok-make_rows-clause-at_most : goal.draw_undecided-returns-in_ok-make_rows-clause-at_most
 draw_undecided-returns-in_ok-make_rows-clause-at_most t c =
     leaf-counted c.layers_hold.ensures c.args.desk.now.view (list_of c.args.desk.now c.args.live) c.args.b c.args.tops.now c.args.tally.now c.draw_leaf.new.tally (sym c.is_long.ensures ∙ c.if-is_long.false) (leaf-rise c.desk.inside.places.view c.args.desk.now.view (list_of c.args.desk.now c.args.live) c.args.b c.args.tops.now c.args.tally.now c.draw_leaf.new.tally (ap (λ d. d.view) c.desk.view_is) (subst (λ (l : List Step). RisesBy c.args.tally.now c.draw_leaf.new.tally (points_of (sum_in c.args.b (leaf_cost c.desk.inside.places.view l c.args.b c.args.tops.now)))) (c.list-list.ensures.list ∙ ap (λ (d : Tracing). list_of d c.args.live) c.desk.view_is) c.draw_leaf.ensures.counted))
