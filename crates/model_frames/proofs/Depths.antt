@@ -13,7 +13,8 @@ use Rattle.fixed_ops.specs.Raw.{is_inside}
 use Rattle.height_map.specs.Bound.{CountsPoints, CountsSpans, height_points, height_spans, near_spans}
 use Rattle.height_map.specs.Laws.{HeightPointsAreBounded}
 use Rattle.height_map.specs.TopMaps.{Heights}
-use Rattle.height_map.specs.Tops.{greatest, tops_of as drawn_tops}
+use Rattle.height_map.specs.Tops.{tops_of as drawn_tops}
+use Rattle.box_chains.specs.Sums.{maximum}
 use Rattle.live_clauses.specs.Live.{root_of}
 use Rattle.live_clauses.specs.Steps.{IsTape, tape_value}
 use Rattle.live_clauses.specs.declared.step.Step.{Step}
@@ -32,7 +33,7 @@ tops-same : (view : Window) (clauses : List Clause) (list : List Step) → ((p :
     → drawn_tops view list ≡ tops_of view clauses
 tops-same view clauses list same =
     let deep : view.d - 0 ≡ view.d = omega arith in
-    λ k. flat_map (λ j. map (λ i. greatest (map
+    λ k. flat_map (λ j. map (λ i. maximum (map
     (λ n. if is_inside (same (point_of view Height i j n) k) then n + 1 else 0)
     (range_with_len 0 (deep k)))) (range_with_len 0 view.w)) (range_with_len 0 view.h)
 
@@ -63,7 +64,7 @@ tops-count view clauses = rows 0 view.h
 
 -- no top lies above the samples
 top-below : (inside : ℕ → Bool) (from n : ℕ)
-    → greatest (map (λ k. if inside k then k + 1 else 0) (range_with_len from n)) ≤ from + n
+    → maximum (map (λ k. if inside k then k + 1 else 0) (range_with_len from n)) ≤ from + n
 top-below inside from zero = omega arith
 top-below inside from (suc n) = omega (arith, item (inside from), top-below inside (from + 1) n)
   where

@@ -9,7 +9,8 @@ use Rattle.box_chains.specs.Sums.{Sample, sum_in}
 use Rattle.kuhn_cells.specs.Grids.{over_block}
 use Rattle.kuhn_cells.specs.Triangles.{GridPoint, point}
 use Rattle.live_clauses.specs.declared.step.Step.{Step}
-use Rattle.oct_descent.specs.Bound.{greatest, has_point, least, lengths_at, long_lengths, long_spans_in, mesh_least, mesh_long_spans, mesh_points, mesh_spans, points_of_grid, sample_of, cell_spans_in, working_lengths}
+use Rattle.oct_descent.specs.Bound.{has_point, least, lengths_at, long_lengths, long_spans_in, mesh_least, mesh_long_spans, mesh_points, mesh_spans, points_of_grid, sample_of, cell_spans_in, working_lengths}
+use Rattle.box_chains.specs.Sums.{maximum}
 use Rattle.oct_descent.specs.Sizes.{size_of}
 use Rattle.oct_descent.specs.Ways.{gridded, is_working, way, way_end, grid_root}
 use Rattle.view_places.specs.Boxes.{Indices}
@@ -28,24 +29,24 @@ sum-less b f g less =
     (λ i. less (record { i = i; j = j; k = k }))))
 
 -- the least of some numbers is no more than the greatest
-least-greatest : (ns : List ℕ) → least ns ≤ greatest ns
+least-greatest : (ns : List ℕ) → least ns ≤ maximum ns
 least-greatest [] = omega arith
 least-greatest (n ∷ []) = omega arith
 least-greatest (n ∷ m ∷ ns) = omega arith
 
 -- the greatest of two lists
-greatest-append : (ms ns : List ℕ) → greatest (ms ++ ns) ≡ max (greatest ms) (greatest ns)
+greatest-append : (ms ns : List ℕ) → maximum (ms ++ ns) ≡ max (maximum ms) (maximum ns)
 greatest-append [] ns = omega arith
 greatest-append (m ∷ ms) ns = omega (arith, greatest-append ms ns)
 
 -- where each item has no more, neither has the whole
-greatest-flat : {X : Type 0} (f g : X → List ℕ) → ((x : X) → greatest (f x) ≤ greatest (g x)) → (xs : List X) → greatest (flat_map f xs) ≤ greatest (flat_map g xs)
+greatest-flat : {X : Type 0} (f g : X → List ℕ) → ((x : X) → maximum (f x) ≤ maximum (g x)) → (xs : List X) → maximum (flat_map f xs) ≤ maximum (flat_map g xs)
 greatest-flat f g less [] = omega arith
 greatest-flat f g less (x ∷ xs) =
     omega (arith, less x, greatest-flat f g less xs, greatest-append (f x) (flat_map f xs), greatest-append (g x) (flat_map g xs))
 
-greatest-block : (nx ny nz : ℕ) (f g : GridPoint → List ℕ) → ((p : GridPoint) → greatest (f p) ≤ greatest (g p))
-    → greatest (over_block nx ny nz f) ≤ greatest (over_block nx ny nz g)
+greatest-block : (nx ny nz : ℕ) (f g : GridPoint → List ℕ) → ((p : GridPoint) → maximum (f p) ≤ maximum (g p))
+    → maximum (over_block nx ny nz f) ≤ maximum (over_block nx ny nz g)
 greatest-block nx ny nz f g less =
     greatest-flat (λ z. flat_map (λ y. flat_map (λ x. f (point x y z)) (range_with_len 0 nx)) (range_with_len 0 ny))
     (λ z. flat_map (λ y. flat_map (λ x. g (point x y z)) (range_with_len 0 nx)) (range_with_len 0 ny))
@@ -55,7 +56,7 @@ greatest-block nx ny nz f g less =
 
 -- a working cell that has a point as a corner is a cell that has it
 cell-less : (has works : Bool) (n : ℕ)
-    → greatest (if has && works then n ∷ [] else []) ≤ greatest (if has then (if works then n else 0) ∷ [] else [])
+    → maximum (if has && works then n ∷ [] else []) ≤ maximum (if has then (if works then n else 0) ∷ [] else [])
 cell-less true true n = omega arith
 cell-less true false n = omega arith
 cell-less false works n = omega arith
@@ -63,10 +64,10 @@ cell-less false works n = omega arith
 pub least-most : (view : Window) (list : List Step) → mesh_least view list ≤ mesh_points view list
 unfolding mesh_least mesh_points
 least-most view list =
-    sum-less (points_of_grid (size_of view)) (λ s. least (working_lengths view list (point s.i s.j s.k))) (λ s. greatest (lengths_at view list (point s.i s.j s.k)))
+    sum-less (points_of_grid (size_of view)) (λ s. least (working_lengths view list (point s.i s.j s.k))) (λ s. maximum (lengths_at view list (point s.i s.j s.k)))
     (λ s. at (point s.i s.j s.k))
   where
-    at : (p : GridPoint) → least (working_lengths view list p) ≤ greatest (lengths_at view list p)
+    at : (p : GridPoint) → least (working_lengths view list p) ≤ maximum (lengths_at view list p)
     at p =
         let n = size_of view in
         let d = gridded view in

@@ -3,7 +3,7 @@
 use Rattle.std.specs.Prelude.{ℕ, ◌+◌, ◌*◌, List, map, if◌then◌else◌}
 use Rattle.std.specs.List.{flat_map, range_with_len}
 use Rattle.fixed_ops.specs.Raw.{is_inside}
-use Rattle.height_map.specs.Tops.{greatest}
+use Rattle.box_chains.specs.Sums.{maximum}
 use Rattle.raster_pgm.specs.Samples.{samples_of}
 use Rattle.solid_model.specs.Values.{solid_value}
 use Rattle.solid_model.specs.declared.clause.Clause.{Clause}
@@ -15,7 +15,7 @@ use Rattle.view_places.specs.declared.lattice.Lattice.TheVariants.{Height}
 -- j, counted from the top, or 0 where none is
 abbrev pub top_at : Window → List Clause → ℕ → ℕ → ℕ
 top_at view clauses i j =
-    greatest (map (λ k. if is_inside (solid_value (point_of view Height i j k) clauses) then k + 1 else 0)
+    maximum (map (λ k. if is_inside (solid_value (point_of view Height i j k) clauses) then k + 1 else 0)
     (range_with_len 0 view.d))
 
 -- the tops of row j
