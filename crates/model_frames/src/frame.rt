@@ -2,6 +2,7 @@
 
 use crate::drawn::Drawn;
 use crate::height::height;
+use crate::laws::frames_add_up;
 use crate::mesh::{mesh, solid_mesh};
 use crate::render::render;
 use clause_reader::write_model;
@@ -81,6 +82,7 @@ impl Frame {
         ensures plain { PointsRiseAtMost tally.old tally.new
             (frame_part self.now model.now).work.plain }
     {
+        frames_add_up();
         match self {
             Frame::Render(view) => render(alloc, model, view, tally),
             Frame::Height(view) => height(alloc, model, view, tally),
