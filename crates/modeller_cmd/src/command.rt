@@ -160,6 +160,9 @@ pub(crate) fn perform<S: Source, K: Sink, N: Sink>(
       status = result;
     }) }
 {
+    // That the frames of meshes are sound hangs on no step of a run.
+    mesh_texts_are_sound();
+    draws_may_be_drawn();
     match work(alloc, words, source, out, tally) {
         Ok(()) => Status::Done,
         Err(stop) => {
@@ -233,13 +236,11 @@ fn work<S: Source, K: Sink>(
     ensures gained { Grew K.held out.old out.new }
     ensures untold { CountsForSome (bytes_of words.now) tally.old tally.new }
     ensures sound { IfSome (S.rest source.old) (MeshesAreSound (bytes_of words.now)) }
-    ensures sound_frames { IfSome (S.rest source.old) (MeshFramesAreSound (bytes_of words.now)) }
     ensures script { status_after result ≡ Status.BadScript
         → asked (bytes_of words.now) ≡ Ok Job.Replay }
 {
     frames_add_up();
     mesh_texts_are_sound();
-    draws_may_be_drawn();
     let job = read_job(words)?;
     let input = read_input(alloc, &job, source)?;
     serve(alloc, &job, &input, out, tally)

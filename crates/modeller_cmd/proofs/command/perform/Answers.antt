@@ -11,6 +11,7 @@ use Rattle.modeller_cmd.specs.declared.status.Status.TheVariants.{ReadFault, Wri
 use Rattle.modeller_cmd.proofs.Inputs.{either-bool}
 use Rattle.modeller_cmd.proofs.Outcomes.{answer_of, made_bytes, made_done, no_memory_of, not_done, ok_done, read_fault_of, some_all, some_follows, status_of_refusal, write_fault_of}
 use Rattle.modeller_cmd.proofs.Serving.{noted, rose-fault, tells}
+use Rattle.modeller_cmd.proofs.Soundness.{frames_are_sound}
 use Rattle.modeller_cmd.proofs.command.perform.Goals as goal
 
 pub returns-in-Ok : goal.returns-in-Ok
@@ -22,7 +23,7 @@ returns-in-Ok g c =
       done = λ _. some_follows told _ _ (λ input. made_done (outcome words input) _) r.done;
       silent = λ _. refl;
       sound = r.sound;
-      sound_frames = r.sound_frames;
+      sound_frames = some_all (g.S.Source.rest c.args.source.now) _ (λ input. frames_are_sound words input c.mesh_texts_are_sound.ensures c.draws_may_be_drawn.ensures);
       answer = some_follows told _ _ (λ input. ok_done (outcome words input)) r.ends;
       usage = r.usage;
       read = r.read;
@@ -85,7 +86,7 @@ returns-in-Err g c =
       done = λ is. absurd (not_done stop is);
       silent = λ is. absurd (not_done stop is);
       sound = r.sound;
-      sound_frames = r.sound_frames;
+      sound_frames = some_all (g.S.Source.rest c.args.source.now) _ (λ input. frames_are_sound words input c.mesh_texts_are_sound.ensures c.draws_may_be_drawn.ensures);
       answer = some_follows told _ _ (λ input. answer_of {T = Unit {0}} (outcome words input) (Err stop)) r.ends;
       usage = r.usage;
       read = r.read;

@@ -14,7 +14,7 @@ use Rattle.modeller_cmd.proofs.Inputs.{read-ends, reads-some, told-by-words}
 use Rattle.modeller_cmd.proofs.Outcomes.{some-none, some_all, some_follows}
 use Rattle.modeller_cmd.proofs.Plays.{parts-none, stops-with}
 use Rattle.modeller_cmd.proofs.Serving.{as-told, done-or-stopped, err-follows, ok-follows, served, served-counted, served-front, served-told, served-whole}
-use Rattle.modeller_cmd.proofs.Soundness.{frames_are_sound, run_is_sound}
+use Rattle.modeller_cmd.proofs.Soundness.{run_is_sound}
 use Rattle.view_settings.specs.declared.job.Job.TheVariants.{Replay}
 use Rattle.modeller_cmd.proofs.Stops.{asks-none, served-stops, unplayed, unread}
 use Rattle.modeller_cmd.proofs.command.work.Goals as goal
@@ -143,18 +143,6 @@ returns-in_err-input-clause-ends g c =
 pub returns-in_err-input-clause-plain : goal.returns-in_err-input-clause-plain
 returns-in_err-input-clause-plain g c =
     some_all (input_told g.S.Source.rest c.args.source.now (asks_nothing (bytes_of c.args.words.now))) _ (λ input. c.frames_add_up.ensures.plain_none c.args.tally.now (work_of_parts (output_of (bytes_of c.args.words.now) input).parts).plain)
-
-pub returns-in_err-job-clause-sound_frames : goal.returns-in_err-job-clause-sound_frames
-returns-in_err-job-clause-sound_frames g c =
-    some_all (g.S.Source.rest c.args.source.now) _ (λ input. frames_are_sound (bytes_of c.args.words.now) input c.mesh_texts_are_sound.ensures c.draws_may_be_drawn.ensures)
-
-pub returns-in_err-input-clause-sound_frames : goal.returns-in_err-input-clause-sound_frames
-returns-in_err-input-clause-sound_frames g c =
-    some_all (g.S.Source.rest c.args.source.now) _ (λ input. frames_are_sound (bytes_of c.args.words.now) input c.mesh_texts_are_sound.ensures c.draws_may_be_drawn.ensures)
-
-pub returns-clause-sound_frames : goal.returns-clause-sound_frames
-returns-clause-sound_frames g c =
-    some_all (g.S.Source.rest c.args.source.now) _ (λ input. frames_are_sound (bytes_of c.args.words.now) input c.mesh_texts_are_sound.ensures c.draws_may_be_drawn.ensures)
 
 pub returns-in_err-job-clause-stops : goal.returns-in_err-job-clause-stops
 returns-in_err-job-clause-stops g c =
