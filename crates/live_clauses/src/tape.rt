@@ -142,6 +142,14 @@ impl<'a> Steps<'a> {
         packed.len() as u32
     }
 
+    /// Whether these are the same steps as others.
+    #[inline]
+    pub fn same(&self, other: &Steps<'_>) -> bool
+        ensures { IsTrue result ↔ (self.now ≡ other.now) }
+    {
+        self.packed == other.packed
+    }
+
     /// The step at a place, whose operands stand before it.
     #[inline]
     pub fn step(&self, at: u32) -> Step
@@ -158,5 +166,5 @@ impl<'a> Steps<'a> {
 pub fn same(a: &Tape, b: &Tape) -> bool
     ensures { IsTrue result ↔ (a.now ≡ b.now) }
 {
-    a.packed() == b.packed()
+    a.steps().same(&b.steps())
 }

@@ -7,7 +7,7 @@ use Rattle.live_clauses.specs.declared.step.Step.{Step}
 use Rattle.view_places.specs.Window.{Window}
 use Rattle.view_places.specs.Boxes.{Indices}
 use Rattle.quad_descent.specs.Drawn.{count_of}
-use Rattle.quad_descent.specs.Nodes.{bits_of, nodes_of, nodes_within}
+use Rattle.quad_descent.specs.Nodes.{bits_of, kept_within, nodes_of}
 use Rattle.quad_descent.specs.Painting.{covers, meets}
 use Rattle.quad_descent.specs.Pixels.{pixels_of, rows_from}
 use Rattle.quad_descent.specs.Raster.{fresh_points, fresh_spans, raster, raster_root}
@@ -100,12 +100,12 @@ digits = refl
 -- of nine columns the first four are inside: the lower half is a leaf of five samples, and the upper one is decided
 odd_nodes :
     nodes_of (raster (window 9 1)) (raster_root (window 9 1) across) ≡ Split 2 ∷ Leaf (30 ∷ 0 ∷ 0 ∷ 0 ∷ 0 ∷ 0 ∷ 0 ∷ 0 ∷ []) ∷ Outside ∷ []
-unfolding nodes_within
+unfolding kept_within
 odd_nodes = refl
 
 -- of three rows of two samples the lowest one alone is inside
 row_nodes : nodes_of (raster (window 2 3)) (raster_root (window 2 3) up) ≡ Leaf (0 ∷ 0 ∷ 3 ∷ 0 ∷ 0 ∷ 0 ∷ 0 ∷ 0 ∷ []) ∷ []
-unfolding nodes_within
+unfolding kept_within
 row_nodes = refl
 
 -- a node of a box that is split, and one of another

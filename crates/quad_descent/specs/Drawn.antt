@@ -12,10 +12,10 @@ use Rattle.quad_descent.specs.Raster.{raster, raster_root}
 use Rattle.quad_descent.specs.declared.node.Node.{Node}
 use Rattle.quad_descent.specs.declared.node.Node.TheVariants.{Split}
 
--- some nodes stand among all of them, from a place on
-pub record StandsAt (all part : List Node) (at : ℕ) : Type 0 where
-  pub front : List Node
-  pub rest : List Node
+-- a part of a list stands in it from a place on
+pub record StandsAt {K : Type 0} (all part : List K) (at : ℕ) : Type 0 where
+  pub front : List K
+  pub rest : List K
   pub place : at ≡ length front
   pub is : all ≡ front ++ (part ++ rest)
 

@@ -1,6 +1,9 @@
+pub mod Adding
 pub mod Drawn
+pub mod KeptLists
 pub mod Laws
 pub mod Nodes
+pub mod OldBoxes
 pub mod Opened
 pub mod Painting
 pub mod Pixels

@@ -42,17 +42,20 @@ box_nodes d v below (Some true) = Inside ∷ []
 box_nodes d v below (Some false) = Outside ∷ []
 box_nodes d v below None = if is_long d.leaf v.box then split_node below else leaf_node d v
 
--- The nodes of a box and of the boxes below it: whether it is decided inside or outside, the rows
--- of an undecided leaf, or the nodes of its halves, one half after the other.
-unfoldable pub nodes_within : ℕ → Descent → Visit → List Node
-nodes_within zero d v = []
-nodes_within (suc n) d v =
-    box_nodes d v
-    (flat_map (λ half. nodes_within n d (half_visit d v half)) (halves_of d.leaf v.box))
+-- What is kept of a box and of the boxes below it, one after another: what a decision makes of the box,
+-- where this is kept of its halves, one half after the other.
+unfoldable pub kept_within : {K : Type 0} → (Descent → Visit → List K → Option Bool → List K)
+    → ℕ → Descent → Visit → List K
+kept_within of_box zero d v = []
+kept_within of_box (suc n) d v =
+    of_box d v
+    (flat_map (λ half. kept_within of_box n d (half_visit d v half)) (halves_of d.leaf v.box))
     (decision d v)
 
+-- The nodes of a box and of the boxes below it: whether it is decided inside or outside, the rows
+-- of an undecided leaf, or the nodes of its halves, one half after the other.
 abbrev pub nodes_of : Descent → Visit → List Node
-nodes_of d v = nodes_within (sides v.box) d v
+nodes_of d v = kept_within box_nodes (sides v.box) d v
 
 -- the nodes of the halves of a box that hands on a list
 abbrev pub halves_nodes : Descent → List Step → List Indices → List Node

@@ -1,49 +1,61 @@
 // Boxes that are drawn.
-ghost use Rattle.std.specs.Prelude.{◌≡◌, ◌+◌, ◌-◌, ◌*◌, ◌≤◌, ◌++◌, [], ◌∷◌, length, vec_len, OnOk, OnErr, IsTrue, if◌then◌else◌};
+ghost use Rattle.std.specs.Prelude.{◌≡◌, ◌≢◌, ◌+◌, ◌-◌, ◌*◌, ◌≤◌, ◌++◌, [], ◌∷◌, length, vec_len, IfOk, IfNone, IfSome, OnOk, OnErr, IsTrue, None, Some, if◌then◌else◌};
 ghost use Rattle.box_chains.specs.Chains.{is_long as is_long_for, visit};
 ghost use Rattle.box_chains.specs.Desks.{HasMore, MayOpen, MayTrace, list_of};
 ghost use Rattle.box_chains.specs.Outcomes.{seen};
-ghost use Rattle.box_chains.specs.Counts.{halves_points, halves_spans, open_points, open_spans, points_in, spans_in};
+ghost use Rattle.box_chains.specs.Redrawn.{IsNew, points_after, spans_after};
 ghost use Rattle.view_places.specs.Boxes.{halves_of};
 ghost use Rattle.view_places.specs.declared.lattice.Lattice.TheVariants.{Raster};
 ghost use Rattle.live_clauses.specs.Live.{IsWhole};
 ghost use Rattle.quad_descent.specs.Nodes.{halves_nodes, nodes_of, open_nodes, split_node};
-ghost use Rattle.box_chains.specs.Opened.{outcome_points, outcome_spans};
 ghost use Rattle.quad_descent.specs.Opened.{outcome_nodes};
 ghost use Rattle.box_chains.specs.Tallied.{CountsAtMost, CountsExactly};
+ghost use Rattle.quad_descent.specs.Adding.{Adds};
+ghost use Rattle.quad_descent.specs.KeptLists.{halves_lists, lists_of, open_lists, outcome_lists};
+ghost use Rattle.quad_descent.specs.OldBoxes.{IsOldBox, IsPlaced, halves_points_after, halves_spans_after, handed_by, list_handed, IsFirstHalf, IsNextHalf, open_points_after, open_spans_after, outcome_points_after, outcome_spans_after, received_by, visit_before};
 ghost use Rattle.quad_descent.specs.Raster.{raster};
 
+use crate::boxes::Boxes;
 use crate::leaf::leaf_rows;
 use crate::node::Node;
+use crate::old_box::OldBox;
 use box_chains::{Desk, LEAF, Outcome, is_long, layers_hold, make_rows};
 use fixed_ops::Tally;
+use live_clauses::Steps;
 use std::alloc::AllocError;
 use view_places::{IndexBox, split};
 
-/// Draws a box, which receives a list: adds its nodes and those of the boxes below it.
+/// Draws a box, which receives a list, after a frame that may have had it with another one: adds what is
+/// kept of it and of the boxes below it.
 pub fn draw_box(
     desk: &mut Desk,
     b: IndexBox,
+    before: Option<OldBox<'_>>,
     received: usize,
-    nodes: &mut Vec<Node>,
+    boxes: &mut Boxes,
     tally: &mut Tally,
 ) -> Result<(), AllocError>
-    requires { MayTrace Raster desk.old b received }
-    ensures nodes { OnOk result (nodes.new.items ≡ nodes.old.items ++ nodes_of
-        (raster desk.old.view) (visit b (list_of desk.old received))) }
-    ensures counted { OnOk result
-        (CountsExactly (points_in (raster desk.old.view) (visit b (list_of desk.old received)))
-        (spans_in (raster desk.old.view) (visit b (list_of desk.old received)))
-        tally.old tally.new) }
-    ensures at_most { OnErr result
-        (CountsAtMost (points_in (raster desk.old.view) (visit b (list_of desk.old received)))
-        (spans_in (raster desk.old.view) (visit b (list_of desk.old received)))
-        tally.old tally.new) }
+    requires may { MayTrace Raster desk.old b received }
+    requires old { IfSome before (IsOldBox desk.old.view b) }
+    requires new { IsNew (visit_before before b) (visit b (list_of desk.old received)) }
+    ensures adds { OnOk result (Adds boxes.old boxes.new
+        (nodes_of (raster desk.old.view) (visit b (list_of desk.old received)))
+        (lists_of (raster desk.old.view) (visit b (list_of desk.old received)))) }
+    ensures counted { OnOk result (CountsExactly
+        (points_after (raster desk.old.view) (visit_before before.entry b)
+        (visit b (list_of desk.old received)))
+        (spans_after (raster desk.old.view) (visit_before before.entry b)
+        (visit b (list_of desk.old received))) tally.old tally.new) }
+    ensures at_most { OnErr result (CountsAtMost
+        (points_after (raster desk.old.view) (visit_before before.entry b)
+        (visit b (list_of desk.old received)))
+        (spans_after (raster desk.old.view) (visit_before before.entry b)
+        (visit b (list_of desk.old received))) tally.old tally.new) }
     ensures more { HasMore desk.old desk.new }
 {
     layers_hold();
     let outcome = desk.trace_box(received, b, tally)?;
-    draw_outcome(desk, b, &outcome, nodes, tally)
+    draw_outcome(desk, b, before, &outcome, boxes, tally)
 }
 
 // Draws a box that was traced.
@@ -51,28 +63,33 @@ pub fn draw_box(
 fn draw_outcome(
     desk: &mut Desk,
     b: IndexBox,
+    before: Option<OldBox<'_>>,
     outcome: &Outcome<usize>,
-    nodes: &mut Vec<Node>,
+    boxes: &mut Boxes,
     tally: &mut Tally,
 ) -> Result<(), AllocError>
-    requires { MayOpen Raster desk.old b outcome.now }
-    ensures nodes { OnOk result (nodes.new.items ≡ nodes.old.items ++ outcome_nodes
-        (raster desk.old.view) b (seen desk.old.lists outcome.now)) }
-    ensures counted { OnOk result
-        (CountsExactly (outcome_points (raster desk.old.view) b (seen desk.old.lists outcome.now))
-        (outcome_spans (raster desk.old.view) b (seen desk.old.lists outcome.now))
-        tally.old tally.new) }
-    ensures at_most { OnErr result
-        (CountsAtMost (outcome_points (raster desk.old.view) b (seen desk.old.lists outcome.now))
-        (outcome_spans (raster desk.old.view) b (seen desk.old.lists outcome.now))
-        tally.old tally.new) }
+    requires may { MayOpen Raster desk.old b outcome.now }
+    requires old { IfSome before (IsOldBox desk.old.view b) }
+    ensures adds { OnOk result (Adds boxes.old boxes.new
+        (outcome_nodes (raster desk.old.view) b (seen desk.old.lists outcome.now))
+        (outcome_lists (raster desk.old.view) b (seen desk.old.lists outcome.now))) }
+    ensures counted { OnOk result (CountsExactly
+        (outcome_points_after (raster desk.old.view) (visit_before before.entry b) b
+        (seen desk.old.lists outcome.now))
+        (outcome_spans_after (raster desk.old.view) (visit_before before.entry b) b
+        (seen desk.old.lists outcome.now)) tally.old tally.new) }
+    ensures at_most { OnErr result (CountsAtMost
+        (outcome_points_after (raster desk.old.view) (visit_before before.entry b) b
+        (seen desk.old.lists outcome.now))
+        (outcome_spans_after (raster desk.old.view) (visit_before before.entry b) b
+        (seen desk.old.lists outcome.now)) tally.old tally.new) }
     ensures kept { desk.new ≡ desk.old }
 {
     layers_hold();
     match outcome {
-        Outcome::Inside => Ok(nodes.push(Node::Inside)?),
-        Outcome::Outside => Ok(nodes.push(Node::Outside)?),
-        Outcome::Open(live) => draw_undecided(desk, b, *live, nodes, tally),
+        Outcome::Inside => boxes.push(Node::Inside),
+        Outcome::Outside => boxes.push(Node::Outside),
+        Outcome::Open(live) => draw_undecided(desk, b, before, *live, boxes, tally),
     }
 }
 
@@ -81,62 +98,124 @@ fn draw_outcome(
 fn draw_undecided(
     desk: &mut Desk,
     b: IndexBox,
+    before: Option<OldBox<'_>>,
     live: usize,
-    nodes: &mut Vec<Node>,
+    boxes: &mut Boxes,
     tally: &mut Tally,
 ) -> Result<(), AllocError>
     requires may { MayTrace Raster desk.old b live }
     requires whole { IsWhole (list_of desk.old live) }
-    ensures nodes { OnOk result (nodes.new.items ≡ nodes.old.items ++ open_nodes
-        (raster desk.old.view) b (list_of desk.old live)) }
-    ensures counted { OnOk result
-        (CountsExactly (open_points (raster desk.old.view) b (list_of desk.old live))
-        (open_spans (raster desk.old.view) b (list_of desk.old live)) tally.old tally.new) }
-    ensures at_most { OnErr result
-        (CountsAtMost (open_points (raster desk.old.view) b (list_of desk.old live))
-        (open_spans (raster desk.old.view) b (list_of desk.old live)) tally.old tally.new) }
+    requires old { IfSome before (IsOldBox desk.old.view b) }
+    ensures adds { OnOk result (Adds boxes.old boxes.new
+        (open_nodes (raster desk.old.view) b (list_of desk.old live))
+        (open_lists (raster desk.old.view) b (list_of desk.old live))) }
+    ensures counted { OnOk result (CountsExactly
+        (open_points_after (raster desk.old.view) (visit_before before.entry b) b (list_of desk.old live))
+        (open_spans_after (raster desk.old.view) (visit_before before.entry b) b (list_of desk.old live))
+        tally.old tally.new) }
+    ensures at_most { OnErr result (CountsAtMost
+        (open_points_after (raster desk.old.view) (visit_before before.entry b) b (list_of desk.old live))
+        (open_spans_after (raster desk.old.view) (visit_before before.entry b) b (list_of desk.old live))
+        tally.old tally.new) }
     ensures kept { desk.new ≡ desk.old }
 {
     layers_hold();
     if is_long(b, LEAF) {
-        draw_split(desk, b, live, nodes, tally)
+        draw_split(desk, b, before, live, boxes, tally)
     } else {
         let list = desk.lists.list(live);
         make_rows(&mut desk.rows, list.len())?;
         let rows = leaf_rows(&desk.places, b, &list, &mut desk.rows, tally);
-        Ok(nodes.push(Node::Leaf(rows))?)
+        boxes.push(Node::Leaf(rows))
     }
 }
 
-// Draws a box that is split: a node that says how many are below it, and those.
+// Draws a box that is split: what was drawn of it before, where it handed on the same list then.
 #[cycle(drawing)]
 fn draw_split(
     desk: &mut Desk,
     b: IndexBox,
+    before: Option<OldBox<'_>>,
     live: usize,
-    nodes: &mut Vec<Node>,
+    boxes: &mut Boxes,
     tally: &mut Tally,
 ) -> Result<(), AllocError>
     requires may { MayTrace Raster desk.old b live }
     requires whole { IsWhole (list_of desk.old live) }
     requires long { IsTrue (is_long_for 8 b) }
-    ensures nodes { OnOk result (nodes.new.items ≡ nodes.old.items ++ split_node
-        (halves_nodes (raster desk.old.view) (list_of desk.old live) (halves_of 8 b))) }
-    ensures counted { OnOk result
-        (CountsExactly (halves_points (raster desk.old.view) (list_of desk.old live) (halves_of 8 b))
-        (halves_spans (raster desk.old.view) (list_of desk.old live) (halves_of 8 b))
-        tally.old tally.new) }
-    ensures at_most { OnErr result
-        (CountsAtMost (halves_points (raster desk.old.view) (list_of desk.old live) (halves_of 8 b))
-        (halves_spans (raster desk.old.view) (list_of desk.old live) (halves_of 8 b))
-        tally.old tally.new) }
+    requires old { IfSome before (IsOldBox desk.old.view b) }
+    ensures adds { OnOk result (Adds boxes.old boxes.new
+        (open_nodes (raster desk.old.view) b (list_of desk.old live))
+        (open_lists (raster desk.old.view) b (list_of desk.old live))) }
+    ensures counted { OnOk result (CountsExactly
+        (halves_points_after (raster desk.old.view) (visit_before before.entry b) (list_of desk.old live)
+        (halves_of 8 b))
+        (halves_spans_after (raster desk.old.view) (visit_before before.entry b) (list_of desk.old live)
+        (halves_of 8 b)) tally.old tally.new) }
+    ensures at_most { OnErr result (CountsAtMost
+        (halves_points_after (raster desk.old.view) (visit_before before.entry b) (list_of desk.old live)
+        (halves_of 8 b))
+        (halves_spans_after (raster desk.old.view) (visit_before before.entry b) (list_of desk.old live)
+        (halves_of 8 b)) tally.old tally.new) }
     ensures kept { desk.new ≡ desk.old }
 {
     layers_hold();
-    let at = nodes.len();
-    nodes.push(Node::Split(0))?;
-    draw_halves(desk, b, live, nodes, tally)?;
-    nodes[at] = Node::Split(nodes.len() - at - 1);
+    match unchanged(before, &desk.lists.list(live)) {
+        Some(old) => boxes.push_old(old),
+        None => draw_anew(desk, b, before, live, boxes, tally),
+    }
+}
+
+// The box before, where it handed on these steps to its halves.
+#[inline]
+fn unchanged<'a>(before: Option<OldBox<'a>>, list: &Steps<'_>) -> Option<OldBox<'a>>
+    requires { IfSome before IsPlaced }
+    ensures same { IfSome result (λ old. list_handed old ≡ Some list.now) }
+    ensures one { IfSome result (λ old. before.entry ≡ Some old) }
+    ensures other { IfNone result (handed_by before.entry ≢ Some list.now) }
+{
+    match before {
+        Some(old) if old.hands_on(list) => Some(old),
+        _ => None,
+    }
+}
+
+// Draws a box that is split and hands on another list than before: what is kept of it, and of its
+// halves behind that.
+#[cycle(drawing)]
+fn draw_anew(
+    desk: &mut Desk,
+    b: IndexBox,
+    before: Option<OldBox<'_>>,
+    live: usize,
+    boxes: &mut Boxes,
+    tally: &mut Tally,
+) -> Result<(), AllocError>
+    requires may { MayTrace Raster desk.old b live }
+    requires whole { IsWhole (list_of desk.old live) }
+    requires long { IsTrue (is_long_for 8 b) }
+    requires old { IfSome before (IsOldBox desk.old.view b) }
+    requires new { handed_by before ≢ Some (list_of desk.old live) }
+    ensures adds { OnOk result (Adds boxes.old boxes.new
+        (open_nodes (raster desk.old.view) b (list_of desk.old live))
+        (open_lists (raster desk.old.view) b (list_of desk.old live))) }
+    ensures counted { OnOk result (CountsExactly
+        (halves_points_after (raster desk.old.view) (visit_before before.entry b) (list_of desk.old live)
+        (halves_of 8 b))
+        (halves_spans_after (raster desk.old.view) (visit_before before.entry b) (list_of desk.old live)
+        (halves_of 8 b)) tally.old tally.new) }
+    ensures at_most { OnErr result (CountsAtMost
+        (halves_points_after (raster desk.old.view) (visit_before before.entry b) (list_of desk.old live)
+        (halves_of 8 b))
+        (halves_spans_after (raster desk.old.view) (visit_before before.entry b) (list_of desk.old live)
+        (halves_of 8 b)) tally.old tally.new) }
+    ensures kept { desk.new ≡ desk.old }
+{
+    layers_hold();
+    let at = boxes.nodes.len();
+    boxes.push_split(&desk.lists, live)?;
+    draw_halves(desk, b, before, live, boxes, tally)?;
+    boxes.nodes[at] = Node::Split(boxes.nodes.len() - at - 1);
     Ok(())
 }
 
@@ -145,27 +224,33 @@ fn draw_split(
 fn draw_halves(
     desk: &mut Desk,
     b: IndexBox,
+    before: Option<OldBox<'_>>,
     live: usize,
-    nodes: &mut Vec<Node>,
+    boxes: &mut Boxes,
     tally: &mut Tally,
 ) -> Result<(), AllocError>
     requires may { MayTrace Raster desk.old b live }
     requires whole { IsWhole (list_of desk.old live) }
     requires long { IsTrue (is_long_for 8 b) }
-    ensures nodes { OnOk result (nodes.new.items ≡ nodes.old.items
-        ++ halves_nodes (raster desk.old.view) (list_of desk.old live) (halves_of 8 b)) }
-    ensures counted { OnOk result
-        (CountsExactly (halves_points (raster desk.old.view) (list_of desk.old live) (halves_of 8 b))
-        (halves_spans (raster desk.old.view) (list_of desk.old live) (halves_of 8 b))
-        tally.old tally.new) }
-    ensures at_most { OnErr result
-        (CountsAtMost (halves_points (raster desk.old.view) (list_of desk.old live) (halves_of 8 b))
-        (halves_spans (raster desk.old.view) (list_of desk.old live) (halves_of 8 b))
-        tally.old tally.new) }
+    requires old { IfSome before (IsOldBox desk.old.view b) }
+    requires new { handed_by before ≢ Some (list_of desk.old live) }
+    ensures adds { OnOk result (Adds boxes.old boxes.new
+        (halves_nodes (raster desk.old.view) (list_of desk.old live) (halves_of 8 b))
+        (halves_lists (raster desk.old.view) (list_of desk.old live) (halves_of 8 b))) }
+    ensures counted { OnOk result (CountsExactly
+        (halves_points_after (raster desk.old.view) (visit_before before.entry b) (list_of desk.old live)
+        (halves_of 8 b))
+        (halves_spans_after (raster desk.old.view) (visit_before before.entry b) (list_of desk.old live)
+        (halves_of 8 b)) tally.old tally.new) }
+    ensures at_most { OnErr result (CountsAtMost
+        (halves_points_after (raster desk.old.view) (visit_before before.entry b) (list_of desk.old live)
+        (halves_of 8 b))
+        (halves_spans_after (raster desk.old.view) (visit_before before.entry b) (list_of desk.old live)
+        (halves_of 8 b)) tally.old tally.new) }
     ensures kept { desk.new ≡ desk.old }
 {
     let count = desk.lists.len();
-    let drawn = draw_each_half(desk, b, live, nodes, tally);
+    let drawn = draw_each_half(desk, b, before, live, boxes, tally);
     desk.cut(count);
     drawn
 }
@@ -176,23 +261,29 @@ fn draw_halves(
 fn draw_each_half(
     desk: &mut Desk,
     b: IndexBox,
+    before: Option<OldBox<'_>>,
     live: usize,
-    nodes: &mut Vec<Node>,
+    boxes: &mut Boxes,
     tally: &mut Tally,
 ) -> Result<(), AllocError>
     requires may { MayTrace Raster desk.old b live }
     requires whole { IsWhole (list_of desk.old live) }
     requires long { IsTrue (is_long_for 8 b) }
-    ensures nodes { OnOk result (nodes.new.items ≡ nodes.old.items
-        ++ halves_nodes (raster desk.old.view) (list_of desk.old live) (halves_of 8 b)) }
-    ensures counted { OnOk result
-        (CountsExactly (halves_points (raster desk.old.view) (list_of desk.old live) (halves_of 8 b))
-        (halves_spans (raster desk.old.view) (list_of desk.old live) (halves_of 8 b))
-        tally.old tally.new) }
-    ensures at_most { OnErr result
-        (CountsAtMost (halves_points (raster desk.old.view) (list_of desk.old live) (halves_of 8 b))
-        (halves_spans (raster desk.old.view) (list_of desk.old live) (halves_of 8 b))
-        tally.old tally.new) }
+    requires old { IfSome before (IsOldBox desk.old.view b) }
+    requires new { handed_by before ≢ Some (list_of desk.old live) }
+    ensures adds { OnOk result (Adds boxes.old boxes.new
+        (halves_nodes (raster desk.old.view) (list_of desk.old live) (halves_of 8 b))
+        (halves_lists (raster desk.old.view) (list_of desk.old live) (halves_of 8 b))) }
+    ensures counted { OnOk result (CountsExactly
+        (halves_points_after (raster desk.old.view) (visit_before before.entry b) (list_of desk.old live)
+        (halves_of 8 b))
+        (halves_spans_after (raster desk.old.view) (visit_before before.entry b) (list_of desk.old live)
+        (halves_of 8 b)) tally.old tally.new) }
+    ensures at_most { OnErr result (CountsAtMost
+        (halves_points_after (raster desk.old.view) (visit_before before.entry b) (list_of desk.old live)
+        (halves_of 8 b))
+        (halves_spans_after (raster desk.old.view) (visit_before before.entry b) (list_of desk.old live)
+        (halves_of 8 b)) tally.old tally.new) }
     ensures more { HasMore desk.old desk.new }
 {
     layers_hold();
@@ -200,8 +291,36 @@ fn draw_each_half(
     let halves = halves.as_slice();
     let outcomes = desk.trace_boxes(live, halves, tally)?;
     let outcomes = outcomes.as_slice();
+    let mut half_before = first_half(before);
     for at in 0..halves.len() {
-        draw_outcome(desk, halves[at], &outcomes[at], nodes, tally)?;
+        draw_outcome(desk, halves[at], half_before, &outcomes[at], boxes, tally)?;
+        half_before = next_half(half_before);
     }
     Ok(())
+}
+
+// The first half of a box before, where there was one.
+#[inline]
+fn first_half<'a>(before: Option<OldBox<'a>>) -> Option<OldBox<'a>>
+    requires { IfSome before IsPlaced }
+    ensures received { received_by result ≡ handed_by before.entry }
+    ensures stands { IfSome result (λ half. IfSome before.entry (λ old. IsFirstHalf old half)) }
+{
+    match before {
+        Some(old) => old.first_half(),
+        None => None,
+    }
+}
+
+// The half behind one of a box before, where there was one.
+#[inline]
+fn next_half<'a>(before: Option<OldBox<'a>>) -> Option<OldBox<'a>>
+    requires { IfSome before IsPlaced }
+    ensures received { received_by result ≡ received_by before.entry }
+    ensures stands { IfSome result (λ next. IfSome before.entry (λ half. IsNextHalf half next)) }
+{
+    match before {
+        Some(half) => Some(half.next_half()),
+        None => None,
+    }
 }

@@ -4,11 +4,11 @@ ghost use Rattle.view_places.specs.Spans.{IsInRoot};
 ghost use Rattle.quad_descent.specs.Nodes.{bits_of, insides, rows_of};
 ghost use Rattle.quad_descent.specs.Painting.{IsBand, Paints, among, byte_at, covers, meets};
 
-use crate::QuadTree;
+use crate::Picture;
 use crate::band::Band;
 use view_places::{IndexBox, Lattice};
 
-impl QuadTree {
+impl Picture {
     // Paints the samples of a box, which are all inside or all outside.
     pub(crate) fn fill_box(&self, b: IndexBox, byte: u8, band: Band, pixels: &mut [u8])
         requires within { IsInRoot self.now.view Lattice.Raster b }

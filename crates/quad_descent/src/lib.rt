@@ -3,17 +3,23 @@
 #![tactic(auto)]
 
 mod band;
+mod boxes;
 mod drawing;
 mod filling;
+mod images;
 mod laws;
 mod leaf;
 mod node;
+mod old_box;
 mod painting;
+mod picture;
 mod pixels;
 mod quad_tree;
 mod scan;
 
+pub use images::{draw, draw_picture, redraw};
 pub use laws::fresh_work_is_bounded;
 pub use painting::rows;
+pub use picture::Picture;
 pub use pixels::{image, push_pixels};
-pub use quad_tree::{QuadTree, draw};
+pub use quad_tree::QuadTree;

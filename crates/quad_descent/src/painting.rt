@@ -6,7 +6,7 @@ ghost use Rattle.quad_descent.specs.Drawn.{AreDrawnAt, IsDrawnAt};
 ghost use Rattle.quad_descent.specs.Painting.{IsBand, Paints, byte_at, covers};
 ghost use Rattle.quad_descent.specs.Pixels.{rows_from};
 
-use crate::QuadTree;
+use crate::{Picture, QuadTree};
 use crate::band::Band;
 use crate::node::Node;
 use box_chains::{LEAF, layers_hold};
@@ -20,17 +20,28 @@ pub fn rows(tree: &QuadTree, row: u32, pixels: &mut [u8])
     ensures { pixels.new ≡ rows_from tree.now.view tree.now.list row
         (length pixels.old / tree.now.view.w) }
 {
-    layers_hold();
-    let rows = (pixels.len() / tree.view.w as usize) as u32;
-    tree.paint_box(
-        0,
-        root(&tree.view, Lattice::Raster),
-        Band { row, rows },
-        pixels,
-    );
+    tree.picture().rows(row, pixels);
 }
 
-impl QuadTree {
+impl Picture {
+    /// Paints the rows of the image from `row` on, as many as there are places for. They are the bytes
+    /// of the pixels that evaluating the whole list at each sample gives.
+    pub fn rows(&self, row: u32, pixels: &mut [u8])
+        requires whole { length pixels.old % self.now.view.w ≡ 0 }
+        requires within { row + length pixels.old / self.now.view.w ≤ self.now.view.h }
+        ensures { pixels.new ≡ rows_from self.now.view self.now.list row
+            (length pixels.old / self.now.view.w) }
+    {
+        layers_hold();
+        let rows = (pixels.len() / self.view.w as usize) as u32;
+        self.paint_box(
+            0,
+            root(&self.view, Lattice::Raster),
+            Band { row, rows },
+            pixels,
+        );
+    }
+
     // Paints the samples of a box, whose node stands at a place, in a band of rows.
     #[cycle(painting)]
     fn paint_box(&self, at: usize, b: IndexBox, band: Band, pixels: &mut [u8])

@@ -1,66 +1,47 @@
-// An image by boxes.
-ghost use Rattle.std.specs.Prelude.{◌≡◌, IfOk, OnOk, OnErr};
-ghost use Rattle.box_chains.specs.Tallied.{CountsAtMost, CountsExactly};
-ghost use Rattle.quad_descent.specs.Raster.{fresh_points, fresh_spans};
+// Images that are drawn anew.
+ghost use Rattle.std.specs.Prelude.{◌≡◌};
 
-use crate::drawing::draw_box;
-use crate::node::Node;
-use box_chains::{Desk, layers_hold};
-use fixed_ops::Tally;
+use crate::Picture;
 use live_clauses::Tape;
-use std::alloc::{AllocError, Global};
 use std::marker::Model;
-use view_places::{Lattice, View};
 
-/// An image of a list of steps over a view, by boxes: which of them are decided, and what the samples
-/// of undecided leaves are. Contracts see the view and the list.
+/// An image of a list of steps over a view, with the lists that its boxes hand on, so that it can be
+/// drawn anew of another list. Contracts see the view and the list.
 #[derive(Debug, Drop)]
 pub struct QuadTree {
-    pub(crate) view: View,
-    pub(crate) list: Tape,
-    pub(crate) nodes: Vec<Node>,
+    pub(crate) picture: Picture,
+    // For each node the list that its box hands on to its halves, and none where it has no halves.
+    pub(crate) lists: Vec<Option<Tape>>,
 }
 
 impl Model for QuadTree {
     ghost use Rattle.std.specs.Prelude.{◌≡◌};
-    ghost use Rattle.box_chains.specs.Visits.{IsVisit};
-    ghost use Rattle.quad_descent.specs.Nodes.{nodes_of};
+    ghost use Rattle.quad_descent.specs.KeptLists.{lists_of};
     ghost use Rattle.quad_descent.specs.Raster.{Drawing, raster, raster_root};
 
     ghost Value = { Drawing };
 
-    ghost view = { λ t. record { view = t.view; list = t.list } };
+    ghost view = { λ t. t.picture };
 
-    ghost invariant = { λ t. (t.nodes.items ≡ nodes_of (raster t.view) (raster_root t.view t.list))
-        × IsVisit (raster t.view) (raster_root t.view t.list) };
+    ghost invariant = { λ t. t.lists.items
+        ≡ lists_of (raster t.picture.view) (raster_root t.picture.view t.picture.list) };
 }
 
-/// Draws a list of steps over a view. Each step that is traced over a box is counted, at most four
-/// corners with it, and each step that is evaluated at a sample: exactly those of a fresh image.
-/// AllocError: there is no memory for the tree.
-pub fn draw(
-    alloc: Global,
-    list: &Tape,
-    view: &View,
-    tally: &mut Tally,
-) -> Result<QuadTree, AllocError>
-    ensures tree { IfOk result (λ tree. tree ≡ record { view = view.now; list = list.now }) }
-    ensures counted { OnOk result
-        (CountsExactly (fresh_points view.now list.now) (fresh_spans view.now list.now) tally.old
-        tally.new) }
-    ensures at_most { OnErr result
-        (CountsAtMost (fresh_points view.now list.now) (fresh_spans view.now list.now) tally.old
-        tally.new) }
-{
-    layers_hold();
-    let mut desk = Desk::new(alloc, view, Lattice::Raster, list)?;
-    let root = desk.root();
-    let mut nodes = Vec::new(alloc);
-    // The list that the desk was made with has the number 0.
-    draw_box(&mut desk, root, 0, &mut nodes, tally)?;
-    Ok(QuadTree {
-        view: *view,
-        list: list.share()?,
-        nodes,
-    })
+impl QuadTree {
+    /// The image without the lists.
+    #[inline]
+    pub fn picture(&self) -> &Picture
+        ensures { result.now ≡ self.now }
+    {
+        &self.picture
+    }
+
+    // The list that it was drawn of.
+    #[inline]
+    pub(crate) fn list(&self) -> &Tape
+        ensures { result.now ≡ self.now.list }
+    {
+        let picture = self.picture();
+        &picture.list
+    }
 }

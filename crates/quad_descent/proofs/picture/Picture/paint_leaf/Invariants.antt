@@ -1,6 +1,6 @@
 use Rattle.std.proofs.Common.{◌≡◌}
 use Rattle.quad_descent.specs.Painting.{Paints, byte_at, covers}
-use Rattle.quad_descent.proofs.quad_tree.QuadTree.paint_leaf.Given as goal
+use Rattle.quad_descent.proofs.picture.Picture.paint_leaf.Given as goal
 
 abbrev pub invariant-loop-j : goal.invariant-loop-j
 invariant-loop-j l = record {

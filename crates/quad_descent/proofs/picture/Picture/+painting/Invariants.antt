@@ -3,7 +3,7 @@ use Rattle.box_chains.specs.Chains.{sides}
 use Rattle.quad_descent.specs.Drawn.{AreDrawnAt}
 use Rattle.quad_descent.proofs.PaintLaws.{covered}
 use Rattle.quad_descent.specs.Painting.{Paints, byte_at}
-use Rattle.quad_descent.proofs.quad_tree.QuadTree.+painting.Given as goal
+use Rattle.quad_descent.proofs.picture.Picture.+painting.Given as goal
 
 abbrev pub decreases-paint_box : goal.decreases-paint_box
 decreases-paint_box l = 2 * sides l.b + 1

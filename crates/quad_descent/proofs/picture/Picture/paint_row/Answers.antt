@@ -5,7 +5,7 @@ use Rattle.view_places.specs.Boxes.{IsBox}
 use Rattle.view_places.specs.Places.{point_of}
 use Rattle.view_places.specs.declared.lattice.Lattice.TheVariants.{Raster}
 use Rattle.quad_descent.proofs.PaintLaws.{digit-painted, digit-read}
-use Rattle.quad_descent.proofs.quad_tree.QuadTree.paint_row.Goals as goal
+use Rattle.quad_descent.proofs.picture.Picture.paint_row.Goals as goal
 
 pub loop-n-preserved : goal.loop-n-preserved
 loop-n-preserved c =

@@ -5,7 +5,7 @@ use Rattle.view_places.specs.declared.lattice.Lattice.TheVariants.{Raster}
 use Rattle.quad_descent.specs.Nodes.{bits_of, insides}
 use Rattle.quad_descent.specs.Painting.{Paints, among, byte_at}
 use Rattle.quad_descent.proofs.PaintLaws.{met-rows, row-painted, row-read, rows-painted}
-use Rattle.quad_descent.proofs.quad_tree.QuadTree.paint_leaf.Goals as goal
+use Rattle.quad_descent.proofs.picture.Picture.paint_leaf.Goals as goal
 
 pub overflow_add-band : goal.overflow_add-band
 overflow_add-band c = omega (arith, c.requires.band.few)

@@ -8,7 +8,7 @@ use Rattle.quad_descent.specs.Raster.{raster, raster_root}
 use Rattle.quad_descent.proofs.Drawn.{half-part, half-shorter}
 use Rattle.quad_descent.proofs.PaintLaws.{Paints-same, Paints-then, covered, unmet}
 use Rattle.quad_descent.proofs.Painted.{Says, box-counts, box-says, box-within, byte-decided, covered-all, covered-more, halves-drawn, handed-values, head-drawn, next-drawn, rest-drawn, rows-same, short-side}
-use Rattle.quad_descent.proofs.quad_tree.QuadTree.+painting.Goals as goal
+use Rattle.quad_descent.proofs.picture.Picture.+painting.Goals as goal
 
 pub paint_box-returns-then-not-meets : goal.paint_box-returns-then-not-meets
 paint_box-returns-then-not-meets t c =

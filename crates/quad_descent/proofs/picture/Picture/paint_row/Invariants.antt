@@ -6,7 +6,7 @@ use Rattle.view_places.specs.Places.{point_of}
 use Rattle.view_places.specs.declared.lattice.Lattice.TheVariants.{Raster}
 use Rattle.quad_descent.specs.Nodes.{bits_of}
 use Rattle.quad_descent.specs.Painting.{Paints, among, byte_at}
-use Rattle.quad_descent.proofs.quad_tree.QuadTree.paint_row.Given as goal
+use Rattle.quad_descent.proofs.picture.Picture.paint_row.Given as goal
 
 abbrev pub invariant-loop-n : goal.invariant-loop-n
 invariant-loop-n l = record {

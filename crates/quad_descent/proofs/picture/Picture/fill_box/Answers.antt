@@ -2,7 +2,7 @@ use Rattle.std.proofs.Common.{◌-◌, ◌*◌, ◌<◌, arith, ap, subst, ◌�
 use Rattle.view_places.specs.Boxes.{IsBox}
 use Rattle.quad_descent.specs.Painting.{byte_at}
 use Rattle.quad_descent.proofs.PaintLaws.{met-rows, row-filled, rows-painted}
-use Rattle.quad_descent.proofs.quad_tree.QuadTree.fill_box.Goals as goal
+use Rattle.quad_descent.proofs.picture.Picture.fill_box.Goals as goal
 
 pub overflow_add-band : goal.overflow_add-band
 overflow_add-band c = omega (arith, c.requires.band.few)

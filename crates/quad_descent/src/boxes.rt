@@ -1,0 +1,94 @@
+// Boxes that are drawn, one after another.
+ghost use Rattle.std.specs.Prelude.{◌≡◌, ◌<◌, ◌∷◌, ◌++◌, [], None, Some, length, OnOk};
+
+use crate::node::Node;
+use crate::old_box::OldBox;
+use live_clauses::{Lists, Tape};
+use std::alloc::{AllocError, Global};
+
+/// What is kept of boxes that are drawn, one after another.
+#[derive(Debug, Drop)]
+pub struct Boxes {
+    /// Their nodes.
+    pub nodes: Vec<Node>,
+    /// For each node the list that its box hands on to its halves, where lists are kept.
+    pub lists: Vec<Option<Tape>>,
+    /// Whether lists are kept.
+    pub keeps: bool,
+}
+
+impl Boxes {
+    ghost use Rattle.live_clauses.specs.Blocks.{list_at};
+    ghost use Rattle.quad_descent.specs.Adding.{Adds};
+    ghost use Rattle.quad_descent.specs.OldBoxes.{IsPlaced, lists_before, nodes_before, part_before};
+    ghost use Rattle.quad_descent.specs.declared.node.Node.TheVariants.{Split};
+
+    /// No boxes.
+    pub fn new(alloc: Global, keeps: bool) -> Boxes
+        ensures nodes { result.nodes.items ≡ [] }
+        ensures lists { result.lists.items ≡ [] }
+        ensures keeps { result.keeps ≡ keeps }
+    {
+        Boxes {
+            nodes: Vec::new(alloc),
+            lists: Vec::new(alloc),
+            keeps,
+        }
+    }
+
+    /// Adds a box that hands no list on. AllocError: there is no memory for it.
+    #[inline]
+    pub fn push(&mut self, node: Node) -> Result<(), AllocError>
+        ensures { OnOk result (Adds self.old self.new (node ∷ []) (None ∷ [])) }
+    {
+        if self.keeps {
+            self.lists.push(None)?;
+        }
+        Ok(self.nodes.push(node)?)
+    }
+
+    /// Adds a box that is split and hands on the list of a number: so far no node stands below it.
+    /// AllocError: there is no memory for it.
+    pub fn push_split(&mut self, lists: &Lists, live: usize) -> Result<(), AllocError>
+        requires { live < length lists.now }
+        ensures { OnOk result (Adds self.old self.new (Split 0 ∷ [])
+            (Some (list_at lists.now live) ∷ [])) }
+    {
+        if self.keeps {
+            self.lists.push(Some(lists.keep(live)?))?;
+        }
+        Ok(self.nodes.push(Node::Split(0))?)
+    }
+
+    /// Adds a box as the tree before had it, with all boxes below it. AllocError: there is no memory
+    /// for them.
+    pub fn push_old(&mut self, old: OldBox<'_>) -> Result<(), AllocError>
+        requires { IsPlaced old }
+        ensures { OnOk result (Adds self.old self.new (part_before (nodes_before old.entry) old.entry)
+            (part_before (lists_before old.entry) old.entry)) }
+    {
+        let tree = old.tree;
+        let picture = tree.picture();
+        let nodes = &picture.nodes;
+        let end = old.at + nodes[old.at].count();
+        self.nodes.extend_from_slice(&nodes[old.at..end])?;
+        if self.keeps {
+            share_all(&tree.lists[old.at..end], &mut self.lists)?;
+        }
+        Ok(())
+    }
+}
+
+// Puts lists behind others. Their steps are not copied.
+fn share_all(lists: &[Option<Tape>], kept: &mut Vec<Option<Tape>>) -> Result<(), AllocError>
+    ensures { OnOk result (kept.new.items ≡ kept.old.items ++ lists.now) }
+{
+    for list in lists {
+        let shared = match list {
+            None => None,
+            Some(list) => Some(list.share()?),
+        };
+        kept.push(shared)?;
+    }
+    Ok(())
+}

@@ -1,0 +1,159 @@
+// Images that are drawn.
+ghost use Rattle.std.specs.Prelude.{◌≡◌, ◌≢◌, [], Some, None, IfOk, IfSome, IsTrue, OnOk, OnErr};
+ghost use Rattle.box_chains.specs.Redrawn.{IsNew};
+ghost use Rattle.box_chains.specs.Tallied.{CountsAtMost, CountsExactly};
+ghost use Rattle.quad_descent.specs.Adding.{IsDrawn};
+ghost use Rattle.quad_descent.specs.OldBoxes.{IsOldBox, visit_before};
+ghost use Rattle.quad_descent.specs.Raster.{frame_points, frame_spans, fresh_points, fresh_spans, raster_root};
+ghost use Rattle.quad_descent.specs.OldBoxes.{received_by};
+ghost use Rattle.view_places.specs.Spans.{root_box_of};
+
+use crate::boxes::Boxes;
+use crate::drawing::draw_box;
+use crate::old_box::OldBox;
+use crate::{Picture, QuadTree};
+use box_chains::{Desk, layers_hold};
+use fixed_ops::Tally;
+use live_clauses::{Tape, same};
+use std::alloc::{AllocError, Global};
+use view_places::{Lattice, View};
+
+/// Draws a list of steps over a view, as an image that is not drawn anew. Each step that is traced over
+/// a box is counted, at most four corners with it, and each step that is evaluated at a sample:
+/// exactly those of a fresh image. AllocError: there is no memory for it.
+pub fn draw_picture(
+    alloc: Global,
+    list: &Tape,
+    view: &View,
+    tally: &mut Tally,
+) -> Result<Picture, AllocError>
+    ensures picture { IfOk result (λ picture. picture
+        ≡ record { view = view.now; list = list.now }) }
+    ensures counted { OnOk result
+        (CountsExactly (fresh_points view.now list.now) (fresh_spans view.now list.now) tally.old
+        tally.new) }
+    ensures at_most { OnErr result
+        (CountsAtMost (fresh_points view.now list.now) (fresh_spans view.now list.now) tally.old
+        tally.new) }
+{
+    layers_hold();
+    let boxes = draw_boxes(alloc, list, view, None, false, tally)?;
+    Ok(Picture {
+        view: *view,
+        list: list.share()?,
+        nodes: boxes.nodes,
+    })
+}
+
+/// Draws a list of steps over a view, as an image that may be drawn anew. The work of a fresh image is
+/// counted, as `draw_picture` does. AllocError: there is no memory for the tree.
+pub fn draw(
+    alloc: Global,
+    list: &Tape,
+    view: &View,
+    tally: &mut Tally,
+) -> Result<QuadTree, AllocError>
+    ensures tree { IfOk result (λ tree. tree ≡ record { view = view.now; list = list.now }) }
+    ensures counted { OnOk result
+        (CountsExactly (fresh_points view.now list.now) (fresh_spans view.now list.now) tally.old
+        tally.new) }
+    ensures at_most { OnErr result
+        (CountsAtMost (fresh_points view.now list.now) (fresh_spans view.now list.now) tally.old
+        tally.new) }
+{
+    layers_hold();
+    let boxes = draw_boxes(alloc, list, view, None, true, tally)?;
+    tree_of(boxes, list, view)
+}
+
+/// Draws an image anew, of another list of steps. What is counted is the work of those boxes alone that
+/// the image did not have with an equal list, and of the samples in them. AllocError: there is no
+/// memory for the new tree, and the old one is given up.
+pub fn redraw(old: QuadTree, list: &Tape, tally: &mut Tally) -> Result<QuadTree, AllocError>
+    ensures tree { IfOk result (λ tree. tree ≡ record { view = old.view; list = list.now }) }
+    ensures counted { OnOk result
+        (CountsExactly (frame_points old.view (Some old.list) list.now)
+        (frame_spans old.view (Some old.list) list.now) tally.old tally.new) }
+    ensures at_most { OnErr result
+        (CountsAtMost (frame_points old.view (Some old.list) list.now)
+        (frame_spans old.view (Some old.list) list.now) tally.old tally.new) }
+{
+    layers_hold();
+    if same(old.list(), list) {
+        Ok(old)
+    } else {
+        draw_after(&old, list, tally)
+    }
+}
+
+// The image of another list over the view of an image, after that. AllocError: there is no memory for
+// it.
+fn draw_after(old: &QuadTree, list: &Tape, tally: &mut Tally) -> Result<QuadTree, AllocError>
+    requires { old.now.list ≢ list.now }
+    ensures tree { IfOk result (λ tree. tree ≡ record { view = old.now.view; list = list.now }) }
+    ensures counted { OnOk result
+        (CountsExactly (frame_points old.now.view (Some old.now.list) list.now)
+        (frame_spans old.now.view (Some old.now.list) list.now) tally.old tally.new) }
+    ensures at_most { OnErr result
+        (CountsAtMost (frame_points old.now.view (Some old.now.list) list.now)
+        (frame_spans old.now.view (Some old.now.list) list.now) tally.old tally.new) }
+{
+    layers_hold();
+    let alloc = *old.lists.allocator();
+    let picture = old.picture();
+    let root = OldBox {
+        tree: old,
+        at: 0,
+        list: &picture.list,
+    };
+    let boxes = draw_boxes(alloc, list, &picture.view, Some(root), true, tally)?;
+    tree_of(boxes, list, &picture.view)
+}
+
+// The boxes of an image of a list over a view, after one of another list, where there was one.
+fn draw_boxes(
+    alloc: Global,
+    list: &Tape,
+    view: &View,
+    before: Option<OldBox<'_>>,
+    keeps: bool,
+    tally: &mut Tally,
+) -> Result<Boxes, AllocError>
+    requires old { IfSome before (IsOldBox view.now (root_box_of view.now Lattice.Raster)) }
+    requires new { IsNew (visit_before before (root_box_of view.now Lattice.Raster))
+        (raster_root view.now list.now) }
+    ensures drawn { IfOk result (IsDrawn view.now list.now) }
+    ensures keeps { IfOk result (λ boxes. boxes.keeps ≡ keeps) }
+    ensures counted { OnOk result
+        (CountsExactly (frame_points view.now (received_by before.entry) list.now)
+        (frame_spans view.now (received_by before.entry) list.now) tally.old tally.new) }
+    ensures at_most { OnErr result
+        (CountsAtMost (frame_points view.now (received_by before.entry) list.now)
+        (frame_spans view.now (received_by before.entry) list.now) tally.old tally.new) }
+{
+    layers_hold();
+    let mut desk = Desk::new(alloc, view, Lattice::Raster, list)?;
+    let root = desk.root();
+    let mut boxes = Boxes::new(alloc, keeps);
+    // The list that the desk was made with has the number 0.
+    draw_box(&mut desk, root, before, 0, &mut boxes, tally)?;
+    Ok(boxes)
+}
+
+// The tree of boxes that were drawn, with their lists. AllocError: there is no memory to share the list.
+fn tree_of(boxes: Boxes, list: &Tape, view: &View) -> Result<QuadTree, AllocError>
+    requires drawn { IsDrawn view.now list.now boxes }
+    requires keeps { IsTrue boxes.keeps }
+    ensures { IfOk result (λ tree. tree ≡ record { view = view.now; list = list.now }) }
+{
+    layers_hold();
+    let picture = Picture {
+        view: *view,
+        list: list.share()?,
+        nodes: boxes.nodes,
+    };
+    Ok(QuadTree {
+        picture,
+        lists: boxes.lists,
+    })
+}
