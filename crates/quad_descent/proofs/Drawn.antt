@@ -1,6 +1,6 @@
 -- What a box that was looked at has for its nodes and its work.
-use Rattle.std.proofs.Common.{◌≡◌, ℕ, ◌+◌, ◌-◌, ◌*◌, ◌<◌, Bool, true, false, cond, List, [], ◌∷◌, ◌++◌, length, get_or, map, take, set, append-nil, append_assoc, zero-add, refl, sym, ap, subst, ◌∙◌, arith}
-use Rattle.std.specs.Prelude.{Option, Some, None, Result, Ok, Err, OnOk, OnErr}
+use Rattle.std.proofs.Common.{◌≡◌, ◌≢◌, ℕ, ◌+◌, ◌-◌, ◌*◌, ◌<◌, Bool, true, false, cond, List, [], ◌∷◌, ◌++◌, length, get_or, map, take, set, append-nil, append_assoc, zero-add, refl, sym, ap, subst, ◌∙◌, arith}
+use Rattle.std.specs.Prelude.{IsTrue, Option, Some, None, Result, Ok, Err, OnOk, OnErr}
 use Rattle.std.specs.List.{All, flat_map, sum_by}
 use Rattle.std.proofs.Math.Nat.{mul-zero, mul_assoc}
 use Rattle.std.proofs.Math.Seq.{set-append_seam}
@@ -8,9 +8,11 @@ use Rattle.std.proofs.lemmas.List.Elements.{All-get_or, All-head, All-tail, All-
 use Rattle.std.proofs.lemmas.List.Sums.{sum_by-cons, sum_by_more, sum_by_more_le}
 use Rattle.std.proofs.lemmas.List.{get_or-map, length-append, length-map, take_all, take_more}
 use Rattle.std.proofs.lemmas.Grind.{flat_map-append}
+use Rattle.std.proofs.lemmas.Option.{cond_some, none-some}
 use Rattle.std.proofs.lemmas.List.Concat.{flat_map-cons}
-use Rattle.box_chains.specs.Chains.{Descent, Visit, decision, handed_on, is_long, is_split, sides, visit}
-use Rattle.box_chains.specs.Counts.{end_cost, halves_points, halves_spans, open_points, open_spans, points_in, spans_in}
+use Rattle.box_chains.specs.Chains.{Descent, Visit, decision, half_visit, handed_on, is_long, is_split, sides, visit}
+use Rattle.box_chains.specs.Counts.{end_cost}
+use Rattle.box_chains.specs.Redrawn.{IsNew, half_before, points_after, spans_after}
 use Rattle.box_chains.specs.Parts.{IsPart}
 use Rattle.box_chains.specs.Sums.{size}
 use Rattle.fixed_ops.specs.Counts.{Counts, RisesBy, points_of}
@@ -26,9 +28,12 @@ use Rattle.box_chains.specs.Desks.{Tracing, samples}
 use Rattle.box_chains.specs.declared.outcome.Outcome.{Outcome}
 use Rattle.box_chains.specs.declared.outcome.Outcome.TheVariants.{Open}
 use Rattle.quad_descent.proofs.NodeLaws.{nodes-are}
-use Rattle.box_chains.specs.Opened.{all_spans_below, outcome_points, outcome_spans, sampling, spans_below}
+use Rattle.box_chains.specs.Opened.{sampling}
 use Rattle.quad_descent.specs.Opened.{outcome_nodes}
-use Rattle.quad_descent.specs.Nodes.{halves_nodes, nodes_of, open_nodes, split_node}
+use Rattle.quad_descent.specs.Adding.{Adds}
+use Rattle.quad_descent.specs.Nodes.{nodes_of, open_nodes, split_node}
+use Rattle.quad_descent.specs.OldBoxes.{halves_points_after, halves_spans_after, open_points_after, open_spans_after, outcome_points_after, outcome_spans_after}
+use Rattle.quad_descent.specs.declared.boxes.Boxes.{Boxes}
 use Rattle.box_chains.specs.Tallied.{CountsAtMost, CountsExactly}
 use Rattle.box_chains.specs.Laws.{Lawful}
 use Rattle.quad_descent.specs.Raster.{raster}
@@ -67,36 +72,44 @@ nodes-decided laws d v false some is e = nodes-are laws d v some is ∙ rw e ref
 pub nodes-open : (laws : Lawful) (d : Descent) (v : Visit) → 0 < d.leaf → IsBox v.box → decision d v ≡ None → nodes_of d v ≡ open_nodes d v.box (handed_on d v)
 nodes-open laws d v some is e = nodes-are laws d v some is ∙ rw e refl
 
--- the work of a box, by whether it is split
-points-split : (laws : Lawful) (d : Descent) (v : Visit) → 0 < d.leaf → IsBox v.box → is_split d v ≡ true → points_in d v ≡ halves_points d (handed_on d v) (halves_of d.leaf v.box)
-points-split laws d v some is e = rw e at (laws.points d v some is)
+-- the work of a box that is new, by whether it is split
+points-split : (laws : Lawful) (d : Descent) (was : Option Visit) (v : Visit) → 0 < d.leaf → IsBox v.box → IsNew was v → is_split d v ≡ true
+    → points_after d was v ≡ halves_points_after d was (handed_on d v) (halves_of d.leaf v.box)
+points-split laws d was v some is new e = rw e at (laws.redrawn.points d was v some is new)
 
-points-end : (laws : Lawful) (d : Descent) (v : Visit) → 0 < d.leaf → IsBox v.box → is_split d v ≡ false → points_in d v ≡ size v.box * end_cost d v
-points-end laws d v some is e = rw e at (laws.points d v some is)
+points-end : (laws : Lawful) (d : Descent) (was : Option Visit) (v : Visit) → 0 < d.leaf → IsBox v.box → IsNew was v → is_split d v ≡ false
+    → points_after d was v ≡ size v.box * end_cost d v
+points-end laws d was v some is new e = rw e at (laws.redrawn.points d was v some is new)
 
-spans-split : (laws : Lawful) (d : Descent) (v : Visit) → 0 < d.leaf → IsBox v.box → is_split d v ≡ true → spans_in d v ≡ length v.list + halves_spans d (handed_on d v) (halves_of d.leaf v.box)
-spans-split laws d v some is e = rw e at (laws.spans d v some is)
+spans-split : (laws : Lawful) (d : Descent) (was : Option Visit) (v : Visit) → 0 < d.leaf → IsBox v.box → IsNew was v → is_split d v ≡ true
+    → spans_after d was v ≡ length v.list + halves_spans_after d was (handed_on d v) (halves_of d.leaf v.box)
+spans-split laws d was v some is new e = rw e at (laws.redrawn.spans d was v some is new)
 
-spans-end : (laws : Lawful) (d : Descent) (v : Visit) → 0 < d.leaf → IsBox v.box → is_split d v ≡ false → spans_in d v ≡ length v.list + 0
-spans-end laws d v some is e = rw e at (laws.spans d v some is)
+spans-end : (laws : Lawful) (d : Descent) (was : Option Visit) (v : Visit) → 0 < d.leaf → IsBox v.box → IsNew was v → is_split d v ≡ false
+    → spans_after d was v ≡ length v.list + 0
+spans-end laws d was v some is new e = rw e at (laws.redrawn.spans d was v some is new)
 
 -- the work of an undecided box is that of its trace and what lies open below it
-pub points-open : (laws : Lawful) (d : Descent) (v : Visit) → 0 < d.leaf → IsBox v.box → decision d v ≡ None → points_in d v ≡ open_points d v.box (handed_on d v)
-points-open laws d v some is e = by (is_long d.leaf v.box) refl
+points-open : (laws : Lawful) (d : Descent) (was : Option Visit) (v : Visit) → 0 < d.leaf → IsBox v.box → IsNew was v → decision d v ≡ None
+    → points_after d was v ≡ open_points_after d was v.box (handed_on d v)
+points-open laws d was v some is new e = by (is_long d.leaf v.box) refl
   where
-    by : (t : Bool) → is_long d.leaf v.box ≡ t → points_in d v ≡ cond t (halves_points d (handed_on d v) (halves_of d.leaf v.box)) (size v.box * length (handed_on d v))
-    by true h = points-split laws d v some is (open-split d v e ∙ h)
-    by false h = points-end laws d v some is (open-split d v e ∙ h) ∙ ap (λ n. size v.box * n) (cost e)
+    by : (t : Bool) → is_long d.leaf v.box ≡ t
+        → points_after d was v ≡ cond t (halves_points_after d was (handed_on d v) (halves_of d.leaf v.box)) (size v.box * length (handed_on d v))
+    by true h = points-split laws d was v some is new (open-split d v e ∙ h)
+    by false h = points-end laws d was v some is new (open-split d v e ∙ h) ∙ ap (λ n. size v.box * n) (cost e)
       where
         cost : decision d v ≡ None → end_cost d v ≡ length (handed_on d v)
         cost e = rw e refl
 
-pub spans-open : (laws : Lawful) (d : Descent) (v : Visit) → 0 < d.leaf → IsBox v.box → decision d v ≡ None → spans_in d v ≡ length v.list + open_spans d v.box (handed_on d v)
-spans-open laws d v some is e = by (is_long d.leaf v.box) refl
+spans-open : (laws : Lawful) (d : Descent) (was : Option Visit) (v : Visit) → 0 < d.leaf → IsBox v.box → IsNew was v → decision d v ≡ None
+    → spans_after d was v ≡ length v.list + open_spans_after d was v.box (handed_on d v)
+spans-open laws d was v some is new e = by (is_long d.leaf v.box) refl
   where
-    by : (t : Bool) → is_long d.leaf v.box ≡ t → spans_in d v ≡ length v.list + cond t (halves_spans d (handed_on d v) (halves_of d.leaf v.box)) 0
-    by true h = spans-split laws d v some is (open-split d v e ∙ h)
-    by false h = spans-end laws d v some is (open-split d v e ∙ h)
+    by : (t : Bool) → is_long d.leaf v.box ≡ t
+        → spans_after d was v ≡ length v.list + cond t (halves_spans_after d was (handed_on d v) (halves_of d.leaf v.box)) 0
+    by true h = spans-split laws d was v some is new (open-split d v e ∙ h)
+    by false h = spans-end laws d was v some is new (open-split d v e ∙ h)
 
 -- the nodes and the work of a box are those of its outcome, beside its own trace
 pub nodes-outcome : (laws : Lawful) (d : Descent) (b : Indices) (list : List Step) → 0 < d.leaf → IsBox b
@@ -109,28 +122,35 @@ nodes-outcome laws d b list some is = by (decision d (visit b list)) refl
     by (Some false) e = nodes-decided laws d (visit b list) false some is e
     by None e = nodes-open laws d (visit b list) some is e
 
-points-decided : (laws : Lawful) (d : Descent) (v : Visit) (inside : Bool) → 0 < d.leaf → IsBox v.box → decision d v ≡ Some inside → points_in d v ≡ 0
-points-decided laws d v inside some is e =
+points-decided : (laws : Lawful) (d : Descent) (was : Option Visit) (v : Visit) (inside : Bool) → 0 < d.leaf → IsBox v.box → IsNew was v → decision d v ≡ Some inside
+    → points_after d was v ≡ 0
+points-decided laws d was v inside some is new e =
     let free : end_cost d v ≡ 0 = rw e refl in
-    points-end laws d v some is (decided-split d v inside e) ∙ ap (λ n. size v.box * n) free ∙ mul-zero (size v.box)
+    points-end laws d was v some is new (decided-split d v inside e) ∙ ap (λ n. size v.box * n) free ∙ mul-zero (size v.box)
 
-pub points-outcome : (laws : Lawful) (d : Descent) (b : Indices) (list : List Step) → 0 < d.leaf → IsBox b → points_in d (visit b list) ≡ outcome_points d b (outcome_of (sampling d) list b)
-points-outcome laws d b list some is = by (decision d (visit b list)) refl
+pub points-outcome : (laws : Lawful) (d : Descent) (was : Option Visit) (b : Indices) (list : List Step) → 0 < d.leaf → IsBox b → IsNew was (visit b list)
+    → points_after d was (visit b list) ≡ outcome_points_after d was b (outcome_of (sampling d) list b)
+points-outcome laws d was b list some is new = by (decision d (visit b list)) refl
   where
     by : (o : Option Bool) → decision d (visit b list) ≡ o
-        → points_in d (visit b list) ≡ outcome_points d b (outcome_by o (handed_on d (visit b list)))
-    by (Some true) e = points-decided laws d (visit b list) true some is e
-    by (Some false) e = points-decided laws d (visit b list) false some is e
-    by None e = points-open laws d (visit b list) some is e
+        → points_after d was (visit b list) ≡ outcome_points_after d was b (outcome_by o (handed_on d (visit b list)))
+    by (Some true) e = points-decided laws d was (visit b list) true some is new e
+    by (Some false) e = points-decided laws d was (visit b list) false some is new e
+    by None e = points-open laws d was (visit b list) some is new e
 
-pub spans-outcome : (laws : Lawful) (d : Descent) (b : Indices) (list : List Step) → 0 < d.leaf → IsBox b → spans_in d (visit b list) ≡ length list + spans_below d list b
-spans-outcome laws d b list some is = by (decision d (visit b list)) refl
+-- the steps that are traced below a box which receives a list
+abbrev pub spans_below : Descent → Option Visit → List Step → Indices → ℕ
+spans_below d was list b = outcome_spans_after d was b (outcome_of (sampling d) list b)
+
+pub spans-outcome : (laws : Lawful) (d : Descent) (was : Option Visit) (b : Indices) (list : List Step) → 0 < d.leaf → IsBox b → IsNew was (visit b list)
+    → spans_after d was (visit b list) ≡ length list + spans_below d was list b
+spans-outcome laws d was b list some is new = by (decision d (visit b list)) refl
   where
     by : (o : Option Bool) → decision d (visit b list) ≡ o
-        → spans_in d (visit b list) ≡ length list + outcome_spans d b (outcome_by o (handed_on d (visit b list)))
-    by (Some true) e = spans-end laws d (visit b list) some is (decided-split d (visit b list) true e)
-    by (Some false) e = spans-end laws d (visit b list) some is (decided-split d (visit b list) false e)
-    by None e = spans-open laws d (visit b list) some is e
+        → spans_after d was (visit b list) ≡ length list + outcome_spans_after d was b (outcome_by o (handed_on d (visit b list)))
+    by (Some true) e = spans-end laws d was (visit b list) some is new (decided-split d (visit b list) true e)
+    by (Some false) e = spans-end laws d was (visit b list) some is new (decided-split d (visit b list) false e)
+    by None e = spans-open laws d was (visit b list) some is new e
 
 -- so much work is as much as equal numbers say
 exactly-same : (before after : Counts) (p s q t : ℕ) → p ≡ q → s ≡ t → CountsExactly p s before after → CountsExactly q t before after
@@ -138,114 +158,168 @@ exactly-same before after p s q t same_p same_s h =
     subst (λ n. CountsExactly n t before after) same_p (subst (λ n. CountsExactly p n before after) same_s h)
 
 -- a box that was traced, and then drawn by its outcome
-pub counted-box : (laws : Lawful) (d : Descent) (b : Indices) (list : List Step) (o : Outcome (List Step)) (before mid after : Counts) → 0 < d.leaf → IsBox b → o ≡ outcome_of (sampling d) list b → CountsHulls (length list) before mid
-    → CountsExactly (outcome_points d b o) (outcome_spans d b o) mid after
-    → CountsExactly (points_in d (visit b list)) (spans_in d (visit b list)) before after
-counted-box laws d b list o before mid after some is told h below =
-    exactly-same before after (0 + outcome_points d b o) (length list + outcome_spans d b o) (points_in d (visit b list)) (spans_in d (visit b list))
-    (zero-add (outcome_points d b o) ∙ ap (outcome_points d b) told ∙ sym (points-outcome laws d b list some is))
-    (ap (λ x. length list + outcome_spans d b x) told ∙ sym (spans-outcome laws d b list some is))
-    (laws.work.sum before mid after 0 (length list) (outcome_points d b o) (outcome_spans d b o) (laws.work.hulls before mid (length list) h) below)
+pub counted-box : (laws : Lawful) (d : Descent) (was : Option Visit) (b : Indices) (list : List Step) (o : Outcome (List Step)) (before mid after : Counts) → 0 < d.leaf → IsBox b
+    → IsNew was (visit b list) → o ≡ outcome_of (sampling d) list b → CountsHulls (length list) before mid
+    → CountsExactly (outcome_points_after d was b o) (outcome_spans_after d was b o) mid after
+    → CountsExactly (points_after d was (visit b list)) (spans_after d was (visit b list)) before after
+counted-box laws d was b list o before mid after some is new told h below =
+    exactly-same before after (0 + outcome_points_after d was b o) (length list + outcome_spans_after d was b o) (points_after d was (visit b list)) (spans_after d was (visit b list))
+    (zero-add (outcome_points_after d was b o) ∙ ap (outcome_points_after d was b) told ∙ sym (points-outcome laws d was b list some is new))
+    (ap (λ x. length list + outcome_spans_after d was b x) told ∙ sym (spans-outcome laws d was b list some is new))
+    (laws.work.sum before mid after 0 (length list) (outcome_points_after d was b o) (outcome_spans_after d was b o) (laws.work.hulls before mid (length list) h) below)
 
-pub bounded-box : (laws : Lawful) (d : Descent) (b : Indices) (list : List Step) (o : Outcome (List Step)) (before mid after : Counts) → 0 < d.leaf → IsBox b → o ≡ outcome_of (sampling d) list b → CountsHulls (length list) before mid
-    → CountsAtMost (outcome_points d b o) (outcome_spans d b o) mid after
-    → CountsAtMost (points_in d (visit b list)) (spans_in d (visit b list)) before after
-bounded-box laws d b list o before mid after some is told h below =
-    laws.bounds.after before mid after 0 (length list) (outcome_points d b o) (outcome_spans d b o) (points_in d (visit b list)) (spans_in d (visit b list))
-    (omega (arith, points-outcome laws d b list some is, ap (outcome_points d b) told))
-    (omega (arith, spans-outcome laws d b list some is, ap (outcome_spans d b) told))
+pub bounded-box : (laws : Lawful) (d : Descent) (was : Option Visit) (b : Indices) (list : List Step) (o : Outcome (List Step)) (before mid after : Counts) → 0 < d.leaf → IsBox b
+    → IsNew was (visit b list) → o ≡ outcome_of (sampling d) list b → CountsHulls (length list) before mid
+    → CountsAtMost (outcome_points_after d was b o) (outcome_spans_after d was b o) mid after
+    → CountsAtMost (points_after d was (visit b list)) (spans_after d was (visit b list)) before after
+bounded-box laws d was b list o before mid after some is new told h below =
+    laws.bounds.after before mid after 0 (length list) (outcome_points_after d was b o) (outcome_spans_after d was b o) (points_after d was (visit b list)) (spans_after d was (visit b list))
+    (omega (arith, points-outcome laws d was b list some is new, ap (outcome_points_after d was b) told))
+    (omega (arith, spans-outcome laws d was b list some is new, ap (outcome_spans_after d was b) told))
     (laws.work.hulls before mid (length list) h) below
 
 -- a trace alone is among the work of its box
-pub bounded-trace : (laws : Lawful) (d : Descent) (b : Indices) (list : List Step) (before after : Counts) → 0 < d.leaf → IsBox b → CountsHulls (length list) before after
-    → CountsAtMost (points_in d (visit b list)) (spans_in d (visit b list)) before after
-bounded-trace laws d b list before after some is h =
-    laws.bounds.exact before after 0 (length list) (points_in d (visit b list)) (spans_in d (visit b list)) (omega arith) (omega (arith, spans-outcome laws d b list some is))
+pub bounded-trace : (laws : Lawful) (d : Descent) (was : Option Visit) (b : Indices) (list : List Step) (before after : Counts) → 0 < d.leaf → IsBox b → IsNew was (visit b list)
+    → CountsHulls (length list) before after → CountsAtMost (points_after d was (visit b list)) (spans_after d was (visit b list)) before after
+bounded-trace laws d was b list before after some is new h =
+    laws.bounds.exact before after 0 (length list) (points_after d was (visit b list)) (spans_after d was (visit b list)) (omega arith) (omega (arith, spans-outcome laws d was b list some is new))
     (laws.work.hulls before after (length list) h)
 
 -- what a box hands on is such a list
 pub opened : (most : ℕ) (lists : List (List Step)) (o : Outcome ℕ) (at : ℕ) → HandsOn most lists o → o ≡ Open at → IsHandedOn most lists at
 opened most lists o at on is = subst (HandsOn most lists) is on
 
+-- each half is new, where the box handed on another list before
+abbrev pub AreNew : Descent → Option Visit → List Step → Type 0
+AreNew d was list = (half : Indices) → IsNew (half_before d was half) (visit half list)
+
 -- the steps that are traced over halves: the list over each, and what lies below them
-pub spans-halves : (laws : Lawful) (d : Descent) (list : List Step) (halves : List Indices) → 0 < d.leaf → All IsBox halves
-    → halves_spans d list halves ≡ length halves * length list + all_spans_below d list halves
-spans-halves laws d list [] some are = omega arith
-spans-halves laws d list (half ∷ halves) some are =
-    let first = spans-outcome laws d half list some (All-head IsBox half halves are) in
-    let rest = spans-halves laws d list halves some (All-tail IsBox half halves are) in
-    let sides : halves_spans d list (half ∷ halves) ≡ spans_in d (visit half list) + halves_spans d list halves = sum_by-cons (λ h. spans_in d (visit h list)) half halves in
-    let below : all_spans_below d list (half ∷ halves) ≡ spans_below d list half + all_spans_below d list halves = sum_by-cons (spans_below d list) half halves in
+abbrev pub half_below : Descent → Option Visit → List Step → Indices → ℕ
+half_below d was list half = spans_below d (half_before d was half) list half
+
+abbrev pub halves_below : Descent → Option Visit → List Step → List Indices → ℕ
+halves_below d was list halves = sum_by (half_below d was list) halves
+
+pub spans-halves : (laws : Lawful) (d : Descent) (was : Option Visit) (list : List Step) (halves : List Indices) → 0 < d.leaf → All IsBox halves → AreNew d was list
+    → halves_spans_after d was list halves ≡ length halves * length list + halves_below d was list halves
+spans-halves laws d was list [] some are new = omega arith
+spans-halves laws d was list (half ∷ halves) some are new =
+    let first = spans-outcome laws d (half_before d was half) half list some (All-head IsBox half halves are) (new half) in
+    let rest = spans-halves laws d was list halves some (All-tail IsBox half halves are) new in
+    let sides : halves_spans_after d was list (half ∷ halves) ≡ spans_after d (half_before d was half) (visit half list) + halves_spans_after d was list halves =
+    sum_by-cons (λ h. spans_after d (half_before d was h) (visit h list)) half halves in
+    let below : halves_below d was list (half ∷ halves) ≡ half_below d was list half + halves_below d was list halves = sum_by-cons (half_below d was list) half halves in
     omega (arith, first, rest, sides, below)
 
 -- the traces of halves are among their work
-pub bounded-traces : (laws : Lawful) (d : Descent) (list : List Step) (halves : List Indices) (before after : Counts) → 0 < d.leaf → All IsBox halves
-    → CountsAtMost 0 (length halves * length list) before after → CountsAtMost (halves_points d list halves) (halves_spans d list halves) before after
-bounded-traces laws d list halves before after some are h =
-    laws.bounds.more before after 0 (length halves * length list) (halves_points d list halves) (halves_spans d list halves) (omega arith)
-    (omega (arith, spans-halves laws d list halves some are)) h
+pub bounded-traces : (laws : Lawful) (d : Descent) (was : Option Visit) (list : List Step) (halves : List Indices) (before after : Counts) → 0 < d.leaf → All IsBox halves → AreNew d was list
+    → CountsAtMost 0 (length halves * length list) before after → CountsAtMost (halves_points_after d was list halves) (halves_spans_after d was list halves) before after
+bounded-traces laws d was list halves before after some are new h =
+    laws.bounds.more before after 0 (length halves * length list) (halves_points_after d was list halves) (halves_spans_after d was list halves) (omega arith)
+    (omega (arith, spans-halves laws d was list halves some are new)) h
 
 -- so much has been counted once all halves are traced and some are drawn
-abbrev pub CountsDrawn : Descent → List Step → List Indices → ℕ → Counts → Counts → Type 0
-CountsDrawn d list halves i before after =
-    CountsExactly (halves_points d list (take i halves)) (length halves * length list + all_spans_below d list (take i halves)) before after
+abbrev pub CountsDrawn : Descent → Option Visit → List Step → List Indices → ℕ → Counts → Counts → Type 0
+CountsDrawn d was list halves i before after =
+    CountsExactly (halves_points_after d was list (take i halves)) (length halves * length list + halves_below d was list (take i halves)) before after
 
-pub drawn-none : (laws : Lawful) (d : Descent) (list : List Step) (halves : List Indices) (before after : Counts)
-    → CountsHulls (length halves * length list) before after → CountsDrawn d list halves 0 before after
-drawn-none laws d list halves before after h =
+pub drawn-none : (laws : Lawful) (d : Descent) (was : Option Visit) (list : List Step) (halves : List Indices) (before after : Counts)
+    → CountsHulls (length halves * length list) before after → CountsDrawn d was list halves 0 before after
+drawn-none laws d was list halves before after h =
     exactly-same before after 0 (length halves * length list) 0 (length halves * length list + 0) refl (omega arith)
     (laws.work.hulls before after (length halves * length list) h)
 
-pub drawn-all : (laws : Lawful) (d : Descent) (list : List Step) (halves : List Indices) (i : ℕ) (before after : Counts) → 0 < d.leaf → All IsBox halves → i ≡ length halves
-    → CountsDrawn d list halves i before after → CountsExactly (halves_points d list halves) (halves_spans d list halves) before after
-drawn-all laws d list halves i before after some are end h =
+pub drawn-all : (laws : Lawful) (d : Descent) (was : Option Visit) (list : List Step) (halves : List Indices) (i : ℕ) (before after : Counts) → 0 < d.leaf → All IsBox halves → AreNew d was list
+    → i ≡ length halves
+    → CountsDrawn d was list halves i before after → CountsExactly (halves_points_after d was list halves) (halves_spans_after d was list halves) before after
+drawn-all laws d was list halves i before after some are new end h =
     let whole = take_all i halves (omega (arith, end)) in
-    exactly-same before after (halves_points d list (take i halves)) (length halves * length list + all_spans_below d list (take i halves))
-    (halves_points d list halves) (halves_spans d list halves) (ap (halves_points d list) whole)
-    (ap (λ l. length halves * length list + all_spans_below d list l) whole ∙ sym (spans-halves laws d list halves some are)) h
+    exactly-same before after (halves_points_after d was list (take i halves)) (length halves * length list + halves_below d was list (take i halves))
+    (halves_points_after d was list halves) (halves_spans_after d was list halves) (ap (halves_points_after d was list) whole)
+    (ap (λ l. length halves * length list + halves_below d was list l) whole ∙ sym (spans-halves laws d was list halves some are new)) h
 
--- one more half is drawn
-pub halves-more : (d : Descent) (list : List Step) (halves : List Indices) (i : ℕ) (half : Indices) (old mid new : List Node) → i < length halves → half ≡ get_or halves i half
-    → mid ≡ old ++ halves_nodes d list (take i halves) → new ≡ mid ++ nodes_of d (visit half list) → new ≡ old ++ halves_nodes d list (take (i + 1) halves)
-halves-more d list halves i half old mid new within read before added =
-    let f : Indices → List Node = λ h. nodes_of d (visit h list) in
+-- what is kept of one more half
+halves-more : {K : Type 0} (f : Indices → List K) (halves : List Indices) (i : ℕ) (half : Indices) (old mid new : List K) → i < length halves → half ≡ get_or halves i half
+    → mid ≡ old ++ flat_map f (take i halves) → new ≡ mid ++ f half → new ≡ old ++ flat_map f (take (i + 1) halves)
+halves-more f halves i half old mid new within read before added =
     let joined : flat_map f (take i halves ++ half ∷ []) ≡ flat_map f (take i halves) ++ f half =
     flat_map-append f (take i halves) (half ∷ []) ∙ ap (λ l. flat_map f (take i halves) ++ l) (flat_map-cons f half [] ∙ append-nil (f half)) in
     let more : take (i + 1) halves ≡ take i halves ++ half ∷ [] = take_more halves i half within ∙ ap (λ h. take i halves ++ h ∷ []) (sym read) in
     added ∙ ap (λ l. l ++ f half) before ∙ append_assoc old (flat_map f (take i halves)) (f half) ∙ ap (λ l. old ++ l) (sym joined ∙ ap (flat_map f) (sym more))
 
-pub halves-counted : (laws : Lawful) (d : Descent) (list : List Step) (halves : List Indices) (i : ℕ) (half : Indices) (o : Outcome (List Step)) (before mid after : Counts)
-    → 0 < d.leaf → IsBox half → i < length halves → half ≡ get_or halves i half
-    → o ≡ outcome_of (sampling d) list half → CountsDrawn d list halves i before mid
-    → CountsExactly (outcome_points d half o) (outcome_spans d half o) mid after
-    → CountsDrawn d list halves (i + 1) before after
-halves-counted laws d list halves i half o before mid after some is within read told first second =
-    let f : Indices → ℕ = λ h. points_in d (visit h list) in
-    let g : Indices → ℕ = spans_below d list in
-    let points : outcome_points d half o ≡ f half = ap (outcome_points d half) told ∙ sym (points-outcome laws d half list some is) in
-    let spans : outcome_spans d half o ≡ g half = ap (outcome_spans d half) told in
+pub adds-none : (boxes : Boxes) → Adds boxes boxes [] []
+adds-none boxes = record { nodes = sym (append-nil boxes.nodes.items); lists = λ keeps. sym (append-nil boxes.lists.items); keeps = refl }
+
+pub adds-same : (before after : Boxes) (new other : List Node) (handed others : List (Option (List Step))) → new ≡ other → handed ≡ others
+    → Adds before after new handed → Adds before after other others
+adds-same before after new other handed others same alike h =
+    subst (λ l. Adds before after l others) same (subst (λ l. Adds before after new l) alike h)
+
+pub adds-more : (f : Indices → List Node) (g : Indices → List (Option (List Step))) (halves : List Indices) (i : ℕ) (half : Indices) (old mid new : Boxes)
+    → i < length halves → half ≡ get_or halves i half → Adds old mid (flat_map f (take i halves)) (flat_map g (take i halves)) → Adds mid new (f half) (g half)
+    → Adds old new (flat_map f (take (i + 1) halves)) (flat_map g (take (i + 1) halves))
+adds-more f g halves i half old mid new within read first then = record {
+  nodes = halves-more f halves i half old.nodes.items mid.nodes.items new.nodes.items within read first.nodes then.nodes;
+  lists = λ keeps. halves-more g halves i half old.lists.items mid.lists.items new.lists.items within read (first.lists keeps) (then.lists (subst IsTrue (sym first.keeps) keeps));
+  keeps = then.keeps ∙ first.keeps;
+}
+
+pub halves-counted : (laws : Lawful) (d : Descent) (was : Option Visit) (list : List Step) (halves : List Indices) (i : ℕ) (half : Indices) (o : Outcome (List Step)) (before mid after : Counts)
+    → 0 < d.leaf → IsBox half → AreNew d was list → i < length halves → half ≡ get_or halves i half
+    → o ≡ outcome_of (sampling d) list half → CountsDrawn d was list halves i before mid
+    → CountsExactly (outcome_points_after d (half_before d was half) half o) (outcome_spans_after d (half_before d was half) half o) mid after
+    → CountsDrawn d was list halves (i + 1) before after
+halves-counted laws d was list halves i half o before mid after some is new within read told first second =
+    let f : Indices → ℕ = λ h. points_after d (half_before d was h) (visit h list) in
+    let g : Indices → ℕ = half_below d was list in
+    let own : Option Visit = half_before d was half in
+    let points : outcome_points_after d own half o ≡ f half = ap (outcome_points_after d own half) told ∙ sym (points-outcome laws d own half list some is (new half)) in
+    let spans : outcome_spans_after d own half o ≡ g half = ap (outcome_spans_after d own half) told in
     let all = length halves * length list in
-    exactly-same before after (sum_by f (take i halves) + outcome_points d half o) ((all + sum_by g (take i halves)) + outcome_spans d half o)
+    exactly-same before after (sum_by f (take i halves) + outcome_points_after d own half o) ((all + sum_by g (take i halves)) + outcome_spans_after d own half o)
     (sum_by f (take (i + 1) halves)) (all + sum_by g (take (i + 1) halves))
     (ap (λ n. sum_by f (take i halves) + n) (points ∙ ap f read) ∙ sym (sum_by_more f halves i half within))
     (omega (arith, spans, ap g read, sum_by_more g halves i half within))
-    (laws.work.sum before mid after (sum_by f (take i halves)) (all + sum_by g (take i halves)) (outcome_points d half o) (outcome_spans d half o) first second)
+    (laws.work.sum before mid after (sum_by f (take i halves)) (all + sum_by g (take i halves)) (outcome_points_after d own half o) (outcome_spans_after d own half o) first second)
 
 -- and the work of the halves up to one of them is among that of all
-pub halves-bounded : (laws : Lawful) (d : Descent) (list : List Step) (halves : List Indices) (i : ℕ) (half : Indices) (o : Outcome (List Step)) (before mid after : Counts)
-    → 0 < d.leaf → All IsBox halves → IsBox half → i < length halves → half ≡ get_or halves i half
-    → o ≡ outcome_of (sampling d) list half → CountsDrawn d list halves i before mid
-    → CountsAtMost (outcome_points d half o) (outcome_spans d half o) mid after
-    → CountsAtMost (halves_points d list halves) (halves_spans d list halves) before after
-halves-bounded laws d list halves i half o before mid after some are is within read told first second =
-    let f : Indices → ℕ = λ h. points_in d (visit h list) in
-    let g : Indices → ℕ = spans_below d list in
-    let points : outcome_points d half o ≡ f half = ap (outcome_points d half) told ∙ sym (points-outcome laws d half list some is) in
-    let spans : outcome_spans d half o ≡ g half = ap (outcome_spans d half) told in
+pub halves-bounded : (laws : Lawful) (d : Descent) (was : Option Visit) (list : List Step) (halves : List Indices) (i : ℕ) (half : Indices) (o : Outcome (List Step)) (before mid after : Counts)
+    → 0 < d.leaf → All IsBox halves → IsBox half → AreNew d was list → i < length halves → half ≡ get_or halves i half
+    → o ≡ outcome_of (sampling d) list half → CountsDrawn d was list halves i before mid
+    → CountsAtMost (outcome_points_after d (half_before d was half) half o) (outcome_spans_after d (half_before d was half) half o) mid after
+    → CountsAtMost (halves_points_after d was list halves) (halves_spans_after d was list halves) before after
+halves-bounded laws d was list halves i half o before mid after some are is new within read told first second =
+    let f : Indices → ℕ = λ h. points_after d (half_before d was h) (visit h list) in
+    let g : Indices → ℕ = half_below d was list in
+    let own : Option Visit = half_before d was half in
+    let points : outcome_points_after d own half o ≡ f half = ap (outcome_points_after d own half) told ∙ sym (points-outcome laws d own half list some is (new half)) in
+    let spans : outcome_spans_after d own half o ≡ g half = ap (outcome_spans_after d own half) told in
     let all = length halves * length list in
-    laws.bounds.after before mid after (sum_by f (take i halves)) (all + sum_by g (take i halves)) (outcome_points d half o) (outcome_spans d half o) (sum_by f halves) (halves_spans d list halves)
+    laws.bounds.after before mid after (sum_by f (take i halves)) (all + sum_by g (take i halves)) (outcome_points_after d own half o) (outcome_spans_after d own half o) (sum_by f halves)
+    (halves_spans_after d was list halves)
     (omega (arith, sum_by_more_le f halves i half within, ap f read, points))
-    (omega (arith, sum_by_more_le g halves i half within, ap g read, spans, spans-halves laws d list halves some are)) first second
+    (omega (arith, sum_by_more_le g halves i half within, ap g read, spans, spans-halves laws d was list halves some are new)) first second
+
+-- halves whose box handed on the same list before take nothing
+pub halves-old : (laws : Lawful) (d : Descent) (v : Visit) (halves : List Indices) → 0 < d.leaf → All IsBox halves → is_split d v ≡ true
+    → (halves_points_after d (Some v) (handed_on d v) halves ≡ 0) × (halves_spans_after d (Some v) (handed_on d v) halves ≡ 0)
+halves-old laws d v [] some are e = (refl, refl)
+halves-old laws d v (half ∷ halves) some are e =
+    let is = All-head IsBox half halves are in
+    let rest = halves-old laws d v halves some (All-tail IsBox half halves are) e in
+    let was : half_before d (Some v) half ≡ Some (half_visit d v half) = rw e refl in
+    let points : points_after d (half_before d (Some v) half) (half_visit d v half) ≡ 0 = ap (λ w. points_after d w (half_visit d v half)) was ∙ laws.redrawn.old_points d (half_visit d v half) some is in
+    let spans : spans_after d (half_before d (Some v) half) (half_visit d v half) ≡ 0 = ap (λ w. spans_after d w (half_visit d v half)) was ∙ laws.redrawn.old_spans d (half_visit d v half) some is in (
+      sum_by-cons (λ h. points_after d (half_before d (Some v) h) (half_visit d v h)) half halves ∙ omega (arith, points, rest.0),
+      sum_by-cons (λ h. spans_after d (half_before d (Some v) h) (half_visit d v h)) half halves ∙ omega (arith, spans, rest.1),
+    )
+
+-- the halves of a box are new where it was not split before, or handed on another list then
+pub halves-new : (d : Descent) (was : Option Visit) (list : List Step) → ((v : Visit) → was ≡ Some v → is_split d v ≡ true → handed_on d v ≢ list) → AreNew d was list
+halves-new d None list other half old is = absurd (none-some old is)
+halves-new d (Some v) list other half old is =
+    let split = cond_some (is_split d v) (half_visit d v half) old is in
+    (ap (λ w. w.box) (sym split.1), λ equal. other v refl split.0 (ap (λ w. w.list) split.1 ∙ equal))
 
 -- a half that is read is a part of the box
 pub half-part : (laws : Lawful) (b half : Indices) (halves : List Indices) (i : ℕ) → IsBox b → halves ≡ halves_of 8 b → i < length halves → half ≡ get_or halves i half → IsPart 8 b half
@@ -277,27 +351,29 @@ size-flat view b is within =
     let layer : b.z1 - b.z0 ≡ 1 = omega (arith, is.z, within.z) in
     ap (λ n. n * ((b.y1 - b.y0) * (b.x1 - b.x0))) layer ∙ omega arith
 
-leaf-points : (view : Window) (b : Indices) (list : List Step) → IsBox b → IsInRoot view Raster b → is_long 8 b ≡ false
-    → (b.y1 - b.y0) * ((b.x1 - b.x0) * length list) ≡ open_points (raster view) b list
-leaf-points view b list is within short =
+leaf-points : (view : Window) (was : Option Visit) (b : Indices) (list : List Step) → IsBox b → IsInRoot view Raster b → is_long 8 b ≡ false
+    → (b.y1 - b.y0) * ((b.x1 - b.x0) * length list) ≡ open_points_after (raster view) was b list
+leaf-points view was b list is within short =
     sym (mul_assoc (b.y1 - b.y0) (b.x1 - b.x0) (length list)) ∙ ap (λ n. n * length list) (sym (size-flat view b is within)) ∙ rw short refl
 
-leaf-spans : (d : Descent) (b : Indices) (list : List Step) → is_long d.leaf b ≡ false → 0 ≡ open_spans d b list
-leaf-spans d b list short = rw short refl
+leaf-spans : (d : Descent) (was : Option Visit) (b : Indices) (list : List Step) → is_long d.leaf b ≡ false → 0 ≡ open_spans_after d was b list
+leaf-spans d was b list short = rw short refl
 
 -- the work of a leaf is its evaluations
-pub counted-leaf : (laws : Lawful) (view : Window) (b : Indices) (list : List Step) (before after : Counts) → IsBox b → IsInRoot view Raster b → is_long 8 b ≡ false
-    → RisesBy before after (points_of ((b.y1 - b.y0) * ((b.x1 - b.x0) * length list))) → CountsExactly (open_points (raster view) b list) (open_spans (raster view) b list) before after
-counted-leaf laws view b list before after is within short h =
-    exactly-same before after ((b.y1 - b.y0) * ((b.x1 - b.x0) * length list)) 0 (open_points (raster view) b list) (open_spans (raster view) b list)
-    (leaf-points view b list is within short) (leaf-spans (raster view) b list short) (laws.work.points before after ((b.y1 - b.y0) * ((b.x1 - b.x0) * length list)) h)
+pub counted-leaf : (laws : Lawful) (view : Window) (was : Option Visit) (b : Indices) (list : List Step) (before after : Counts) → IsBox b → IsInRoot view Raster b → is_long 8 b ≡ false
+    → RisesBy before after (points_of ((b.y1 - b.y0) * ((b.x1 - b.x0) * length list)))
+    → CountsExactly (open_points_after (raster view) was b list) (open_spans_after (raster view) was b list) before after
+counted-leaf laws view was b list before after is within short h =
+    exactly-same before after ((b.y1 - b.y0) * ((b.x1 - b.x0) * length list)) 0 (open_points_after (raster view) was b list) (open_spans_after (raster view) was b list)
+    (leaf-points view was b list is within short) (leaf-spans (raster view) was b list short) (laws.work.points before after ((b.y1 - b.y0) * ((b.x1 - b.x0) * length list)) h)
 
-pub bounded-leaf : (laws : Lawful) (view : Window) (b : Indices) (list : List Step) (before after : Counts) → IsBox b → IsInRoot view Raster b → is_long 8 b ≡ false
-    → RisesBy before after (points_of ((b.y1 - b.y0) * ((b.x1 - b.x0) * length list))) → CountsAtMost (open_points (raster view) b list) (open_spans (raster view) b list) before after
-bounded-leaf laws view b list before after is within short h =
-    let p = open_points (raster view) b list in
-    let q = open_spans (raster view) b list in
-    laws.bounds.exact before after p q p q (omega arith) (omega arith) (counted-leaf laws view b list before after is within short h)
+pub bounded-leaf : (laws : Lawful) (view : Window) (was : Option Visit) (b : Indices) (list : List Step) (before after : Counts) → IsBox b → IsInRoot view Raster b → is_long 8 b ≡ false
+    → RisesBy before after (points_of ((b.y1 - b.y0) * ((b.x1 - b.x0) * length list)))
+    → CountsAtMost (open_points_after (raster view) was b list) (open_spans_after (raster view) was b list) before after
+bounded-leaf laws view was b list before after is within short h =
+    let p = open_points_after (raster view) was b list in
+    let q = open_spans_after (raster view) was b list in
+    laws.bounds.exact before after p q p q (omega arith) (omega arith) (counted-leaf laws view was b list before after is within short h)
 
 -- halves are boxes
 pub halves-boxes : (laws : Lawful) (b : Indices) (halves : List Indices) → IsBox b → halves ≡ halves_of 8 b → All IsBox halves
