@@ -3,6 +3,8 @@ pub mod Drawn
 mod Examples
 pub mod Leaves
 pub mod NodeLaws
+pub mod OldLaws
 pub mod PaintLaws
 pub mod Painted
 mod Scans
+pub mod Stands

@@ -1,13 +1,12 @@
 -- What the nodes of a tree say of its samples.
-use Rattle.std.proofs.Common.{◌≡◌, ℕ, zero, suc, ◌+◌, ◌-◌, ◌*◌, ◌/◌, ◌%◌, ◌<◌, ◌≤◌, Bool, true, false, cond, List, [], ◌∷◌, ◌++◌, add-zero, zero-add, append-nil, append_assoc, length, map, get_or, take, drop, refl, sym, ap, subst, ◌∙◌, arith}
+use Rattle.std.proofs.Common.{◌≡◌, ℕ, zero, suc, ◌+◌, ◌-◌, ◌*◌, ◌/◌, ◌%◌, ◌<◌, ◌≤◌, Bool, true, false, cond, List, [], ◌∷◌, ◌++◌, add-zero, zero-add, append-nil, length, map, get_or, take, drop, refl, sym, ap, subst, ◌∙◌, arith}
 use Rattle.std.specs.Prelude.{nat_lt, ◌||◌, Option, Some, None, count_by}
 use Rattle.std.specs.List.{flat_map, list_any, range_with_len}
 use Rattle.std.proofs.Math.Bool.{or_comm}
 use Rattle.std.proofs.Math.Nat.{mod-lt}
 use Rattle.std.proofs.lemmas.Grind.{flat_map-append}
-use Rattle.std.proofs.Math.Seq.{get_or-append_seam}
 use Rattle.std.proofs.lemmas.Bool.{ltb-false, ltb-true, or_parts}
-use Rattle.std.proofs.lemmas.List.{drop_more, length-append, length-drop, length-take-le, map-append, take_more}
+use Rattle.std.proofs.lemmas.List.{drop_more, length-drop, length-take-le, map-append, take_more}
 use Rattle.std.proofs.lemmas.List.Concat.{flat_map-cons}
 use Rattle.std.proofs.lemmas.List.Folds.{list_any-append}
 use Rattle.std.proofs.lemmas.List.FromFn.{fill_by_all}
@@ -34,6 +33,7 @@ use Rattle.quad_descent.specs.declared.node.Node.{Node}
 use Rattle.quad_descent.specs.declared.node.Node.TheVariants.{Outside, Inside, Leaf, Split}
 use Rattle.quad_descent.proofs.Drawn.{half-part, half-within}
 use Rattle.quad_descent.proofs.PaintLaws.{covered, place-of, row-below}
+use Rattle.quad_descent.proofs.Stands.{stands-below, stands-first, stands-more, stands-read, stands-within}
 
 -- what the first node of a box says of it
 pub record SaysLeaf (d : Descent) (v : Visit) (rows : List ℕ) : Type 0 where
@@ -83,42 +83,6 @@ head-of laws d v some is = by (decision d v) refl (is_long d.leaf v.box) refl
       count = refl;
       says = record { undecided = e; short = long; is = refl };
     }
-
--- the node at the place where the nodes of a box stand is the first of them
-pub stands-read : (all part below : List Node) (node r : Node) (at : ℕ) → StandsAt all part at → part ≡ node ∷ below → r ≡ get_or all at r → r ≡ node
-stands-read all part below node r at stands is read =
-    read ∙ ap (λ l. get_or l at r) (stands.is ∙ ap (λ p. stands.front ++ (p ++ stands.rest)) is) ∙ ap (λ n. get_or (stands.front ++ (node ∷ (below ++ stands.rest))) n r) stands.place
-    ∙ get_or-append_seam stands.front node (below ++ stands.rest) r
-
-pub stands-within : (all part : List Node) (at : ℕ) → StandsAt all part at → at + length part ≤ length all
-stands-within all part at stands =
-    omega (arith, stands.place, ap length stands.is, length-append stands.front (part ++ stands.rest), length-append part stands.rest)
-
--- what stands behind the first of some nodes
-pub stands-below : (all part below : List Node) (node : Node) (at : ℕ) → StandsAt all part at → part ≡ node ∷ below → StandsAt all below (at + 1)
-stands-below all part below node at stands is = record {
-  front = stands.front ++ node ∷ [];
-  rest = stands.rest;
-  place = omega (arith, stands.place, length-append stands.front (node ∷ []));
-  is = stands.is ∙ ap (λ p. stands.front ++ (p ++ stands.rest)) is ∙ sym (append_assoc stands.front (node ∷ []) (below ++ stands.rest));
-}
-
--- and what stands behind the first part
-pub stands-first : (all first more : List Node) (at : ℕ) → StandsAt all (first ++ more) at → StandsAt all first at
-stands-first all first more at stands = record {
-  front = stands.front;
-  rest = more ++ stands.rest;
-  place = stands.place;
-  is = stands.is ∙ ap (λ l. stands.front ++ l) (append_assoc first more stands.rest);
-}
-
-pub stands-more : (all first more : List Node) (at : ℕ) → StandsAt all (first ++ more) at → StandsAt all more (at + length first)
-stands-more all first more at stands = record {
-  front = stands.front ++ first;
-  rest = stands.rest;
-  place = omega (arith, stands.place, length-append stands.front first);
-  is = stands.is ∙ ap (λ l. stands.front ++ l) (append_assoc first more stands.rest) ∙ sym (append_assoc stands.front first (more ++ stands.rest));
-}
 
 -- the sample of a place of a band
 abbrev sample_at : ℕ → ℕ → ℕ → Sample

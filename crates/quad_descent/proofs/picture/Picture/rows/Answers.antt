@@ -7,25 +7,25 @@ use Rattle.quad_descent.specs.Drawn.{IsDrawnAt}
 use Rattle.quad_descent.specs.Nodes.{nodes_of}
 use Rattle.quad_descent.specs.Raster.{raster, raster_root}
 use Rattle.quad_descent.proofs.Painted.{band-painted}
-use Rattle.quad_descent.proofs.painting.rows.Goals as goal
+use Rattle.quad_descent.proofs.picture.Picture.rows.Goals as goal
 
 pub paint_box-requires-clause-drawn : goal.paint_box-requires-clause-drawn
 paint_box-requires-clause-drawn c =
-    let view = c.args.tree.now.view in
-    let list = c.args.tree.now.list in
-    subst (λ b. IsDrawnAt view list 0 b) (sym (c.root.ensures ∙ ap (λ s. root_box_of s.view Raster) c.tree.view_is))
+    let view = c.args.self.now.view in
+    let list = c.args.self.now.list in
+    subst (λ b. IsDrawnAt view list 0 b) (sym (c.root.ensures ∙ ap (λ s. root_box_of s.view Raster) c.self.view_is))
     (record {
       received = list;
-      visit_is = subst (λ s. IsVisit (raster s.view) (raster_root s.view s.list)) c.tree.view_is c.tree.invariant.1;
+      visit_is = subst (λ s. IsVisit (raster s.view) (raster_root s.view s.list)) c.self.view_is c.self.invariant.1;
       values = λ s lies. refl;
       stands = record { front = []; rest = []; place = refl; is = sym (append-nil (nodes_of (raster view) (raster_root view list))) };
     })
 
 pub returns : goal.returns
 returns c =
-    let view = c.args.tree.now.view in
-    let w = ap (λ s. s.view.w) c.tree-inside.view_is ∙ ap (λ s. s.view.w) c.tree.view_is in
-    let some : 0 < view.w = omega (arith, w, c.tree-inside.invariant.w.some) in
+    let view = c.args.self.now.view in
+    let w = ap (λ s. s.view.w) c.self-inside.view_is ∙ ap (λ s. s.view.w) c.self.view_is in
+    let some : 0 < view.w = omega (arith, w, c.self-inside.invariant.w.some) in
     let parts = div-add-mod' (length c.args.pixels.now) view.w in
-    band-painted c.layers_hold.ensures view c.args.tree.now.list c.args.row (length c.args.pixels.now / view.w) c.root.result c.args.pixels.now c.paint_box.new.pixels (c.root.ensures ∙ ap (λ s. root_box_of s.view Raster) c.tree.view_is)
+    band-painted c.layers_hold.ensures view c.args.self.now.list c.args.row (length c.args.pixels.now / view.w) c.root.result c.args.pixels.now c.paint_box.new.pixels (c.root.ensures ∙ ap (λ s. root_box_of s.view Raster) c.self.view_is)
     (omega (arith, parts, c.requires.whole)) c.requires.within some c.paint_box.ensures
