@@ -153,7 +153,7 @@ spans-outcome laws d was b list some is new = by (decision d (visit b list)) ref
     by None e = spans-open laws d was (visit b list) some is new e
 
 -- so much work is as much as equal numbers say
-exactly-same : (before after : Counts) (p s q t : ℕ) → p ≡ q → s ≡ t → CountsExactly p s before after → CountsExactly q t before after
+pub exactly-same : (before after : Counts) (p s q t : ℕ) → p ≡ q → s ≡ t → CountsExactly p s before after → CountsExactly q t before after
 exactly-same before after p s q t same_p same_s h =
     subst (λ n. CountsExactly n t before after) same_p (subst (λ n. CountsExactly p n before after) same_s h)
 

@@ -6,5 +6,6 @@ pub mod NodeLaws
 pub mod OldLaws
 pub mod PaintLaws
 pub mod Painted
+pub mod Redrawn
 mod Scans
 pub mod Stands

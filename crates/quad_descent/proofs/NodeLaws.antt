@@ -8,7 +8,6 @@ use Rattle.box_chains.specs.Chains.{Descent, Visit, decision, half_visit, handed
 use Rattle.box_chains.specs.Parts.{IsPart}
 use Rattle.box_chains.specs.Laws.{Lawful}
 use Rattle.view_places.specs.Boxes.{Indices, IsBox, halves_of}
-use Rattle.live_clauses.specs.declared.step.Step.{Step}
 use Rattle.quad_descent.specs.KeptLists.{box_lists, halves_lists, lists_of}
 use Rattle.quad_descent.specs.Nodes.{box_nodes, kept_within, nodes_of}
 use Rattle.quad_descent.specs.declared.node.Node.{Node}

@@ -2,14 +2,16 @@
 ghost use Rattle.std.specs.Prelude.{◌≡◌, ◌≢◌, [], Some, None, IfOk, IfSome, IsTrue, OnOk, OnErr};
 ghost use Rattle.box_chains.specs.Redrawn.{IsNew};
 ghost use Rattle.box_chains.specs.Tallied.{CountsAtMost, CountsExactly};
+ghost use Rattle.box_chains.specs.Visits.{IsVisit};
 ghost use Rattle.quad_descent.specs.Adding.{IsDrawn};
-ghost use Rattle.quad_descent.specs.OldBoxes.{IsOldBox, visit_before};
-ghost use Rattle.quad_descent.specs.Raster.{frame_points, frame_spans, fresh_points, fresh_spans, raster_root};
-ghost use Rattle.quad_descent.specs.OldBoxes.{received_by};
+ghost use Rattle.quad_descent.specs.Nodes.{nodes_of};
+ghost use Rattle.quad_descent.specs.OldBoxes.{IsOldBox, received_by, visit_before};
+ghost use Rattle.quad_descent.specs.Raster.{frame_points, frame_spans, fresh_points, fresh_spans, raster, raster_root};
 ghost use Rattle.view_places.specs.Spans.{root_box_of};
 
 use crate::boxes::Boxes;
 use crate::drawing::draw_box;
+use crate::node::Node;
 use crate::old_box::OldBox;
 use crate::{Picture, QuadTree};
 use box_chains::{Desk, layers_hold};
@@ -38,11 +40,7 @@ pub fn draw_picture(
 {
     layers_hold();
     let boxes = draw_boxes(alloc, list, view, None, false, tally)?;
-    Ok(Picture {
-        view: *view,
-        list: list.share()?,
-        nodes: boxes.nodes,
-    })
+    picture_of(boxes.nodes, list, view)
 }
 
 /// Draws a list of steps over a view, as an image that may be drawn anew. The work of a fresh image is
@@ -146,14 +144,31 @@ fn tree_of(boxes: Boxes, list: &Tape, view: &View) -> Result<QuadTree, AllocErro
     requires keeps { IsTrue boxes.keeps }
     ensures { IfOk result (λ tree. tree ≡ record { view = view.now; list = list.now }) }
 {
-    layers_hold();
-    let picture = Picture {
-        view: *view,
-        list: list.share()?,
-        nodes: boxes.nodes,
-    };
+    let picture = picture_of(boxes.nodes, list, view)?;
     Ok(QuadTree {
         picture,
         lists: boxes.lists,
     })
+}
+
+// The image whose nodes these are. AllocError: there is no memory to share the list.
+fn picture_of(nodes: Vec<Node>, list: &Tape, view: &View) -> Result<Picture, AllocError>
+    requires nodes { nodes.items ≡ nodes_of (raster view.now) (raster_root view.now list.now) }
+    ensures { IfOk result (λ picture. picture ≡ record { view = view.now; list = list.now }) }
+{
+    image_holds(view, list);
+    Ok(Picture {
+        view: *view,
+        list: list.share()?,
+        nodes,
+    })
+}
+
+// Lets a proof know that the box of all samples of a view may receive a list.
+#[inline]
+fn image_holds(view: &View, list: &Tape)
+    ensures { IsVisit (raster view.now) (raster_root view.now list.now) }
+{
+    let _width = view.w;
+    let _len = list.len();
 }
