@@ -1,4 +1,4 @@
-ghost use Rattle.std.specs.Prelude.{◌≡◌, ◌≢◌, ◌≤◌, length, IfOk, vec_len};
+ghost use Rattle.std.specs.Prelude.{◌≡◌, ◌≢◌, ◌<◌, ◌≤◌, length, IfOk, vec_len};
 ghost use Rattle.fixed_ops.specs.Arity.{arity_of};
 ghost use Rattle.live_clauses.specs.Choices.{AreChoices};
 
@@ -226,12 +226,22 @@ fn a_constant_is_read_through_two_shortenings(rt: HostRuntime) -> Result<(), Fai
     ];
     shows(&rt, &twice, &steps);
     let mut lists = Lists::new(alloc, &root)?;
-    lists.push_live(0, at_each(alloc, &root, Op::Max, Choice::Right)?.as_slice())?;
-    let kept = lists.keep(1)?;
-    assert!(rt; same(&kept, &once));
-    lists.push_live(1, at_each(alloc, &kept, Op::Min, Choice::Right)?.as_slice())?;
-    shows(&rt, &lists.keep(2)?, &steps);
+    push_last(alloc, &mut lists, Op::Max, Choice::Right)?;
+    assert!(rt; lists.list(lists.len() - 1).same(&once.steps()));
+    push_last(alloc, &mut lists, Op::Min, Choice::Right)?;
+    shows(&rt, &lists.keep(lists.len() - 1)?, &steps);
     Ok(())
+}
+
+// Puts the live list of the last of some lists behind it, where the steps of one operation choose.
+fn push_last(alloc: Global, lists: &mut Lists, at: Op, choice: Choice) -> Result<(), AllocError>
+    requires { 0 < length lists.old }
+    ensures { 0 < length lists.new }
+{
+    let last = lists.len() - 1;
+    let list = lists.keep(last)?;
+    let choices = at_each(alloc, &list, at, choice)?;
+    lists.push_live(last, choices.as_slice())
 }
 
 // x less a number, behind a number that nothing needs.
