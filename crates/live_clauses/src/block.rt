@@ -42,7 +42,8 @@ pub(crate) fn append_live<C: Choices>(
     requires table { length constants.now ≤ length numbers.old }
     requires part { IsPart constants.now block.old.items (length numbers.old) part }
     requires before { part.end ≤ end_of parts.old.items }
-    requires enough { length (part_of constants.now block.old.items part) ≤ length (C.list choices) }
+    requires enough { length (part_of constants.now block.old.items part)
+        ≤ length (C.list choices) }
     requires choices { AreChoices (part_of constants.now block.old.items part) (C.list choices) }
     ensures parts { AreParts constants.now block.new.items (length numbers.old) parts.new.items }
     ensures pushed { OnOk result (parts_of constants.now block.new.items parts.new.items
@@ -78,7 +79,8 @@ fn mark_part<C: Choices>(
     requires choices { AreChoices (part_of constants.now block.now part) (C.list choices) }
     requires room { length (part_of constants.now block.now part) ≤ 64 * length marks.old }
     ensures live { result
-        ≡ kept_below (part_of constants.now block.now part) (C.list choices) (length (part_of constants.now block.now part)) }
+        ≡ kept_below (part_of constants.now block.now part) (C.list choices)
+        (length (part_of constants.now block.now part)) }
     ensures marks { AreMarks (part_of constants.now block.now part) (C.list choices) marks.new }
 {
     mark(in_part(block, part), constants, choices, marks)
@@ -100,9 +102,11 @@ fn copy_part<C: Choices>(
     requires room { start + live ≤ length block.old.items }
     requires table { length constants.now ≤ length numbers.old }
     requires part { IsPart constants.now block.old.items (length numbers.old) part }
-    requires enough { length (part_of constants.now block.old.items part) ≤ length (C.list choices) }
+    requires enough { length (part_of constants.now block.old.items part)
+        ≤ length (C.list choices) }
     requires choices { AreChoices (part_of constants.now block.old.items part) (C.list choices) }
-    requires marks { AreMarks (part_of constants.now block.old.items part) (C.list choices) marks.now }
+    requires marks { AreMarks (part_of constants.now block.old.items part) (C.list choices)
+        marks.now }
     requires words { length (part_of constants.now block.old.items part) ≤ 64 * length marks.now }
     requires live { live ≡ kept_below (part_of constants.now block.old.items part) (C.list choices)
         (length (part_of constants.now block.old.items part)) }

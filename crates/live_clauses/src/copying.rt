@@ -72,10 +72,10 @@ fn copy_word<C: Choices>(
     requires table { length constants.now ≤ length numbers.old }
     requires room { length new.old
         ≡ kept_below (map (unpacked constants.now) steps.now) (C.list choices) (length steps.now) }
-    requires copied { IsCopied constants.now (64 * word) (map (unpacked constants.now) steps.now) (C.list choices)
-        numbers.old new.old before }
-    ensures { IsCopied constants.now (64 * word + 64) (map (unpacked constants.now) steps.now) (C.list choices)
-        numbers.new new.new result }
+    requires copied { IsCopied constants.now (64 * word)
+        (map (unpacked constants.now) steps.now) (C.list choices) numbers.old new.old before }
+    ensures { IsCopied constants.now (64 * word + 64)
+        (map (unpacked constants.now) steps.now) (C.list choices) numbers.new new.new result }
 {
     let mut from = 0;
     let mut rest = needed;

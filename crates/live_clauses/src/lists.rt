@@ -1,10 +1,9 @@
 // Lists of steps in one block of memory.
-ghost use Rattle.std.specs.Prelude.{◌≡◌, ◌<◌, ◌≤◌, ◌+◌, [], ◌∷◌, ◌++◌, length, map, slice_get, take, Some, IfOk, OnOk, OnErr};
+ghost use Rattle.std.specs.Prelude.{◌≡◌, ◌<◌, ◌≤◌, ◌+◌, [], ◌∷◌, ◌++◌, length, slice_get, take, Some, IfOk, OnOk, OnErr};
 ghost use Rattle.std.specs.List.{All};
 ghost use Rattle.live_clauses.specs.Blocks.{AreParts, list_at};
 ghost use Rattle.live_clauses.specs.Choices.{AreChoices};
 ghost use Rattle.live_clauses.specs.Live.{live_of};
-ghost use Rattle.live_clauses.specs.Packed.{unpacked};
 ghost use Rattle.live_clauses.specs.Steps.{IsTape};
 
 use crate::block::append_live;
@@ -17,8 +16,8 @@ use std::alloc::{AllocError, Global};
 use std::marker::Model;
 use std::rc::RcSlice;
 
-/// Lists of steps in one block of memory, one after another, of which the last go first. All come from
-/// the first. Contracts see the lists, in their order.
+/// Lists of steps in one block of memory, one after another, of which the last go first. All come
+/// from the first. Contracts see the lists, in their order.
 #[derive(Debug, Drop)]
 pub struct Lists {
     // The steps of all lists, and after them memory for more.
@@ -26,8 +25,8 @@ pub struct Lists {
     parts: Vec<Part>,
     // The table of the constants of all lists.
     constants: RcSlice<Fx>,
-    // What is needed of a list that is shortened, and its new numbers, with room for the longest list
-    // and for as many steps as there are constants.
+    // What is needed of a list that is shortened, and its new numbers, with room for the longest
+    // list and for as many steps as there are constants.
     marks: Vec<u64>,
     numbers: Vec<u16>,
 }
@@ -50,8 +49,8 @@ impl Model for Lists {
 }
 
 impl Lists {
-    /// One list, of which all others are to come. Its steps are copied, and the table of its constants is
-    /// shared. AllocError: there is no memory for it.
+    /// One list, from which all others are to come. Its steps are copied, and the table of its
+    /// constants is shared. AllocError: there is no memory for it.
     pub fn new(alloc: Global, root: &Tape) -> Result<Lists, AllocError>
         ensures { IfOk result (λ lists. lists ≡ root.now ∷ []) }
     {
@@ -122,7 +121,8 @@ impl Lists {
         self.parts.truncate(count);
     }
 
-    /// The list at a place, in memory of its own but for the table of constants. AllocError: there is no memory for it.
+    /// The list at a place, in memory of its own but for the table of constants. AllocError: there is
+    /// no memory for it.
     pub fn keep(&self, at: usize) -> Result<Tape, AllocError>
         requires { at < length self.now }
         ensures { IfOk result (λ tape. tape ≡ list_at self.now at) }

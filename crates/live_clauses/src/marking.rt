@@ -56,8 +56,8 @@ fn mark_word<C: Choices>(
     requires choices { AreChoices (map (unpacked constants.now) steps.now) (C.list choices) }
     requires room { length steps.now ≤ 64 * length marks.old }
     requires word { word < length marks.old }
-    requires marked { IsMarked (64 * word + 64) (map (unpacked constants.now) steps.now) (C.list choices)
-        marks.old behind }
+    requires marked { IsMarked (64 * word + 64) (map (unpacked constants.now) steps.now)
+        (C.list choices) marks.old behind }
     ensures { IsMarked (64 * word) (map (unpacked constants.now) steps.now) (C.list choices)
         marks.new result }
 {

@@ -7,8 +7,8 @@ ghost use Rattle.live_clauses.specs.Packed.{first_of, is_constant, unpacked};
 use crate::Step;
 use fixed_ops::{Fx, Op, arity};
 
-// A step in 6 bytes: a place in a list is at most 65,535. The number of a constant stands in a table,
-// and `a` is its place there.
+// A step in 6 bytes: a place in a list is at most 65,535. The number of a constant stands in a
+// table, and `a` is its place there.
 #[derive(Clone, Copy, Debug)]
 pub(crate) struct PackedStep {
     pub(crate) op: Op,
@@ -46,8 +46,8 @@ impl PackedStep {
         }
     }
 
-    // The step that it keeps. The table is read for a constant alone, so that a match on the operation
-    // that follows reads it in its own arm.
+    // The step that it keeps. The table is read for a constant alone, so that a match on the
+    // operation that follows reads it in its own arm.
     #[inline(always)]
     pub(crate) fn unpack(self, constants: &[Fx]) -> Step
         requires { is_constant self.op ≡ true → self.a < length constants.now }

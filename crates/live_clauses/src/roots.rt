@@ -29,7 +29,8 @@ pub fn root_tape(alloc: Global, model: &Model) -> Result<Tape, AllocError>
     RootRoom::new(alloc).root(model, None)
 }
 
-/// Memory for making root lists, which one caller keeps over many models. What it holds means nothing.
+/// Memory for making root lists, which one caller keeps over many models. What it holds means
+/// nothing.
 #[derive(Debug, Drop)]
 pub struct RootRoom {
     // The steps that the clauses of a model are, and the numbers of the constants among them.

@@ -19,8 +19,8 @@ use std::rc::RcSlice;
 
 /// The live list of a list under choices: the steps that its last step needs where each choice is
 /// right, numbered anew. There is a choice for each step, which is Both where the step is neither a
-/// minimum nor a maximum. Where every step is live the same steps are shared on, and nothing is made
-/// but scratch memory.
+/// minimum nor a maximum. Where every step is live the same steps are shared on, and nothing is
+/// made but scratch memory.
 pub fn prune(alloc: Global, tape: &Tape, choices: &[Choice]) -> Result<Tape, AllocError>
     requires enough { length tape.now ≤ length choices.now }
     requires choices { AreChoices tape.now choices.now }
