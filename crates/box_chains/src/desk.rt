@@ -65,8 +65,7 @@ impl Desk {
     {
         let places = Places::new(alloc, view, lattice)?;
         let room = Workspace::new(alloc, list.len())?;
-        let mut lists = Lists::new(alloc);
-        lists.push(list)?;
+        let lists = Lists::new(alloc, list)?;
         Ok(Desk {
             places,
             room,

@@ -14,7 +14,7 @@ use Rattle.live_clauses.proofs.Representatives.{step_at-stands, representative_b
 use Rattle.live_clauses.proofs.Needs.{keeps_kept, live_keeps, kept_live, live_kept}
 use Rattle.live_clauses.proofs.Kept.{kept_below-kept, length-live_below, live_below-at, kept_at}
 use Rattle.live_clauses.proofs.Keeping.{last_kept, length-live_of, live_of-tape}
-use Rattle.live_clauses.proofs.Roots.{all_both}
+use Rattle.live_clauses.proofs.RootLaws.{all_both}
 use Rattle.live_clauses.proofs.Whole.{each_kept, live_of-whole}
 
 -- no step of a list chooses an operand

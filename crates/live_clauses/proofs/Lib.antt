@@ -10,8 +10,8 @@ pub mod Needs
 pub mod Numbering
 pub mod Parts
 pub mod Representatives
-pub mod Roots
-pub mod Sameness
+pub mod RootLaws
+pub mod Stored
 pub mod Turns
 pub mod ValueLaws
 pub mod Walks

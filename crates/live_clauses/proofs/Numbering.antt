@@ -1,5 +1,5 @@
 -- One step up a list: its number is that of what stands for it, and a live step is copied with new numbers.
-use Rattle.std.proofs.Common.{◌≡◌, ◌≢◌, ℕ, zero, suc, ◌+◌, ◌-◌, ◌<◌, ◌≤◌, Bool, true, false, cond, ◌&&◌, ltb, ◌⊎◌, List, [], ◌∷◌, ◌++◌, length, map, take, get_or, set, slice_index, inl, inr, refl, ap, sym, subst, ◌∙◌, arith}
+use Rattle.std.proofs.Common.{ℤ, ◌≡◌, ◌≢◌, ℕ, zero, suc, ◌+◌, ◌-◌, ◌<◌, ◌≤◌, Bool, true, false, cond, ◌&&◌, ltb, ◌⊎◌, List, [], ◌∷◌, ◌++◌, length, map, take, get_or, set, slice_index, inl, inr, refl, ap, sym, subst, ◌∙◌, arith}
 use Rattle.std.proofs.lemmas.List.{length-map, get_or-set_same, get_or-set_other, take_all}
 use Rattle.std.proofs.lemmas.Bool.{false≢true, cases_lt}
 use Rattle.std.proofs.lemmas.Bool.Decides.{Decides-ltb}
@@ -11,13 +11,14 @@ use Rattle.live_clauses.specs.declared.step.Step.{Step}
 use Rattle.live_clauses.specs.Choices.{step_at, choice_at, AreChoices}
 use Rattle.live_clauses.specs.Live.{chosen, is_needed, is_both, is_kept, kept_below, new_place, renumbered, live_below, live_of}
 use Rattle.live_clauses.specs.Marks.{AreNumbers, IsCopied}
-use Rattle.live_clauses.specs.Packed.{unpacked}
+use Rattle.live_clauses.specs.Packed.{first_of, is_constant, unpacked}
 use Rattle.live_clauses.specs.Steps.{IsTape}
 use Rattle.live_clauses.proofs.Representatives.{choice_cases, chosen_left, chosen_right, chosen_both, step_at-stands, choosing_operands, left_chooses, right_chooses, representative_left, representative_right, representative_both}
 use Rattle.live_clauses.proofs.Needs.{needed_on, hands_on_left, hands_on_right, hands_on_first, hands_on_second}
 use Rattle.live_clauses.proofs.Joined.{true_both}
 use Rattle.live_clauses.proofs.Kept.{kept_below-dropped, kept_below-less, live_below-dropped}
-use Rattle.live_clauses.proofs.Turns.{kept_below-past, live_below-past, step_at-unpacked}
+use Rattle.live_clauses.proofs.Stored.{chosen-first, constant-both, step_at-unpacked}
+use Rattle.live_clauses.proofs.Turns.{kept_below-past, live_below-past}
 
 -- new numbers count only where an operand is
 renumbered-same : (step : Step) (f g : ℕ → ℕ) → (0 < arity_of step.op → f step.a ≡ g step.a) → (1 < arity_of step.op → f step.b ≡ g step.b) → renumbered f step ≡ renumbered g step
@@ -88,9 +89,9 @@ module _ (steps : List Step) (choices : List Choice) (tape : IsTape steps) (choo
       ]
 
   -- a walk up passes a step that is not needed
-  copied-passed : (at : ℕ) (numbers : List ℕ) (new : List PackedStep) (count : ℕ) → is_needed steps choices at ≡ false
-      → IsCopied at steps choices numbers new count → IsCopied (suc at) steps choices numbers new count
-  copied-passed at numbers new count idle so =
+  copied-passed : (constants : List ℤ) (at : ℕ) (numbers : List ℕ) (new : List PackedStep) (count : ℕ) → is_needed steps choices at ≡ false
+      → IsCopied constants at steps choices numbers new count → IsCopied constants (suc at) steps choices numbers new count
+  copied-passed constants at numbers new count idle so =
       let dropped : is_kept steps choices at ≡ false = ap (λ b. b && is_both (choice_at choices at)) idle in
       record {
         numbered = numbers-passed at numbers idle so.numbered;
@@ -98,42 +99,43 @@ module _ (steps : List Step) (choices : List Choice) (tape : IsTape steps) (choo
         copied = so.copied ∙ sym (live_below-dropped steps choices at dropped);
       }
 
-  pub copied-up : (gap low : ℕ) (numbers : List ℕ) (new : List PackedStep) (count : ℕ) → ((place : ℕ) → low ≤ place → place < low + gap → is_needed steps choices place ≡ false)
-      → IsCopied low steps choices numbers new count → IsCopied (low + gap) steps choices numbers new count
-  copied-up zero low numbers new count none so = let same : low ≡ low + 0 = omega arith in subst (λ p. IsCopied p steps choices numbers new count) same so
-  copied-up (suc gap) low numbers new count none so =
+  pub copied-up : (constants : List ℤ) (gap low : ℕ) (numbers : List ℕ) (new : List PackedStep) (count : ℕ) → ((place : ℕ) → low ≤ place → place < low + gap → is_needed steps choices place ≡ false)
+      → IsCopied constants low steps choices numbers new count → IsCopied constants (low + gap) steps choices numbers new count
+  copied-up constants zero low numbers new count none so = let same : low ≡ low + 0 = omega arith in subst (λ p. IsCopied constants p steps choices numbers new count) same so
+  copied-up constants (suc gap) low numbers new count none so =
       let next : suc (low + gap) ≡ low + suc gap = omega arith in
-      subst (λ p. IsCopied p steps choices numbers new count) next
-      (copied-passed (low + gap) numbers new count (none (low + gap) (omega arith) (omega arith))
-      (copied-up gap low numbers new count (λ place from below. none place from (omega (arith, below))) so))
+      subst (λ p. IsCopied constants p steps choices numbers new count) next
+      (copied-passed constants (low + gap) numbers new count (none (low + gap) (omega arith) (omega arith))
+      (copied-up constants gap low numbers new count (λ place from below. none place from (omega (arith, below))) so))
 
 -- the same of steps as they are kept
-module _ (kept : List PackedStep) (choices : List Choice) (tape : IsTape (map unpacked kept)) (choose : AreChoices (map unpacked kept) choices) where
+module _ (constants : List ℤ) (kept : List PackedStep) (choices : List Choice) (tape : IsTape (map (unpacked constants) kept)) (choose : AreChoices (map (unpacked constants) kept) choices) where
   -- a live step has room in a list that is as long as there are live ones
-  pub room-copied : (at count room : ℕ) → at < length kept → is_needed (map unpacked kept) choices at ≡ true → count ≡ kept_below (map unpacked kept) choices at
-      → room ≡ kept_below (map unpacked kept) choices (length kept) → (choice : Choice) → choice ≡ choice_at choices at → is_both choice ≡ true → count < room
+  pub room-copied : (at count room : ℕ) → at < length kept → is_needed (map (unpacked constants) kept) choices at ≡ true → count ≡ kept_below (map (unpacked constants) kept) choices at
+      → room ≡ kept_below (map (unpacked constants) kept) choices (length kept) → (choice : Choice) → choice ≡ choice_at choices at → is_both choice ≡ true → count < room
   room-copied at count room within needed is all choice chosen_is both =
-      let live : is_kept (map unpacked kept) choices at ≡ true = true_both _ _ needed (ap is_both (sym chosen_is) ∙ both) in
-      omega (arith, is, all, kept_below-less (map unpacked kept) choices at (length kept) live within)
+      let live : is_kept (map (unpacked constants) kept) choices at ≡ true = true_both _ _ needed (ap is_both (sym chosen_is) ∙ both) in
+      omega (arith, is, all, kept_below-less (map (unpacked constants) kept) choices at (length kept) live within)
 
   pub visited : (at number count after : ℕ) (numbers : List ℕ) (new made : List PackedStep) (read : PackedStep) (choice : Choice) → at < length kept
-      → read ≡ get_or kept at read → choice ≡ choice_at choices at → is_needed (map unpacked kept) choices at ≡ true → at < length numbers
-      → IsCopied at (map unpacked kept) choices numbers new count
+      → read ≡ get_or kept at read → choice ≡ choice_at choices at → is_needed (map (unpacked constants) kept) choices at ≡ true → at < length numbers
+      → IsCopied constants at (map (unpacked constants) kept) choices numbers new count
       → number ≡ chosen choice (slice_index numbers read.a) (slice_index numbers read.b) count
       → after ≡ count + cond (is_both choice) 1 0
-      → map unpacked (take after made) ≡ map unpacked (take count new) ++ cond (is_both choice) (renumbered (λ k. slice_index numbers k) (unpacked read) ∷ []) []
-      → IsCopied (suc at) (map unpacked kept) choices (set numbers at number) made after
+      → map (unpacked constants) (take after made) ≡ map (unpacked constants) (take count new) ++ cond (is_both choice) (renumbered (λ k. slice_index numbers k) (unpacked constants read) ∷ []) []
+      → IsCopied constants (suc at) (map (unpacked constants) kept) choices (set numbers at number) made after
   visited at number count after numbers new made read choice within is chosen_is needed room so number_is after_is made_is =
-      let steps = map unpacked kept in
-      let there : at < length steps = omega (arith, length-map kept unpacked) in
-      let step : unpacked read ≡ step_at steps at = step_at-unpacked kept at read within is in
+      let steps = map (unpacked constants) kept in
+      let there : at < length steps = omega (arith, length-map kept (unpacked constants)) in
+      let step : unpacked constants read ≡ step_at steps at = step_at-unpacked constants kept at read within is in
       let live : is_kept steps choices at ≡ is_both (choice_at choices at) = ap (λ b. b && is_both (choice_at choices at)) needed in
+      let both : is_constant read.op ≡ true → choice ≡ Both = λ constant. chosen_is ∙ constant-both steps choices choose at there (ap (λ s. is_constant s.op) (sym step) ∙ constant) in
       let number_at : number ≡ chosen (choice_at choices at) (slice_index numbers (step_at steps at).a) (slice_index numbers (step_at steps at).b) count =
-      number_is ∙ ap (λ c. chosen c (slice_index numbers read.a) (slice_index numbers read.b) count) chosen_is
+      number_is ∙ chosen-first choice read (slice_index numbers) (slice_index numbers read.b) count both ∙ ap (λ c. chosen c (slice_index numbers (first_of read)) (slice_index numbers read.b) count) chosen_is
       ∙ ap (λ s. chosen (choice_at choices at) (slice_index numbers s.a) (slice_index numbers s.b) count) step in
-      let made_at : map unpacked (take after made) ≡ live_below steps choices at ++ cond (is_both (choice_at choices at)) (renumbered (λ k. slice_index numbers k) (step_at steps at) ∷ []) [] =
-      made_is ∙ ap (λ l. l ++ cond (is_both choice) (renumbered (λ k. slice_index numbers k) (unpacked read) ∷ []) []) so.copied
-      ∙ ap (λ c. live_below steps choices at ++ cond (is_both c) (renumbered (λ k. slice_index numbers k) (unpacked read) ∷ []) []) chosen_is
+      let made_at : map (unpacked constants) (take after made) ≡ live_below steps choices at ++ cond (is_both (choice_at choices at)) (renumbered (λ k. slice_index numbers k) (step_at steps at) ∷ []) [] =
+      made_is ∙ ap (λ l. l ++ cond (is_both choice) (renumbered (λ k. slice_index numbers k) (unpacked constants read) ∷ []) []) so.copied
+      ∙ ap (λ c. live_below steps choices at ++ cond (is_both c) (renumbered (λ k. slice_index numbers k) (unpacked constants read) ∷ []) []) chosen_is
       ∙ ap (λ s. live_below steps choices at ++ cond (is_both (choice_at choices at)) (renumbered (λ k. slice_index numbers k) s ∷ []) []) step in
       record {
         numbered = numbers-visited steps choices tape choose at numbers there needed so.numbered number room (number_at ∙ number-chosen steps choices tape choose at numbers there needed so.numbered count so.counted);
@@ -143,11 +145,11 @@ module _ (kept : List PackedStep) (choices : List Choice) (tape : IsTape (map un
       }
 
   -- at the end of the list all is copied
-  pub copied-all : (numbers : List ℕ) (new : List PackedStep) (count end : ℕ) → length kept ≤ end → length new ≡ kept_below (map unpacked kept) choices (length kept)
-      → IsCopied end (map unpacked kept) choices numbers new count → map unpacked new ≡ live_of (map unpacked kept) choices
+  pub copied-all : (numbers : List ℕ) (new : List PackedStep) (count end : ℕ) → length kept ≤ end → length new ≡ kept_below (map (unpacked constants) kept) choices (length kept)
+      → IsCopied constants end (map (unpacked constants) kept) choices numbers new count → map (unpacked constants) new ≡ live_of (map (unpacked constants) kept) choices
   copied-all numbers new count end past room so =
-      let steps = map unpacked kept in
-      let many : length steps ≡ length kept = length-map kept unpacked in
+      let steps = map (unpacked constants) kept in
+      let many : length steps ≡ length kept = length-map kept (unpacked constants) in
       let here : length steps + (end - length steps) ≡ end = omega (arith, many, past) in
       let all : count ≡ length new = so.counted ∙ ap (kept_below steps choices) (sym here) ∙ kept_below-past steps choices tape choose (end - length steps) ∙ ap (kept_below steps choices) many ∙ sym room in
-      ap (map unpacked) (sym (take_all count new (omega (arith, all)))) ∙ so.copied ∙ ap (live_below steps choices) (sym here) ∙ live_below-past steps choices tape choose (end - length steps)
+      ap (map (unpacked constants)) (sym (take_all count new (omega (arith, all)))) ∙ so.copied ∙ ap (live_below steps choices) (sym here) ∙ live_below-past steps choices tape choose (end - length steps)

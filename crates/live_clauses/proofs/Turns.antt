@@ -1,22 +1,15 @@
 -- One step down a list: what it reads lies in the list, and its marks are those of one more turn.
-use Rattle.std.proofs.Common.{◌≡◌, ℕ, zero, suc, ◌+◌, ◌-◌, ◌<◌, ◌≤◌, Bool, true, false, cond, ◌&&◌, ◌||◌, List, length, map, get_or, inl, inr, refl, ap, sym, subst, ◌∙◌, arith}
-use Rattle.std.proofs.lemmas.List.{get_or-map}
+use Rattle.std.proofs.Common.{◌≡◌, ℕ, zero, suc, ◌+◌, ◌-◌, ◌<◌, ◌≤◌, Bool, true, false, cond, ◌&&◌, ◌||◌, List, length, inl, inr, refl, ap, sym, subst, ◌∙◌, arith}
 use Rattle.std.proofs.lemmas.Bool.{cases_lt}
 use Rattle.fixed_ops.specs.Arity.{arity_of}
 use Rattle.interval_ops.specs.declared.choice.Choice.{Choice}
-use Rattle.live_clauses.specs.declared.packed_step.PackedStep.{PackedStep}
 use Rattle.live_clauses.specs.declared.step.Step.{Step}
 use Rattle.live_clauses.specs.Choices.{step_at, choice_at, AreChoices}
 use Rattle.live_clauses.specs.Live.{hands_on, needed_after, is_needed, is_both, is_kept, kept_below, live_below, live_of}
 use Rattle.live_clauses.specs.Marks.{is_marked, IsMarked, Marks, AreMarksAfter}
-use Rattle.live_clauses.specs.Packed.{unpacked}
 use Rattle.live_clauses.specs.Steps.{IsStepAt, IsTape}
 use Rattle.live_clauses.proofs.Kept.{live_below-dropped}
 use Rattle.live_clauses.proofs.Needs.{needed_within, needed-settled}
-
--- a step that is read from where it is kept
-pub step_at-unpacked : (kept : List PackedStep) (at : ℕ) (read : PackedStep) → at < length kept → read ≡ get_or kept at read → unpacked read ≡ step_at (map unpacked kept) at
-step_at-unpacked kept at read within is = ap unpacked is ∙ sym (get_or-map unpacked kept at read _ within)
 
 or_false : (x y : Bool) → x || (false && y) ≡ x
 or_false true y = refl

@@ -1,5 +1,5 @@
 -- Scratch memory of walks over a list: one bit for each step that is needed, and the new numbers.
-use Rattle.std.specs.Prelude.{◌≡◌, ℕ, ◌+◌, ◌-◌, ◌/◌, ◌%◌, ◌<◌, nat_lt, Bool, true, ◌||◌, List, length, map, take, slice_index}
+use Rattle.std.specs.Prelude.{◌≡◌, ℕ, ◌+◌, ◌-◌, ◌/◌, ◌%◌, ◌<◌, nat_lt, Bool, true, ◌||◌, ℤ, List, length, map, take, slice_index}
 use Rattle.std.specs.Int.{bit_at}
 use Rattle.interval_ops.specs.declared.choice.Choice.{Choice}
 use Rattle.live_clauses.specs.declared.packed_step.PackedStep.{PackedStep}
@@ -43,8 +43,8 @@ AreNumbers upto steps choices numbers = (place : ℕ) → place < upto
 
 -- What a walk up a list has done before a place: the needed steps there have their numbers, and the
 -- live ones stand at the front of the new list, so many of them.
-pub record IsCopied (at : ℕ) (steps : List Step) (choices : List Choice)
+pub record IsCopied (constants : List ℤ) (at : ℕ) (steps : List Step) (choices : List Choice)
     (numbers : List ℕ) (new : List PackedStep) (count : ℕ) : Type 0 where
   pub numbered : AreNumbers at steps choices numbers
   pub counted : count ≡ kept_below steps choices at
-  pub copied : map unpacked (take count new) ≡ live_below steps choices at
+  pub copied : map (unpacked constants) (take count new) ≡ live_below steps choices at

@@ -13,6 +13,7 @@ use crate::marking::mark;
 use crate::packed_step::PackedStep;
 use crate::part::Part;
 use crate::words::words;
+use fixed_ops::Fx;
 use std::alloc::AllocError;
 
 // Where the last of some parts ends.
@@ -26,30 +27,6 @@ pub(crate) fn last_end(parts: &[Part]) -> usize
     }
 }
 
-// Puts steps behind the last part of a block, as one more part.
-pub(crate) fn append(
-    block: &mut Vec<PackedStep>,
-    parts: &mut Vec<Part>,
-    most: usize,
-    steps: &[PackedStep],
-) -> Result<(), AllocError>
-    requires parts { AreParts block.old.items most parts.old.items }
-    requires few { length steps.now ≤ most }
-    requires tape { IsTape (map unpacked steps.now) }
-    ensures parts { AreParts block.new.items most parts.new.items }
-    ensures pushed { OnOk result (parts_of block.new.items parts.new.items
-        ≡ parts_of block.old.items parts.old.items ++ map unpacked steps.now ∷ []) }
-    ensures stays { OnErr result (parts_of block.new.items parts.new.items
-        ≡ parts_of block.old.items parts.old.items) }
-{
-    let start = last_end(parts);
-    block.truncate(start);
-    block.extend_from_slice(steps)?;
-    let end = block.len();
-    parts.push(Part { start, end })?;
-    Ok(())
-}
-
 // Puts the live list of a part of a block behind the last one.
 pub(crate) fn append_live<C: Choices>(
     block: &mut Vec<PackedStep>,
@@ -57,27 +34,30 @@ pub(crate) fn append_live<C: Choices>(
     marks: &mut [u64],
     numbers: &mut [u16],
     part: Part,
+    constants: &[Fx],
     choices: C,
 ) -> Result<(), AllocError>
-    requires parts { AreParts block.old.items (length numbers.old) parts.old.items }
+    requires parts { AreParts constants.now block.old.items (length numbers.old) parts.old.items }
     requires room { length numbers.old ≤ 64 * length marks.old }
-    requires part { IsPart block.old.items (length numbers.old) part }
+    requires table { length constants.now ≤ length numbers.old }
+    requires part { IsPart constants.now block.old.items (length numbers.old) part }
     requires before { part.end ≤ end_of parts.old.items }
-    requires enough { length (part_of block.old.items part) ≤ length (C.list choices) }
-    requires choices { AreChoices (part_of block.old.items part) (C.list choices) }
-    ensures parts { AreParts block.new.items (length numbers.old) parts.new.items }
-    ensures pushed { OnOk result (parts_of block.new.items parts.new.items
-        ≡ parts_of block.old.items parts.old.items
-        ++ live_of (part_of block.old.items part) (C.list choices) ∷ []) }
-    ensures stays { OnErr result (parts_of block.new.items parts.new.items
-        ≡ parts_of block.old.items parts.old.items) }
+    requires enough { length (part_of constants.now block.old.items part)
+        ≤ length (C.list choices) }
+    requires choices { AreChoices (part_of constants.now block.old.items part) (C.list choices) }
+    ensures parts { AreParts constants.now block.new.items (length numbers.old) parts.new.items }
+    ensures pushed { OnOk result (parts_of constants.now block.new.items parts.new.items
+        ≡ parts_of constants.now block.old.items parts.old.items
+        ++ live_of (part_of constants.now block.old.items part) (C.list choices) ∷ []) }
+    ensures stays { OnErr result (parts_of constants.now block.new.items parts.new.items
+        ≡ parts_of constants.now block.old.items parts.old.items) }
 {
     let start = last_end(parts);
     let marks = &mut marks[..words(part.end - part.start)];
-    let live = mark_part(block, part, choices, marks);
+    let live = mark_part(block, part, constants, choices, marks);
     make_room(block, start + live)?;
     parts.reserve(1)?;
-    copy_part(block, part, start, live, choices, marks, numbers);
+    copy_part(block, part, start, live, constants, choices, marks, numbers);
     let end = start + live;
     parts.push_reserved(Part { start, end });
     Ok(())
@@ -85,18 +65,25 @@ pub(crate) fn append_live<C: Choices>(
 
 // Marks the steps of a part that are needed, and gives how many of them are live.
 #[inline]
-fn mark_part<C: Choices>(block: &[PackedStep], part: Part, choices: C, marks: &mut [u64]) -> usize
+fn mark_part<C: Choices>(
+    block: &[PackedStep],
+    part: Part,
+    constants: &[Fx],
+    choices: C,
+    marks: &mut [u64],
+) -> usize
     requires order { part.start ≤ part.end }
     requires within { part.end ≤ length block.now }
-    requires tape { IsTape (part_of block.now part) }
-    requires enough { length (part_of block.now part) ≤ length (C.list choices) }
-    requires choices { AreChoices (part_of block.now part) (C.list choices) }
-    requires room { length (part_of block.now part) ≤ 64 * length marks.old }
+    requires tape { IsTape (part_of constants.now block.now part) }
+    requires enough { length (part_of constants.now block.now part) ≤ length (C.list choices) }
+    requires choices { AreChoices (part_of constants.now block.now part) (C.list choices) }
+    requires room { length (part_of constants.now block.now part) ≤ 64 * length marks.old }
     ensures live { result
-        ≡ kept_below (part_of block.now part) (C.list choices) (length (part_of block.now part)) }
-    ensures marks { AreMarks (part_of block.now part) (C.list choices) marks.new }
+        ≡ kept_below (part_of constants.now block.now part) (C.list choices)
+        (length (part_of constants.now block.now part)) }
+    ensures marks { AreMarks (part_of constants.now block.now part) (C.list choices) marks.new }
 {
-    mark(in_part(block, part), choices, marks)
+    mark(in_part(block, part), constants, choices, marks)
 }
 
 // Writes the live list of a part into a block from a place behind it on. It has so many steps.
@@ -106,27 +93,32 @@ fn copy_part<C: Choices>(
     part: Part,
     start: usize,
     live: usize,
+    constants: &[Fx],
     choices: C,
     marks: &[u64],
     numbers: &mut [u16],
 )
     requires before { part.end ≤ start }
     requires room { start + live ≤ length block.old.items }
-    requires part { IsPart block.old.items (length numbers.old) part }
-    requires enough { length (part_of block.old.items part) ≤ length (C.list choices) }
-    requires choices { AreChoices (part_of block.old.items part) (C.list choices) }
-    requires marks { AreMarks (part_of block.old.items part) (C.list choices) marks.now }
-    requires words { length (part_of block.old.items part) ≤ 64 * length marks.now }
-    requires live { live ≡ kept_below (part_of block.old.items part) (C.list choices)
-        (length (part_of block.old.items part)) }
+    requires table { length constants.now ≤ length numbers.old }
+    requires part { IsPart constants.now block.old.items (length numbers.old) part }
+    requires enough { length (part_of constants.now block.old.items part)
+        ≤ length (C.list choices) }
+    requires choices { AreChoices (part_of constants.now block.old.items part) (C.list choices) }
+    requires marks { AreMarks (part_of constants.now block.old.items part) (C.list choices)
+        marks.now }
+    requires words { length (part_of constants.now block.old.items part) ≤ 64 * length marks.now }
+    requires live { live ≡ kept_below (part_of constants.now block.old.items part) (C.list choices)
+        (length (part_of constants.now block.old.items part)) }
     ensures same { take start block.new.items ≡ take start block.old.items }
     ensures long { length block.new.items ≡ length block.old.items }
-    ensures live { map unpacked (take live (drop start block.new.items))
-        ≡ live_of (part_of block.old.items part) (C.list choices) }
+    ensures live { map (unpacked constants.now) (take live (drop start block.new.items))
+        ≡ live_of (part_of constants.now block.old.items part) (C.list choices) }
 {
     let (earlier, later) = block.split_at_mut(start);
     copy_live(
         in_part(earlier, part),
+        constants,
         choices,
         marks,
         numbers,

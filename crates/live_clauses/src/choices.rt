@@ -1,6 +1,7 @@
 // Choices of the steps of a list.
-ghost use Rattle.std.specs.Prelude.{◌≡◌, ◌<◌, List, [], length, slice_index_or};
+ghost use Rattle.std.specs.Prelude.{◌≡◌, ◌<◌, List, [], length, replicate, slice_index_or};
 ghost use Rattle.interval_ops.specs.declared.choice.Choice.{Choice};
+ghost use Rattle.interval_ops.specs.declared.choice.Choice.TheVariants.{Both};
 ghost use Rattle.live_clauses.specs.Choices.{choice_at, lane};
 
 use interval_ops::Choice;
@@ -23,6 +24,21 @@ impl<'a> Choices for &'a [Choice] {
     #[inline]
     fn at(self, place: usize) -> Choice {
         self[place]
+    }
+}
+
+// Both operands of each of so many steps: no choice is made.
+#[derive(Clone, Copy, Debug)]
+pub(crate) struct NoChoice {
+    pub(crate) steps: usize,
+}
+
+impl Choices for NoChoice {
+    ghost list = { λ choices. replicate choices.steps Both };
+
+    #[inline]
+    fn at(self, _place: usize) -> Choice {
+        Choice::Both
     }
 }
 

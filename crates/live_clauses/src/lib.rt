@@ -4,11 +4,13 @@
 mod block;
 mod choices;
 mod copying;
+mod equality;
 mod laws;
 mod lists;
 mod marking;
 mod packed_step;
 mod part;
+mod roots;
 mod shortening;
 mod step;
 mod tape;
@@ -20,7 +22,8 @@ pub use laws::{
     live_steps_are_the_least, root_has_the_value, values_are_of_operands,
 };
 pub use lists::Lists;
-pub use shortening::{prune, prune_with, root_tape};
+pub use roots::{RootRoom, root_tape};
+pub use shortening::prune;
 pub use step::Step;
 pub use tape::{Steps, Tape, same};
 

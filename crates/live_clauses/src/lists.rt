@@ -1,57 +1,73 @@
 // Lists of steps in one block of memory.
-ghost use Rattle.std.specs.Prelude.{◌≡◌, ◌<◌, ◌≤◌, ◌+◌, [], ◌∷◌, ◌++◌, length, map, slice_get, take, Some, IfOk, OnOk, OnErr};
+ghost use Rattle.std.specs.Prelude.{◌≡◌, ◌<◌, ◌≤◌, ◌+◌, [], ◌∷◌, ◌++◌, length, slice_get, take, Some, IfOk, OnOk, OnErr};
 ghost use Rattle.std.specs.List.{All};
 ghost use Rattle.live_clauses.specs.Blocks.{AreParts, list_at};
 ghost use Rattle.live_clauses.specs.Choices.{AreChoices};
 ghost use Rattle.live_clauses.specs.Live.{live_of};
-ghost use Rattle.live_clauses.specs.Packed.{unpacked};
 ghost use Rattle.live_clauses.specs.Steps.{IsTape};
 
-use crate::block::{append, append_live};
+use crate::block::append_live;
 use crate::packed_step::PackedStep;
 use crate::part::Part;
 use crate::words::words;
 use crate::{Choices, Steps, Tape};
+use fixed_ops::Fx;
 use std::alloc::{AllocError, Global};
 use std::marker::Model;
+use std::rc::RcSlice;
 
-/// Lists of steps in one block of memory, one after another, of which the last go first. Contracts
-/// see the lists, in their order.
+/// Lists of steps in one block of memory, one after another, of which the last go first. All come
+/// from the first. Contracts see the lists, in their order.
 #[derive(Debug, Drop)]
 pub struct Lists {
     // The steps of all lists, and after them memory for more.
     steps: Vec<PackedStep>,
     parts: Vec<Part>,
-    // What is needed of a list that is shortened, and its new numbers, with room for the longest.
+    // The table of the constants of all lists.
+    constants: RcSlice<Fx>,
+    // What is needed of a list that is shortened, and its new numbers, with room for the longest
+    // list and for as many steps as there are constants.
     marks: Vec<u64>,
     numbers: Vec<u16>,
 }
 
 impl Model for Lists {
     ghost use Rattle.std.specs.Prelude.{◌*◌, ◌≤◌, List, length};
+    ghost use Rattle.std.specs.Rc.{rc_slice_items};
     ghost use Rattle.live_clauses.specs.declared.step.Step.{Step};
 
     ghost Value = { List (List Step) };
 
     ghost use Rattle.live_clauses.specs.Blocks.{AreParts, parts_of};
 
-    ghost view = { λ l. parts_of l.steps.items l.parts.items };
+    ghost view = { λ l. parts_of (rc_slice_items l.constants) l.steps.items l.parts.items };
 
-    ghost invariant = { λ l. AreParts l.steps.items (length l.numbers.items) l.parts.items
-        × (length l.numbers.items ≤ 64 * length l.marks.items) };
+    ghost invariant = { λ l.
+        AreParts (rc_slice_items l.constants) l.steps.items (length l.numbers.items) l.parts.items
+        × (length l.numbers.items ≤ 64 * length l.marks.items)
+        × (length (rc_slice_items l.constants) ≤ length l.numbers.items) };
 }
 
 impl Lists {
-    /// No lists.
-    pub fn new(alloc: Global) -> Lists
-        ensures { result ≡ [] }
+    /// One list, from which all others are to come. Its steps are copied, and the table of its
+    /// constants is shared. AllocError: there is no memory for it.
+    pub fn new(alloc: Global, root: &Tape) -> Result<Lists, AllocError>
+        ensures { IfOk result (λ lists. lists ≡ root.now ∷ []) }
     {
-        Lists {
-            steps: Vec::new(alloc),
-            parts: Vec::new(alloc),
-            marks: Vec::new(alloc),
-            numbers: Vec::new(alloc),
-        }
+        let (packed, constants) = root.packed();
+        let room = packed.len().max(constants.len());
+        let steps = Vec::from_slice(alloc, packed)?;
+        let part = Part {
+            start: 0,
+            end: steps.len(),
+        };
+        Ok(Lists {
+            steps,
+            parts: Vec::from_array(alloc, [part])?,
+            constants: constants.clone()?,
+            marks: vec![in alloc; 0u64; words(room)]?,
+            numbers: vec![in alloc; 0u16; room]?,
+        })
     }
 
     /// How many lists there are.
@@ -71,21 +87,7 @@ impl Lists {
         ensures tape { IsTape result }
     {
         let part = self.parts[at];
-        Steps::from_packed(&self.steps[part.start..part.end])
-    }
-
-    /// Puts a list behind the others. Its steps are copied. AllocError: there is no memory for it.
-    pub fn push(&mut self, list: &Tape) -> Result<(), AllocError>
-        ensures pushed { OnOk result (self.new ≡ self.old ++ list.now ∷ []) }
-        ensures stays { OnErr result (self.new ≡ self.old) }
-    {
-        let steps = list.packed();
-        if self.numbers.len() < steps.len() {
-            self.marks.resize(words(steps.len()), 0)?;
-            self.numbers.resize(steps.len(), 0)?;
-        }
-        let most = self.numbers.len();
-        append(&mut self.steps, &mut self.parts, most, steps)
+        Steps::from_packed(&self.steps[part.start..part.end], self.constants.as_slice())
     }
 
     /// Puts the live list of the list at a place behind the others: the steps that its last step needs
@@ -106,6 +108,7 @@ impl Lists {
             &mut self.marks,
             &mut self.numbers,
             part,
+            self.constants.as_slice(),
             choices,
         )
     }
@@ -118,14 +121,15 @@ impl Lists {
         self.parts.truncate(count);
     }
 
-    /// The list at a place, in memory of its own. AllocError: there is no memory for it.
+    /// The list at a place, in memory of its own but for the table of constants. AllocError: there is
+    /// no memory for it.
     pub fn keep(&self, at: usize) -> Result<Tape, AllocError>
         requires { at < length self.now }
         ensures { IfOk result (λ tape. tape ≡ list_at self.now at) }
     {
         let part = self.parts[at];
         let steps = &self.steps[part.start..part.end];
-        let alloc = *self.steps.allocator();
-        Tape::from_packed(Vec::from_slice(alloc, steps)?)
+        let steps = RcSlice::from_slice(*self.steps.allocator(), steps)?;
+        Ok(Tape::from_packed(steps, self.constants.clone()?))
     }
 }

@@ -1,18 +1,19 @@
 // A step as a list keeps it.
-ghost use Rattle.std.specs.Prelude.{◌≡◌, ◌<◌, ◌≤◌, length, slice_index, if◌then◌else◌};
+ghost use Rattle.std.specs.Prelude.{◌≡◌, ◌<◌, ◌≤◌, ℤ, true, List, length, slice_index, if◌then◌else◌};
+ghost use Rattle.fixed_ops.specs.Arity.{arity_of};
 ghost use Rattle.live_clauses.specs.Live.{renumbered};
-ghost use Rattle.live_clauses.specs.Packed.{unpacked};
+ghost use Rattle.live_clauses.specs.Packed.{first_of, is_constant, unpacked};
 
 use crate::Step;
 use fixed_ops::{Fx, Op, arity};
 
-// A step in 16 bytes: a place in a list is at most 65,535.
-#[derive(Clone, Copy, Debug, PartialEq, Eq)]
+// A step in 6 bytes: a place in a list is at most 65,535. The number of a constant stands in a
+// table, and `a` is its place there.
+#[derive(Clone, Copy, Debug)]
 pub(crate) struct PackedStep {
     pub(crate) op: Op,
     pub(crate) a: u16,
     pub(crate) b: u16,
-    pub(crate) value: Fx,
 }
 
 impl PackedStep {
@@ -23,45 +24,61 @@ impl PackedStep {
             op: Op::X,
             a: 0,
             b: 0,
-            value: Fx::from_raw(0),
         }
     }
 
-    // How a step is kept.
+    // How a step is kept whose number has this place in the table where it is a constant.
     #[inline]
-    pub(crate) fn pack(step: Step) -> PackedStep
+    pub(crate) fn pack(step: Step, place: u16) -> PackedStep
         requires a { step.a ≤ 65535 }
         requires b { step.b ≤ 65535 }
-        ensures { unpacked result ≡ step }
+        ensures op { result.op ≡ step.op }
+        ensures a { result.a ≡ (if is_constant step.op then place else step.a) }
+        ensures b { result.b ≡ step.b }
     {
         PackedStep {
             op: step.op,
-            a: step.a as u16,
+            a: match step.op {
+                Op::Const => place,
+                _ => step.a as u16,
+            },
             b: step.b as u16,
-            value: step.value,
         }
     }
 
-    // The step that it keeps.
-    #[inline]
-    pub(crate) fn unpack(self) -> Step
-        ensures { result ≡ unpacked self }
+    // The step that it keeps. The table is read for a constant alone, so that a match on the
+    // operation that follows reads it in its own arm.
+    #[inline(always)]
+    pub(crate) fn unpack(self, constants: &[Fx]) -> Step
+        requires { is_constant self.op ≡ true → self.a < length constants.now }
+        ensures { result ≡ unpacked constants.now self }
     {
-        Step {
-            op: self.op,
-            a: u32::from(self.a),
-            b: u32::from(self.b),
-            value: self.value,
+        // Nothing is left to do for the other operations, so the two matches can become one.
+        let (a, b) = (u32::from(self.a), u32::from(self.b));
+        match self.op {
+            Op::Const => Step {
+                op: Op::Const,
+                a: 0,
+                b,
+                value: constants[self.a as usize],
+            },
+            op => Step {
+                op,
+                a,
+                b,
+                value: Fx::from_raw(0),
+            },
         }
     }
 
-    // The step with the new numbers of its operands.
+    // The step with the new numbers of its operands. A constant keeps the place of its number.
     #[inline(always)]
     pub(crate) fn renumber(self, numbers: &[u16]) -> PackedStep
         requires a { self.a < length numbers.now }
         requires b { self.b < length numbers.now }
-        ensures { unpacked result
-            ≡ renumbered (λ place. slice_index numbers.now place) (unpacked self) }
+        requires none { arity_of self.op ≡ 0 → first_of self ≡ 0 }
+        ensures { (constants : List ℤ) → unpacked constants result
+            ≡ renumbered (λ place. slice_index numbers.now place) (unpacked constants self) }
     {
         // Both numbers are read, so that no branch goes by the operation.
         let operands = arity(self.op);
@@ -69,16 +86,15 @@ impl PackedStep {
         let second = numbers[self.b as usize];
         PackedStep {
             op: self.op,
-            a: kept_if(operands > 0, first),
+            a: if operands > 0 { first } else { self.a },
             b: kept_if(operands > 1, second),
-            value: self.value,
         }
     }
 }
 
 // A number where it is to be kept, or else 0.
 #[inline(always)]
-fn kept_if(keep: bool, number: u16) -> u16
+pub(crate) fn kept_if(keep: bool, number: u16) -> u16
     ensures { result ≡ (if keep then number else 0) }
 {
     if keep { number } else { 0 }

@@ -1,11 +1,14 @@
 // A list of steps.
 ghost use Rattle.std.specs.Prelude.{◌≡◌, ◌<◌, ◌↔◌, map, length, slice_get, IfOk, IsTrue};
+ghost use Rattle.std.specs.Rc.{rc_slice_items};
 ghost use Rattle.live_clauses.specs.Packed.{unpacked};
 ghost use Rattle.live_clauses.specs.Steps.{IsStepAt, IsTape};
 
 use crate::Step;
+use crate::equality::same_steps;
 use crate::packed_step::PackedStep;
-use std::alloc::AllocError;
+use fixed_ops::Fx;
+use std::alloc::{AllocError, Global};
 use std::marker::Model;
 use std::rc::RcSlice;
 
@@ -14,6 +17,8 @@ use std::rc::RcSlice;
 #[derive(Debug, Drop)]
 pub struct Tape {
     steps: RcSlice<PackedStep>,
+    // The table of the numbers of constants, which the lists that come from one list share.
+    constants: RcSlice<Fx>,
 }
 
 impl Model for Tape {
@@ -26,29 +31,29 @@ impl Model for Tape {
     ghost use Rattle.live_clauses.specs.Packed.{unpacked};
     ghost use Rattle.live_clauses.specs.Steps.{IsTape};
 
-    ghost view = { λ t. map unpacked (rc_slice_items t.steps) };
+    ghost view = { λ t. map (unpacked (rc_slice_items t.constants)) (rc_slice_items t.steps) };
 
-    ghost invariant = { λ t. IsTape (map unpacked (rc_slice_items t.steps)) };
+    ghost invariant = { λ t.
+        IsTape (map (unpacked (rc_slice_items t.constants)) (rc_slice_items t.steps)) };
 }
 
 impl Tape {
-    // The list of these steps.
-    pub(crate) fn from_packed(steps: Vec<PackedStep>) -> Result<Tape, AllocError>
-        requires { IsTape (map unpacked steps.items) }
-        ensures { IfOk result (λ tape. tape ≡ map unpacked steps.items) }
+    // The list of these steps, with the table of their constants.
+    pub(crate) fn from_packed(steps: RcSlice<PackedStep>, constants: RcSlice<Fx>) -> Tape
+        requires { IsTape (map (unpacked (rc_slice_items constants)) (rc_slice_items steps)) }
+        ensures { result ≡ map (unpacked (rc_slice_items constants)) (rc_slice_items steps) }
     {
-        let steps = RcSlice::from_vec(steps)?;
-        Ok(Tape { steps })
+        Tape { steps, constants }
     }
 
-    // The steps as they are kept.
+    // The steps as they are kept, and the table of their constants.
     #[inline]
-    pub(crate) fn packed(&self) -> &[PackedStep]
-        ensures steps { map unpacked result.now ≡ self.now }
-        ensures len { length result.now ≡ length self.now }
+    pub(crate) fn packed(&self) -> (&[PackedStep], &RcSlice<Fx>)
+        ensures steps { map (unpacked (rc_slice_items result.1.now)) result.0.now ≡ self.now }
+        ensures len { length result.0.now ≡ length self.now }
         ensures tape { IsTape self.now }
     {
-        self.steps.as_slice()
+        (self.steps.as_slice(), &self.constants)
     }
 
     /// How many steps there are.
@@ -57,7 +62,7 @@ impl Tape {
         ensures len { result ≡ length self.now }
         ensures tape { IsTape self.now }
     {
-        self.packed().len() as u32
+        self.steps().len()
     }
 
     /// The step at a place, whose operands stand before it.
@@ -77,7 +82,8 @@ impl Tape {
         ensures tape { IsTape self.now }
     {
         Steps {
-            packed: self.packed(),
+            packed: self.steps.as_slice(),
+            constants: self.constants.as_slice(),
         }
     }
 
@@ -87,6 +93,7 @@ impl Tape {
     {
         Ok(Tape {
             steps: self.steps.clone()?,
+            constants: self.constants.clone()?,
         })
     }
 }
@@ -95,6 +102,7 @@ impl Tape {
 #[derive(Debug, Drop)]
 pub struct Steps<'a> {
     packed: &'a [PackedStep],
+    constants: &'a [Fx],
 }
 
 impl<'a> Model for Steps<'a> {
@@ -106,19 +114,19 @@ impl<'a> Model for Steps<'a> {
     ghost use Rattle.live_clauses.specs.Packed.{unpacked};
     ghost use Rattle.live_clauses.specs.Steps.{IsTape};
 
-    ghost view = { λ s. map unpacked s.packed.now };
+    ghost view = { λ s. map (unpacked s.constants.now) s.packed.now };
 
-    ghost invariant = { λ s. IsTape (map unpacked s.packed.now) };
+    ghost invariant = { λ s. IsTape (map (unpacked s.constants.now) s.packed.now) };
 }
 
 impl<'a> Steps<'a> {
-    // These steps.
+    // These steps, with the table of their constants.
     #[inline]
-    pub(crate) fn from_packed(packed: &'a [PackedStep]) -> Steps<'a>
-        requires { IsTape (map unpacked packed.now) }
-        ensures { result ≡ map unpacked packed.now }
+    pub(crate) fn from_packed(packed: &'a [PackedStep], constants: &'a [Fx]) -> Steps<'a>
+        requires { IsTape (map (unpacked constants.now) packed.now) }
+        ensures { result ≡ map (unpacked constants.now) packed.now }
     {
-        Steps { packed }
+        Steps { packed, constants }
     }
 
     /// The same steps once more. A loop that reads its own of them keeps them in registers.
@@ -129,6 +137,7 @@ impl<'a> Steps<'a> {
     {
         Steps {
             packed: self.packed,
+            constants: self.constants,
         }
     }
 
@@ -142,23 +151,32 @@ impl<'a> Steps<'a> {
         packed.len() as u32
     }
 
-    /// Whether these are the same steps as others.
-    #[inline]
-    pub fn same(&self, other: &Steps<'_>) -> bool
-        ensures { IsTrue result ↔ (self.now ≡ other.now) }
-    {
-        self.packed == other.packed
-    }
-
     /// The step at a place, whose operands stand before it.
-    #[inline]
+    #[inline(always)]
     pub fn step(&self, at: u32) -> Step
         requires { at < length self.now }
         ensures step { slice_get self.now at ≡ Some result }
         ensures stands { IsStepAt at result }
     {
-        let packed = self.packed;
-        packed[at as usize].unpack()
+        let (packed, constants) = (self.packed, self.constants);
+        packed[at as usize].unpack(constants)
+    }
+
+    // The same list in memory of its own.
+    pub(crate) fn keep(&self, alloc: Global) -> Result<Tape, AllocError>
+        ensures { IfOk result (λ tape. tape ≡ self.now) }
+    {
+        Ok(Tape {
+            steps: RcSlice::from_slice(alloc, self.packed)?,
+            constants: RcSlice::from_slice(alloc, self.constants)?,
+        })
+    }
+
+    /// Whether these are the same steps as others.
+    pub fn same(&self, other: &Steps<'_>) -> bool
+        ensures { IsTrue result ↔ (self.now ≡ other.now) }
+    {
+        same_steps(self.packed, self.constants, other.packed, other.constants)
     }
 }
 

@@ -1,8 +1,8 @@
-ghost use Rattle.std.specs.Prelude.{◌≡◌, ◌≢◌, ◌≤◌, length, IfOk, vec_len};
+ghost use Rattle.std.specs.Prelude.{◌≡◌, ◌≢◌, ◌<◌, ◌≤◌, length, IfOk, vec_len};
 ghost use Rattle.fixed_ops.specs.Arity.{arity_of};
 ghost use Rattle.live_clauses.specs.Choices.{AreChoices};
 
-use crate::{Step, Tape, prune, root_tape, same};
+use crate::{Lists, RootRoom, Step, Tape, prune, root_tape, same};
 use fixed_ops::{Fx, Op};
 use interval_ops::Choice;
 use solid_model::{Edit, Form, Model, Name};
@@ -91,24 +91,24 @@ fn shows(rt: &impl Abort, tape: &Tape, steps: &[Step]) {
     }
 }
 
-// What a step may choose.
-fn allowed(op: Op, choice: Choice) -> Choice
+// What a step may choose, where the steps of one operation choose.
+fn allowed(op: Op, at: Op, choice: Choice) -> Choice
     ensures { op ≢ Op.Min → op ≢ Op.Max → result ≡ Choice.Both }
 {
-    match op {
-        Op::Min | Op::Max => choice,
+    match (op, at) {
+        (Op::Min, Op::Min) | (Op::Max, Op::Max) => choice,
         _ => Choice::Both,
     }
 }
 
-// This choice at each minimum and maximum.
-fn everywhere(alloc: Global, tape: &Tape, choice: Choice) -> Result<Vec<Choice>, AllocError>
+// This choice at each minimum, or at each maximum, and no other.
+fn at_each(alloc: Global, tape: &Tape, at: Op, choice: Choice) -> Result<Vec<Choice>, AllocError>
     ensures enough { IfOk result (λ choices. length tape.now ≤ length choices.items) }
     ensures choices { IfOk result (λ choices. AreChoices tape.now choices.items) }
 {
     let mut choices = Vec::new(alloc);
-    for at in 0..tape.len() {
-        choices.push(allowed(tape.step(at).op, choice))?;
+    for place in 0..tape.len() {
+        choices.push(allowed(tape.step(place).op, at, choice))?;
     }
     Ok(choices)
 }
@@ -156,7 +156,7 @@ fn a_list_is_shortened_where_its_minimum_is_decided(rt: HostRuntime) -> Result<(
     let left = prune(
         rt.alloc(),
         &root,
-        &everywhere(rt.alloc(), &root, Choice::Left)?,
+        &at_each(rt.alloc(), &root, Op::Min, Choice::Left)?,
     )?;
     shows(
         &rt,
@@ -173,7 +173,7 @@ fn a_list_is_shortened_where_its_minimum_is_decided(rt: HostRuntime) -> Result<(
     let right = prune(
         rt.alloc(),
         &root,
-        &everywhere(rt.alloc(), &root, Choice::Right)?,
+        &at_each(rt.alloc(), &root, Op::Min, Choice::Right)?,
     )?;
     shows(
         &rt,
@@ -190,11 +190,87 @@ fn a_list_is_shortened_where_its_minimum_is_decided(rt: HostRuntime) -> Result<(
     let whole = prune(
         rt.alloc(),
         &root,
-        &everywhere(rt.alloc(), &root, Choice::Both)?,
+        &at_each(rt.alloc(), &root, Op::Min, Choice::Both)?,
     )?;
     assert!(rt; same(&whole, &root));
     assert!(rt; same(&left.share()?, &left));
     assert!(rt; !same(&left, &root));
     assert!(rt; !same(&left, &right));
+    Ok(())
+}
+
+#[test]
+fn a_constant_is_read_through_two_shortenings(rt: HostRuntime) -> Result<(), Fail> {
+    let alloc = rt.alloc();
+    let mut model = two_spans(alloc)?;
+    add(alloc, &mut model, b"s", quarters(alloc, 3))?;
+    add(alloc, &mut model, b"g", on(alloc, Op::Max, &[b"s", b"f"])?)?;
+    let root = root_tape(alloc, &model)?;
+    let once = prune(
+        alloc,
+        &root,
+        &at_each(alloc, &root, Op::Max, Choice::Right)?,
+    )?;
+    let twice = prune(
+        alloc,
+        &once,
+        &at_each(alloc, &once, Op::Min, Choice::Right)?,
+    )?;
+    let steps = [
+        step(Op::X, 0, 0),
+        constant(2),
+        step(Op::Sub, 0, 1),
+        step(Op::Abs, 2, 0),
+        constant(1),
+        step(Op::Sub, 3, 4),
+    ];
+    shows(&rt, &twice, &steps);
+    let mut lists = Lists::new(alloc, &root)?;
+    push_last(alloc, &mut lists, Op::Max, Choice::Right)?;
+    assert!(rt; lists.list(lists.len() - 1).same(&once.steps()));
+    push_last(alloc, &mut lists, Op::Min, Choice::Right)?;
+    shows(&rt, &lists.keep(lists.len() - 1)?, &steps);
+    Ok(())
+}
+
+// Puts the live list of the last of some lists behind it, where the steps of one operation choose.
+fn push_last(alloc: Global, lists: &mut Lists, at: Op, choice: Choice) -> Result<(), AllocError>
+    requires { 0 < length lists.old }
+    ensures { 0 < length lists.new }
+{
+    let last = lists.len() - 1;
+    let list = lists.keep(last)?;
+    let choices = at_each(alloc, &list, at, choice)?;
+    lists.push_live(last, choices.as_slice())
+}
+
+// x less a number, behind a number that nothing needs.
+fn less(alloc: Global, unused: i8, number: i8) -> Result<Model, Fail> {
+    let mut model = first(alloc, b"u", quarters(alloc, unused))?;
+    add(alloc, &mut model, b"x", coordinate(alloc))?;
+    add(alloc, &mut model, b"p", quarters(alloc, number))?;
+    add(alloc, &mut model, b"f", on(alloc, Op::Sub, &[b"x", b"p"])?)?;
+    Ok(model)
+}
+
+#[test]
+fn numbers_are_compared_wherever_they_stand(rt: HostRuntime) -> Result<(), Fail> {
+    let alloc = rt.alloc();
+    let mut short = first(alloc, b"x", coordinate(alloc))?;
+    add(alloc, &mut short, b"p", quarters(alloc, 2))?;
+    add(alloc, &mut short, b"f", on(alloc, Op::Sub, &[b"x", b"p"])?)?;
+    let mut room = RootRoom::new(alloc);
+    let list = room.root(&short, None)?;
+    let same_numbers = room.root(&less(alloc, 7, 2)?, None)?;
+    let other_number = room.root(&less(alloc, 2, 7)?, Some(&list))?;
+    assert!(rt; same(&list, &same_numbers));
+    assert!(rt; !same(&list, &other_number));
+    assert!(rt; !same(&same_numbers, &other_number));
+    shows(
+        &rt,
+        &room.root(&less(alloc, 7, 2)?, Some(&other_number))?,
+        &[step(Op::X, 0, 0), constant(2), step(Op::Sub, 0, 1)],
+    );
+    assert!(rt; same(&list, &room.root(&short, Some(&list))?));
     Ok(())
 }

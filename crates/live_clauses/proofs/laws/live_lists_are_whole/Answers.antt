@@ -3,7 +3,7 @@ use Rattle.std.proofs.Common.{length, replicate}
 use Rattle.interval_ops.specs.declared.choice.Choice.TheVariants.{Both}
 use Rattle.live_clauses.specs.Steps.{steps_of}
 use Rattle.live_clauses.proofs.Again.{whole-live, live-whole, whole-stands, live_of-is_whole}
-use Rattle.live_clauses.proofs.Roots.{steps_of-tape, all_both-choices}
+use Rattle.live_clauses.proofs.RootLaws.{steps_of-tape, all_both-choices}
 use Rattle.live_clauses.proofs.laws.live_lists_are_whole.Goals as goal
 
 pub returns-clause-needed : goal.returns-clause-needed

@@ -1,7 +1,7 @@
 -- The laws of meanings are lemmas.
 use Rattle.live_clauses.proofs.MeaningLaws.{meaning_at-step}
 use Rattle.live_clauses.proofs.Keeping.{live_of-meaning}
-use Rattle.live_clauses.proofs.Roots.{root_of-meaning}
+use Rattle.live_clauses.proofs.RootLaws.{root_of-meaning}
 use Rattle.live_clauses.proofs.laws.live_lists_keep_meanings.Goals as goal
 
 pub returns-clause-steps : goal.returns-clause-steps

@@ -2,7 +2,7 @@
 use Rattle.std.proofs.Common.{◌∙◌}
 use Rattle.live_clauses.specs.Meanings.{number_at}
 use Rattle.live_clauses.proofs.ValueLaws.{number_at-reads}
-use Rattle.live_clauses.proofs.Roots.{steps_of-value}
+use Rattle.live_clauses.proofs.RootLaws.{steps_of-value}
 use Rattle.live_clauses.proofs.laws.root_has_the_value.Goals as goal
 
 pub returns : goal.returns

@@ -1,0 +1,162 @@
+// The root lists of solids.
+ghost use Rattle.std.specs.Prelude.{◌≡◌, ◌*◌, ◌≤◌, ◌++◌, [], ◌∷◌, length, map, replicate, IfOk, OnOk, if◌then◌else◌};
+ghost use Rattle.fixed_ops.specs.Points.{Point};
+ghost use Rattle.interval_ops.specs.declared.choice.Choice.TheVariants.{Both};
+ghost use Rattle.solid_model.specs.Clauses.{IsModel};
+ghost use Rattle.solid_model.specs.Values.{solid_value};
+ghost use Rattle.live_clauses.specs.Live.{live_of, root_of};
+ghost use Rattle.live_clauses.specs.Packed.{is_constant, unpacked};
+ghost use Rattle.live_clauses.specs.Steps.{AreSteps, IsStepAt, IsTape, steps_of, tape_value};
+
+use crate::choices::NoChoice;
+use crate::copying::copy_live;
+use crate::marking::mark;
+use crate::packed_step::PackedStep;
+use crate::words::words;
+use crate::{Step, Steps, Tape};
+use fixed_ops::{Fx, Op};
+use solid_model::Model;
+use std::alloc::{AllocError, Global};
+use std::rc::RcSlice;
+
+/// The root list of a solid: its live list where no choice is made. It leaves out the clauses that
+/// the last one does not need, and has the solid's value at each point.
+pub fn root_tape(alloc: Global, model: &Model) -> Result<Tape, AllocError>
+    ensures live { IfOk result (λ tape. tape ≡ root_of model.now) }
+    ensures value { IfOk result (λ tape. (p : Point)
+        → tape_value p tape ≡ solid_value p model.now) }
+{
+    RootRoom::new(alloc).root(model, None)
+}
+
+/// Memory for making root lists, which one caller keeps over many models. What it holds means
+/// nothing.
+#[derive(Debug, Drop)]
+pub struct RootRoom {
+    // The steps that the clauses of a model are, and the numbers of the constants among them.
+    steps: Vec<PackedStep>,
+    constants: Vec<Fx>,
+    // Which of them are needed, and the new numbers of these.
+    marks: Vec<u64>,
+    numbers: Vec<u16>,
+    // Those that are live.
+    live: Vec<PackedStep>,
+}
+
+impl RootRoom {
+    /// No memory.
+    pub fn new(alloc: Global) -> RootRoom {
+        RootRoom {
+            steps: Vec::new(alloc),
+            constants: Vec::new(alloc),
+            marks: Vec::new(alloc),
+            numbers: Vec::new(alloc),
+            live: Vec::new(alloc),
+        }
+    }
+
+    /// The root list of a solid, as `root_tape` gives it. Where it equals the list that was there
+    /// before, that very list is shared on. AllocError: there is no memory for it.
+    pub fn root(&mut self, model: &Model, before: Option<&Tape>) -> Result<Tape, AllocError>
+        ensures live { IfOk result (λ tape. tape ≡ root_of model.now) }
+        ensures value { IfOk result (λ tape. (p : Point)
+            → tape_value p tape ≡ solid_value p model.now) }
+    {
+        pack_clauses(model, &mut self.steps, &mut self.constants)?;
+        shorten_clauses(
+            &self.steps,
+            &self.constants,
+            &mut self.marks,
+            &mut self.numbers,
+            &mut self.live,
+        )?;
+        let root = Steps::from_packed(&self.live, &self.constants);
+        match before {
+            Some(tape) if tape.steps().same(&root) => tape.share(),
+            _ => root.keep(*self.live.allocator()),
+        }
+    }
+}
+
+// Keeps the steps that the clauses are, with the numbers of the constants among them.
+fn pack_clauses(
+    model: &Model,
+    steps: &mut Vec<PackedStep>,
+    constants: &mut Vec<Fx>,
+) -> Result<(), AllocError>
+    ensures steps { OnOk result (map (unpacked constants.new.items) steps.new.items
+        ≡ steps_of model.now) }
+    ensures table { OnOk result (length constants.new.items ≤ length steps.new.items) }
+    ensures model { IsModel model.now }
+{
+    steps.clear();
+    constants.clear();
+    steps.reserve(model.len() as usize)?;
+    for at in 0..model.len() {
+        let clause = model.clause(at);
+        let step = Step {
+            op: clause.op,
+            a: clause.a,
+            b: clause.b,
+            value: clause.value,
+        };
+        push_step(steps, constants, step)?;
+    }
+    Ok(())
+}
+
+// Keeps one more step, with its number where it is a constant.
+fn push_step(
+    steps: &mut Vec<PackedStep>,
+    constants: &mut Vec<Fx>,
+    step: Step,
+) -> Result<(), AllocError>
+    requires steps { AreSteps (map (unpacked constants.old.items) steps.old.items) }
+    requires table { length constants.old.items ≤ length steps.old.items }
+    requires few { length steps.old.items ≤ 65534 }
+    requires step { IsStepAt (length steps.old.items) step }
+    ensures steps { OnOk result (map (unpacked constants.new.items) steps.new.items
+        ≡ map (unpacked constants.old.items) steps.old.items ++ step ∷ []) }
+    ensures table { OnOk result (length constants.new.items ≤ length steps.new.items) }
+{
+    let place = constants.len() as u16;
+    push_number(constants, step.op, step.value)?;
+    steps.push(PackedStep::pack(step, place))?;
+    Ok(())
+}
+
+// Puts a number behind others where it is that of a constant.
+fn push_number(constants: &mut Vec<Fx>, op: Op, value: Fx) -> Result<(), AllocError>
+    ensures { OnOk result (constants.new.items
+        ≡ constants.old.items ++ (if is_constant op then value ∷ [] else [])) }
+{
+    match op {
+        Op::Const => {
+            constants.push(value)?;
+            Ok(())
+        }
+        _ => Ok(()),
+    }
+}
+
+// The live steps of a list where no choice is made.
+fn shorten_clauses(
+    steps: &[PackedStep],
+    constants: &[Fx],
+    marks: &mut Vec<u64>,
+    numbers: &mut Vec<u16>,
+    live: &mut Vec<PackedStep>,
+) -> Result<(), AllocError>
+    requires tape { IsTape (map (unpacked constants.now) steps.now) }
+    requires table { length constants.now ≤ length steps.now }
+    ensures { OnOk result (map (unpacked constants.now) live.new.items
+        ≡ live_of (map (unpacked constants.now) steps.now) (replicate (length steps.now) Both)) }
+{
+    let choices = NoChoice { steps: steps.len() };
+    marks.resize(words(steps.len()), 0)?;
+    numbers.resize(steps.len(), 0)?;
+    let count = mark(steps, constants, choices, marks);
+    live.resize(count, PackedStep::blank())?;
+    copy_live(steps, constants, choices, marks, numbers, live);
+    Ok(())
+}
