@@ -11,7 +11,7 @@ use Rattle.edit_script.specs.declared.command.Command.{Command}
 use Rattle.edit_script.specs.declared.command.Command.TheVariants as commands
 use Rattle.model_frames.specs.Meshes.{mesh_text}
 use Rattle.model_frames.specs.SoundTexts.{IsSoundText, MeshTextsAreSound}
-use Rattle.view_settings.specs.Settings.{IsJob}
+use Rattle.view_settings.specs.Verbs.{IsJob}
 use Rattle.view_settings.specs.declared.job.Job.{Job}
 use Rattle.view_settings.specs.declared.job.Job.TheVariants.{Mesh, Replay}
 use Rattle.modeller_cmd.specs.Asking.{asked}

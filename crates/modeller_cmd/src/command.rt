@@ -3,7 +3,7 @@ ghost use Rattle.std.specs.Prelude.{◌≡◌, ◌≢◌, ◌+◌, ◌<◌, ◌�
 ghost use Rattle.modeller_io.specs.Count.{last_count, RoseAtMost, RoseBy, Stands};
 ghost use Rattle.modeller_io.specs.Held.{Gains, GainsPrefix, Grew};
 ghost use Rattle.modeller_io.specs.Took.{LosesAtMost};
-ghost use Rattle.view_settings.specs.Settings.{IsJob};
+ghost use Rattle.view_settings.specs.Verbs.{IsJob};
 ghost use Rattle.view_settings.specs.Words.{bytes_of};
 ghost use Rattle.modeller_cmd.specs.Endings.{CountsForSome, Ends, GainsParts, IsAnswer, IsRead, IsRefusal, IsTold, IsUnwritten, IsWorked, Makes, NoFault, ReadsWhole, TakesLine, Tells, status_after};
 ghost use Rattle.modeller_cmd.specs.Notes.{line_of};
@@ -17,12 +17,11 @@ ghost use Rattle.modeller_cmd.specs.Stopping.{StopsPlay, StopsRun};
 ghost use Rattle.model_frames.specs.Work.{CountsWithin, CountsWork, PointsRiseAtMost};
 
 use crate::Status;
-use crate::asking::{read_job, reads};
+use crate::asking::read_job;
 use crate::count::count;
 use crate::drawing::draw;
 use crate::forge::forge;
 use crate::note::note_of;
-use crate::reads::Reads;
 use crate::replay::replay;
 use crate::stop::Stop;
 use edit_script::draws_may_be_drawn;
@@ -30,7 +29,7 @@ use fixed_ops::Tally;
 use model_frames::{Frame, frames_add_up, mesh_texts_are_sound};
 use modeller_io::{ReadEnd, Sink, Source, read_all, write_all};
 use std::alloc::Global;
-use view_settings::Job;
+use view_settings::{Job, Reads};
 
 // The most bytes that an input may have.
 const INPUT_LIMIT: u64 = 8_388_608;
@@ -269,7 +268,7 @@ fn read_input<S: Source>(alloc: Global, job: &Job, source: &mut S) -> Result<Vec
         → S.taken source.new < last_count → result ≡ Err ReadEnd.TooLong }
     ensures lost { LosesAtMost S.rest S.taken source.old source.new (input_limit + 1) }
 {
-    match reads(job) {
+    match job.reads() {
         Reads::Nothing => Ok(Vec::new(alloc)),
         Reads::Model | Reads::Script => {
             let input = read_all(alloc, source, INPUT_LIMIT)?;

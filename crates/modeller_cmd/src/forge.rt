@@ -3,7 +3,7 @@ ghost use Rattle.std.specs.Prelude.{◌≡◌, ◌==◌, ◌++◌, [], ◌∷◌
 ghost use Rattle.model_frames.specs.Images.{plain_points as plain_points_of};
 ghost use Rattle.model_frames.specs.Work.{CountsWithin, CountsWork, PointsRiseAtMost, exactly, frame_work};
 ghost use Rattle.quad_descent.specs.Pixels.{pixels_of};
-ghost use Rattle.view_settings.specs.Settings.{IsJob};
+ghost use Rattle.view_settings.specs.Verbs.{IsJob};
 ghost use Rattle.view_settings.specs.declared.job.Job.TheVariants as jobs;
 ghost use Rattle.modeller_cmd.specs.CountTexts.{count_text};
 ghost use Rattle.modeller_cmd.specs.Forging.{forge_part, forge_text, forged_clauses};

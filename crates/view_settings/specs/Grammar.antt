@@ -5,7 +5,8 @@ use Rattle.view_settings.specs.declared.setting.Setting.{Setting}
 use Rattle.view_settings.specs.declared.verb.Verb.{Verb}
 use Rattle.view_settings.specs.declared.word_fault.WordReason.{WordReason}
 use Rattle.view_settings.specs.Setting.{setting_of}
-use Rattle.view_settings.specs.Settings.{IsJob, begun}
+use Rattle.view_settings.specs.Settings.{begun}
+use Rattle.view_settings.specs.Verbs.{IsJob}
 use Rattle.view_settings.specs.Words.{after_words, job_after}
 
 -- each word gives one setting, after those that were taken and those of the words before it

@@ -13,9 +13,9 @@ use Rattle.view_settings.specs.declared.setting.Value.TheVariants.{Raw, Count}
 use Rattle.view_settings.specs.declared.verb.Verb.{Verb}
 use Rattle.view_settings.specs.declared.word_fault.WordReason.{WordReason}
 use Rattle.view_settings.specs.declared.word_fault.WordReason.TheVariants.{NotASetting, UnknownSetting, Twice, BadValue, OutOfRange}
-use Rattle.view_settings.specs.Kinds.{kind_of}
 use Rattle.view_settings.specs.Names.{name_called, is_same}
 use Rattle.view_settings.specs.Steps.{◌>>=◌, or_refused}
+use Rattle.view_settings.specs.Verbs.{kind_of}
 
 -- the sign between name and value
 abbrev pub is_equals : ℕ → Bool
