@@ -40,7 +40,7 @@ form_found (Err defect) = Err (form_reason defect)
 abbrev pub name_found : List ℕ → Option (List ℕ)
 name_found token = if begins_comment token then None else Some token
 
--- an edit, or a stray line
+-- an edit, or one with a token that begins with `#`, so that it can name no clause
 abbrev pub edit_or_stray : ℕ → Option Edit → Command
 edit_or_stray line (Some edit) = commands.Edit line edit
 edit_or_stray line None = commands.Stray line

@@ -15,7 +15,7 @@ use Rattle.modeller_cmd.specs.SoundTexts.{MeshFramesAreSound}
 use Rattle.modeller_cmd.specs.Stops.{stop_of_end}
 use Rattle.modeller_cmd.specs.declared.refusal.Refusal.TheVariants as refusal
 use Rattle.modeller_cmd.specs.declared.stop.Stop.{Stop}
-use Rattle.modeller_cmd.proofs.Serving.{told-input}
+use Rattle.modeller_cmd.proofs.Execution.{told-input}
 use Rattle.modeller_cmd.proofs.Outcomes.{asked_made, made_long, some_all, some_follows}
 
 -- what is so of the input of a job is so of the input of the words that ask for it

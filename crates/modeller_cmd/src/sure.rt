@@ -8,7 +8,7 @@ ghost use Rattle.modeller_cmd.specs.Runs.{EndsSo};
 ghost use Rattle.modeller_cmd.specs.declared.status.Status.TheVariants.{Done, NoMemory};
 
 use crate::Status;
-use crate::command::perform;
+use crate::command::run_and_report;
 use fixed_ops::Tally;
 use modeller_io::{SureSink, SureSource};
 use std::alloc::Global;
@@ -49,5 +49,5 @@ pub fn run_surely(
       status = result;
     }) }
 {
-    perform(alloc, words, source, out, notes, tally)
+    run_and_report(alloc, words, source, out, notes, tally)
 }
