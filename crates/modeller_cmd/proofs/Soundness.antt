@@ -1,6 +1,6 @@
 -- What a run writes of a mesh is the text of a sound one.
-use Rattle.std.proofs.Common.{◌≡◌, ◌≢◌, ℕ, ◌≤◌, Bool, true, false, List, [], ◌∷◌, ◌++◌, length, append-nil, Result, Ok, Err, IsOk, refl, ap, sym, subst, ◌∙◌, arith, rules}
-use Rattle.std.specs.Prelude.{All, IfOk, if◌then◌else◌, nat_lt}
+use Rattle.std.proofs.Common.{◌≡◌, ℕ, ◌≤◌, Bool, true, false, List, [], ◌∷◌, ◌++◌, length, append-nil, Result, Ok, refl, ap, sym, subst, ◌∙◌, arith}
+use Rattle.std.specs.Prelude.{All, IfOk, nat_lt}
 use Rattle.std.proofs.lemmas.Bool.{ltb-false}
 use Rattle.clause_reader.specs.Reading.{text_read}
 use Rattle.edit_script.specs.Commands.{MayBeDrawn}
@@ -17,7 +17,6 @@ use Rattle.view_settings.specs.declared.job.Job.TheVariants.{Mesh, Replay}
 use Rattle.modeller_cmd.specs.Asking.{asked}
 use Rattle.view_places.specs.Window.{Window}
 use Rattle.solid_model.specs.declared.clause.Clause.{Clause}
-use Rattle.modeller_cmd.specs.Endings.{IsRead, status_after}
 use Rattle.modeller_cmd.specs.Output.{input_limit, made, of_solid, outcome, output_as, parts_replayed}
 use Rattle.model_frames.specs.Frames.{Part, frame_part}
 use Rattle.modeller_cmd.specs.Parts.{bytes_of_parts}
@@ -25,9 +24,6 @@ use Rattle.modeller_cmd.specs.Replays.{clauses_after, framed, replayed, standing
 use Rattle.modeller_cmd.specs.SoundTexts.{HasSoundFrame, MeshFramesAreSound, MeshesAreSound}
 use Rattle.model_frames.specs.declared.frame.Frame.TheVariants as frames
 use Rattle.modeller_cmd.specs.declared.refusal.Refusal.{Refusal}
-use Rattle.modeller_cmd.specs.declared.refusal.Refusal.TheVariants as refusal
-use Rattle.modeller_cmd.specs.declared.stop.Stop.{Stop}
-use Rattle.modeller_cmd.specs.declared.stop.Stop.TheVariants.{NoMemory}
 use Rattle.modeller_cmd.specs.declared.status.Status.TheVariants.{Done}
 use Rattle.modeller_cmd.proofs.Outcomes.{model_read, solid_read}
 use Rattle.modeller_cmd.proofs.ReplayLaws.{replayed-between}

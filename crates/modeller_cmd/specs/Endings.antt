@@ -135,8 +135,8 @@ IsHalt stop.WriteFault = ⊤
 IsHalt stop.NoMemory = ⊤
 IsHalt other = ⊥
 
--- what may stop the execution of a job on an input that was read: the work, or the writing of what it
--- makes
+-- what may stop the execution of a job on an input that was read: what stops its work, or a fault of
+-- the sink
 abbrev pub IsExecutionStop : Stop → Type 0
 IsExecutionStop stop.WriteFault = ⊤
 IsExecutionStop other = IsWorkStop other

@@ -1,5 +1,5 @@
 -- What a job that is executed does to a sink and to a tally.
-use Rattle.std.specs.Prelude.{◌≡◌, ◌≢◌, ℕ, List, Option, Result, Err, IfErr, IfOk, IsOk, OnOk, All}
+use Rattle.std.specs.Prelude.{◌≡◌, ◌≢◌, ℕ, List, Option, Result, Err, IfErr, OnOk}
 use Rattle.fixed_ops.specs.Counts.{Counts}
 use Rattle.model_frames.specs.Frames.{Part}
 use Rattle.model_frames.specs.Work.{CountsWork}
@@ -28,8 +28,8 @@ pub record Sent {K T : Type 0} (held : K → Option (List ℕ)) (faults : K → 
   pub fault : result ≡ Err WriteFault → RoseBy faults before after 1
   pub unwritten : result ≡ Err NoMemory → after ≡ before
 
--- Work of this outcome was done, and its parts were written when the last of them was made: where it
--- comes to writing, all work is done, and all memory is taken.
+-- Work of this outcome was done, and its parts were written when the last of them was made: where
+-- it comes to writing, all work is done, and all memory is taken.
 pub record ExecutedAtOnce {K T : Type 0} (held : K → Option (List ℕ)) (faults : K → ℕ)
     (before after : K) (first last : Counts) (outcome : Result (List Part) Refusal)
     (result : Result T Stop) : Type 0 where

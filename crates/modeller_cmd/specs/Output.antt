@@ -54,8 +54,8 @@ of_solid input solid makes =
 abbrev pub of_model : List ℕ → (List Clause → Part) → Result (List Part) Refusal
 of_model input part = of_solid input input (λ clauses. Ok (part clauses ∷ []))
 
--- The parts that a job makes of an input, or why it makes none. What is forged is the same for every
--- input.
+-- The parts that a job makes of an input, or why it makes none. What is forged is the same for
+-- every input.
 abbrev pub made : Job → List ℕ → Result (List Part) Refusal
 made (jobs.Render view) input = of_model input (frame_part (frames.Render view))
 made (jobs.Height view) input = of_model input (frame_part (frames.Height view))

@@ -289,7 +289,8 @@ fn execute<K: Sink>(
 ) -> Result<(), Stop>
     requires keeps { IsJob job.now }
     requires limit { length input.now ≤ input_limit }
-    ensures { Executed K.held K.faults out.old out.new tally.old tally.new job.now input.now result }
+    ensures { Executed K.held K.faults out.old out.new tally.old tally.new job.now input.now
+        result }
 {
     match job {
         Job::Render(view) => draw(alloc, &Frame::Render(*view), input, out, tally),

@@ -30,8 +30,8 @@ use view_settings::Job;
 /// soon as it is made, and nothing before the whole script was read.
 ///
 /// `Refused`: the model is refused, or else the script, and nothing was written. `WriteFault`: the
-/// sink failed, and has taken a front of the bytes. `NoMemory`: memory was refused, and the sink has
-/// taken what the first commands write, and nothing of the next one.
+/// sink failed, and has taken a front of the bytes. `NoMemory`: memory was refused, and the sink
+/// has taken what the first commands write, and nothing of the next one.
 pub fn replay<K: Sink>(
     alloc: Global,
     input: &[u8],

@@ -14,8 +14,8 @@ use modeller_io::{SureSink, SureSource};
 use std::alloc::Global;
 
 /// Runs the modeller over a source and sinks that never fail. It answers the status that the words
-/// ask for of the source's bytes, whatever they are, or that memory was refused, and nothing else. What
-/// it leaves, tells and counts is what `run` says.
+/// ask for of the source's bytes, whatever they are, or that memory was refused, and nothing else.
+/// What it leaves, tells and counts is what `run` says.
 pub fn run_surely(
     alloc: Global,
     words: &[String],

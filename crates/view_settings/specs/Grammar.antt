@@ -21,7 +21,8 @@ pub record GiveAfter (verb : Verb) (taken : List Setting)
 abbrev pub Give : Verb → List (List ℕ) → List Setting → Type 0
 Give verb words settings = GiveAfter verb [] words settings
 
--- the first word that gives none, counted from 0, and the lowest reason against it, after the settings taken
+-- the first word that gives none, counted from 0, and the lowest reason against it, after the
+-- settings taken
 pub record RefusesAfter (verb : Verb) (taken : List Setting)
     (words : List (List ℕ)) (k : ℕ) (reason : WordReason) : Type 0 where
   pub within : k < length words

@@ -28,7 +28,8 @@ parts_of word = option_map (λ at. (take at word, drop (at + 1) word)) (position
 -- the setting of a verb that is called so, with the values that it may have
 abbrev pub known : Verb → List ℕ → Option (Name × Kind)
 known verb text =
-    option_and_then (λ name. option_map (λ kind. (name, kind)) (kind_of verb name)) (name_called text)
+    option_and_then (λ name. option_map (λ kind. (name, kind)) (kind_of verb name))
+    (name_called text)
 
 -- a setting of this name was taken
 abbrev pub is_given : Name → List Setting → Bool

@@ -1,5 +1,5 @@
--- What is said of each verb: how it is written, which settings it takes, which job it makes of them,
--- and what that job keeps and reads.
+-- What is said of each verb: how it is written, which settings it takes, which job it makes of
+-- them, and what that job keeps and reads.
 use Rattle.std.specs.Prelude.{ℕ, List, [], ◌∷◌, Option, None, codes, find, Result, Ok, Err, if◌then◌else◌, ⊤}
 use Rattle.std.specs.Str.{bytes_eq}
 use Rattle.view_settings.specs.declared.job.Job.{Job}

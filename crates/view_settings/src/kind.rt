@@ -52,7 +52,8 @@ pub(crate) fn mesh_kind(name: Name) -> Option<Kind>
     }
 }
 
-/// What a model that is made takes: an image, where the generator starts, and how many discs it makes.
+/// What a model that is made takes: an image, where the generator starts, and how many discs it
+/// makes.
 pub(crate) fn forge_kind(name: Name) -> Option<Kind>
     ensures { result ≡ forge_taken name }
 {

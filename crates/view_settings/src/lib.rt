@@ -1,5 +1,5 @@
-//! The words that ask for work: a verb and its settings, and the job that they make. Views and their
-//! samples are those of `view_places`, handed on from here.
+//! The words that ask for work: a verb and its settings, and the job that they make. Views and
+//! their samples are those of `view_places`, handed on from here.
 #![tactic(auto)]
 
 mod forge;

@@ -52,7 +52,8 @@ pub(crate) fn read_verb(word: &[u8]) -> Option<Verb>
 }
 
 impl Verb {
-    /// The values that a setting of this name may have, and None where the verb has no such setting.
+    /// The values that a setting of this name may have, and None where the verb has no such
+    /// setting.
     pub(crate) fn kind(self, name: Name) -> Option<Kind>
         ensures { result ≡ kind_of self name }
     {
