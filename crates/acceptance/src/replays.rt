@@ -1,4 +1,4 @@
-// Scripts that are played: what their commands write, and what they leave.
+// Scripts that are replayed: what their commands write, and what they leave.
 use crate::trial::{Trial, sink};
 use modeller_cmd::Status;
 use modeller_io::MemSink;

@@ -9,7 +9,7 @@ use Rattle.clause_reader.specs.Forms.{form_said}
 use Rattle.clause_reader.specs.Lines.{begins_comment}
 use Rattle.clause_reader.specs.Reading.{on_result}
 use Rattle.view_settings.specs.Grammar.{JobsHold}
-use Rattle.view_settings.specs.Settings.{IsJob}
+use Rattle.view_settings.specs.Verbs.{IsJob}
 use Rattle.view_settings.specs.declared.job.Job.{Job}
 use Rattle.view_settings.specs.declared.job.Job.TheVariants as jobs
 use Rattle.view_settings.specs.declared.verb.Verb.{Verb}
@@ -62,10 +62,7 @@ job-holds : (job : Job) → IsJob job → Holds (draw_of job)
 job-holds (jobs.Render view) is = is
 job-holds (jobs.Height view) is = is
 job-holds (jobs.Mesh view) is = is
-job-holds (jobs.Count view) is = tt
-job-holds jobs.Text is = tt
-job-holds jobs.Replay is = tt
-job-holds (jobs.Forge forge) is = tt
+job-holds other is = tt
 
 draw-holds : JobsHold → (line : ℕ) (verb : Verb) (tokens : List (List ℕ)) (read : Result Job WordFault)
     → job_after tokens verb ≡ read

@@ -18,7 +18,9 @@ use Rattle.view_settings.specs.declared.word_fault.WordFault.{WordFault}
 use Rattle.view_settings.specs.declared.word_fault.WordReason.{WordReason}
 use Rattle.view_settings.specs.declared.word_fault.WordReason.TheVariants.{EmptySpan, CellTooSmall}
 use Rattle.view_settings.specs.Setting.{setting_of}
-use Rattle.view_settings.specs.Settings.{Given, begun, finished, is_empty, job_with, settled, window_of}
+use Rattle.view_settings.specs.Settings.{Given, begun, finished, settled}
+use Rattle.view_settings.specs.Verbs.{job_with}
+use Rattle.view_settings.specs.Views.{is_empty, window_of}
 use Rattle.view_settings.specs.Steps.{◌>>=◌}
 use Rattle.view_places.specs.Window.{fits_mesh}
 use Rattle.view_settings.specs.Words.{after_words, job_after, refused_at}

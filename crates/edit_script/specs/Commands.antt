@@ -40,7 +40,7 @@ form_found (Err defect) = Err (form_reason defect)
 abbrev pub name_found : List ℕ → Option (List ℕ)
 name_found token = if begins_comment token then None else Some token
 
--- an edit, or a stray line
+-- an edit, or one with a token that begins with `#`, so that it can name no clause
 abbrev pub edit_or_stray : ℕ → Option Edit → Command
 edit_or_stray line (Some edit) = commands.Edit line edit
 edit_or_stray line None = commands.Stray line
@@ -99,15 +99,12 @@ abbrev pub text_command_read : List (List ℕ) → Result Command ScriptReason
 text_command_read [] = Ok commands.Text
 text_command_read (next ∷ others) = Err WrongArity
 
--- the command of a job that draws
+-- the command of a job that draws: a script draws what is named here, and nothing else
 abbrev pub draw_of : Job → Result Command ScriptReason
 draw_of (jobs.Render view) = Ok (commands.Render view)
 draw_of (jobs.Height view) = Ok (commands.Height view)
 draw_of (jobs.Mesh view) = Ok (commands.Mesh view)
-draw_of (jobs.Count view) = Err BadSetting
-draw_of jobs.Text = Err BadSetting
-draw_of jobs.Replay = Err BadSetting
-draw_of (jobs.Forge forge) = Err BadSetting
+draw_of other = Err BadSetting
 
 -- the job of settings, all of whose faults are one reason
 abbrev pub job_or_bad : Result Job WordFault → Result Job ScriptReason

@@ -8,8 +8,8 @@ use view_settings::View;
 pub enum Command {
     /// An edit, and the number of its line among all lines of the input.
     Edit(u32, Edit),
-    /// The line of an edit with a token that begins with `#` where it should name a clause, so that
-    /// it names none.
+    /// An edit with a token that begins with `#` where it should name a clause, so that it can name
+    /// none, by the number of its line. It is refused as one of a name that is unknown.
     Stray(u32),
     /// An image of this view.
     Render(View),

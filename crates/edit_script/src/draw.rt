@@ -1,14 +1,15 @@
 // Draws, and the text.
 ghost use Rattle.std.specs.Prelude.{◌≡◌, IfOk};
 ghost use Rattle.edit_script.specs.Commands.{draw_read, job_or_bad, text_command_read, IsCommand};
-ghost use Rattle.view_settings.specs.Settings.{IsJob};
+ghost use Rattle.view_settings.specs.Verbs.{IsJob};
 ghost use Rattle.view_settings.specs.Words.{job_after};
 
 use crate::{Command, ScriptReason};
 use clause_reader::Tokens;
 use view_settings::{Job, Settings, Verb};
 
-/// The command that draws as this verb, with these settings.
+/// The command that draws as this verb, with these settings. A script draws what is named here, and
+/// nothing else.
 pub(crate) fn read_draw(verb: Verb, tokens: Tokens<'_>) -> Result<Command, ScriptReason>
     ensures value { result ≡ draw_read verb tokens.entry }
     ensures keeps { IfOk result IsCommand }

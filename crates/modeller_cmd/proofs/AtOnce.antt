@@ -14,10 +14,10 @@ use Rattle.modeller_io.specs.Held.{GainsPrefix}
 use Rattle.solid_model.specs.declared.clause.Clause.{Clause}
 use Rattle.view_settings.specs.declared.job.Job.{Job}
 use Rattle.view_settings.specs.declared.job.Job.TheVariants.{Replay}
-use Rattle.modeller_cmd.specs.Endings.{Ends, IsRefusal, IsServeStop}
+use Rattle.modeller_cmd.specs.Endings.{Ends, IsRefusal, IsExecutionStop}
 use Rattle.modeller_cmd.specs.Output.{input_limit, made, of_model, output_as}
 use Rattle.modeller_cmd.specs.Parts.{work_of_parts}
-use Rattle.modeller_cmd.specs.Serving.{Sent, Served, ServedAtOnce}
+use Rattle.modeller_cmd.specs.Execution.{Sent, Executed, ExecutedAtOnce}
 use Rattle.modeller_cmd.specs.Stops.{status_at, stop_of_text}
 use Rattle.modeller_cmd.specs.declared.bad_text.BadText.TheVariants as bad
 use Rattle.modeller_cmd.specs.declared.refusal.Refusal.{Refusal}
@@ -26,7 +26,7 @@ use Rattle.modeller_cmd.specs.declared.status.Status.TheVariants.{BadScript}
 use Rattle.modeller_cmd.specs.declared.stop.Stop.{Stop}
 use Rattle.modeller_cmd.specs.declared.stop.Stop.TheVariants.{Refused, ReadFault, WriteFault, NoMemory}
 use Rattle.modeller_cmd.proofs.Outcomes.{solid_refused, work_of_one}
-use Rattle.modeller_cmd.proofs.Plays.{part-counted, part-played, part-stopped, stopped-before}
+use Rattle.modeller_cmd.proofs.Writing.{part-counted, part-written, part-halted, halted-before}
 
 -- bytes that were sent, where they did not all go out
 pub sent-none : {K T : Type 0} (held : K → Option (List ℕ)) (faults : K → ℕ) (out : K) (bytes : List ℕ) (r : Result T Stop)
@@ -57,15 +57,15 @@ sent-front {K} {T} held faults before after bytes (Err stop) is front rose =
 
 module _ {K T : Type 0} (held : K → Option (List ℕ)) (faults : K → ℕ) where
   -- nothing of it was written
-  unserved : (out : K) (s t : Counts) (outcome : Result (List Part) Refusal) (stop : Stop) → Ends {T = T} outcome (Err stop) → IsServeStop stop → stop ≢ WriteFault
+  unexecuted : (out : K) (s t : Counts) (outcome : Result (List Part) Refusal) (stop : Stop) → Ends {T = T} outcome (Err stop) → IsExecutionStop stop → stop ≢ WriteFault
       → status_at stop ≢ BadScript → (IsRefusal (status_at stop) → t ≡ s)
       → CountsWithin s t (work_of_parts (output_as outcome).parts) → PointsRiseAtMost s t (work_of_parts (output_as outcome).parts).plain
-      → ServedAtOnce {T = T} held faults out out s t outcome (Err stop)
-  unserved out s t outcome stop ends may other script same few plain = record {
+      → ExecutedAtOnce {T = T} held faults out out s t outcome (Err stop)
+  unexecuted out s t outcome stop ends may other script same few plain = record {
     ends = ends;
     stop = may;
-    played = tt;
-    stopped = stopped-before held faults out s t (output_as outcome).parts stop other few plain;
+    written = tt;
+    halted = halted-before held faults out s t (output_as outcome).parts stop other few plain;
     refused = λ is. (refl, same is);
     script = script;
     unwritten = λ memory. refl;
@@ -75,55 +75,55 @@ module _ {K T : Type 0} (held : K → Option (List ℕ)) (faults : K → ℕ) wh
   -- the text of its solid was refused, or memory to read it in
   pub refused-at-once : (frames : FramesAddUp) (out : K) (counts : Counts) (input : List ℕ) (part : List Clause → Part) (line : ℕ) (reason : TextReason) (r : Result T Stop)
       → length input ≤ input_limit → (reason ≢ reasons.NoMemory → text_read input ≡ Err (record { line = line; reason = reason }))
-      → IsErrAnd r (λ stop. stop ≡ stop_of_text (record { line = line; reason = reason })) → ServedAtOnce held faults out out counts counts (of_model input part) r
+      → IsErrAnd r (λ stop. stop ≡ stop_of_text (record { line = line; reason = reason })) → ExecutedAtOnce held faults out out counts counts (of_model input part) r
   refused-at-once frames out counts input part line reason (Ok x) few reads is = absurd is
   refused-at-once frames out counts input part line reasons.NoMemory (Err stop) few reads is =
-      subst (λ s. ServedAtOnce {T = T} held faults out out counts counts (of_model input part) (Err s)) (sym is)
-      (unserved out counts counts (of_model input part) NoMemory tt tt (λ fault. cc) (λ script. cc) (λ refused. refl)
+      subst (λ s. ExecutedAtOnce {T = T} held faults out out counts counts (of_model input part) (Err s)) (sym is)
+      (unexecuted out counts counts (of_model input part) NoMemory tt tt (λ fault. cc) (λ script. cc) (λ refused. refl)
       (frames.within_none counts (work_of_parts (output_as (of_model input part)).parts)) (frames.plain_none counts (work_of_parts (output_as (of_model input part)).parts).plain))
   refused-at-once frames out counts input part line other (Err stop) few reads is =
       let fault : TextFault = record { line = line; reason = other } in
-      subst (λ s. ServedAtOnce {T = T} held faults out out counts counts (of_model input part) (Err s)) (sym is)
-      (unserved out counts counts (of_model input part) (Refused (refusal.Text (bad.Model fault)))
+      subst (λ s. ExecutedAtOnce {T = T} held faults out out counts counts (of_model input part) (Err s)) (sym is)
+      (unexecuted out counts counts (of_model input part) (Refused (refusal.Text (bad.Model fault)))
       (solid_refused input input (λ clauses. Ok (part clauses ∷ [])) fault few (reads (λ memory. cc))) tt (λ write. cc) (λ script. cc) (λ refused. refl)
       (frames.within_none counts (work_of_parts (output_as (of_model input part)).parts)) (frames.plain_none counts (work_of_parts (output_as (of_model input part)).parts).plain))
 
   -- memory was refused while its one part was made
   pub undrawn-at-once : (out : K) (s t : Counts) (outcome : Result (List Part) Refusal) (part : Part) (r : Result T Stop) → outcome ≡ Ok (part ∷ [])
-      → CountsWithin s t part.work → PointsRiseAtMost s t part.work.plain → IsErrAnd r (λ stop. stop ≡ NoMemory) → ServedAtOnce held faults out out s t outcome r
+      → CountsWithin s t part.work → PointsRiseAtMost s t part.work.plain → IsErrAnd r (λ stop. stop ≡ NoMemory) → ExecutedAtOnce held faults out out s t outcome r
   undrawn-at-once out s t outcome part (Ok x) makes few plain is = absurd is
   undrawn-at-once out s t outcome part (Err stop) makes few plain is =
       let work = sym (work_of_one outcome part makes) in
-      subst (λ e. ServedAtOnce {T = T} held faults out out s t outcome (Err e)) (sym is)
-      (unserved out s t outcome NoMemory tt tt (λ fault. cc) (λ script. cc) (λ refused. absurd refused) (subst (CountsWithin s t) work few)
+      subst (λ e. ExecutedAtOnce {T = T} held faults out out s t outcome (Err e)) (sym is)
+      (unexecuted out s t outcome NoMemory tt tt (λ fault. cc) (λ script. cc) (λ refused. absurd refused) (subst (CountsWithin s t) work few)
       (subst (λ w. PointsRiseAtMost s t w.plain) work plain))
 
   -- its one part was made, and its bytes were sent
   pub sent-at-once : (before after : K) (s t : Counts) (outcome : Result (List Part) Refusal) (part : Part) (bytes : List ℕ) (r : Result T Stop) → outcome ≡ Ok (part ∷ [])
       → bytes ≡ part.bytes → Sent held faults before after bytes r → CountsWork s t part.work → CountsWithin s t part.work → PointsRiseAtMost s t part.work.plain
-      → ServedAtOnce held faults before after s t outcome r
+      → ExecutedAtOnce held faults before after s t outcome r
   sent-at-once before after s t outcome part bytes r makes same sent done few plain =
-      subst (λ o. ServedAtOnce held faults before after s t o r) (sym makes) (by r sent)
+      subst (λ o. ExecutedAtOnce held faults before after s t o r) (sym makes) (by r sent)
     where
-      by : (q : Result T Stop) → Sent held faults before after bytes q → ServedAtOnce held faults before after s t (Ok (part ∷ [])) q
+      by : (q : Result T Stop) → Sent held faults before after bytes q → ExecutedAtOnce held faults before after s t (Ok (part ∷ [])) q
       by (Ok x) sent = record {
         ends = search rules;
         stop = tt;
-        played = part-played held faults before after s t part bytes same sent.gained sent.no_fault done few plain;
-        stopped = tt;
+        written = part-written held faults before after s t part bytes same sent.gained sent.no_fault done few plain;
+        halted = tt;
         refused = λ is. absurd is;
         script = λ is. cc;
         unwritten = λ is. cc;
         counted = λ is. cc;
       }
       by (Err NoMemory) sent =
-          subst (λ k. ServedAtOnce {T = T} held faults before k s t (Ok (part ∷ [])) (Err NoMemory)) (sym (sent.unwritten refl))
+          subst (λ k. ExecutedAtOnce {T = T} held faults before k s t (Ok (part ∷ [])) (Err NoMemory)) (sym (sent.unwritten refl))
           (undrawn-at-once before s t (Ok (part ∷ [])) part (Err NoMemory) refl few plain refl)
       by (Err WriteFault) sent = record {
         ends = search rules;
         stop = tt;
-        played = tt;
-        stopped = part-stopped held faults before after s t part bytes same (sent.front refl) (sent.fault refl) few plain;
+        written = tt;
+        halted = part-halted held faults before after s t part bytes same (sent.front refl) (sent.fault refl) few plain;
         refused = λ is. absurd is;
         script = λ is. cc;
         unwritten = λ is. cc;
@@ -132,18 +132,18 @@ module _ {K T : Type 0} (held : K → Option (List ℕ)) (faults : K → ℕ) wh
       by (Err ReadFault) sent = absurd sent.stop
       by (Err (Refused why)) sent = absurd sent.stop
 
-  -- a job is served so, where it is no script
-  pub served-at-once : (before after : K) (s t : Counts) (job told : Job) (input : List ℕ) (r : Result T Stop) → job ≡ told → told ≢ Replay
-      → ServedAtOnce held faults before after s t (made told input) r → Served held faults before after s t job input r
-  served-at-once before after s t job told input r is other served =
-      subst (λ j. Served held faults before after s t j input r) (sym is) (record {
-        ends = served.ends;
-        stop = served.stop;
-        played = served.played;
-        stopped = served.stopped;
-        refused = served.refused;
-        script = λ script. absurd (served.script script);
-        unwritten = λ _. served.unwritten;
-        counted = λ _. served.counted;
-        stops = λ replays. absurd (other replays);
+  -- so a job is executed, where it is no script
+  pub executed-at-once : (before after : K) (s t : Counts) (job told : Job) (input : List ℕ) (r : Result T Stop) → job ≡ told → told ≢ Replay
+      → ExecutedAtOnce held faults before after s t (made told input) r → Executed held faults before after s t job input r
+  executed-at-once before after s t job told input r is other executed =
+      subst (λ j. Executed held faults before after s t j input r) (sym is) (record {
+        ends = executed.ends;
+        stop = executed.stop;
+        written = executed.written;
+        halted = executed.halted;
+        refused = executed.refused;
+        script = λ script. absurd (executed.script script);
+        unwritten = λ _. executed.unwritten;
+        counted = λ _. executed.counted;
+        halts = λ replays. absurd (other replays);
       })

@@ -31,10 +31,10 @@ use Rattle.modeller_cmd.specs.Notes.{line_of}
 use Rattle.modeller_cmd.specs.Output.{Output, WithOutput, input_limit, made, of_solid, output_as, output_of}
 use Rattle.model_frames.specs.Frames.{Part}
 use Rattle.modeller_cmd.specs.Parts.{bytes_of_parts, work_of_parts}
-use Rattle.modeller_cmd.specs.Playing.{Played, Stopped}
+use Rattle.modeller_cmd.specs.Writing.{Halted, Written}
 use Rattle.modeller_cmd.specs.Statuses.{number_of}
 use Rattle.modeller_cmd.specs.SoundTexts.{HasSoundFrame, MeshFramesAreSound, MeshesAreSound}
-use Rattle.modeller_cmd.specs.Stopping.{IsUnbegun, StopsAt, StopsIn, StopsPlay, StopsRun, WantsMemory, WritesSomething}
+use Rattle.modeller_cmd.specs.Halting.{IsUnbegun, HaltsAt, HaltsIn, HaltsReplay, HaltsRun, WantsMemory, WritesSomething}
 use Rattle.modeller_cmd.specs.Stops.{status_at}
 use Rattle.modeller_cmd.specs.Forging.{forge_text, forged_clauses}
 use Rattle.fixed_ops.specs.Counts.{Counts, RisesAtMost, RisesWithin, no_counts, risen}
@@ -166,8 +166,8 @@ abbrev replayed_of : List ℕ → Output
 replayed_of input = output_of (codes "replay" ∷ []) input
 
 -- a run that is done, with these parts, and the parts that take no work
-abbrev played : List Part → Output
-played parts = record { status = status.Done; parts = parts; note = [] }
+abbrev written : List Part → Output
+written parts = record { status = status.Done; parts = parts; note = [] }
 
 abbrev idle : List ℕ → Part
 idle bytes = record { bytes = bytes; work = no_work }
@@ -182,24 +182,24 @@ picture = record {
 -- Of three pixels the places -1 and 0 lie below 0.5. Each of three edits is refused for its own reason, so the picture is
 -- the same afterwards.
 refused_edits_change_nothing : replayed_of (codes "x var-x\nc const 0.5\nf sub x c\n%%\nrender w=3 h=1\ncut c\nadd x var-y\nset c sub x f\nrender w=3 h=1\n")
-    ≡ played (picture ∷ idle (codes "@ refused 6 InUse\n") ∷ idle (codes "@ refused 7 DoubleName\n") ∷ idle (codes "@ refused 8 NotEarlier\n") ∷ picture ∷ [])
+    ≡ written (picture ∷ idle (codes "@ refused 6 InUse\n") ∷ idle (codes "@ refused 7 DoubleName\n") ∷ idle (codes "@ refused 8 NotEarlier\n") ∷ picture ∷ [])
 unfolding digits points_in spans_in chain_within replayed is_unsigned_numeral unsigned_raw nearest_raw cut_magnitude setting_of
 refused_edits_change_nothing = refl
 
 -- a clause is put before another, the output is cut twice, and the last clause can not be
 clauses_come_and_go : replayed_of (codes "x var-x\n%%\nput x c const 0.5\nadd f sub x c\ntext\ncut f\ncut x\ncut c\n")
-    ≡ played (idle (codes "@ text 39\nc const 0.5000000000\nx var-x\nf sub x c\n") ∷ idle (codes "@ refused 8 LastClause\n") ∷ [])
+    ≡ written (idle (codes "@ text 39\nc const 0.5000000000\nx var-x\nf sub x c\n") ∷ idle (codes "@ refused 8 LastClause\n") ∷ [])
 unfolding digits replayed is_unsigned_numeral unsigned_raw nearest_raw cut_magnitude size_text
 clauses_come_and_go = refl
 
 -- a name that begins with `#` names no clause
 comment_is_no_name : replayed_of (codes "x var-x\n%%\n\nset #x var-y\n# c\ntext\n")
-    ≡ played (idle (codes "@ refused 4 UnknownName\n") ∷ idle (codes "@ text 8\nx var-x\n") ∷ [])
+    ≡ written (idle (codes "@ refused 4 UnknownName\n") ∷ idle (codes "@ text 8\nx var-x\n") ∷ [])
 unfolding digits replayed
 comment_is_no_name = refl
 
 -- a mark with nothing behind it writes nothing
-no_commands : replayed_of (codes "x var-x\n%%") ≡ played []
+no_commands : replayed_of (codes "x var-x\n%%") ≡ written []
 unfolding digits replayed
 no_commands = refl
 
@@ -476,16 +476,16 @@ other_bytes_are_no_front takes = by takes.front.count takes.front.gained
     by zero same = (cc)
     by (suc count) same = let byte : 98 ≡ 97 = ap (λ s. slice_index_or s 0 0) same in absurd (omega (arith, byte))
 
-half_a_part_without_memory : Stopped (λ (s : List ℕ). Some s) (λ s. 0) [] (codes "a") no_counts no_counts (idle (codes "ab") ∷ []) stop.NoMemory → ⊥
-half_a_part_without_memory stopped = half_a_part (stopped.whole refl)
+half_a_part_without_memory : Halted (λ (s : List ℕ). Some s) (λ s. 0) [] (codes "a") no_counts no_counts (idle (codes "ab") ∷ []) stop.NoMemory → ⊥
+half_a_part_without_memory halted = half_a_part (halted.whole refl)
 
--- a part that is not written was not played
-unwritten_part : Played (λ (s : List ℕ). Some s) (λ s. 0) [] [] no_counts no_counts (idle (codes "a") ∷ []) → ⊥
-unwritten_part played = let same : [] ≡ codes "a" = played.gained in (cc)
+-- a part of which no byte went out is not written
+unwritten_part : Written (λ (s : List ℕ). Some s) (λ s. 0) [] [] no_counts no_counts (idle (codes "a") ∷ []) → ⊥
+unwritten_part written = let same : [] ≡ codes "a" = written.gained in (cc)
 
 -- where memory is refused nothing of the command is written
-part_without_memory : StopsIn (λ (s : List ℕ). Some s) (λ s. 0) [] (codes "@") no_counts no_counts [] commands.Text stop.NoMemory → ⊥
-part_without_memory stops = let same : codes "@" ≡ [] = stops.unwritten refl in (cc)
+part_without_memory : HaltsIn (λ (s : List ℕ). Some s) (λ s. 0) [] (codes "@") no_counts no_counts [] commands.Text stop.NoMemory → ⊥
+part_without_memory halts = let same : codes "@" ≡ [] = halts.unwritten refl in (cc)
 
 -- memory is wanted for a frame and for a clause that is added, and for no edit that is refused or makes no clause
 abbrev two : List Clause
@@ -518,24 +518,24 @@ after_a_cut : standing two (commands.Edit 3 (edits.Cut (codes "f")) ∷ commands
 unfolding standing
 after_a_cut = refl
 
--- a frame stops for want of memory only behind what the stray line before it writes, and that line never does
+-- a frame halts for want of memory only behind what the stray line before it writes, and that line never does
 abbrev stray_and_text : List Command
 stray_and_text = commands.Stray 3 ∷ commands.Text ∷ []
 
-stray_is_passed : StopsAt (λ (s : List ℕ). Some s) (λ s. 0) [] [] no_counts no_counts two stray_and_text stop.NoMemory → ⊥
+stray_is_passed : HaltsAt (λ (s : List ℕ). Some s) (λ s. 0) [] [] no_counts no_counts two stray_and_text stop.NoMemory → ⊥
 unfolding digits replayed standing
-stray_is_passed at = by at.earlier at.command at.later at.split at.between at.counts at.played at.stops
+stray_is_passed at = by at.earlier at.command at.later at.split at.between at.counts at.written at.halts
   where
     by : (earlier : List Command) (command : Command) (later : List Command) → stray_and_text ≡ earlier ++ command ∷ later
-        → (between : List ℕ) (counts : Counts) → Played (λ (s : List ℕ). Some s) (λ s. 0) [] between no_counts counts (replayed two earlier)
-        → StopsIn (λ (s : List ℕ). Some s) (λ s. 0) between [] counts no_counts (standing two earlier) command stop.NoMemory → ⊥
-    by [] command later split between counts played stops =
-        let same : commands.Stray 3 ≡ command = cc in subst (WantsMemory two) (sym same) (stops.wants refl)
-    by (first ∷ earlier) command later split between counts played stops =
+        → (between : List ℕ) (counts : Counts) → Written (λ (s : List ℕ). Some s) (λ s. 0) [] between no_counts counts (replayed two earlier)
+        → HaltsIn (λ (s : List ℕ). Some s) (λ s. 0) between [] counts no_counts (standing two earlier) command stop.NoMemory → ⊥
+    by [] command later split between counts written halts =
+        let same : commands.Stray 3 ≡ command = cc in subst (WantsMemory two) (sym same) (halts.wants refl)
+    by (first ∷ earlier) command later split between counts written halts =
         let same : commands.Stray 3 ≡ first = cc in
-        let none : [] ≡ between = stops.unwritten refl in
+        let none : [] ≡ between = halts.unwritten refl in
         let some : between ≡ bytes_of_parts (replayed two (commands.Stray 3 ∷ earlier)) =
-        subst (λ command. between ≡ bytes_of_parts (replayed two (command ∷ earlier))) (sym same) played.gained in
+        subst (λ command. between ≡ bytes_of_parts (replayed two (command ∷ earlier))) (sym same) written.gained in
         let byte : None ≡ Some 64 = ap (λ s. slice_get s 0) none ∙ ap (λ s. slice_get s 0) some in
         (cc)
 
@@ -641,10 +641,10 @@ refused_words_count_none some =
     omega (arith, work.within.points, points)
 
 -- the work of a part that was written is counted
-uncounted_part : Played (λ (s : List ℕ). Some s) (λ s. 0) [] picture.bytes no_counts no_counts (picture ∷ []) → ⊥
+uncounted_part : Written (λ (s : List ℕ). Some s) (λ s. 0) [] picture.bytes no_counts no_counts (picture ∷ []) → ⊥
 unfolding CountsWork
-uncounted_part played =
-    let counts : RisesWithin no_counts no_counts (risen_by 9 3 0) (risen_by 9 3 12) = played.counted in
+uncounted_part written =
+    let counts : RisesWithin no_counts no_counts (risen_by 9 3 0) (risen_by 9 3 12) = written.counted in
     let points : 0 ≡ risen 0 counts.by.points = ap (λ (counts : Counts). counts.points) counts.rises in
     omega (arith, counts.enough.points, points)
 
@@ -655,24 +655,24 @@ bounded = record {
   work = record { least = risen_by 5 4 0; most = risen_by 50 40 160; bound = risen_by 50 40 160; plain = 70 };
 }
 
-uncounted_beside : Played (λ (s : List ℕ). Some s) (λ s. 0) [] (bounded.bytes ++ picture.bytes) no_counts (risen_by 13 7 0) (bounded ∷ picture ∷ []) → ⊥
+uncounted_beside : Written (λ (s : List ℕ). Some s) (λ s. 0) [] (bounded.bytes ++ picture.bytes) no_counts (risen_by 13 7 0) (bounded ∷ picture ∷ []) → ⊥
 unfolding CountsWork
-uncounted_beside played =
-    let counts : RisesWithin no_counts (risen_by 13 7 0) (risen_by 14 7 0) (risen_by 59 43 172) = played.counted in
+uncounted_beside written =
+    let counts : RisesWithin no_counts (risen_by 13 7 0) (risen_by 14 7 0) (risen_by 59 43 172) = written.counted in
     let points : 13 ≡ risen 0 counts.by.points = ap (λ (counts : Counts). counts.points) counts.rises in
     omega (arith, counts.enough.points, points)
 
-fewer_hulls_beside : Played (λ (s : List ℕ). Some s) (λ s. 0) [] (bounded.bytes ++ picture.bytes) no_counts (risen_by 14 6 0) (bounded ∷ picture ∷ []) → ⊥
+fewer_hulls_beside : Written (λ (s : List ℕ). Some s) (λ s. 0) [] (bounded.bytes ++ picture.bytes) no_counts (risen_by 14 6 0) (bounded ∷ picture ∷ []) → ⊥
 unfolding CountsWork
-fewer_hulls_beside played =
-    let counts : RisesWithin no_counts (risen_by 14 6 0) (risen_by 14 7 0) (risen_by 59 43 172) = played.counted in
+fewer_hulls_beside written =
+    let counts : RisesWithin no_counts (risen_by 14 6 0) (risen_by 14 7 0) (risen_by 59 43 172) = written.counted in
     let spans : 6 ≡ risen 0 counts.by.spans = ap (λ (counts : Counts). counts.spans) counts.rises in
     omega (arith, counts.enough.spans, spans)
 
--- a part that was played, with exactly its work, and one that a fault of the sink stopped behind its first byte
-picture_is_played : Played (λ (s : List ℕ). Some s) (λ s. 0) [] picture.bytes no_counts (risen_by 9 3 12) (picture ∷ [])
+-- a part that was written, with exactly its work, and one that a fault of the sink halted behind its first byte
+picture_is_written : Written (λ (s : List ℕ). Some s) (λ s. 0) [] picture.bytes no_counts (risen_by 9 3 12) (picture ∷ [])
 unfolding CountsWork CountsWithin
-picture_is_played = record {
+picture_is_written = record {
   gained = refl;
   no_fault = refl;
   counted = record {
@@ -688,7 +688,7 @@ picture_is_played = record {
 abbrev busy : Part
 busy = record { bytes = codes "ab"; work = exactly 1 2 3 }
 
-front_is_left : Stopped (λ (s : List ℕ). Some s) (λ s. length s) [] (codes "a") no_counts (risen_by 1 2 8) (busy ∷ []) stop.WriteFault
+front_is_left : Halted (λ (s : List ℕ). Some s) (λ s. length s) [] (codes "a") no_counts (risen_by 1 2 8) (busy ∷ []) stop.WriteFault
 unfolding CountsWithin
 front_is_left = record {
   front = λ is. record { count = 1; within = omega arith; gained = refl };
@@ -701,90 +701,90 @@ front_is_left = record {
 }
 
 -- no fault of the sink is passed over, and under one no other bytes are left
-fault_is_not_played : Played (λ (s : List ℕ). Some s) (λ s. length s) [] (codes "a") no_counts no_counts (idle (codes "a") ∷ []) → ⊥
-fault_is_not_played played = let same : 1 ≡ 0 = played.no_fault in omega (arith, same)
+fault_is_not_written : Written (λ (s : List ℕ). Some s) (λ s. length s) [] (codes "a") no_counts no_counts (idle (codes "a") ∷ []) → ⊥
+fault_is_not_written written = let same : 1 ≡ 0 = written.no_fault in omega (arith, same)
 
-fault_is_not_memory : Stopped (λ (s : List ℕ). Some s) (λ s. length s) [] (codes "a") no_counts no_counts (idle (codes "a") ∷ []) stop.NoMemory → ⊥
-fault_is_not_memory stopped = let same : 1 ≡ 0 = stopped.no_write_fault (λ is. cc) in omega (arith, same)
+fault_is_not_memory : Halted (λ (s : List ℕ). Some s) (λ s. length s) [] (codes "a") no_counts no_counts (idle (codes "a") ∷ []) stop.NoMemory → ⊥
+fault_is_not_memory halted = let same : 1 ≡ 0 = halted.no_write_fault (λ is. cc) in omega (arith, same)
 
-other_bytes_are_left : Stopped (λ (s : List ℕ). Some s) (λ s. last_count) [] (codes "b") no_counts no_counts (idle (codes "ab") ∷ []) stop.WriteFault → ⊥
-other_bytes_are_left stopped =
-    other_bytes_are_no_front (record { front = stopped.front refl; whole = λ none. absurd (omega (arith, none.1)) })
+other_bytes_are_left : Halted (λ (s : List ℕ). Some s) (λ s. last_count) [] (codes "b") no_counts no_counts (idle (codes "ab") ∷ []) stop.WriteFault → ⊥
+other_bytes_are_left halted =
+    other_bytes_are_no_front (record { front = halted.front refl; whole = λ none. absurd (omega (arith, none.1)) })
 
 -- such a fault is counted once, nothing beyond the work is, and no byte is lost
-fault_is_counted_once : Stopped (λ (s : List ℕ). Some s) (λ s. 0) [] (codes "a") no_counts no_counts (idle (codes "a") ∷ []) stop.WriteFault → ⊥
-fault_is_counted_once stopped = let rose : 0 ≡ 1 = stopped.write_fault refl in omega (arith, rose)
+fault_is_counted_once : Halted (λ (s : List ℕ). Some s) (λ s. 0) [] (codes "a") no_counts no_counts (idle (codes "a") ∷ []) stop.WriteFault → ⊥
+fault_is_counted_once halted = let rose : 0 ≡ 1 = halted.write_fault refl in omega (arith, rose)
 
-more_than_the_work : Stopped (λ (s : List ℕ). Some s) (λ s. last_count) [] [] no_counts (risen_by 0 3 0) (busy ∷ []) stop.WriteFault → ⊥
+more_than_the_work : Halted (λ (s : List ℕ). Some s) (λ s. last_count) [] [] no_counts (risen_by 0 3 0) (busy ∷ []) stop.WriteFault → ⊥
 unfolding CountsWithin
-more_than_the_work stopped =
-    let work : RisesAtMost no_counts (risen_by 0 3 0) (risen_by 1 2 8) = stopped.at_most in
+more_than_the_work halted =
+    let work : RisesAtMost no_counts (risen_by 0 3 0) (risen_by 1 2 8) = halted.at_most in
     let spans : 3 ≡ risen 0 work.by.spans = ap (λ (counts : Counts). counts.spans) work.rises in
     omega (arith, work.within.spans, spans)
 
-more_than_plain : Stopped (λ (s : List ℕ). Some s) (λ s. last_count) [] [] no_counts (risen_by 4 0 0) (busy ∷ []) stop.WriteFault → ⊥
-more_than_plain stopped =
-    let points : 4 ≡ risen 0 stopped.plain.by = stopped.plain.rises in
-    omega (arith, stopped.plain.few, points)
+more_than_plain : Halted (λ (s : List ℕ). Some s) (λ s. last_count) [] [] no_counts (risen_by 4 0 0) (busy ∷ []) stop.WriteFault → ⊥
+more_than_plain halted =
+    let points : 4 ≡ risen 0 halted.plain.by = halted.plain.rises in
+    omega (arith, halted.plain.few, points)
 
-bytes_are_lost : Stopped (λ (s : List ℕ). Some s) (λ s. 0) (codes "ab") (codes "a") no_counts no_counts [] stop.NoMemory → ⊥
-bytes_are_lost stopped = let same : codes "a" ≡ codes "ab" ++ stopped.grew.bytes = stopped.grew.gained in (cc)
+bytes_are_lost : Halted (λ (s : List ℕ). Some s) (λ s. 0) (codes "ab") (codes "a") no_counts no_counts [] stop.NoMemory → ⊥
+bytes_are_lost halted = let same : codes "a" ≡ codes "ab" ++ halted.grew.bytes = halted.grew.gained in (cc)
 
--- a fault of the sink stops no edit that is accepted
-edit_meets_no_fault : StopsIn (λ (s : List ℕ). Some s) (λ s. last_count) [] [] no_counts no_counts two (commands.Edit 4 (edits.Cut (codes "f"))) stop.WriteFault → ⊥
-edit_meets_no_fault stops = accepted_edit_writes_nothing (stops.writes refl)
+-- a fault of the sink halts no edit that is accepted
+edit_meets_no_fault : HaltsIn (λ (s : List ℕ). Some s) (λ s. last_count) [] [] no_counts no_counts two (commands.Edit 4 (edits.Cut (codes "f"))) stop.WriteFault → ⊥
+edit_meets_no_fault halts = accepted_edit_writes_nothing (halts.writes refl)
 
 -- under such a fault the image of a frame was counted, and nothing is left but a front of the frame
 abbrev drawing : Command
 drawing = commands.Render (window 3 1 (pos 0))
 
-uncounted_frame : StopsIn (λ (s : List ℕ). Some s) (λ s. last_count) [] [] no_counts no_counts two drawing stop.WriteFault → ⊥
+uncounted_frame : HaltsIn (λ (s : List ℕ). Some s) (λ s. last_count) [] [] no_counts no_counts two drawing stop.WriteFault → ⊥
 unfolding CountsWork points_in spans_in chain_within
-uncounted_frame stops =
-    let counts : RisesWithin no_counts no_counts (risen_by 6 2 0) (risen_by 6 2 8) = stops.counted refl in
+uncounted_frame halts =
+    let counts : RisesWithin no_counts no_counts (risen_by 6 2 0) (risen_by 6 2 8) = halts.counted refl in
     let points : 0 ≡ risen 0 counts.by.points = ap (λ (counts : Counts). counts.points) counts.rises in
     omega (arith, counts.enough.points, points)
 
-bytes_of_no_frame : StopsIn (λ (s : List ℕ). Some s) (λ s. last_count) [] (codes "b") no_counts no_counts two commands.Text stop.WriteFault → ⊥
-bytes_of_no_frame stops = let front = stops.stopped.front refl in by front.count front.gained
+bytes_of_no_frame : HaltsIn (λ (s : List ℕ). Some s) (λ s. last_count) [] (codes "b") no_counts no_counts two commands.Text stop.WriteFault → ⊥
+bytes_of_no_frame halts = let front = halts.halted.front refl in by front.count front.gained
   where
     by : (count : ℕ) → codes "b" ≡ take count (bytes_of_parts (parts_at two commands.Text)) → ⊥
     by zero same = (cc)
     by (suc count) same = let byte : 98 ≡ 64 = ap (λ s. slice_index_or s 0 0) same in absurd (omega (arith, byte))
 
--- no fault of the sink stops a script before anything of it is done
+-- no fault of the sink halts a script before anything of it is done
 fault_after_nothing : IsUnbegun stop.WriteFault → ⊥
 fault_after_nothing may = may
 
 -- half a frame is written of no script that wants memory
-half_a_frame : StopsRun (λ (s : List ℕ). Some s) (λ s. 0) [] (codes "@") no_counts no_counts (codes "replay" ∷ []) (codes "x var-x\n%%\ntext\n") status.NoMemory → ⊥
+half_a_frame : HaltsRun (λ (s : List ℕ). Some s) (λ s. 0) [] (codes "@") no_counts no_counts (codes "replay" ∷ []) (codes "x var-x\n%%\ntext\n") status.NoMemory → ⊥
 unfolding digits replayed standing
-half_a_frame run = by run.stop run.is (run.play refl)
+half_a_frame run = by run.stop run.is (run.replay refl)
   where
     at : (earlier : List Command) (command : Command) (later : List Command) → commands.Text ∷ [] ≡ earlier ++ command ∷ later
-        → (between : List ℕ) (counts : Counts) → Played (λ (s : List ℕ). Some s) (λ s. 0) [] between no_counts counts (replayed (take 1 two) earlier)
-        → StopsIn (λ (s : List ℕ). Some s) (λ s. 0) between (codes "@") counts no_counts (standing (take 1 two) earlier) command stop.NoMemory → ⊥
-    at [] command later split between counts played stops =
-        let none : between ≡ [] = played.gained in
-        let some : codes "@" ≡ between = stops.unwritten refl in
+        → (between : List ℕ) (counts : Counts) → Written (λ (s : List ℕ). Some s) (λ s. 0) [] between no_counts counts (replayed (take 1 two) earlier)
+        → HaltsIn (λ (s : List ℕ). Some s) (λ s. 0) between (codes "@") counts no_counts (standing (take 1 two) earlier) command stop.NoMemory → ⊥
+    at [] command later split between counts written halts =
+        let none : between ≡ [] = written.gained in
+        let some : codes "@" ≡ between = halts.unwritten refl in
         (cc)
-    at (first ∷ []) command later split between counts played stops = (cc)
-    at (first ∷ second ∷ earlier) command later split between counts played stops = (cc)
+    at (first ∷ []) command later split between counts written halts = (cc)
+    at (first ∷ second ∷ earlier) command later split between counts written halts = (cc)
 
     by : (why : Stop) → status.NoMemory ≡ status_at why
-        → StopsPlay (λ (s : List ℕ). Some s) (λ s. 0) [] (codes "@") no_counts no_counts (codes "x var-x\n%%\ntext\n") why → ⊥
-    by (stop.Refused (refusal.Words fault)) is play = (cc)
-    by (stop.Refused refusal.TooLong) is play = (cc)
-    by (stop.Refused (refusal.Text fault)) is play = (cc)
-    by (stop.Refused (refusal.Script fault)) is play = (cc)
-    by stop.ReadFault is play = (cc)
-    by stop.WriteFault is play = (cc)
-    by stop.NoMemory is play = either (play (take 1 two) (commands.Text ∷ []) refl refl)
+        → HaltsReplay (λ (s : List ℕ). Some s) (λ s. 0) [] (codes "@") no_counts no_counts (codes "x var-x\n%%\ntext\n") why → ⊥
+    by (stop.Refused (refusal.Words fault)) is replay = (cc)
+    by (stop.Refused refusal.TooLong) is replay = (cc)
+    by (stop.Refused (refusal.Text fault)) is replay = (cc)
+    by (stop.Refused (refusal.Script fault)) is replay = (cc)
+    by stop.ReadFault is replay = (cc)
+    by stop.WriteFault is replay = (cc)
+    by stop.NoMemory is replay = either (replay (take 1 two) (commands.Text ∷ []) refl refl)
       where
         either : (IsUnbegun stop.NoMemory × (codes "@" ≡ []) × (no_counts ≡ no_counts))
-            ⊎ StopsAt (λ (s : List ℕ). Some s) (λ s. 0) [] (codes "@") no_counts no_counts (take 1 two) (commands.Text ∷ []) stop.NoMemory → ⊥
+            ⊎ HaltsAt (λ (s : List ℕ). Some s) (λ s. 0) [] (codes "@") no_counts no_counts (take 1 two) (commands.Text ∷ []) stop.NoMemory → ⊥
         either (inl none) = let same : codes "@" ≡ [] = none.1 in (cc)
-        either (inr stops) = at stops.earlier stops.command stops.later stops.split stops.between stops.counts stops.played stops.stops
+        either (inr halts) = at halts.earlier halts.command halts.later halts.split halts.between halts.counts halts.written halts.halts
 
 -- the text of a mesh that is written is told to be sound, and so is that of a frame: of what stands where it comes
 abbrev cells : ℕ → Window

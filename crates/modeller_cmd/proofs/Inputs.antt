@@ -7,15 +7,12 @@ use Rattle.modeller_io.specs.Took.{LosesAtMost}
 use Rattle.modeller_io.specs.declared.read_end.ReadEnd.{ReadEnd}
 use Rattle.modeller_io.specs.declared.read_end.ReadEnd.TheVariants as end
 use Rattle.view_settings.specs.declared.job.Job.{Job}
-use Rattle.view_settings.specs.declared.job.Job.TheVariants.{Replay}
 use Rattle.modeller_cmd.specs.Asking.{asked, asks_nothing, input_told, reads_nothing}
 use Rattle.modeller_cmd.specs.Endings.{Ends}
 use Rattle.modeller_cmd.specs.Output.{input_limit, outcome}
-use Rattle.modeller_cmd.specs.SoundTexts.{MeshFramesAreSound}
 use Rattle.modeller_cmd.specs.Stops.{stop_of_end}
 use Rattle.modeller_cmd.specs.declared.refusal.Refusal.TheVariants as refusal
 use Rattle.modeller_cmd.specs.declared.stop.Stop.{Stop}
-use Rattle.modeller_cmd.proofs.Serving.{told-input}
 use Rattle.modeller_cmd.proofs.Outcomes.{asked_made, made_long, some_all, some_follows}
 
 -- what is so of the input of a job is so of the input of the words that ask for it

@@ -1,4 +1,4 @@
--- The words by which a run tells what it writes and why it stops, each once.
+-- The words by which a run tells what it writes and why it halts, each once.
 use Rattle.std.proofs.Common.{◌≡◌, [], ◌∷◌, map, refl}
 use Rattle.std.specs.Prelude.{codes}
 use Rattle.clause_reader.specs.declared.text_reason.TextReason.TheVariants as text

@@ -1,6 +1,6 @@
 -- What a run writes of a mesh is the text of a sound one.
-use Rattle.std.proofs.Common.{◌≡◌, ◌≢◌, ℕ, ◌≤◌, Bool, true, false, List, [], ◌∷◌, ◌++◌, length, append-nil, Result, Ok, Err, IsOk, refl, ap, sym, subst, ◌∙◌, arith, rules}
-use Rattle.std.specs.Prelude.{All, IfOk, if◌then◌else◌, nat_lt}
+use Rattle.std.proofs.Common.{◌≡◌, ℕ, ◌≤◌, Bool, true, false, List, [], ◌∷◌, ◌++◌, length, append-nil, Result, Ok, refl, ap, sym, subst, ◌∙◌, arith}
+use Rattle.std.specs.Prelude.{All, IfOk, nat_lt}
 use Rattle.std.proofs.lemmas.Bool.{ltb-false}
 use Rattle.clause_reader.specs.Reading.{text_read}
 use Rattle.edit_script.specs.Commands.{MayBeDrawn}
@@ -11,26 +11,22 @@ use Rattle.edit_script.specs.declared.command.Command.{Command}
 use Rattle.edit_script.specs.declared.command.Command.TheVariants as commands
 use Rattle.model_frames.specs.Meshes.{mesh_text}
 use Rattle.model_frames.specs.SoundTexts.{IsSoundText, MeshTextsAreSound}
-use Rattle.view_settings.specs.Settings.{IsJob}
+use Rattle.view_settings.specs.Verbs.{IsJob}
 use Rattle.view_settings.specs.declared.job.Job.{Job}
 use Rattle.view_settings.specs.declared.job.Job.TheVariants.{Mesh, Replay}
 use Rattle.modeller_cmd.specs.Asking.{asked}
 use Rattle.view_places.specs.Window.{Window}
 use Rattle.solid_model.specs.declared.clause.Clause.{Clause}
-use Rattle.modeller_cmd.specs.Endings.{IsRead, status_after}
-use Rattle.modeller_cmd.specs.Output.{input_limit, made, of_solid, outcome, output_as, parts_played}
+use Rattle.modeller_cmd.specs.Output.{input_limit, made, of_solid, outcome, output_as, parts_replayed}
 use Rattle.model_frames.specs.Frames.{Part, frame_part}
 use Rattle.modeller_cmd.specs.Parts.{bytes_of_parts}
 use Rattle.modeller_cmd.specs.Replays.{clauses_after, framed, replayed, standing}
 use Rattle.modeller_cmd.specs.SoundTexts.{HasSoundFrame, MeshFramesAreSound, MeshesAreSound}
 use Rattle.model_frames.specs.declared.frame.Frame.TheVariants as frames
 use Rattle.modeller_cmd.specs.declared.refusal.Refusal.{Refusal}
-use Rattle.modeller_cmd.specs.declared.refusal.Refusal.TheVariants as refusal
-use Rattle.modeller_cmd.specs.declared.stop.Stop.{Stop}
-use Rattle.modeller_cmd.specs.declared.stop.Stop.TheVariants.{NoMemory}
 use Rattle.modeller_cmd.specs.declared.status.Status.TheVariants.{Done}
 use Rattle.modeller_cmd.proofs.Outcomes.{model_read, solid_read}
-use Rattle.modeller_cmd.proofs.Playback.{replayed-between}
+use Rattle.modeller_cmd.proofs.ReplayLaws.{replayed-between}
 use Rattle.modeller_cmd.proofs.WorkSums.{All-between}
 
 -- a job that words are found to ask for keeps what jobs keep
@@ -67,7 +63,7 @@ script_frames clauses before after view input texts few reads says keeps =
     let shown = standing clauses before in
     let all = subst (λ r. IfOk r (All MayBeDrawn)) says keeps in
     let fits = All-between MayBeDrawn before (commands.Mesh view) after all in
-    let played = solid_read input (before_mark input) (λ solid. parts_played solid (script_read input)) clauses few reads ∙ ap (parts_played clauses) says in
+    let written = solid_read input (before_mark input) (λ solid. parts_replayed solid (script_read input)) clauses few reads ∙ ap (parts_replayed clauses) says in
     let after_it = replayed (clauses_after shown (commands.Mesh view)) after in
     record {
       text = mesh_text view shown;
@@ -75,7 +71,7 @@ script_frames clauses before after view input texts few reads says keeps =
       frame = framed (frames.Mesh view) shown;
       bytes = refl;
       after = after_it;
-      stands = ap (λ o. (output_as o).parts) played ∙ replayed-between clauses before (commands.Mesh view) after;
+      stands = ap (λ o. (output_as o).parts) written ∙ replayed-between clauses before (commands.Mesh view) after;
     }
 
 -- so it is of every run
@@ -83,6 +79,6 @@ pub frames_are_sound : (words : List (List ℕ)) (input : List ℕ) → MeshText
 frames_are_sound words input texts draws clauses before after view replays reads says done =
     let made_of = outcome_of words input Replay replays in
     let finished = ap (λ o. (output_as o).status) (sym made_of) ∙ done in
-    let few = few_of input (before_mark input) (λ solid. parts_played solid (script_read input)) finished in
+    let few = few_of input (before_mark input) (λ solid. parts_replayed solid (script_read input)) finished in
     subst (HasSoundFrame view (standing clauses before) (replayed clauses before)) (ap (λ o. (output_as o).parts) (sym made_of))
     (script_frames clauses before after view input texts few reads says (draws input))

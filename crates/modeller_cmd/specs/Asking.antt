@@ -1,11 +1,12 @@
 -- What the words of a run ask for.
 use Rattle.std.specs.Prelude.{◌≢◌, ℕ, List, [], Bool, true, false, Option, Some, Result, Ok, Err, if◌then◌else◌}
+use Rattle.view_settings.specs.Verbs.{reads}
 use Rattle.view_settings.specs.Words.{job_of}
 use Rattle.view_settings.specs.declared.job.Job.{Job}
-use Rattle.view_settings.specs.declared.job.Job.TheVariants as jobs
+use Rattle.view_settings.specs.declared.job.Job.TheVariants.{Replay}
 use Rattle.view_settings.specs.declared.word_fault.WordFault.{WordFault}
-use Rattle.modeller_cmd.specs.declared.reads.Reads.{Reads}
-use Rattle.modeller_cmd.specs.declared.reads.Reads.TheVariants.{Nothing, Model, Script}
+use Rattle.view_settings.specs.declared.reads.Reads.{Reads}
+use Rattle.view_settings.specs.declared.reads.Reads.TheVariants.{Nothing, Model, Script}
 use Rattle.modeller_cmd.specs.declared.refusal.Refusal.{Refusal}
 use Rattle.modeller_cmd.specs.declared.refusal.Refusal.TheVariants.{Words}
 
@@ -20,17 +21,7 @@ asked words = by (job_of words)
 -- the words ask for no script, of which each part is written before the next one is made: all work
 -- is done, and all memory is taken, before the first byte is written
 abbrev pub WritesAtOnce : List (List ℕ) → Type 0
-WritesAtOnce words = asked words ≢ Ok jobs.Replay
-
--- what a job reads
-abbrev pub reads : Job → Reads
-reads (jobs.Render view) = Model
-reads (jobs.Height view) = Model
-reads (jobs.Mesh view) = Model
-reads (jobs.Count view) = Model
-reads jobs.Text = Model
-reads jobs.Replay = Script
-reads (jobs.Forge forge) = Nothing
+WritesAtOnce words = asked words ≢ Ok Replay
 
 -- a job that makes its own solid, and has no input
 abbrev pub reads_nothing : Job → Bool

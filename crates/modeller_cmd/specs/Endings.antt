@@ -129,16 +129,17 @@ IsWorkStop (stop.Refused (refusal.Script fault)) = ⊤
 IsWorkStop stop.NoMemory = ⊤
 IsWorkStop other = ⊥
 
--- what may stop the writing of parts as they are made: the sink, or memory
-abbrev pub IsPlayStop : Stop → Type 0
-IsPlayStop stop.WriteFault = ⊤
-IsPlayStop stop.NoMemory = ⊤
-IsPlayStop other = ⊥
+-- what may halt the writing of parts: a fault of the sink, or want of memory
+abbrev pub IsHalt : Stop → Type 0
+IsHalt stop.WriteFault = ⊤
+IsHalt stop.NoMemory = ⊤
+IsHalt other = ⊥
 
--- what may stop the work on an input that was read, and the writing of what it makes
-abbrev pub IsServeStop : Stop → Type 0
-IsServeStop stop.WriteFault = ⊤
-IsServeStop other = IsWorkStop other
+-- what may stop the execution of a job on an input that was read: what stops its work, or a fault of
+-- the sink
+abbrev pub IsExecutionStop : Stop → Type 0
+IsExecutionStop stop.WriteFault = ⊤
+IsExecutionStop other = IsWorkStop other
 
 -- what a stop that is a refusal says is so of the words and the input
 abbrev pub IsTold : List (List ℕ) → Option (List ℕ) → Stop → Type 0

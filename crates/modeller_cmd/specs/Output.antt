@@ -30,10 +30,10 @@ abbrev pub input_limit : ℕ
 input_limit = 8388608
 
 -- the parts that a script makes of a solid, or why it makes none: those of its commands
-abbrev pub parts_played : List Clause → Result (List Command) ScriptFault
+abbrev pub parts_replayed : List Clause → Result (List Command) ScriptFault
     → Result (List Part) Refusal
-parts_played clauses (Ok commands) = Ok (replayed clauses commands)
-parts_played clauses (Err fault) = Err (Script fault)
+parts_replayed clauses (Ok commands) = Ok (replayed clauses commands)
+parts_replayed clauses (Err fault) = Err (Script fault)
 
 -- the part that tells the work of an image
 abbrev pub count_part : Window → List Clause → Part
@@ -54,8 +54,8 @@ of_solid input solid makes =
 abbrev pub of_model : List ℕ → (List Clause → Part) → Result (List Part) Refusal
 of_model input part = of_solid input input (λ clauses. Ok (part clauses ∷ []))
 
--- The parts that a job makes of an input, or why it makes none. What is forged is the same for every
--- input.
+-- The parts that a job makes of an input, or why it makes none. What is forged is the same for
+-- every input.
 abbrev pub made : Job → List ℕ → Result (List Part) Refusal
 made (jobs.Render view) input = of_model input (frame_part (frames.Render view))
 made (jobs.Height view) input = of_model input (frame_part (frames.Height view))
@@ -63,7 +63,7 @@ made (jobs.Mesh view) input = of_model input (frame_part (frames.Mesh view))
 made (jobs.Count view) input = of_model input (count_part view)
 made jobs.Text input = of_model input (frame_part frames.Text)
 made jobs.Replay input =
-    of_solid input (before_mark input) (λ clauses. parts_played clauses (script_read input))
+    of_solid input (before_mark input) (λ clauses. parts_replayed clauses (script_read input))
 made (jobs.Forge forge) input = Ok (forge_part forge ∷ [])
 
 -- the parts that a run writes, or why it writes none

@@ -24,8 +24,8 @@ abbrev pub refusal : ℕ → EditFault → Part
 refusal line fault = record { bytes = refused_line line fault; work = no_work }
 
 -- the parts that a command writes of the clauses then standing: nothing for an edit that is
--- accepted, the line of one that is refused, and a frame of what is drawn. An edit that names no
--- clause anywhere is refused too.
+-- accepted, the line of one that is refused, and a frame of what is drawn. An edit with a token
+-- that begins with `#` is refused as one of a name that is unknown.
 abbrev pub parts_at : List Clause → Command → List Part
 parts_at clauses (commands.Edit line edit) =
     on_result (edited clauses edit) (λ new. []) (λ fault. refusal line fault ∷ [])

@@ -11,7 +11,7 @@ use Rattle.modeller_cmd.specs.Endings.{CountsForSome, GainsParts, IsAnswer, IsRe
 use Rattle.modeller_cmd.specs.Output.{Output, input_limit, output_of}
 use Rattle.modeller_cmd.specs.Parts.{bytes_of_parts, work_of_parts}
 use Rattle.modeller_cmd.specs.SoundTexts.{MeshFramesAreSound, MeshesAreSound}
-use Rattle.modeller_cmd.specs.Stopping.{StopsRun}
+use Rattle.modeller_cmd.specs.Halting.{HaltsRun}
 use Rattle.modeller_cmd.specs.declared.status.Status.{Status}
 use Rattle.modeller_cmd.specs.declared.status.Status.TheVariants.{Done, Usage, BadScript, TooLong, ReadFault, WriteFault, NoMemory}
 
@@ -83,7 +83,7 @@ pub record EndsSo {S K N : Type 0} (run : Run S K N) : Type 0 where
       GainsPrefix run.held run.out run.out_after (bytes_of_parts output.parts))
   pub whole : run.status ≡ NoMemory
       → OfOutput run (λ output. GainsParts run.held run.out run.out_after output.parts)
-  pub stops : run.status ≢ Done → IfSome (input_of run) (λ input. StopsRun run.held
+  pub stops : run.status ≢ Done → IfSome (input_of run) (λ input. HaltsRun run.held
       run.write_faults run.out run.out_after run.first run.last run.words input run.status)
   -- the one line of the notes, which fail at most once
   pub note : Tells run.words (input_of run) run.status

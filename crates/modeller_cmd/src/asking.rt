@@ -1,10 +1,9 @@
 // What the words of a run ask for.
 ghost use Rattle.std.specs.Prelude.{◌≡◌, Ok, Err, IfOk};
-ghost use Rattle.view_settings.specs.Settings.{IsJob};
+ghost use Rattle.view_settings.specs.Verbs.{IsJob};
 ghost use Rattle.view_settings.specs.Words.{bytes_of};
-ghost use Rattle.modeller_cmd.specs.Asking.{asked, asks_nothing, reads, reads_nothing};
+ghost use Rattle.modeller_cmd.specs.Asking.{asked, asks_nothing, reads_nothing};
 
-use crate::reads::Reads;
 use crate::refusal::Refusal;
 use view_settings::{Job, read_words};
 
@@ -17,16 +16,5 @@ pub fn read_job(words: &[String]) -> Result<Job, Refusal>
     match read_words(words) {
         Ok(job) => Ok(job),
         Err(fault) => Err(Refusal::Words(fault)),
-    }
-}
-
-/// What a job reads: the table of the jobs.
-pub fn reads(job: &Job) -> Reads
-    ensures { result ≡ reads job.now }
-{
-    match job {
-        Job::Render(_) | Job::Height(_) | Job::Mesh(_) | Job::Count(_) | Job::Text => Reads::Model,
-        Job::Replay => Reads::Script,
-        Job::Forge(_) => Reads::Nothing,
     }
 }

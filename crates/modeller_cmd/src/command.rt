@@ -3,7 +3,7 @@ ghost use Rattle.std.specs.Prelude.{◌≡◌, ◌≢◌, ◌+◌, ◌<◌, ◌�
 ghost use Rattle.modeller_io.specs.Count.{last_count, RoseAtMost, RoseBy, Stands};
 ghost use Rattle.modeller_io.specs.Held.{Gains, GainsPrefix, Grew};
 ghost use Rattle.modeller_io.specs.Took.{LosesAtMost};
-ghost use Rattle.view_settings.specs.Settings.{IsJob};
+ghost use Rattle.view_settings.specs.Verbs.{IsJob};
 ghost use Rattle.view_settings.specs.Words.{bytes_of};
 ghost use Rattle.modeller_cmd.specs.Endings.{CountsForSome, Ends, GainsParts, IsAnswer, IsRead, IsRefusal, IsTold, IsUnwritten, IsWorked, Makes, NoFault, ReadsWhole, TakesLine, Tells, status_after};
 ghost use Rattle.modeller_cmd.specs.Notes.{line_of};
@@ -11,18 +11,17 @@ ghost use Rattle.modeller_cmd.specs.Output.{WithOutput, input_limit, outcome};
 ghost use Rattle.modeller_cmd.specs.Parts.{bytes_of_parts, work_of_parts};
 ghost use Rattle.modeller_cmd.specs.Asking.{asked, asks_nothing, input_told, reads_nothing};
 ghost use Rattle.modeller_cmd.specs.Runs.{EndsSo};
-ghost use Rattle.modeller_cmd.specs.Serving.{Served};
+ghost use Rattle.modeller_cmd.specs.Execution.{Executed};
 ghost use Rattle.modeller_cmd.specs.SoundTexts.{MeshFramesAreSound, MeshesAreSound};
-ghost use Rattle.modeller_cmd.specs.Stopping.{StopsPlay, StopsRun};
+ghost use Rattle.modeller_cmd.specs.Halting.{HaltsReplay, HaltsRun};
 ghost use Rattle.model_frames.specs.Work.{CountsWithin, CountsWork, PointsRiseAtMost};
 
 use crate::Status;
-use crate::asking::{read_job, reads};
+use crate::asking::read_job;
 use crate::count::count;
 use crate::drawing::draw;
 use crate::forge::forge;
 use crate::note::note_of;
-use crate::reads::Reads;
 use crate::replay::replay;
 use crate::stop::Stop;
 use edit_script::draws_may_be_drawn;
@@ -30,7 +29,7 @@ use fixed_ops::Tally;
 use model_frames::{Frame, frames_add_up, mesh_texts_are_sound};
 use modeller_io::{ReadEnd, Sink, Source, read_all, write_all};
 use std::alloc::Global;
-use view_settings::Job;
+use view_settings::{Job, Reads};
 
 // The most bytes that an input may have.
 const INPUT_LIMIT: u64 = 8_388_608;
@@ -100,7 +99,7 @@ pub fn run<S: Source, K: Sink, N: Sink>(
         GainsParts K.held out.old out.new output.parts) }
     ensures stops { result ≢ Status.Done
         → IfSome (input_told S.rest source.old (asks_nothing (bytes_of words.now))) (λ input.
-        StopsRun K.held K.faults out.old out.new tally.old tally.new (bytes_of words.now) input
+        HaltsRun K.held K.faults out.old out.new tally.old tally.new (bytes_of words.now) input
         result) }
     ensures never_falls { N.faults notes.old ≤ N.faults notes.new }
     ensures fails_once { RoseAtMost N.faults notes.old notes.new 1 }
@@ -128,11 +127,11 @@ pub fn run<S: Source, K: Sink, N: Sink>(
     ensures gained { Grew K.held out.old out.new }
     ensures untold { CountsForSome (bytes_of words.now) tally.old tally.new }
 {
-    perform(alloc, words, source, out, notes, tally)
+    run_and_report(alloc, words, source, out, notes, tally)
 }
 
-/// Reads, works and writes, and tells the notes why there is nothing.
-pub(crate) fn perform<S: Source, K: Sink, N: Sink>(
+/// Reads, works and writes, and reports to the notes why there is nothing.
+pub(crate) fn run_and_report<S: Source, K: Sink, N: Sink>(
     alloc: Global,
     words: &[String],
     source: &mut S,
@@ -220,10 +219,10 @@ fn work<S: Source, K: Sink>(
     ensures whole { result ≡ Err Stop.NoMemory
         → WithOutput S.rest source.old (bytes_of words.now) (λ output.
         GainsParts K.held out.old out.new output.parts) }
-    ensures stops { IfErr result (λ stop.
+    ensures halts { IfErr result (λ stop.
         IfSome (input_told S.rest source.old (asks_nothing (bytes_of words.now))) (λ input.
         asked (bytes_of words.now) ≡ Ok Job.Replay
-        → StopsPlay K.held K.faults out.old out.new tally.old tally.new input stop)) }
+        → HaltsReplay K.held K.faults out.old out.new tally.old tally.new input stop)) }
 
     ensures counted { IsWorked (bytes_of words.now) (status_after result)
         → WithOutput S.rest source.old (bytes_of words.now) (λ output.
@@ -243,7 +242,7 @@ fn work<S: Source, K: Sink>(
     mesh_texts_are_sound();
     let job = read_job(words)?;
     let input = read_input(alloc, &job, source)?;
-    serve(alloc, &job, &input, out, tally)
+    execute(alloc, &job, &input, out, tally)
 }
 
 // The input of a job, which is all that the source has, where the job reads any.
@@ -269,7 +268,7 @@ fn read_input<S: Source>(alloc: Global, job: &Job, source: &mut S) -> Result<Vec
         → S.taken source.new < last_count → result ≡ Err ReadEnd.TooLong }
     ensures lost { LosesAtMost S.rest S.taken source.old source.new (input_limit + 1) }
 {
-    match reads(job) {
+    match job.reads() {
         Reads::Nothing => Ok(Vec::new(alloc)),
         Reads::Model | Reads::Script => {
             let input = read_all(alloc, source, INPUT_LIMIT)?;
@@ -278,10 +277,10 @@ fn read_input<S: Source>(alloc: Global, job: &Job, source: &mut S) -> Result<Vec
     }
 }
 
-// Does a job on an input, and writes what it makes: the table of the verbs. All memory is taken
+// Executes a job on an input, and writes what it makes: the table of the jobs. All memory is taken
 // before the first byte is written, but by a script, of which each part is written as soon as it is
 // made.
-fn serve<K: Sink>(
+fn execute<K: Sink>(
     alloc: Global,
     job: &Job,
     input: &[u8],
@@ -290,7 +289,8 @@ fn serve<K: Sink>(
 ) -> Result<(), Stop>
     requires keeps { IsJob job.now }
     requires limit { length input.now ≤ input_limit }
-    ensures { Served K.held K.faults out.old out.new tally.old tally.new job.now input.now result }
+    ensures { Executed K.held K.faults out.old out.new tally.old tally.new job.now input.now
+        result }
 {
     match job {
         Job::Render(view) => draw(alloc, &Frame::Render(*view), input, out, tally),

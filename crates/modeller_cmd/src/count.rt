@@ -4,7 +4,7 @@ ghost use Rattle.model_frames.specs.Images.{plain_points as plain_points_of};
 ghost use Rattle.model_frames.specs.Work.{CountsWithin, CountsWork, PointsRiseAtMost, exactly, frame_work};
 ghost use Rattle.modeller_cmd.specs.CountTexts.{count_text};
 ghost use Rattle.modeller_cmd.specs.Output.{count_part, input_limit, of_model};
-ghost use Rattle.modeller_cmd.specs.Serving.{ServedAtOnce};
+ghost use Rattle.modeller_cmd.specs.Execution.{ExecutedAtOnce};
 
 use crate::send::send;
 use crate::stop::Stop;
@@ -25,7 +25,7 @@ pub fn count<K: Sink>(
     tally: &mut Tally,
 ) -> Result<(), Stop>
     requires { length input.now ≤ input_limit }
-    ensures { ServedAtOnce K.held K.faults out.old out.new tally.old tally.new
+    ensures { ExecutedAtOnce K.held K.faults out.old out.new tally.old tally.new
         (of_model input.now (count_part view.now)) result }
 {
     frames_add_up();

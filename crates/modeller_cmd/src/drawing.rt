@@ -2,7 +2,7 @@
 ghost use Rattle.std.specs.Prelude.{◌≤◌, length};
 ghost use Rattle.model_frames.specs.Frames.{CanDraw, frame_part};
 ghost use Rattle.modeller_cmd.specs.Output.{input_limit, of_model};
-ghost use Rattle.modeller_cmd.specs.Serving.{ServedAtOnce};
+ghost use Rattle.modeller_cmd.specs.Execution.{ExecutedAtOnce};
 
 use crate::send::send;
 use crate::stop::Stop;
@@ -22,7 +22,7 @@ pub fn draw<K: Sink>(
 ) -> Result<(), Stop>
     requires draws { CanDraw frame.now }
     requires limit { length input.now ≤ input_limit }
-    ensures { ServedAtOnce K.held K.faults out.old out.new tally.old tally.new
+    ensures { ExecutedAtOnce K.held K.faults out.old out.new tally.old tally.new
         (of_model input.now (frame_part frame.now)) result }
 {
     frames_add_up();

@@ -3,11 +3,11 @@ ghost use Rattle.std.specs.Prelude.{◌≡◌, ◌==◌, ◌++◌, [], ◌∷◌
 ghost use Rattle.model_frames.specs.Images.{plain_points as plain_points_of};
 ghost use Rattle.model_frames.specs.Work.{CountsWithin, CountsWork, PointsRiseAtMost, exactly, frame_work};
 ghost use Rattle.quad_descent.specs.Pixels.{pixels_of};
-ghost use Rattle.view_settings.specs.Settings.{IsJob};
+ghost use Rattle.view_settings.specs.Verbs.{IsJob};
 ghost use Rattle.view_settings.specs.declared.job.Job.TheVariants as jobs;
 ghost use Rattle.modeller_cmd.specs.CountTexts.{count_text};
 ghost use Rattle.modeller_cmd.specs.Forging.{forge_part, forge_text, forged_clauses};
-ghost use Rattle.modeller_cmd.specs.Serving.{ServedAtOnce};
+ghost use Rattle.modeller_cmd.specs.Execution.{ExecutedAtOnce};
 
 use crate::count::plain_points;
 use crate::send::send;
@@ -29,7 +29,7 @@ pub fn forge<K: Sink>(
     tally: &mut Tally,
 ) -> Result<(), Stop>
     requires { IsJob (jobs.Forge wanted.now) }
-    ensures { ServedAtOnce K.held K.faults out.old out.new tally.old tally.new
+    ensures { ExecutedAtOnce K.held K.faults out.old out.new tally.old tally.new
         (Ok (forge_part wanted.now ∷ [])) result }
 {
     frames_add_up();

@@ -10,7 +10,6 @@ mod forge;
 mod frame;
 mod line;
 mod note;
-mod reads;
 mod refusal;
 mod replay;
 mod send;

@@ -1,14 +1,14 @@
-// A script that is played on the model before its mark.
+// A script that is replayed on the model before its mark.
 ghost use Rattle.std.specs.Prelude.{◌≡◌, ◌≢◌, ◌≤◌, [], ◌∷◌, length, Err, All, IfErr, IfOk, IsErr, IsOk, OnOk};
 ghost use Rattle.edit_script.specs.Commands.{IsCommand};
 ghost use Rattle.edit_script.specs.Marks.{before_mark};
 ghost use Rattle.edit_script.specs.Scripts.{script_read};
 ghost use Rattle.fixed_ops.specs.Counts.{Counts};
-ghost use Rattle.modeller_cmd.specs.Endings.{Ends, IsPlayStop, IsRefusal, IsServeStop, status_after};
+ghost use Rattle.modeller_cmd.specs.Endings.{Ends, IsExecutionStop, IsHalt, IsRefusal, status_after};
 ghost use Rattle.modeller_cmd.specs.Output.{input_limit, made, output_as};
-ghost use Rattle.modeller_cmd.specs.Playing.{Played, Stopped};
+ghost use Rattle.modeller_cmd.specs.Writing.{Halted, Written};
 ghost use Rattle.modeller_cmd.specs.Replays.{clauses_after, framed, parts_at, refusal, replayed};
-ghost use Rattle.modeller_cmd.specs.Stopping.{StopsAt, StopsPlay, WantsMemory, WritesSomething};
+ghost use Rattle.modeller_cmd.specs.Halting.{HaltsAt, HaltsReplay, WantsMemory, WritesSomething};
 ghost use Rattle.modeller_cmd.specs.Parts.{work_of_parts};
 ghost use Rattle.model_frames.specs.Frames.{CanDraw};
 ghost use Rattle.model_frames.specs.Work.{CountsWork};
@@ -26,12 +26,12 @@ use solid_model::{Edit, EditFault};
 use std::alloc::Global;
 use view_settings::Job;
 
-/// Plays the script of an input on the model before its mark. What a command writes is written as
+/// Replays the script of an input on the model before its mark. What a command writes is written as
 /// soon as it is made, and nothing before the whole script was read.
 ///
 /// `Refused`: the model is refused, or else the script, and nothing was written. `WriteFault`: the
-/// sink failed, and has taken a front of the bytes. `NoMemory`: memory was refused, and the sink has
-/// taken what the first commands write, and nothing of the next one.
+/// sink failed, and has taken a front of the bytes. `NoMemory`: memory was refused, and the sink
+/// has taken what the first commands write, and nothing of the next one.
 pub fn replay<K: Sink>(
     alloc: Global,
     input: &[u8],
@@ -40,20 +40,20 @@ pub fn replay<K: Sink>(
 ) -> Result<(), Stop>
     requires { length input.now ≤ input_limit }
     ensures ends { Ends (made Job.Replay input.now) result }
-    ensures stop { IfErr result IsServeStop }
-    ensures played { OnOk result (Played K.held K.faults out.old out.new tally.old tally.new
+    ensures stop { IfErr result IsExecutionStop }
+    ensures written { OnOk result (Written K.held K.faults out.old out.new tally.old tally.new
         (output_as (made Job.Replay input.now)).parts) }
-    ensures stopped { IfErr result (Stopped K.held K.faults out.old out.new tally.old tally.new
+    ensures halted { IfErr result (Halted K.held K.faults out.old out.new tally.old tally.new
         (output_as (made Job.Replay input.now)).parts) }
     ensures refused { IsRefusal (status_after result)
         → (out.new ≡ out.old) × (tally.new ≡ tally.old) }
-    ensures stops { IfErr result
-        (StopsPlay K.held K.faults out.old out.new tally.old tally.new input.now) }
+    ensures halts { IfErr result
+        (HaltsReplay K.held K.faults out.old out.new tally.old tally.new input.now) }
 {
     frames_add_up();
     let model = read_model(alloc, model_text(input))?;
     let commands = read_script(alloc, input)?;
-    play(Session::start(alloc, model), commands, out, tally)
+    replay_commands(Session::start(alloc, model), commands, out, tally)
 }
 
 // The text of the model in an input: what stands before the mark.
@@ -66,20 +66,20 @@ fn model_text(input: &[u8]) -> &[u8]
     }
 }
 
-// Plays commands one after the other.
-fn play<K: Sink>(
+// Replays commands one after the other.
+fn replay_commands<K: Sink>(
     mut session: Session,
     commands: Vec<Command>,
     out: &mut K,
     tally: &mut Tally,
 ) -> Result<(), Stop>
     requires { All IsCommand commands.items }
-    ensures stop { IfErr result IsPlayStop }
-    ensures played { OnOk result (Played K.held K.faults out.old out.new tally.old tally.new
+    ensures stop { IfErr result IsHalt }
+    ensures written { OnOk result (Written K.held K.faults out.old out.new tally.old tally.new
         (replayed session commands.items)) }
-    ensures stopped { IfErr result (Stopped K.held K.faults out.old out.new tally.old tally.new
+    ensures halted { IfErr result (Halted K.held K.faults out.old out.new tally.old tally.new
         (replayed session commands.items)) }
-    ensures ends { IfErr result (StopsAt K.held K.faults out.old out.new tally.old tally.new
+    ensures ends { IfErr result (HaltsAt K.held K.faults out.old out.new tally.old tally.new
         session commands.items) }
 {
     frames_add_up();
@@ -89,7 +89,7 @@ fn play<K: Sink>(
     Ok(())
 }
 
-// Plays one command.
+// Replays one command.
 fn step<K: Sink>(
     session: &mut Session,
     command: Command,
@@ -97,11 +97,11 @@ fn step<K: Sink>(
     tally: &mut Tally,
 ) -> Result<(), Stop>
     requires { IsCommand command }
-    ensures stop { IfErr result IsPlayStop }
+    ensures stop { IfErr result IsHalt }
     ensures model { OnOk result (session.new ≡ clauses_after session.old command) }
-    ensures played { OnOk result (Played K.held K.faults out.old out.new tally.old tally.new
+    ensures written { OnOk result (Written K.held K.faults out.old out.new tally.old tally.new
         (parts_at session.old command)) }
-    ensures stopped { IfErr result (Stopped K.held K.faults out.old out.new tally.old tally.new
+    ensures halted { IfErr result (Halted K.held K.faults out.old out.new tally.old tally.new
         (parts_at session.old command)) }
     ensures unwritten { result ≡ Err Stop.NoMemory → out.new ≡ out.old }
     ensures wants { result ≡ Err Stop.NoMemory → WantsMemory session.old command }
@@ -128,11 +128,11 @@ fn show<K: Sink>(
     tally: &mut Tally,
 ) -> Result<(), Stop>
     requires { CanDraw frame.now }
-    ensures stop { IfErr result IsPlayStop }
+    ensures stop { IfErr result IsHalt }
     ensures model { session.new ≡ session.old }
-    ensures played { OnOk result (Played K.held K.faults out.old out.new tally.old tally.new
+    ensures written { OnOk result (Written K.held K.faults out.old out.new tally.old tally.new
         (framed frame.now session.old ∷ [])) }
-    ensures stopped { IfErr result (Stopped K.held K.faults out.old out.new tally.old tally.new
+    ensures halted { IfErr result (Halted K.held K.faults out.old out.new tally.old tally.new
         (framed frame.now session.old ∷ [])) }
     ensures unwritten { result ≡ Err Stop.NoMemory → out.new ≡ out.old }
     ensures counted { result ≡ Err Stop.WriteFault
@@ -144,13 +144,13 @@ fn show<K: Sink>(
 
 // Makes the edit of the line of this number, or writes why it is refused. Nothing is counted.
 fn change<K: Sink>(session: &mut Session, line: u32, edit: Edit, out: &mut K) -> Result<(), Stop>
-    ensures stop { IfErr result IsPlayStop }
+    ensures stop { IfErr result IsHalt }
     ensures model { OnOk result (session.new ≡ clauses_after session.old (Command.Edit line edit)) }
-    ensures played { OnOk result ((counts : Counts)
-        → Played K.held K.faults out.old out.new counts counts
+    ensures written { OnOk result ((counts : Counts)
+        → Written K.held K.faults out.old out.new counts counts
         (parts_at session.old (Command.Edit line edit))) }
-    ensures stopped { IfErr result (λ stop. (counts : Counts)
-        → Stopped K.held K.faults out.old out.new counts counts
+    ensures halted { IfErr result (λ stop. (counts : Counts)
+        → Halted K.held K.faults out.old out.new counts counts
         (parts_at session.old (Command.Edit line edit)) stop) }
     ensures unwritten { result ≡ Err Stop.NoMemory → out.new ≡ out.old }
     ensures wants { result ≡ Err Stop.NoMemory → IsOk (edited session.old edit) × MakesClause edit }
@@ -166,13 +166,13 @@ fn change<K: Sink>(session: &mut Session, line: u32, edit: Edit, out: &mut K) ->
 // Writes why the edit of the line of this number is refused. Want of memory is no line, but the
 // end. Nothing is counted.
 fn refuse<K: Sink>(out: &mut K, line: u32, fault: EditFault) -> Result<(), Stop>
-    ensures stop { IfErr result IsPlayStop }
+    ensures stop { IfErr result IsHalt }
     ensures memory { fault ≡ EditFault.NoMemory
         → (result ≡ Err Stop.NoMemory) × (out.new ≡ out.old) }
-    ensures played { OnOk result ((counts : Counts)
-        → Played K.held K.faults out.old out.new counts counts (refusal line fault ∷ [])) }
-    ensures stopped { IfErr result (λ stop. (counts : Counts)
-        → Stopped K.held K.faults out.old out.new counts counts (refusal line fault ∷ []) stop) }
+    ensures written { OnOk result ((counts : Counts)
+        → Written K.held K.faults out.old out.new counts counts (refusal line fault ∷ [])) }
+    ensures halted { IfErr result (λ stop. (counts : Counts)
+        → Halted K.held K.faults out.old out.new counts counts (refusal line fault ∷ []) stop) }
     ensures no_memory { result ≡ Err Stop.NoMemory → fault ≡ EditFault.NoMemory }
 {
     frames_add_up();

@@ -3,7 +3,7 @@ ghost use Rattle.std.specs.Prelude.{◌++◌, OnErr, OnOk};
 ghost use Rattle.model_frames.specs.Drawn.{HasText, drawn_bytes};
 ghost use Rattle.modeller_io.specs.Count.{RoseBy, Stands};
 ghost use Rattle.modeller_io.specs.Held.{Gains, GainsPrefix};
-ghost use Rattle.modeller_cmd.specs.Serving.{Sent};
+ghost use Rattle.modeller_cmd.specs.Execution.{Sent};
 
 use crate::stop::Stop;
 use model_frames::{Drawn, Pieces};

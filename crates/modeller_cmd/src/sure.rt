@@ -8,14 +8,14 @@ ghost use Rattle.modeller_cmd.specs.Runs.{EndsSo};
 ghost use Rattle.modeller_cmd.specs.declared.status.Status.TheVariants.{Done, NoMemory};
 
 use crate::Status;
-use crate::command::perform;
+use crate::command::run_and_report;
 use fixed_ops::Tally;
 use modeller_io::{SureSink, SureSource};
 use std::alloc::Global;
 
 /// Runs the modeller over a source and sinks that never fail. It answers the status that the words
-/// ask for of the source's bytes, whatever they are, or that memory was refused, and nothing else. What
-/// it leaves, tells and counts is what `run` says.
+/// ask for of the source's bytes, whatever they are, or that memory was refused, and nothing else.
+/// What it leaves, tells and counts is what `run` says.
 pub fn run_surely(
     alloc: Global,
     words: &[String],
@@ -49,5 +49,5 @@ pub fn run_surely(
       status = result;
     }) }
 {
-    perform(alloc, words, source, out, notes, tally)
+    run_and_report(alloc, words, source, out, notes, tally)
 }

@@ -11,10 +11,12 @@ use Rattle.view_settings.specs.declared.setting.Setting.{Setting}
 use Rattle.view_settings.specs.declared.setting.Value.TheVariants.{Raw, Count}
 use Rattle.view_settings.specs.declared.verb.Verb.TheVariants.{Render, Count as Counts, Height as Heights, Mesh, Text, Replay, Forge}
 use Rattle.view_settings.specs.declared.word_fault.WordReason.TheVariants.{OutOfRange}
-use Rattle.view_settings.specs.Kinds.{kind_of}
+use Rattle.view_settings.specs.Verbs.{kind_of}
 use Rattle.view_settings.specs.Names.{name_called}
 use Rattle.view_settings.specs.Setting.{IsSetting, value_read}
-use Rattle.view_settings.specs.Settings.{AreSettings, IsJob, forge_of, is_empty, window_of}
+use Rattle.view_settings.specs.Settings.{AreSettings}
+use Rattle.view_settings.specs.Verbs.{IsJob}
+use Rattle.view_settings.specs.Views.{forge_of, is_empty, window_of}
 use Rattle.view_places.specs.Window.{FitsHeight, FitsMesh, IsWindow, Window}
 
 -- the ends of a range of counts belong to it

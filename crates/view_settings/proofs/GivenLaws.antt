@@ -1,5 +1,5 @@
 -- Each value that was given is one of its setting's kind, and so is each default.
-use Rattle.std.proofs.Common.{◌≡◌, ℕ, ◌<◌, ◌≤◌, Bool, true, false, cond, List, [], ◌∷◌, ◌++◌, length, map, Option, Some, None, Err, refl, ap, ◌∙◌, subst, arith, nat_eq, ℤ}
+use Rattle.std.proofs.Common.{◌≡◌, ℕ, ◌<◌, ◌≤◌, Bool, true, false, cond, List, [], ◌∷◌, ◌++◌, length, map, Option, Some, None, refl, ap, ◌∙◌, subst, arith, nat_eq, ℤ}
 use Rattle.std.specs.Prelude.{IfSome, find, ◌||◌}
 use Rattle.std.specs.List.{AllByRecursion, list_any}
 use Rattle.std.specs.Option.{option_map}
@@ -18,12 +18,13 @@ use Rattle.view_settings.specs.declared.setting.Value.TheVariants as values
 use Rattle.view_settings.specs.declared.verb.Verb.{Verb}
 use Rattle.view_settings.specs.declared.verb.Verb.TheVariants as verbs
 use Rattle.fixed_ops.specs.Raw.{IsRaw}
-use Rattle.view_settings.specs.declared.word_fault.WordReason.TheVariants.{EmptySpan}
-use Rattle.view_settings.specs.Kinds.{kind_of, greatest_of}
+use Rattle.view_settings.specs.Kinds.{HasHeightSides, count_to, greatest_of}
 use Rattle.view_settings.specs.Names.{is_same, number_of}
 use Rattle.view_settings.specs.Setting.{IsSetting, IsValue, is_given}
-use Rattle.view_settings.specs.Settings.{Given, AreSettings, value_given, count_or, is_empty, mesh_job, settled, window_of}
-use Rattle.view_places.specs.Window.{Window, IsCount}
+use Rattle.view_settings.specs.Settings.{Given, AreSettings}
+use Rattle.view_settings.specs.Verbs.{kind_of}
+use Rattle.view_settings.specs.Views.{value_given, count_or, window_of}
+use Rattle.view_places.specs.Window.{FitsHeight, IsCount}
 use Rattle.view_settings.proofs.NameLaws.{same_names, number_of-below}
 
 -- a value that a setting of this name may have
@@ -104,51 +105,26 @@ pub settings_few : (given : Given) → AreSettings given → length given.settin
 settings_few given are =
     omega (arith, length-le_from_distinct_below (map (λ s. number_of s.name) given.settings) 13 are.distinct (numbers_below given.settings), length-map given.settings (λ (s : Setting). number_of s.name))
 
--- the ranges of counts, whatever the verb
+-- The ranges of counts, whatever the verb: of each verb, whose table computes.
 columns_range : (verb : Verb) (n : ℕ) → IsCountOf (kind_of verb names.W) n → IsCount 4096 n
-columns_range verbs.Render n is = record { some = is.0; few = omega (arith, is.1) }
-columns_range verbs.Height n is = record { some = is.0; few = omega (arith, is.1) }
-columns_range verbs.Mesh n is = absurd is
-columns_range verbs.Count n is = record { some = is.0; few = omega (arith, is.1) }
-columns_range verbs.Text n is = absurd is
-columns_range verbs.Replay n is = absurd is
-columns_range verbs.Forge n is = record { some = is.0; few = omega (arith, is.1) }
+columns_range verbs.Render n is = record { some = grind arith; few = grind arith }
+columns_range other n is = record { some = grind arith; few = grind arith }
 
 rows_range : (verb : Verb) (n : ℕ) → IsCountOf (kind_of verb names.H) n → IsCount 4096 n
-rows_range verbs.Render n is = record { some = is.0; few = omega (arith, is.1) }
-rows_range verbs.Height n is = record { some = is.0; few = omega (arith, is.1) }
-rows_range verbs.Mesh n is = absurd is
-rows_range verbs.Count n is = record { some = is.0; few = omega (arith, is.1) }
-rows_range verbs.Text n is = absurd is
-rows_range verbs.Replay n is = absurd is
-rows_range verbs.Forge n is = record { some = is.0; few = omega (arith, is.1) }
+rows_range verbs.Render n is = record { some = grind arith; few = grind arith }
+rows_range other n is = record { some = grind arith; few = grind arith }
 
 layers_range : (verb : Verb) (n : ℕ) → IsCountOf (kind_of verb names.D) n → IsCount 1024 n
 layers_range verbs.Render n is = absurd is
-layers_range verbs.Height n is = record { some = is.0; few = omega (arith, is.1) }
-layers_range verbs.Mesh n is = absurd is
-layers_range verbs.Count n is = absurd is
-layers_range verbs.Text n is = absurd is
-layers_range verbs.Replay n is = absurd is
-layers_range verbs.Forge n is = absurd is
+layers_range other n is = record { some = grind arith; few = grind arith }
 
 cells_range : (verb : Verb) (n : ℕ) → IsCountOf (kind_of verb names.N) n → IsCount 256 n
 cells_range verbs.Render n is = absurd is
-cells_range verbs.Height n is = absurd is
-cells_range verbs.Mesh n is = record { some = is.0; few = omega (arith, is.1) }
-cells_range verbs.Count n is = absurd is
-cells_range verbs.Text n is = absurd is
-cells_range verbs.Replay n is = absurd is
-cells_range verbs.Forge n is = absurd is
+cells_range other n is = record { some = grind arith; few = grind arith }
 
 solids_range : (verb : Verb) (n : ℕ) → IsCountOf (kind_of verb names.Solids) n → IsCount 5000 n
 solids_range verbs.Render n is = absurd is
-solids_range verbs.Height n is = absurd is
-solids_range verbs.Mesh n is = absurd is
-solids_range verbs.Count n is = absurd is
-solids_range verbs.Text n is = absurd is
-solids_range verbs.Replay n is = absurd is
-solids_range verbs.Forge n is = record { some = is.0; few = omega (arith, is.1) }
+solids_range other n is = record { some = grind arith; few = grind arith }
 
 -- a count that was given is at least 1 and at most the greatest of its name, where that is not 0
 pub count_range : (verb : Verb) (name : Name) (n : ℕ) → 0 < greatest_of name → IsCountOf (kind_of verb name) n → IsCount (greatest_of name) n
@@ -172,11 +148,16 @@ height_side None few = omega arith
 height_side (Some (values.Raw v)) few = omega arith
 height_side (Some (values.Count n)) few = few n refl
 
-pub height_columns : (verb : Verb) (settings : List Setting) → verb ≡ verbs.Height → AllByRecursion (IsSetting verb) settings → count_or (value_given names.W settings) 512 ≤ 1024
-height_columns verb settings is each = height_side (value_given names.W settings) (λ n given. (subst (λ v. IsCountOf (kind_of v names.W) n) is (given_count verb names.W settings n each given)).1)
+side_given : (verb : Verb) (name : Name) (settings : List Setting) → kind_of verb name ≡ count_to 1024 → AllByRecursion (IsSetting verb) settings → count_or (value_given name settings) 512 ≤ 1024
+side_given verb name settings kind each =
+    height_side (value_given name settings) (λ n given. (subst (λ k. IsCountOf k n) kind (given_count verb name settings n each given)).1)
 
-pub height_rows : (verb : Verb) (settings : List Setting) → verb ≡ verbs.Height → AllByRecursion (IsSetting verb) settings → count_or (value_given names.H settings) 512 ≤ 1024
-height_rows verb settings is each = height_side (value_given names.H settings) (λ n given. (subst (λ v. IsCountOf (kind_of v names.H) n) is (given_count verb names.H settings n each given)).1)
+-- the window of settings whose columns and rows are those of a height map
+pub height_fits : (verb : Verb) (settings : List Setting) → AllByRecursion (IsSetting verb) settings → HasHeightSides (kind_of verb) → FitsHeight (window_of settings)
+height_fits verb settings each sides = record {
+  w = side_given verb names.W settings sides.0 each;
+  h = side_given verb names.H settings sides.1 each;
+}
 
 pub greatest_small : (name : Name) → greatest_of name ≤ 5000
 greatest_small names.X0 = omega arith
@@ -192,11 +173,3 @@ greatest_small names.D = omega arith
 greatest_small names.N = omega arith
 greatest_small names.Seed = omega arith
 greatest_small names.Solids = omega arith
-
--- the job of a mesh, once the ends are in order
-pub mesh_settled : (verb : Verb) (settings : List Setting) (v : Window) → verb ≡ verbs.Mesh → cond (is_empty (window_of settings)) None (Some (window_of settings)) ≡ Some v → settled verb settings ≡ mesh_job v
-mesh_settled verb settings v is made = rw is (by (is_empty (window_of settings)) made)
-  where
-    by : (b : Bool) → cond b None (Some (window_of settings)) ≡ Some v → cond b (Err EmptySpan) (mesh_job (window_of settings)) ≡ mesh_job v
-    by true e = absurd cc
-    by false e = let same : window_of settings ≡ v = cc in ap mesh_job same

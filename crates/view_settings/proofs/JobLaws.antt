@@ -1,6 +1,6 @@
 -- The job that words ask for keeps what each job keeps.
-use Rattle.std.proofs.Common.{◌≡◌, ℕ, ◌-◌, ◌^◌, ◌≤◌, ℤ, pos, Bool, true, false, ◌&&◌, cond, nat_le, List, [], ◌∷◌, ◌++◌, Option, Some, None, Result, Ok, Err, refl, sym, ap, subst, ◌∙◌, arith}
-use Rattle.std.specs.Prelude.{T, int_lt, ◌*◌, ◌-ℤ◌, ◌≤ℤ◌, ◌||◌}
+use Rattle.std.proofs.Common.{◌≡◌, ℕ, ◌-◌, ◌^◌, ◌≤◌, ℤ, pos, Bool, true, false, ◌&&◌, cond, nat_le, List, [], ◌∷◌, ◌++◌, Option, Some, None, Result, Ok, Err, refl, sym, ap, subst, ◌∙◌, arith, rules}
+use Rattle.std.specs.Prelude.{T, IfOk, int_lt, ◌*◌, ◌-ℤ◌, ◌≤ℤ◌, ◌||◌}
 use Rattle.std.specs.Int.Signed.{le_z_yes}
 use Rattle.std.specs.List.{AllByRecursion}
 use Rattle.std.specs.Str.Parse.{starts_with_minus, without_leading_sign}
@@ -9,7 +9,6 @@ use Rattle.std.proofs.lemmas.Int.{ints}
 use Rattle.fixed_ops.specs.Numerals.{digits_read, is_numeral, nearest_raw, numeral, unsigned_raw, with_sign}
 use Rattle.fixed_ops.specs.Raw.{IsRaw}
 use Rattle.view_settings.specs.declared.job.Job.{Job}
-use Rattle.view_settings.specs.declared.job.Job.TheVariants as jobs
 use Rattle.view_settings.specs.declared.kind.Kind.{Kind}
 use Rattle.view_settings.specs.declared.kind.Kind.TheVariants as kinds
 use Rattle.view_settings.specs.declared.name.Name.{Name}
@@ -22,13 +21,15 @@ use Rattle.view_settings.specs.declared.verb.Verb.TheVariants as verbs
 use Rattle.view_settings.specs.declared.word_fault.WordFault.{WordFault}
 use Rattle.view_settings.specs.declared.word_fault.WordReason.{WordReason}
 use Rattle.view_settings.specs.Grammar.{JobsHold}
-use Rattle.view_settings.specs.Kinds.{greatest_of, kind_of}
+use Rattle.view_settings.specs.Kinds.{greatest_of}
 use Rattle.view_settings.specs.Names.{name_called}
 use Rattle.view_settings.specs.Setting.{IsSetting, IsValue, is_given, known, parts_of, setting_of, value_read}
-use Rattle.view_settings.specs.Settings.{Given, IsJob, begun, count_or, finished, is_empty, job_with, mesh_job, minus_one, one, raw_or, settled, value_given, window_of}
+use Rattle.view_settings.specs.Settings.{Given, begun, finished, settled}
+use Rattle.view_settings.specs.Verbs.{IsJob, job_with, kind_of, mesh_job}
+use Rattle.view_settings.specs.Views.{count_or, is_empty, minus_one, one, raw_or, value_given, window_of}
 use Rattle.view_places.specs.Window.{AreEnds, FitsMesh, IsCount, IsWindow, Window, fits_mesh, has_room}
 use Rattle.view_settings.specs.Words.{after_words}
-use Rattle.view_settings.proofs.GivenLaws.{count_range, each-push, given_count, given_raw, height_columns, height_rows}
+use Rattle.view_settings.proofs.GivenLaws.{count_range, each-push, given_count, given_raw, height_fits}
 
 -- Numerals mean raw numbers.
 
@@ -252,48 +253,28 @@ fits-is v e =
 
 -- The job of settings.
 
-mesh-is : (v : Window) (job : Job) → IsWindow v → mesh_job v ≡ Ok job → IsJob job
-mesh-is v job window e = by (fits_mesh v) refl
+mesh-is : (v : Window) → IsWindow v → IfOk (mesh_job v) IsJob
+mesh-is v window = by (fits_mesh v) refl
   where
-    by : (t : Bool) → fits_mesh v ≡ t → IsJob job
-    by false f = let got = rw f at e in absurd cc
-    by true f =
-        let got = rw f at e in
-        let same : jobs.Mesh v ≡ job = cc in
-        subst IsJob same (window, fits-is v f)
+    by : (t : Bool) → fits_mesh v ≡ t → IfOk (mesh_job v) IsJob
+    by false f = rw f tt
+    by true f = rw f (window, fits-is v f)
 
-made-is : (verb : Verb) (settings : List Setting) (job : Job)
-    → AllByRecursion (IsSetting verb) settings → IsWindow (window_of settings)
-    → job_with verb settings ≡ Ok job → IsJob job
-made-is verbs.Render settings job each window e =
-    let same : jobs.Render (window_of settings) ≡ job = cc in subst IsJob same window
-made-is verbs.Height settings job each window e =
-    let same : jobs.Height (window_of settings) ≡ job = cc in
-    subst IsJob same (
-      window,
-      record {
-        w = height_columns verbs.Height settings refl each;
-        h = height_rows verbs.Height settings refl each;
-      },
-    )
-made-is verbs.Mesh settings job each window e = mesh-is (window_of settings) job window e
-made-is verbs.Count settings job each window e =
-    let same : jobs.Count (window_of settings) ≡ job = cc in subst IsJob same window
-made-is verbs.Text settings job each window e =
-    let same : jobs.Text ≡ job = cc in subst IsJob same tt
-made-is verbs.Replay settings job each window e =
-    let same : jobs.Replay ≡ job = cc in subst IsJob same tt
-made-is verbs.Forge settings job each window e =
-    let same : jobs.Forge (record {
-      seed = count_or (value_given names.Seed settings) 0;
-      solids = count_or (value_given names.Solids settings) 16;
-      view = window_of settings;
-    }) ≡ job = cc in
-    subst IsJob same (
-      window,
-      count-given verbs.Forge settings each names.Solids 16
-          (record { some = omega arith; few = omega arith }),
-    )
+-- a mesh asks for its cells, and a model that is made for its discs
+made-is : (verb : Verb) (settings : List Setting) → AllByRecursion (IsSetting verb) settings
+    → IsWindow (window_of settings) → IfOk (job_with verb settings) IsJob
+made-is verbs.Mesh settings each window = mesh-is (window_of settings) window
+made-is verbs.Forge settings each window = (
+  window,
+  count-given verbs.Forge settings each names.Solids 16
+      (record { some = omega arith; few = omega arith }),
+)
+made-is other settings each window =
+    search (rules, window, height_fits other settings each)
+
+ok-is : (made : Result Job WordReason) (job : Job) → IfOk made IsJob → made ≡ Ok job → IsJob job
+ok-is (Ok other) job is e = let same : other ≡ job = cc in subst IsJob same is
+ok-is (Err reason) job is e = absurd cc
 
 settled-is : (verb : Verb) (settings : List Setting) (job : Job)
     → AllByRecursion (IsSetting verb) settings → settled verb settings ≡ Ok job → IsJob job
@@ -302,7 +283,8 @@ settled-is verb settings job each e = by (is_empty (window_of settings)) refl
     by : (t : Bool) → is_empty (window_of settings) ≡ t → IsJob job
     by true o = let got = rw o at e in absurd cc
     by false o =
-        made-is verb settings job each (window-is verb settings each o) (rw o at e)
+        ok-is (job_with verb settings) job
+        (made-is verb settings each (window-is verb settings each o)) (rw o at e)
 
 pub jobs-hold : JobsHold
 jobs-hold verb words job e = by (after_words (begun verb) words) refl

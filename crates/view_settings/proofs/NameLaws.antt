@@ -1,6 +1,6 @@
 -- What is written as a verb or a name names it, and nothing else does.
-use Rattle.std.proofs.Common.{◌≡◌, ◌≢◌, ℕ, Bool, true, false, List, Option, Some, None, refl, sym, ap, ◌∙◌, ◌<◌, get_or, arith}
-use Rattle.std.specs.Prelude.{IfSome, IfNone}
+use Rattle.std.proofs.Common.{◌≡◌, ◌≢◌, ℕ, Bool, true, false, List, [], ◌∷◌, Option, Some, None, refl, sym, ap, ◌∙◌, ◌<◌, get_or, arith}
+use Rattle.std.specs.Prelude.{IfSome, IfNone, find}
 use Rattle.std.specs.Str.{bytes_eq}
 use Rattle.std.proofs.lemmas.Bool.Decides.{Decides-eqb}
 use Rattle.std.proofs.lemmas.Slice.Eq.{bytes_eq-Decides}
@@ -9,16 +9,11 @@ use Rattle.view_settings.specs.declared.name.Name.TheVariants as names
 use Rattle.view_settings.specs.declared.verb.Verb.{Verb}
 use Rattle.view_settings.specs.declared.verb.Verb.TheVariants as verbs
 use Rattle.view_settings.specs.Names.{name_called, name_text, number_of, is_same, names as all_names}
-use Rattle.view_settings.specs.Verbs.{verb_named, verb_text as verb_written}
+use Rattle.view_settings.specs.Verbs.{verb_named, verb_text as verb_written, verbs as all_verbs}
 
 verb_named-written : (verb : Verb) → verb_named (verb_written verb) ≡ Some verb
 verb_named-written verbs.Render = refl
-verb_named-written verbs.Height = refl
-verb_named-written verbs.Mesh = refl
-verb_named-written verbs.Count = refl
-verb_named-written verbs.Text = refl
-verb_named-written verbs.Replay = refl
-verb_named-written verbs.Forge = refl
+verb_named-written other = refl
 
 name_called-written : (name : Name) → name_called (name_text name) ≡ Some name
 name_called-written names.X0 = refl
@@ -43,11 +38,15 @@ told_apart word other apart = by (bytes_eq word other) refl
     by true e = absurd (apart ((bytes_eq-Decides word other).0 e))
     by false e = refl
 
+-- no verb is found where none is written so
+verb_missing : (word : List ℕ) (among : List Verb) → ((verb : Verb) → word ≢ verb_written verb) → find (λ verb. bytes_eq word (verb_written verb)) among ≡ None
+verb_missing word [] none = refl
+verb_missing word (verb ∷ among) none = rw (told_apart word (verb_written verb) (none verb)) (verb_missing word among none)
+
 -- what the search for a verb gives
 pub verb_found : (word : List ℕ) (found : Option Verb) → IfSome found (λ verb. word ≡ verb_written verb) → IfNone found ((verb : Verb) → word ≢ verb_written verb) → found ≡ verb_named word
 verb_found word (Some verb) is none = rw is (sym (verb_named-written verb))
-verb_found word None is none =
-    rw (told_apart _ _ (none verbs.Render), told_apart _ _ (none verbs.Height), told_apart _ _ (none verbs.Mesh), told_apart _ _ (none verbs.Count), told_apart _ _ (none verbs.Text), told_apart _ _ (none verbs.Replay), told_apart _ _ (none verbs.Forge)) refl
+verb_found word None is none = sym (verb_missing word all_verbs none)
 
 -- what the search for a name gives
 pub name_found : (text : List ℕ) (found : Option Name) → IfSome found (λ name. text ≡ name_text name) → IfNone found ((name : Name) → text ≢ name_text name) → found ≡ name_called text

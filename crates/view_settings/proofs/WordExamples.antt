@@ -11,7 +11,8 @@ use Rattle.view_settings.specs.declared.setting.Value.TheVariants.{Count, Raw}
 use Rattle.view_settings.specs.declared.verb.Verb.{Verb}
 use Rattle.view_settings.specs.declared.verb.Verb.TheVariants as verbs
 use Rattle.view_settings.specs.declared.word_fault.WordReason.TheVariants.{NoVerb, UnknownVerb, NotASetting, UnknownSetting, Twice, BadValue, OutOfRange, EmptySpan, CellTooSmall}
-use Rattle.view_settings.specs.Kinds.{greatest_of, kind_of}
+use Rattle.view_settings.specs.Kinds.{greatest_of}
+use Rattle.view_settings.specs.Verbs.{kind_of}
 use Rattle.view_settings.specs.Names.{name_called, names, number_of}
 use Rattle.view_settings.specs.Setting.{IsValue, setting_of, value_read}
 use Rattle.view_settings.specs.Verbs.{verb_named}

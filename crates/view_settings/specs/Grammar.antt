@@ -5,7 +5,8 @@ use Rattle.view_settings.specs.declared.setting.Setting.{Setting}
 use Rattle.view_settings.specs.declared.verb.Verb.{Verb}
 use Rattle.view_settings.specs.declared.word_fault.WordReason.{WordReason}
 use Rattle.view_settings.specs.Setting.{setting_of}
-use Rattle.view_settings.specs.Settings.{IsJob, begun}
+use Rattle.view_settings.specs.Settings.{begun}
+use Rattle.view_settings.specs.Verbs.{IsJob}
 use Rattle.view_settings.specs.Words.{after_words, job_after}
 
 -- each word gives one setting, after those that were taken and those of the words before it
@@ -20,7 +21,8 @@ pub record GiveAfter (verb : Verb) (taken : List Setting)
 abbrev pub Give : Verb → List (List ℕ) → List Setting → Type 0
 Give verb words settings = GiveAfter verb [] words settings
 
--- the first word that gives none, counted from 0, and the lowest reason against it, after the settings taken
+-- the first word that gives none, counted from 0, and the lowest reason against it, after the
+-- settings taken
 pub record RefusesAfter (verb : Verb) (taken : List Setting)
     (words : List (List ℕ)) (k : ℕ) (reason : WordReason) : Type 0 where
   pub within : k < length words

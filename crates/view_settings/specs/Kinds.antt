@@ -1,11 +1,9 @@
--- Which settings a verb takes, which values they may have, and which they have where they are not given.
-use Rattle.std.specs.Prelude.{ℕ, ◌-◌, ◌^◌, Option, Some, None}
+-- The lists of settings that verbs take, and which values each setting may have.
+use Rattle.std.specs.Prelude.{◌≡◌, ℕ, ◌-◌, ◌^◌, Option, Some, None}
 use Rattle.view_settings.specs.declared.kind.Kind.{Kind}
 use Rattle.view_settings.specs.declared.kind.Kind.TheVariants as kinds
 use Rattle.view_settings.specs.declared.name.Name.{Name}
 use Rattle.view_settings.specs.declared.name.Name.TheVariants.{X0, X1, Y0, Y1, Z0, Z1, Z, W, H, D, N, Seed, Solids}
-use Rattle.view_settings.specs.declared.verb.Verb.{Verb}
-use Rattle.view_settings.specs.declared.verb.Verb.TheVariants.{Render, Height, Mesh, Count, Text, Replay, Forge}
 
 -- a count from 1 to the greatest one
 abbrev pub count_to : ℕ → Option Kind
@@ -47,6 +45,10 @@ height_kind H = count_to 1024
 height_kind D = count_to 1024
 height_kind name = solid_kind name
 
+-- columns and rows are those of a height map
+abbrev pub HasHeightSides : (Name → Option Kind) → Type 0
+HasHeightSides kind = (kind W ≡ count_to 1024) × (kind H ≡ count_to 1024)
+
 -- or cells along each axis
 abbrev pub mesh_kind : Name → Option Kind
 mesh_kind N = count_to 256
@@ -57,17 +59,6 @@ abbrev pub forge_kind : Name → Option Kind
 forge_kind Seed = Some (kinds.Count 0 (2 ^ 64 - 1))
 forge_kind Solids = count_to 5000
 forge_kind name = image_kind name
-
--- The values that a setting may have under a verb, and None where the verb has no such setting: the
--- table of verbs.
-abbrev pub kind_of : Verb → Name → Option Kind
-kind_of Render name = image_kind name
-kind_of Height name = height_kind name
-kind_of Mesh name = mesh_kind name
-kind_of Count name = image_kind name
-kind_of Text name = None
-kind_of Replay name = None
-kind_of Forge name = forge_kind name
 
 -- the greatest count of at least 1 that a setting may have, whatever the verb
 abbrev pub greatest_of : Name → ℕ

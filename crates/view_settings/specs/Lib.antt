@@ -6,6 +6,7 @@ pub mod Setting
 pub mod Settings
 pub mod Steps
 pub mod Verbs
+pub mod Views
 pub mod Words
 pub use Rattle.view_places.specs.Boxes
 pub use Rattle.view_places.specs.Laws

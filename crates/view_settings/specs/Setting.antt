@@ -13,9 +13,9 @@ use Rattle.view_settings.specs.declared.setting.Value.TheVariants.{Raw, Count}
 use Rattle.view_settings.specs.declared.verb.Verb.{Verb}
 use Rattle.view_settings.specs.declared.word_fault.WordReason.{WordReason}
 use Rattle.view_settings.specs.declared.word_fault.WordReason.TheVariants.{NotASetting, UnknownSetting, Twice, BadValue, OutOfRange}
-use Rattle.view_settings.specs.Kinds.{kind_of}
 use Rattle.view_settings.specs.Names.{name_called, is_same}
 use Rattle.view_settings.specs.Steps.{◌>>=◌, or_refused}
+use Rattle.view_settings.specs.Verbs.{kind_of}
 
 -- the sign between name and value
 abbrev pub is_equals : ℕ → Bool
@@ -28,7 +28,8 @@ parts_of word = option_map (λ at. (take at word, drop (at + 1) word)) (position
 -- the setting of a verb that is called so, with the values that it may have
 abbrev pub known : Verb → List ℕ → Option (Name × Kind)
 known verb text =
-    option_and_then (λ name. option_map (λ kind. (name, kind)) (kind_of verb name)) (name_called text)
+    option_and_then (λ name. option_map (λ kind. (name, kind)) (kind_of verb name))
+    (name_called text)
 
 -- a setting of this name was taken
 abbrev pub is_given : Name → List Setting → Bool

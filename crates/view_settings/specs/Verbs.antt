@@ -1,8 +1,21 @@
--- How verbs are written.
-use Rattle.std.specs.Prelude.{ℕ, List, [], ◌∷◌, Option, codes, find}
+-- What is said of each verb: how it is written, which settings it takes, which job it makes of
+-- them, and what that job keeps and reads.
+use Rattle.std.specs.Prelude.{ℕ, List, [], ◌∷◌, Option, None, codes, find, Result, Ok, Err, if◌then◌else◌, ⊤}
 use Rattle.std.specs.Str.{bytes_eq}
+use Rattle.view_settings.specs.declared.job.Job.{Job}
+use Rattle.view_settings.specs.declared.job.Job.TheVariants as jobs
+use Rattle.view_settings.specs.declared.kind.Kind.{Kind}
+use Rattle.view_settings.specs.declared.name.Name.{Name}
+use Rattle.view_settings.specs.declared.reads.Reads.{Reads}
+use Rattle.view_settings.specs.declared.reads.Reads.TheVariants.{Nothing, Model, Script}
+use Rattle.view_settings.specs.declared.setting.Setting.{Setting}
 use Rattle.view_settings.specs.declared.verb.Verb.{Verb}
 use Rattle.view_settings.specs.declared.verb.Verb.TheVariants.{Render, Height, Mesh, Count, Text, Replay, Forge}
+use Rattle.view_settings.specs.declared.word_fault.WordReason.{WordReason}
+use Rattle.view_settings.specs.declared.word_fault.WordReason.TheVariants.{CellTooSmall}
+use Rattle.view_settings.specs.Kinds.{forge_kind, height_kind, image_kind, mesh_kind}
+use Rattle.view_settings.specs.Views.{forge_of, window_of}
+use Rattle.view_places.specs.Window.{Window, IsWindow, IsCount, FitsHeight, FitsMesh, fits_mesh}
 
 -- the bytes of a verb
 abbrev pub verb_text : Verb → List ℕ
@@ -20,3 +33,47 @@ verbs = Render ∷ Height ∷ Mesh ∷ Count ∷ Text ∷ Replay ∷ Forge ∷ [
 -- the verb that is written so
 abbrev pub verb_named : List ℕ → Option Verb
 verb_named word = find (λ verb. bytes_eq word (verb_text verb)) verbs
+
+-- the values that a setting may have under a verb, and None where the verb has no such setting
+abbrev pub kind_of : Verb → Name → Option Kind
+kind_of Render name = image_kind name
+kind_of Height name = height_kind name
+kind_of Mesh name = mesh_kind name
+kind_of Count name = image_kind name
+kind_of Text name = None
+kind_of Replay name = None
+kind_of Forge name = forge_kind name
+
+-- a mesh of this window
+abbrev pub mesh_job : Window → Result Job WordReason
+mesh_job v = if fits_mesh v then Ok (jobs.Mesh v) else Err CellTooSmall
+
+-- the job of a verb with these settings, where the ends of its axes are in order
+abbrev pub job_with : Verb → List Setting → Result Job WordReason
+job_with Render settings = Ok (jobs.Render (window_of settings))
+job_with Height settings = Ok (jobs.Height (window_of settings))
+job_with Mesh settings = mesh_job (window_of settings)
+job_with Count settings = Ok (jobs.Count (window_of settings))
+job_with Text settings = Ok jobs.Text
+job_with Replay settings = Ok jobs.Replay
+job_with Forge settings = Ok (jobs.Forge (forge_of settings))
+
+-- what a job always keeps
+abbrev pub IsJob : Job → Type 0
+IsJob (jobs.Render v) = IsWindow v
+IsJob (jobs.Height v) = IsWindow v × FitsHeight v
+IsJob (jobs.Mesh v) = IsWindow v × FitsMesh v
+IsJob (jobs.Count v) = IsWindow v
+IsJob jobs.Text = ⊤
+IsJob jobs.Replay = ⊤
+IsJob (jobs.Forge f) = IsWindow f.view × IsCount 5000 f.solids
+
+-- what a job reads
+abbrev pub reads : Job → Reads
+reads (jobs.Render v) = Model
+reads (jobs.Height v) = Model
+reads (jobs.Mesh v) = Model
+reads (jobs.Count v) = Model
+reads jobs.Text = Model
+reads jobs.Replay = Script
+reads (jobs.Forge f) = Nothing

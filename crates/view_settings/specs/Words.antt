@@ -33,8 +33,8 @@ after_words given (word ∷ words) =
 abbrev pub job_after : List (List ℕ) → Verb → Result Job WordFault
 job_after words verb = after_words (begun verb) words >>= λ given. refused_at 0 (finished given)
 
--- The job that words ask for, or the first word that is refused with the lowest reason against it. Where all
--- words are good, the settings may be refused together, under the number 0.
+-- The job that words ask for, or the first word that is refused with the lowest reason against it.
+-- Where all words are good, the settings may be refused together, under the number 0.
 abbrev pub job_of : List (List ℕ) → Result Job WordFault
 job_of [] = Err (record { at = 0; reason = NoVerb })
 job_of (word ∷ words) = refused_at 1 (or_refused (verb_named word) UnknownVerb) >>= job_after words

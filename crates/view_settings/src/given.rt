@@ -2,9 +2,11 @@
 ghost use Rattle.std.specs.Prelude.{◌≡◌, Some, None, IfOk, IfSome, if◌then◌else◌};
 ghost use Rattle.std.specs.List.{AllByRecursion};
 ghost use Rattle.fixed_ops.specs.Raw.{IsRaw};
-ghost use Rattle.view_settings.specs.Kinds.{greatest_of};
+ghost use Rattle.view_settings.specs.Kinds.{HasHeightSides, greatest_of};
 ghost use Rattle.view_settings.specs.Setting.{IsSetting};
-ghost use Rattle.view_settings.specs.Settings.{IsJob, count_or, is_empty, mesh_job, raw_or, settled, value_given, window_of};
+ghost use Rattle.view_settings.specs.Settings.{settled};
+ghost use Rattle.view_settings.specs.Verbs.{IsJob, kind_of};
+ghost use Rattle.view_settings.specs.Views.{count_or, forge_of, is_empty, raw_or, value_given, window_of};
 ghost use Rattle.view_places.specs.Window.{FitsHeight, IsCount, IsWindow};
 
 use crate::name::Name;
@@ -15,40 +17,15 @@ use view_places::View;
 // The raw number of 1.
 const ONE: i64 = 1 << 32;
 
-// The job of the verb with the settings that were taken, and the defaults elsewhere.
+/// The job of the verb with the settings that were taken, and the defaults elsewhere.
 pub(crate) fn job_given(verb: Verb, taken: &[Setting]) -> Result<Job, WordReason>
     requires { AllByRecursion (IsSetting verb) taken.now }
     ensures job { result ≡ settled verb taken.now }
     ensures keeps { IfOk result IsJob }
 {
-    let Some(view) = view_given(verb, taken) else {
-        return Err(WordReason::EmptySpan);
-    };
-    match verb {
-        Verb::Render => Ok(Job::Render(view)),
-        Verb::Height => Ok(Job::Height(view)),
-        Verb::Mesh => mesh_job(view),
-        Verb::Count => Ok(Job::Count(view)),
-        Verb::Text => Ok(Job::Text),
-        Verb::Replay => Ok(Job::Replay),
-        Verb::Forge => Ok(Job::Forge(Forge {
-            seed: count_or(taken, Name::Seed, 0),
-            solids: small_count_or(verb, taken, Name::Solids, 16),
-            view,
-        })),
-    }
-}
-
-// A mesh of this view.
-fn mesh_job(view: View) -> Result<Job, WordReason>
-    requires { IsWindow view }
-    ensures job { result ≡ mesh_job view }
-    ensures keeps { IfOk result IsJob }
-{
-    if view.fits_mesh() {
-        Ok(Job::Mesh(view))
-    } else {
-        Err(WordReason::CellTooSmall)
+    match view_given(verb, taken) {
+        Some(view) => verb.job(taken, view),
+        None => Err(WordReason::EmptySpan),
     }
 }
 
@@ -57,7 +34,7 @@ fn view_given(verb: Verb, taken: &[Setting]) -> Option<View>
     requires { AllByRecursion (IsSetting verb) taken.now }
     ensures view { let v = window_of taken.now in result ≡ (if is_empty v then None else Some v) }
     ensures window { IfSome result IsWindow }
-    ensures height { verb ≡ Verb.Height → IfSome result FitsHeight }
+    ensures height { HasHeightSides (kind_of verb) → IfSome result FitsHeight }
 {
     let x0 = raw_or(verb, taken, Name::X0, -ONE);
     let x1 = raw_or(verb, taken, Name::X1, ONE);
@@ -81,6 +58,21 @@ fn view_given(verb: Verb, taken: &[Setting]) -> Option<View>
         d: small_count_or(verb, taken, Name::D, 255),
         n: small_count_or(verb, taken, Name::N, 64),
     })
+}
+
+/// The model that the settings say, which is drawn in this view.
+pub(crate) fn forge_given(verb: Verb, taken: &[Setting], view: View) -> Forge
+    requires each { AllByRecursion (IsSetting verb) taken.now }
+    requires view { view ≡ window_of taken.now }
+    ensures forge { result ≡ forge_of taken.now }
+    ensures view { result.view ≡ view }
+    ensures solids { IsCount 5000 result.solids }
+{
+    Forge {
+        seed: count_or(taken, Name::Seed, 0),
+        solids: small_count_or(verb, taken, Name::Solids, 16),
+        view,
+    }
 }
 
 // The raw number that was given under a name, or this one.

@@ -1,6 +1,8 @@
 // What words ask for.
+ghost use Rattle.std.specs.Prelude.{◌≡◌};
+ghost use Rattle.view_settings.specs.Verbs.{reads};
 
-use crate::Forge;
+use crate::{Forge, Reads};
 use view_places::View;
 
 /// What words ask for.
@@ -20,4 +22,19 @@ pub enum Job {
     Replay,
     /// A model that is made, and drawn.
     Forge(Forge),
+}
+
+impl Job {
+    /// What it reads.
+    pub fn reads(&self) -> Reads
+        ensures { result ≡ reads self.now }
+    {
+        match self {
+            Job::Render(_) | Job::Height(_) | Job::Mesh(_) | Job::Count(_) | Job::Text => {
+                Reads::Model
+            }
+            Job::Replay => Reads::Script,
+            Job::Forge(_) => Reads::Nothing,
+        }
+    }
 }

@@ -1,8 +1,7 @@
-// Which settings a verb takes, and which values they may have.
+// The lists of settings that verbs take, and the values that each setting may have.
 ghost use Rattle.std.specs.Prelude.{◌≡◌, Some};
-ghost use Rattle.view_settings.specs.Kinds.{forge_kind as forge_taken, height_kind as height_taken, image_kind as image_taken, kind_of as kind_taken, mesh_kind as mesh_taken, solid_kind as solid_taken, window_kind as window_taken};
+ghost use Rattle.view_settings.specs.Kinds.{forge_kind as forge_taken, height_kind as height_taken, image_kind as image_taken, mesh_kind as mesh_taken, solid_kind as solid_taken, window_kind as window_taken};
 
-use crate::Verb;
 use crate::name::Name;
 
 /// The values that a setting may have.
@@ -22,22 +21,8 @@ fn count_to(greatest: u64) -> Option<Kind>
     Some(Kind::Count { least: 1, greatest })
 }
 
-// The values that a setting may have under a verb, and None where the verb has no such setting: the
-// table of verbs.
-pub(crate) fn kind_of(verb: Verb, name: Name) -> Option<Kind>
-    ensures { result ≡ kind_taken verb name }
-{
-    match verb {
-        Verb::Render | Verb::Count => image_kind(name),
-        Verb::Height => height_kind(name),
-        Verb::Mesh => mesh_kind(name),
-        Verb::Text | Verb::Replay => None,
-        Verb::Forge => forge_kind(name),
-    }
-}
-
-// What an image takes: a window, a height, columns and rows.
-fn image_kind(name: Name) -> Option<Kind>
+/// What an image takes: a window, a height, columns and rows.
+pub(crate) fn image_kind(name: Name) -> Option<Kind>
     ensures { result ≡ image_taken name }
 {
     match name {
@@ -47,8 +32,8 @@ fn image_kind(name: Name) -> Option<Kind>
     }
 }
 
-// What a height map takes: a window, a span along z, columns, rows and layers.
-fn height_kind(name: Name) -> Option<Kind>
+/// What a height map takes: a window, a span along z, columns, rows and layers.
+pub(crate) fn height_kind(name: Name) -> Option<Kind>
     ensures { result ≡ height_taken name }
 {
     match name {
@@ -57,8 +42,8 @@ fn height_kind(name: Name) -> Option<Kind>
     }
 }
 
-// What a mesh takes: a window, a span along z, and cells along each axis.
-fn mesh_kind(name: Name) -> Option<Kind>
+/// What a mesh takes: a window, a span along z, and cells along each axis.
+pub(crate) fn mesh_kind(name: Name) -> Option<Kind>
     ensures { result ≡ mesh_taken name }
 {
     match name {
@@ -67,8 +52,9 @@ fn mesh_kind(name: Name) -> Option<Kind>
     }
 }
 
-// What a model that is made takes: an image, where the generator starts, and how many discs it makes.
-fn forge_kind(name: Name) -> Option<Kind>
+/// What a model that is made takes: an image, where the generator starts, and how many discs it
+/// makes.
+pub(crate) fn forge_kind(name: Name) -> Option<Kind>
     ensures { result ≡ forge_taken name }
 {
     match name {

@@ -9,7 +9,8 @@ pub fn words_are_exact()
     ensures refused { RefusedWordIsExact }
 {}
 
-/// The view of a job that words ask for keeps what every view keeps, and may be drawn as the job says.
+/// The view of a job that words ask for keeps what every view keeps, and may be drawn as the job
+/// says.
 pub fn jobs_hold()
     ensures { JobsHold }
 {}

@@ -1,5 +1,5 @@
-//! The words that ask for work: a verb and its settings, and the job that they make. Views and their
-//! samples are those of `view_places`, handed on from here.
+//! The words that ask for work: a verb and its settings, and the job that they make. Views and
+//! their samples are those of `view_places`, handed on from here.
 #![tactic(auto)]
 
 mod forge;
@@ -8,6 +8,7 @@ mod job;
 mod kind;
 mod laws;
 mod name;
+mod reads;
 mod setting;
 mod settings;
 mod verb;
@@ -17,6 +18,7 @@ mod words;
 pub use forge::Forge;
 pub use job::Job;
 pub use laws::{jobs_hold, word_reasons_are_lowest, words_are_exact};
+pub use reads::Reads;
 pub use settings::Settings;
 pub use verb::Verb;
 pub use view_places::{

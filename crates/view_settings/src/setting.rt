@@ -1,10 +1,10 @@
 // One setting, read from a word.
 ghost use Rattle.std.specs.Prelude.{◌≡◌, Some, IfOk, IfSome, false, position};
 ghost use Rattle.std.specs.Option.{option_map};
-ghost use Rattle.view_settings.specs.Kinds.{kind_of as kind_taken};
+ghost use Rattle.view_settings.specs.Verbs.{kind_of};
 ghost use Rattle.view_settings.specs.Setting.{IsSetting, IsValue, is_equals, is_given as given_in, known, parts_of, setting_of, value_read};
 
-use crate::kind::{Kind, kind_of};
+use crate::kind::Kind;
 use crate::name::{Name, read_name};
 use crate::{Verb, WordReason};
 use fixed_ops::{read_digits, read_raw};
@@ -76,10 +76,10 @@ fn equals_sign(word: &[u8]) -> Option<usize>
 // The setting of a verb that is called so, with the values that it may have.
 fn read_known(verb: Verb, text: &[u8]) -> Option<(Name, Kind)>
     ensures value { result ≡ known verb text.now }
-    ensures kind { IfSome result (λ p. kind_taken verb p.0 ≡ Some p.1) }
+    ensures kind { IfSome result (λ p. kind_of verb p.0 ≡ Some p.1) }
 {
     let name = read_name(text)?;
-    let kind = kind_of(verb, name)?;
+    let kind = verb.kind(name)?;
     Some((name, kind))
 }
 

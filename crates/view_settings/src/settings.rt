@@ -1,6 +1,7 @@
 // The settings that words give, one by one.
 ghost use Rattle.std.specs.Prelude.{◌≡◌, ◌≤◌, IfOk, IfErr, OnOk, OnErr, length};
-ghost use Rattle.view_settings.specs.Settings.{IsJob, after_word, begun, finished};
+ghost use Rattle.view_settings.specs.Settings.{after_word, begun, finished};
+ghost use Rattle.view_settings.specs.Verbs.{IsJob};
 
 use crate::given::job_given;
 use crate::setting::{Setting, read_setting};

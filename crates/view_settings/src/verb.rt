@@ -1,7 +1,19 @@
-// What a run is asked to do.
-ghost use Rattle.std.specs.Prelude.{◌≡◌, ◌≢◌, IfSome, IfNone};
+// What a run is asked to do: the verbs, with all that is said of each.
+ghost use Rattle.std.specs.Prelude.{◌≡◌, ◌≢◌, IfOk, IfSome, IfNone};
+ghost use Rattle.std.specs.List.{AllByRecursion};
 ghost use Rattle.view_settings.specs.declared.verb.Verb.{Verb};
-ghost use Rattle.view_settings.specs.Verbs.{verb_text};
+ghost use Rattle.view_settings.specs.Kinds.{HasHeightSides};
+ghost use Rattle.view_settings.specs.Setting.{IsSetting};
+ghost use Rattle.view_settings.specs.Verbs.{IsJob, job_with, kind_of, mesh_job, verb_text};
+ghost use Rattle.view_settings.specs.Views.{window_of};
+ghost use Rattle.view_places.specs.Window.{FitsHeight, IsWindow};
+
+use crate::given::forge_given;
+use crate::kind::{Kind, forge_kind, height_kind, image_kind, mesh_kind};
+use crate::name::Name;
+use crate::setting::Setting;
+use crate::{Job, WordReason};
+use view_places::View;
 
 /// What a run is asked to do.
 #[derive(Clone, Copy, Debug, PartialEq, Eq)]
@@ -36,5 +48,54 @@ pub(crate) fn read_verb(word: &[u8]) -> Option<Verb>
         b"replay" => Some(Verb::Replay),
         b"forge" => Some(Verb::Forge),
         _ => None,
+    }
+}
+
+impl Verb {
+    /// The values that a setting of this name may have, and None where the verb has no such
+    /// setting.
+    pub(crate) fn kind(self, name: Name) -> Option<Kind>
+        ensures { result ≡ kind_of self name }
+    {
+        match self {
+            Verb::Render | Verb::Count => image_kind(name),
+            Verb::Height => height_kind(name),
+            Verb::Mesh => mesh_kind(name),
+            Verb::Text | Verb::Replay => None,
+            Verb::Forge => forge_kind(name),
+        }
+    }
+
+    /// The job with the settings that were taken, of which this is the view.
+    pub(crate) fn job(self, taken: &[Setting], view: View) -> Result<Job, WordReason>
+        requires each { AllByRecursion (IsSetting self) taken.now }
+        requires view { view ≡ window_of taken.now }
+        requires window { IsWindow view }
+        requires height { HasHeightSides (kind_of self) → FitsHeight view }
+        ensures job { result ≡ job_with self taken.now }
+        ensures keeps { IfOk result IsJob }
+    {
+        match self {
+            Verb::Render => Ok(Job::Render(view)),
+            Verb::Height => Ok(Job::Height(view)),
+            Verb::Mesh => mesh_job(view),
+            Verb::Count => Ok(Job::Count(view)),
+            Verb::Text => Ok(Job::Text),
+            Verb::Replay => Ok(Job::Replay),
+            Verb::Forge => Ok(Job::Forge(forge_given(self, taken, view))),
+        }
+    }
+}
+
+// A mesh of this view.
+fn mesh_job(view: View) -> Result<Job, WordReason>
+    requires { IsWindow view }
+    ensures job { result ≡ mesh_job view }
+    ensures keeps { IfOk result IsJob }
+{
+    if view.fits_mesh() {
+        Ok(Job::Mesh(view))
+    } else {
+        Err(WordReason::CellTooSmall)
     }
 }

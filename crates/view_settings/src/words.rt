@@ -1,6 +1,6 @@
 // What words ask for.
 ghost use Rattle.std.specs.Prelude.{◌≡◌, IfOk};
-ghost use Rattle.view_settings.specs.Settings.{IsJob};
+ghost use Rattle.view_settings.specs.Verbs.{IsJob};
 ghost use Rattle.view_settings.specs.Words.{after_words, bytes_of, job_of, refused_at};
 
 use crate::verb::read_verb;

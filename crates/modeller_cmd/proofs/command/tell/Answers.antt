@@ -1,6 +1,6 @@
 use Rattle.std.proofs.Common.{◌∙◌}
 use Rattle.modeller_cmd.specs.Notes.{line_of}
-use Rattle.modeller_cmd.proofs.Serving.{takes-line}
+use Rattle.modeller_cmd.proofs.Execution.{takes-line}
 use Rattle.modeller_cmd.proofs.command.tell.Goals as goal
 
 pub returns-clause-line : goal.returns-clause-line

@@ -4,32 +4,32 @@ use Rattle.clause_reader.specs.declared.text_reason.TextReason.TheVariants as re
 use Rattle.edit_script.specs.Marks.{before_mark}
 use Rattle.view_settings.specs.declared.job.Job.TheVariants.{Replay}
 use Rattle.modeller_cmd.specs.Output.{made, output_as}
-use Rattle.modeller_cmd.specs.Playing.{Stopped}
+use Rattle.modeller_cmd.specs.Writing.{Halted}
 use Rattle.modeller_cmd.specs.Stops.{stop_of_script, stop_of_text}
-use Rattle.modeller_cmd.proofs.Playback.{script-other, text-other}
-use Rattle.modeller_cmd.specs.Stopping.{StopsPlay}
-use Rattle.modeller_cmd.proofs.Plays.{stopped-at-once, stops-with}
-use Rattle.modeller_cmd.proofs.Stops.{stops-play, unbegun-script, unbegun-text}
+use Rattle.modeller_cmd.proofs.ReplayLaws.{script-other, text-other}
+use Rattle.modeller_cmd.specs.Halting.{HaltsReplay}
+use Rattle.modeller_cmd.proofs.Writing.{halted-at-once, ends-with}
+use Rattle.modeller_cmd.proofs.Halting.{halts-replay, unbegun-script, unbegun-text}
 use Rattle.modeller_cmd.proofs.replay.replay.Goals as goal
 
-pub returns-in_err-model-clause-stopped : goal.returns-in_err-model-clause-stopped
-returns-in_err-model-clause-stopped g c =
+pub returns-in_err-model-clause-halted : goal.returns-in_err-model-clause-halted
+returns-in_err-model-clause-halted g c =
     let fault = c.in_err-model.field-0.0 in
-    stops-with c.from_residual.result (stop_of_text fault)
-    (Stopped g.K.Sink.held g.K.Sink.faults c.args.out.now c.args.out.now c.args.tally.now c.args.tally.now (output_as (made Replay c.args.input.now)).parts) c.from_residual.ensures.1
-    (stopped-at-once c.frames_add_up.ensures g.K.Sink.held g.K.Sink.faults c.args.out.now c.args.tally.now (output_as (made Replay c.args.input.now)).parts (stop_of_text fault) (text-other fault.line fault.reason))
+    ends-with c.from_residual.result (stop_of_text fault)
+    (Halted g.K.Sink.held g.K.Sink.faults c.args.out.now c.args.out.now c.args.tally.now c.args.tally.now (output_as (made Replay c.args.input.now)).parts) c.from_residual.ensures.1
+    (halted-at-once c.frames_add_up.ensures g.K.Sink.held g.K.Sink.faults c.args.out.now c.args.tally.now (output_as (made Replay c.args.input.now)).parts (stop_of_text fault) (text-other fault.line fault.reason))
 
-pub returns-in_err-commands-clause-stopped : goal.returns-in_err-commands-clause-stopped
-returns-in_err-commands-clause-stopped g c =
+pub returns-in_err-commands-clause-halted : goal.returns-in_err-commands-clause-halted
+returns-in_err-commands-clause-halted g c =
     let fault = c.in_err-commands.field-0.0 in
-    stops-with c.from_residual-in_err-commands.result (stop_of_script fault)
-    (Stopped g.K.Sink.held g.K.Sink.faults c.args.out.now c.args.out.now c.args.tally.now c.args.tally.now (output_as (made Replay c.args.input.now)).parts) c.from_residual-in_err-commands.ensures.1
-    (stopped-at-once c.frames_add_up.ensures g.K.Sink.held g.K.Sink.faults c.args.out.now c.args.tally.now (output_as (made Replay c.args.input.now)).parts (stop_of_script fault) (script-other fault.line fault.reason))
+    ends-with c.from_residual-in_err-commands.result (stop_of_script fault)
+    (Halted g.K.Sink.held g.K.Sink.faults c.args.out.now c.args.out.now c.args.tally.now c.args.tally.now (output_as (made Replay c.args.input.now)).parts) c.from_residual-in_err-commands.ensures.1
+    (halted-at-once c.frames_add_up.ensures g.K.Sink.held g.K.Sink.faults c.args.out.now c.args.tally.now (output_as (made Replay c.args.input.now)).parts (stop_of_script fault) (script-other fault.line fault.reason))
 
-pub returns-in_err-model-clause-stops : goal.returns-in_err-model-clause-stops
-returns-in_err-model-clause-stops g c =
-    stops-with c.from_residual.result (stop_of_text c.in_err-model.field-0.0)
-    (StopsPlay g.K.Sink.held g.K.Sink.faults c.args.out.now c.args.out.now c.args.tally.now c.args.tally.now c.args.input.now) c.from_residual.ensures.1
+pub returns-in_err-model-clause-halts : goal.returns-in_err-model-clause-halts
+returns-in_err-model-clause-halts g c =
+    ends-with c.from_residual.result (stop_of_text c.in_err-model.field-0.0)
+    (HaltsReplay g.K.Sink.held g.K.Sink.faults c.args.out.now c.args.out.now c.args.tally.now c.args.tally.now c.args.input.now) c.from_residual.ensures.1
     (λ clauses script read found. inl (
       unbegun-text (before_mark c.args.input.now) clauses c.in_err-model.field-0.0.line c.in_err-model.field-0.0.reason read
           (subst (λ text. c.in_err-model.field-0.0.reason ≢ reasons.NoMemory → text_read text ≡ Err c.in_err-model.field-0.0) c.model_text.ensures c.in_err-model.ensures.0),
@@ -37,13 +37,13 @@ returns-in_err-model-clause-stops g c =
       refl,
     ))
 
-pub returns-in_err-commands-clause-stops : goal.returns-in_err-commands-clause-stops
-returns-in_err-commands-clause-stops g c =
-    stops-with c.from_residual-in_err-commands.result (stop_of_script c.in_err-commands.field-0.0)
-    (StopsPlay g.K.Sink.held g.K.Sink.faults c.args.out.now c.args.out.now c.args.tally.now c.args.tally.now c.args.input.now) c.from_residual-in_err-commands.ensures.1
+pub returns-in_err-commands-clause-halts : goal.returns-in_err-commands-clause-halts
+returns-in_err-commands-clause-halts g c =
+    ends-with c.from_residual-in_err-commands.result (stop_of_script c.in_err-commands.field-0.0)
+    (HaltsReplay g.K.Sink.held g.K.Sink.faults c.args.out.now c.args.out.now c.args.tally.now c.args.tally.now c.args.input.now) c.from_residual-in_err-commands.ensures.1
     (λ clauses script read found. inl (unbegun-script c.args.input.now script c.in_err-commands.field-0.0.line c.in_err-commands.field-0.0.reason found c.in_err-commands.ensures.script.refused, refl, refl))
 
-pub returns-clause-stops : goal.returns-clause-stops
-returns-clause-stops g c =
-    stops-play g.K.Sink.held g.K.Sink.faults c.args.out.now c.play.new.out c.args.tally.now c.play.new.tally c.args.input.now c.play.result c.start.result c.in_ok-commands.commands.items
-    (ap text_read (sym c.model_text.ensures) ∙ c.in_ok-model.ensures ∙ ap (λ clauses. Ok clauses) (sym c.start.ensures)) c.in_ok-commands.ensures.script c.play.ensures.ends
+pub returns-clause-halts : goal.returns-clause-halts
+returns-clause-halts g c =
+    halts-replay g.K.Sink.held g.K.Sink.faults c.args.out.now c.replay_commands.new.out c.args.tally.now c.replay_commands.new.tally c.args.input.now c.replay_commands.result c.start.result c.in_ok-commands.commands.items
+    (ap text_read (sym c.model_text.ensures) ∙ c.in_ok-model.ensures ∙ ap (λ clauses. Ok clauses) (sym c.start.ensures)) c.in_ok-commands.ensures.script c.replay_commands.ensures.ends

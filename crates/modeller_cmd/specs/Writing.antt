@@ -1,4 +1,4 @@
--- What playing commands does to a sink and to a tally.
+-- How far parts were written, and what the tally counted: whole, or up to a halt.
 use Rattle.std.specs.Prelude.{◌≡◌, ◌≢◌, ℕ, List, Option}
 use Rattle.model_frames.specs.Work.{CountsWithin, CountsWork, PointsRiseAtMost}
 use Rattle.fixed_ops.specs.Counts.{Counts}
@@ -11,7 +11,7 @@ use Rattle.modeller_cmd.specs.declared.stop.Stop.{Stop}
 use Rattle.modeller_cmd.specs.declared.stop.Stop.TheVariants.{WriteFault, NoMemory}
 
 -- the parts were written whole, and their work was done and counted
-pub record Played {K : Type 0} (held : K → Option (List ℕ)) (faults : K → ℕ)
+pub record Written {K : Type 0} (held : K → Option (List ℕ)) (faults : K → ℕ)
     (before after : K) (first last : Counts) (parts : List Part) : Type 0 where
   pub gained : Gains held before after (bytes_of_parts parts)
   pub no_fault : Stands faults before after
@@ -19,9 +19,9 @@ pub record Played {K : Type 0} (held : K → Option (List ℕ)) (faults : K → 
   pub at_most : CountsWithin first last (work_of_parts parts)
   pub plain : PointsRiseAtMost first last (work_of_parts parts).plain
 
--- Something stopped that. A fault of the sink leaves it with a front of the bytes, and want of
+-- Something halted that. A fault of the sink leaves it with a front of the bytes, and want of
 -- memory with the first parts, each of them whole. No more than the work of the parts was counted.
-pub record Stopped {K : Type 0} (held : K → Option (List ℕ)) (faults : K → ℕ)
+pub record Halted {K : Type 0} (held : K → Option (List ℕ)) (faults : K → ℕ)
     (before after : K) (first last : Counts) (parts : List Part) (stop : Stop) : Type 0 where
   pub front : stop ≡ WriteFault → GainsPrefix held before after (bytes_of_parts parts)
   pub whole : stop ≡ NoMemory → GainsParts held before after parts

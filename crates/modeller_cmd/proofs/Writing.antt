@@ -1,4 +1,4 @@
--- Parts that are written one after the other, up to what stops that.
+-- Parts that are written one after the other, up to what halts that.
 use Rattle.std.proofs.Common.{◌≡◌, ◌≢◌, ℕ, ◌+◌, List, [], ◌∷◌, ◌++◌, length, take, Option, Result, Ok, Err, refl, sym, ap, subst, ◌∙◌, append-nil, length-append, arith}
 use Rattle.std.specs.Prelude.{IfErr, IsErrAnd, OnOk}
 use Rattle.std.proofs.Math.Seq.{take-append-add}
@@ -18,16 +18,16 @@ use Rattle.solid_model.specs.declared.edit.EditFault.TheVariants as EditFault
 use Rattle.modeller_cmd.specs.Endings.{GainsParts}
 use Rattle.model_frames.specs.Frames.{Part}
 use Rattle.modeller_cmd.specs.Parts.{bytes_of_parts, work_of_parts}
-use Rattle.modeller_cmd.specs.Playing.{Played, Stopped}
+use Rattle.modeller_cmd.specs.Writing.{Halted, Written}
 use Rattle.modeller_cmd.specs.Replays.{clauses_after, parts_at, refusal}
 use Rattle.modeller_cmd.specs.declared.stop.Stop.{Stop}
 use Rattle.modeller_cmd.specs.declared.stop.Stop.TheVariants.{WriteFault, NoMemory}
 use Rattle.modeller_cmd.proofs.Gaining.{Extends-none, Gains-then, GainsPrefix-after, Grew-after, Grew-gains, Grew-prefix, RoseBy-after, on-ok}
 use Rattle.modeller_cmd.proofs.WorkSums.{both-none, bytes-append, work-append}
 
--- nothing was played
-pub played-none : (frames : FramesAddUp) {K : Type 0} (held : K → Option (List ℕ)) (faults : K → ℕ) (out : K) (counts : Counts) → Played held faults out out counts counts []
-played-none frames held faults out counts = record {
+-- nothing was written
+pub written-none : (frames : FramesAddUp) {K : Type 0} (held : K → Option (List ℕ)) (faults : K → ℕ) (out : K) (counts : Counts) → Written held faults out out counts counts []
+written-none frames held faults out counts = record {
   gained = Extends-none (held out);
   no_fault = refl;
   counted = frames.none counts;
@@ -36,9 +36,9 @@ played-none frames held faults out counts = record {
 }
 
 -- parts after parts
-pub played-then : (frames : FramesAddUp) {K : Type 0} (held : K → Option (List ℕ)) (faults : K → ℕ) (a b c : K) (s t u : Counts) (ps qs : List Part)
-    → Played held faults a b s t ps → Played held faults b c t u qs → Played held faults a c s u (ps ++ qs)
-played-then frames held faults a b c s t u ps qs first next =
+pub written-then : (frames : FramesAddUp) {K : Type 0} (held : K → Option (List ℕ)) (faults : K → ℕ) (a b c : K) (s t u : Counts) (ps qs : List Part)
+    → Written held faults a b s t ps → Written held faults b c t u qs → Written held faults a c s u (ps ++ qs)
+written-then frames held faults a b c s t u ps qs first next =
     let work = sym (work-append ps qs) in
     record {
       gained = subst (Gains held a c) (sym (bytes-append ps qs)) (Gains-then held a b c (bytes_of_parts ps) (bytes_of_parts qs) first.gained next.gained);
@@ -72,10 +72,10 @@ parts-more held a b c ps qs rs first next =
           (Gains-then held a b c (bytes_of_parts ps) (bytes_of_parts (take next.count qs)) first next.gained);
     }
 
--- what stops the parts that follow stops them all
-pub stopped-after : (frames : FramesAddUp) {K : Type 0} (held : K → Option (List ℕ)) (faults : K → ℕ) (a b c : K) (s t u : Counts) (ps qs rs : List Part) (stop : Stop)
-    → Played held faults a b s t ps → Stopped held faults b c t u qs stop → Stopped held faults a c s u (ps ++ (qs ++ rs)) stop
-stopped-after frames held faults a b c s t u ps qs rs stop first next =
+-- what halts the parts that follow halts them all
+pub halted-after : (frames : FramesAddUp) {K : Type 0} (held : K → Option (List ℕ)) (faults : K → ℕ) (a b c : K) (s t u : Counts) (ps qs rs : List Part) (stop : Stop)
+    → Written held faults a b s t ps → Halted held faults b c t u qs stop → Halted held faults a c s u (ps ++ (qs ++ rs)) stop
+halted-after frames held faults a b c s t u ps qs rs stop first next =
     let work = sym (work-three ps qs rs) in
     record {
       front = λ is. subst (GainsPrefix held a c) (sym (bytes-three ps qs rs))
@@ -96,10 +96,10 @@ stopped-after frames held faults a b c s t u ps qs rs stop first next =
 pub parts-none : {K : Type 0} (held : K → Option (List ℕ)) (out : K) (parts : List Part) → GainsParts held out out parts
 parts-none held out parts = record { count = 0; within = omega arith; gained = Extends-none (held out) }
 
-pub stopped-before : {K : Type 0} (held : K → Option (List ℕ)) (faults : K → ℕ) (out : K) (s t : Counts) (parts : List Part) (stop : Stop)
+pub halted-before : {K : Type 0} (held : K → Option (List ℕ)) (faults : K → ℕ) (out : K) (s t : Counts) (parts : List Part) (stop : Stop)
     → stop ≢ WriteFault → CountsWithin s t (work_of_parts parts) → PointsRiseAtMost s t (work_of_parts parts).plain
-    → Stopped held faults out out s t parts stop
-stopped-before held faults out s t parts stop other few plain = record {
+    → Halted held faults out out s t parts stop
+halted-before held faults out s t parts stop other few plain = record {
   front = λ is. absurd (other is);
   whole = λ _. parts-none held out parts;
   write_fault = λ is. absurd (other is);
@@ -110,23 +110,23 @@ stopped-before held faults out s t parts stop other few plain = record {
 }
 
 -- nothing was done
-pub stopped-at-once : (frames : FramesAddUp) {K : Type 0} (held : K → Option (List ℕ)) (faults : K → ℕ) (out : K) (counts : Counts) (parts : List Part) (stop : Stop)
-    → stop ≢ WriteFault → Stopped held faults out out counts counts parts stop
-stopped-at-once frames held faults out counts parts stop other =
-    stopped-before held faults out counts counts parts stop other (frames.within_none counts (work_of_parts parts)) (frames.plain_none counts (work_of_parts parts).plain)
+pub halted-at-once : (frames : FramesAddUp) {K : Type 0} (held : K → Option (List ℕ)) (faults : K → ℕ) (out : K) (counts : Counts) (parts : List Part) (stop : Stop)
+    → stop ≢ WriteFault → Halted held faults out out counts counts parts stop
+halted-at-once frames held faults out counts parts stop other =
+    halted-before held faults out counts counts parts stop other (frames.within_none counts (work_of_parts parts)) (frames.plain_none counts (work_of_parts parts).plain)
 
 -- want of memory is no fault of a sink
 pub memory-other : (stop : Stop) → stop ≡ NoMemory → stop ≢ WriteFault
 memory-other stop is fault = cc
 
--- one part, written whole after its work was counted, and what stops that
+-- one part, written whole after its work was counted, and what halts that
 module _ {K : Type 0} (held : K → Option (List ℕ)) (faults : K → ℕ) (before after : K) (s t : Counts) (part : Part) (bytes : List ℕ) (is : bytes ≡ part.bytes) where
   one-bytes : bytes ≡ part.bytes ++ []
   one-bytes = is ∙ sym (append-nil part.bytes)
 
-  pub part-played : Gains held before after bytes → Stands faults before after → CountsWork s t part.work
-      → CountsWithin s t part.work → PointsRiseAtMost s t part.work.plain → Played held faults before after s t (part ∷ [])
-  part-played gained stands done few plain = record {
+  pub part-written : Gains held before after bytes → Stands faults before after → CountsWork s t part.work
+      → CountsWithin s t part.work → PointsRiseAtMost s t part.work.plain → Written held faults before after s t (part ∷ [])
+  part-written gained stands done few plain = record {
     gained = subst (Gains held before after) one-bytes gained;
     no_fault = stands;
     counted = subst (CountsWork s t) (sym (both-none part.work)) done;
@@ -134,9 +134,9 @@ module _ {K : Type 0} (held : K → Option (List ℕ)) (faults : K → ℕ) (bef
     plain = subst (λ w. PointsRiseAtMost s t w.plain) (sym (both-none part.work)) plain;
   }
 
-  pub part-stopped : GainsPrefix held before after bytes → RoseBy faults before after 1
-      → CountsWithin s t part.work → PointsRiseAtMost s t part.work.plain → Stopped held faults before after s t (part ∷ []) WriteFault
-  part-stopped front rose few plain = record {
+  pub part-halted : GainsPrefix held before after bytes → RoseBy faults before after 1
+      → CountsWithin s t part.work → PointsRiseAtMost s t part.work.plain → Halted held faults before after s t (part ∷ []) WriteFault
+  part-halted front rose few plain = record {
     front = λ _. subst (GainsPrefix held before after) one-bytes front;
     whole = λ memory. cc;
     write_fault = λ _. rose;
@@ -152,21 +152,21 @@ part-counted s t part done = subst (CountsWork s t) (sym (both-none part.work)) 
 
 -- memory is refused to a part before it is written
 pub part-undrawn : {K : Type 0} (held : K → Option (List ℕ)) (faults : K → ℕ) (out : K) (s t : Counts) (part : Part)
-    → CountsWithin s t part.work → PointsRiseAtMost s t part.work.plain → Stopped held faults out out s t (part ∷ []) NoMemory
+    → CountsWithin s t part.work → PointsRiseAtMost s t part.work.plain → Halted held faults out out s t (part ∷ []) NoMemory
 part-undrawn held faults out s t part few plain =
     let w = both-none part.work in
-    stopped-before held faults out s t (part ∷ []) NoMemory (memory-other NoMemory refl)
+    halted-before held faults out s t (part ∷ []) NoMemory (memory-other NoMemory refl)
     (subst (CountsWithin s t) (sym w) few) (subst (λ v. PointsRiseAtMost s t v.plain) (sym w) plain)
 
 -- an ending of which only one stop is known
-pub stops-with : {T : Type 0} (r : Result T Stop) (stop : Stop) (P : Stop → Type 0) → IsErrAnd r (λ e. e ≡ stop) → P stop → IfErr r P
-stops-with (Ok x) stop P is p = absurd is
-stops-with (Err e) stop P is p = subst P (sym is) p
+pub ends-with : {T : Type 0} (r : Result T Stop) (stop : Stop) (P : Stop → Type 0) → IsErrAnd r (λ e. e ≡ stop) → P stop → IfErr r P
+ends-with (Ok x) stop P is p = absurd is
+ends-with (Err e) stop P is p = subst P (sym is) p
 
 -- what is written of an edit depends on what the edit gives
-pub edit-played : (frames : FramesAddUp) {K : Type 0} (held : K → Option (List ℕ)) (faults : K → ℕ) (out : K) (counts : Counts) (clauses new : List Clause) (line : ℕ) (edit : Edit)
-    → edited clauses edit ≡ Ok new → Played held faults out out counts counts (parts_at clauses (Command.Edit line edit))
-edit-played frames held faults out counts clauses new line edit is = rw is (played-none frames held faults out counts)
+pub edit-written : (frames : FramesAddUp) {K : Type 0} (held : K → Option (List ℕ)) (faults : K → ℕ) (out : K) (counts : Counts) (clauses new : List Clause) (line : ℕ) (edit : Edit)
+    → edited clauses edit ≡ Ok new → Written held faults out out counts counts (parts_at clauses (Command.Edit line edit))
+edit-written frames held faults out counts clauses new line edit is = rw is (written-none frames held faults out counts)
 
 pub edit-refused : (clauses : List Clause) (line : ℕ) (edit : Edit) (fault : Fault) → edited clauses edit ≡ Err fault
     → parts_at clauses (Command.Edit line edit) ≡ refusal line fault ∷ []
@@ -179,23 +179,23 @@ edit-stands clauses line edit fault is = rw is refl
 -- an edit that is refused for a fault other than want of memory
 module _ (frames : FramesAddUp) {K T : Type 0} (held : K → Option (List ℕ)) (faults : K → ℕ) (before after : K) (clauses : List Clause) (line : ℕ) (edit : Edit) (fault : Fault) (r : Result T Stop)
     (refused : fault ≢ EditFault.NoMemory → edited clauses edit ≡ Err fault) (memory : fault ≡ EditFault.NoMemory → (r ≡ Err NoMemory) × (after ≡ before)) where
-  pub refused-played : OnOk r ((counts : Counts) → Played held faults before after counts counts (refusal line fault ∷ []))
-      → OnOk r ((counts : Counts) → Played held faults before after counts counts (parts_at clauses (Command.Edit line edit)))
-  refused-played = by fault refl
+  pub refused-written : OnOk r ((counts : Counts) → Written held faults before after counts counts (refusal line fault ∷ []))
+      → OnOk r ((counts : Counts) → Written held faults before after counts counts (parts_at clauses (Command.Edit line edit)))
+  refused-written = by fault refl
     where
-      by : (f : Fault) → fault ≡ f → OnOk r ((counts : Counts) → Played held faults before after counts counts (refusal line fault ∷ []))
-          → OnOk r ((counts : Counts) → Played held faults before after counts counts (parts_at clauses (Command.Edit line edit)))
+      by : (f : Fault) → fault ≡ f → OnOk r ((counts : Counts) → Written held faults before after counts counts (refusal line fault ∷ []))
+          → OnOk r ((counts : Counts) → Written held faults before after counts counts (parts_at clauses (Command.Edit line edit)))
       by EditFault.NoMemory is = λ p. rw (memory is).0 tt
-      by other is = λ p. subst (λ ps. OnOk r ((counts : Counts) → Played held faults before after counts counts ps)) (sym (edit-refused clauses line edit fault (refused (λ e. cc)))) p
+      by other is = λ p. subst (λ ps. OnOk r ((counts : Counts) → Written held faults before after counts counts ps)) (sym (edit-refused clauses line edit fault (refused (λ e. cc)))) p
 
-  pub refused-stopped : IfErr r (λ stop. (counts : Counts) → Stopped held faults before after counts counts (refusal line fault ∷ []) stop)
-      → IfErr r (λ stop. (counts : Counts) → Stopped held faults before after counts counts (parts_at clauses (Command.Edit line edit)) stop)
-  refused-stopped = by fault refl
+  pub refused-halted : IfErr r (λ stop. (counts : Counts) → Halted held faults before after counts counts (refusal line fault ∷ []) stop)
+      → IfErr r (λ stop. (counts : Counts) → Halted held faults before after counts counts (parts_at clauses (Command.Edit line edit)) stop)
+  refused-halted = by fault refl
     where
-      by : (f : Fault) → fault ≡ f → IfErr r (λ stop. (counts : Counts) → Stopped held faults before after counts counts (refusal line fault ∷ []) stop)
-          → IfErr r (λ stop. (counts : Counts) → Stopped held faults before after counts counts (parts_at clauses (Command.Edit line edit)) stop)
-      by EditFault.NoMemory is = λ p. rw ((memory is).0, (memory is).1) (λ counts. stopped-at-once frames held faults before counts (parts_at clauses (Command.Edit line edit)) NoMemory (memory-other NoMemory refl))
-      by other is = λ p. subst (λ ps. IfErr r (λ stop. (counts : Counts) → Stopped held faults before after counts counts ps stop)) (sym (edit-refused clauses line edit fault (refused (λ e. cc)))) p
+      by : (f : Fault) → fault ≡ f → IfErr r (λ stop. (counts : Counts) → Halted held faults before after counts counts (refusal line fault ∷ []) stop)
+          → IfErr r (λ stop. (counts : Counts) → Halted held faults before after counts counts (parts_at clauses (Command.Edit line edit)) stop)
+      by EditFault.NoMemory is = λ p. rw ((memory is).0, (memory is).1) (λ counts. halted-at-once frames held faults before counts (parts_at clauses (Command.Edit line edit)) NoMemory (memory-other NoMemory refl))
+      by other is = λ p. subst (λ ps. IfErr r (λ stop. (counts : Counts) → Halted held faults before after counts counts ps stop)) (sym (edit-refused clauses line edit fault (refused (λ e. cc)))) p
 
   pub refused-stands : (new : List Clause) → new ≡ clauses → OnOk r (new ≡ clauses_after clauses (Command.Edit line edit))
   refused-stands new same = by fault refl

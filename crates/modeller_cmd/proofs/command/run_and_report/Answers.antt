@@ -5,14 +5,14 @@ use Rattle.modeller_cmd.specs.Asking.{asks_nothing, input_told}
 use Rattle.modeller_cmd.specs.Endings.{TakesLine, status_after}
 use Rattle.modeller_cmd.specs.Output.{outcome}
 use Rattle.modeller_cmd.specs.Runs.{EndsSo}
-use Rattle.modeller_cmd.specs.Stopping.{StopsRun}
+use Rattle.modeller_cmd.specs.Halting.{HaltsRun}
 use Rattle.modeller_cmd.specs.Stops.{status_at}
 use Rattle.modeller_cmd.specs.declared.status.Status.TheVariants.{ReadFault, WriteFault}
 use Rattle.modeller_cmd.proofs.Inputs.{either-bool}
 use Rattle.modeller_cmd.proofs.Outcomes.{answer_of, made_bytes, made_done, no_memory_of, not_done, ok_done, read_fault_of, some_all, some_follows, status_of_refusal, write_fault_of}
-use Rattle.modeller_cmd.proofs.Serving.{noted, rose-fault, tells}
+use Rattle.modeller_cmd.proofs.Execution.{noted, rose-fault, tells}
 use Rattle.modeller_cmd.proofs.Soundness.{frames_are_sound}
-use Rattle.modeller_cmd.proofs.command.perform.Goals as goal
+use Rattle.modeller_cmd.proofs.command.run_and_report.Goals as goal
 
 pub returns-in-Ok : goal.returns-in-Ok
 returns-in-Ok g c =
@@ -110,8 +110,8 @@ returns-in-Err g c =
       front = λ is. some_follows told _ _ (λ input. made_bytes (outcome words input) _) (r.front (ap (λ s. Err s) (write_fault_of stop is)));
       whole = λ is. r.whole (ap (λ s. Err s) (no_memory_of stop is));
       stops = λ other. some_follows told _
-          (λ input. StopsRun g.K.Sink.held g.K.Sink.faults c.args.out.now c.work.new.out c.args.tally.now c.work.new.tally words input (status_at stop))
-          (λ input play. record { stop = stop; is = refl; play = play }) r.stops;
+          (λ input. HaltsRun g.K.Sink.held g.K.Sink.faults c.args.out.now c.work.new.out c.args.tally.now c.work.new.tally words input (status_at stop))
+          (λ input replay. record { stop = stop; is = refl; replay = replay }) r.halts;
       note = line;
       noted = noted words told (status_at stop) takes (λ is. r.usage.0 is) line;
       never_falls = c.tell.ensures.never_falls;

@@ -8,7 +8,7 @@ use Rattle.view_settings.specs.declared.job.Job.{Job}
 use Rattle.view_settings.specs.declared.word_fault.WordFault.{WordFault}
 use Rattle.view_settings.specs.declared.job.Job.TheVariants.{Replay}
 use Rattle.modeller_cmd.specs.Asking.{asked}
-use Rattle.modeller_cmd.specs.Endings.{Ends, IsServeStop, IsTold, IsWorked, Makes, NoFault, TakesLine, Tells, TellsRefusal, status_after}
+use Rattle.modeller_cmd.specs.Endings.{Ends, IsExecutionStop, IsTold, IsWorked, Makes, NoFault, TakesLine, Tells, TellsRefusal, status_after}
 use Rattle.modeller_cmd.specs.Notes.{line_of, refusal_line}
 use Rattle.modeller_cmd.specs.Output.{made, outcome, output_as, output_of}
 use Rattle.modeller_cmd.specs.Stops.{status_at}
@@ -39,56 +39,56 @@ module _ (words : List (List ℕ)) (told : Option (List ℕ)) (input : List ℕ)
       told-input told input (λ bytes. P (outcome words bytes)) all (subst P (sym (asked_made words job input asks)) p)
 
   -- the bytes of work that is done
-  pub served : {T : Type 0} (r : Result T Stop) (P : List ℕ → Type 0) → Ends (made job input) r → OnOk r (P (bytes_of_parts (output_as (made job input)).parts))
+  pub executed : {T : Type 0} (r : Result T Stop) (P : List ℕ → Type 0) → Ends (made job input) r → OnOk r (P (bytes_of_parts (output_as (made job input)).parts))
       → OnOk r (IfSome told (λ bytes. Makes (outcome words bytes) P))
-  served (Ok x) P ends p = as-told (λ o. Makes o P) (makes (made job input) P ends p)
-  served (Err e) P ends p = tt
+  executed (Ok x) P ends p = as-told (λ o. Makes o P) (makes (made job input) P ends p)
+  executed (Err e) P ends p = tt
 
   -- and those of work that a fault of the sink ends
-  pub served-front : {T : Type 0} (r : Result T Stop) (P : List ℕ → Type 0) → r ≡ Err WriteFault → Ends (made job input) r
+  pub executed-front : {T : Type 0} (r : Result T Stop) (P : List ℕ → Type 0) → r ≡ Err WriteFault → Ends (made job input) r
       → IfErr r (λ stop. stop ≡ WriteFault → P (bytes_of_parts (output_as (made job input)).parts))
       → IfSome told (λ bytes. Makes (outcome words bytes) P)
-  served-front r P is ends p =
+  executed-front r P is ends p =
       let ok = subst (Ends (made job input)) is ends in
       let front = subst (λ q. IfErr q (λ stop. stop ≡ WriteFault → P (bytes_of_parts (output_as (made job input)).parts))) is p in
       as-told (λ o. Makes o P) (makes (made job input) P ok (front refl))
 
   -- a refusal tells what is so of the words and of the input
-  pub served-told : {T : Type 0} (r : Result T Stop) → Ends (made job input) r → IfErr r IsServeStop → IfErr r (λ stop. IsTold words told stop)
-  served-told (Ok x) ends is = tt
-  served-told (Err (Refused (refusal.Words fault))) ends is = absurd is
-  served-told (Err (Refused refusal.TooLong)) ends is = tt
-  served-told (Err (Refused (refusal.Text fault))) ends is = as-told (λ o. o ≡ Err (refusal.Text fault)) ends
-  served-told (Err (Refused (refusal.Script fault))) ends is = as-told (λ o. o ≡ Err (refusal.Script fault)) ends
-  served-told (Err ReadFault) ends is = tt
-  served-told (Err WriteFault) ends is = tt
-  served-told (Err NoMemory) ends is = tt
+  pub executed-told : {T : Type 0} (r : Result T Stop) → Ends (made job input) r → IfErr r IsExecutionStop → IfErr r (λ stop. IsTold words told stop)
+  executed-told (Ok x) ends is = tt
+  executed-told (Err (Refused (refusal.Words fault))) ends is = absurd is
+  executed-told (Err (Refused refusal.TooLong)) ends is = tt
+  executed-told (Err (Refused (refusal.Text fault))) ends is = as-told (λ o. o ≡ Err (refusal.Text fault)) ends
+  executed-told (Err (Refused (refusal.Script fault))) ends is = as-told (λ o. o ≡ Err (refusal.Script fault)) ends
+  executed-told (Err ReadFault) ends is = tt
+  executed-told (Err WriteFault) ends is = tt
+  executed-told (Err NoMemory) ends is = tt
 
   -- what want of memory leaves
-  pub served-whole : {T : Type 0} (r : Result T Stop) (P : List Part → Type 0) → r ≡ Err NoMemory → IfErr r (λ stop. stop ≡ NoMemory → P (output_as (made job input)).parts)
+  pub executed-whole : {T : Type 0} (r : Result T Stop) (P : List Part → Type 0) → r ≡ Err NoMemory → IfErr r (λ stop. stop ≡ NoMemory → P (output_as (made job input)).parts)
       → IfSome told (λ bytes. P (output_as (outcome words bytes)).parts)
-  served-whole r P is p =
+  executed-whole r P is p =
       let whole = subst (λ q. IfErr q (λ stop. stop ≡ NoMemory → P (output_as (made job input)).parts)) is p in
       as-told (λ o. P (output_as o).parts) (whole refl)
 
   -- what is counted of work that was done whole
-  pub served-counted : {T : Type 0} (r : Result T Stop) (P : List Part → Type 0) → IsWorked words (status_after r) → OnOk r (P (output_as (made job input)).parts)
+  pub executed-counted : {T : Type 0} (r : Result T Stop) (P : List Part → Type 0) → IsWorked words (status_after r) → OnOk r (P (output_as (made job input)).parts)
       → (job ≢ Replay → r ≡ Err WriteFault → P (output_as (made job input)).parts)
       → IfSome told (λ bytes. P (output_as (outcome words bytes)).parts)
-  served-counted (Ok x) P worked done fault = as-told (λ o. P (output_as o).parts) done
-  served-counted (Err WriteFault) P worked done fault =
+  executed-counted (Ok x) P worked done fault = as-told (λ o. P (output_as o).parts) done
+  executed-counted (Err WriteFault) P worked done fault =
       as-told (λ o. P (output_as o).parts) (fault (λ is. worked (sym asks ∙ ap (λ j. Ok j) is)) refl)
-  served-counted (Err (Refused (refusal.Words fault))) P worked done other = absurd worked
-  served-counted (Err (Refused refusal.TooLong)) P worked done other = absurd worked
-  served-counted (Err (Refused (refusal.Text fault))) P worked done other = absurd worked
-  served-counted (Err (Refused (refusal.Script fault))) P worked done other = absurd worked
-  served-counted (Err ReadFault) P worked done other = absurd worked
-  served-counted (Err NoMemory) P worked done other = absurd worked
+  executed-counted (Err (Refused (refusal.Words fault))) P worked done other = absurd worked
+  executed-counted (Err (Refused refusal.TooLong)) P worked done other = absurd worked
+  executed-counted (Err (Refused (refusal.Text fault))) P worked done other = absurd worked
+  executed-counted (Err (Refused (refusal.Script fault))) P worked done other = absurd worked
+  executed-counted (Err ReadFault) P worked done other = absurd worked
+  executed-counted (Err NoMemory) P worked done other = absurd worked
 
--- what is so of work that is done and of work that is stopped is so
-pub done-or-stopped : {T : Type 0} (r : Result T Stop) (P Q : Type 0) (R : Stop → Type 0) → (Q → P) → ((stop : Stop) → R stop → P) → OnOk r Q → IfErr r R → P
-done-or-stopped (Ok x) P Q R f g done stopped = f done
-done-or-stopped (Err stop) P Q R f g done stopped = g stop stopped
+-- what is so of work that is done and of work that is halted is so
+pub done-or-halted : {T : Type 0} (r : Result T Stop) (P Q : Type 0) (R : Stop → Type 0) → (Q → P) → ((stop : Stop) → R stop → P) → OnOk r Q → IfErr r R → P
+done-or-halted (Ok x) P Q R f g done halted = f done
+done-or-halted (Err stop) P Q R f g done halted = g stop halted
 
 -- the notes are told what a stop says
 pub tells : (words : List (List ℕ)) (told : Option (List ℕ)) (stop : Stop) (takes : List ℕ → Type 0) → IsTold words told stop → takes (line_of stop)

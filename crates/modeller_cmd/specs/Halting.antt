@@ -1,4 +1,4 @@
--- Where the commands of a script stop.
+-- Where the commands of a script are halted: by a fault, or for want of memory.
 use Rattle.std.specs.Prelude.{◌≡◌, ◌⊎◌, ℕ, List, ◌∷◌, ◌++◌, Option, Ok, IsOk, IsErr, ⊤}
 use Rattle.clause_reader.specs.Reading.{text_read}
 use Rattle.edit_script.specs.Marks.{before_mark}
@@ -12,7 +12,7 @@ use Rattle.solid_model.specs.declared.clause.Clause.{Clause}
 use Rattle.view_settings.specs.declared.job.Job.TheVariants.{Replay}
 use Rattle.modeller_cmd.specs.Asking.{asked}
 use Rattle.modeller_cmd.specs.Parts.{work_of_parts}
-use Rattle.modeller_cmd.specs.Playing.{Played, Stopped}
+use Rattle.modeller_cmd.specs.Writing.{Halted, Written}
 use Rattle.modeller_cmd.specs.Replays.{parts_at, replayed, standing}
 use Rattle.modeller_cmd.specs.Stops.{status_at}
 use Rattle.modeller_cmd.specs.declared.refusal.Refusal.TheVariants as refusal
@@ -21,7 +21,7 @@ use Rattle.modeller_cmd.specs.declared.stop.Stop.{Stop}
 use Rattle.modeller_cmd.specs.declared.stop.Stop.TheVariants.{Refused, ReadFault, WriteFault, NoMemory}
 
 -- Memory may be wanted for a command: for an edit only where it is accepted and makes a clause, and
--- never for one that names no clause anywhere.
+-- never for one with a token that begins with `#`.
 abbrev pub WantsMemory : List Clause → Command → Type 0
 WantsMemory clauses (commands.Edit line edit) = IsOk (edited clauses edit) × MakesClause edit
 WantsMemory clauses (commands.Stray line) = ⊥
@@ -32,20 +32,20 @@ abbrev pub WritesSomething : List Clause → Command → Type 0
 WritesSomething clauses (commands.Edit line edit) = IsErr (edited clauses edit)
 WritesSomething clauses other = ⊤
 
--- Something stopped one command. Where memory was refused nothing of it was written, and it may want
+-- Something halted one command. Where memory was refused nothing of it was written, and it may want
 -- memory; under a fault of the sink it writes something, and its work was done.
-pub record StopsIn {K : Type 0} (held : K → Option (List ℕ)) (faults : K → ℕ)
+pub record HaltsIn {K : Type 0} (held : K → Option (List ℕ)) (faults : K → ℕ)
     (before after : K) (first last : Counts) (clauses : List Clause) (command : Command)
     (stop : Stop) : Type 0 where
   pub unwritten : stop ≡ NoMemory → after ≡ before
   pub wants : stop ≡ NoMemory → WantsMemory clauses command
   pub writes : stop ≡ WriteFault → WritesSomething clauses command
   pub counted : stop ≡ WriteFault → CountsWork first last (work_of_parts (parts_at clauses command))
-  pub stopped : Stopped held faults before after first last (parts_at clauses command) stop
+  pub halted : Halted held faults before after first last (parts_at clauses command) stop
 
--- Something stopped one of these commands: those before it were played whole, and nothing was done
+-- Something halted one of these commands: those before it were replayed whole, and nothing was done
 -- of those after it.
-pub record StopsAt {K : Type 0} (held : K → Option (List ℕ)) (faults : K → ℕ)
+pub record HaltsAt {K : Type 0} (held : K → Option (List ℕ)) (faults : K → ℕ)
     (before after : K) (first last : Counts) (clauses : List Clause) (commands : List Command)
     (stop : Stop) : Type 0 where
   pub earlier : List Command
@@ -54,10 +54,10 @@ pub record StopsAt {K : Type 0} (held : K → Option (List ℕ)) (faults : K →
   pub split : commands ≡ earlier ++ command ∷ later
   pub between : K
   pub counts : Counts
-  pub played : Played held faults before between first counts (replayed clauses earlier)
-  pub stops : StopsIn held faults between after counts last (standing clauses earlier) command stop
+  pub written : Written held faults before between first counts (replayed clauses earlier)
+  pub halts : HaltsIn held faults between after counts last (standing clauses earlier) command stop
 
--- what may stop a script before anything of it is done: a fault of the source, an input that is too
+-- what may halt a script before anything of it is done: a fault of the source, an input that is too
 -- long, or want of memory
 abbrev pub IsUnbegun : Stop → Type 0
 IsUnbegun ReadFault = ⊤
@@ -65,20 +65,20 @@ IsUnbegun (Refused refusal.TooLong) = ⊤
 IsUnbegun NoMemory = ⊤
 IsUnbegun other = ⊥
 
--- What an input has as its solid and its script was stopped by this: before anything was done, or
+-- What an input has as its solid and its script was halted by this: before anything was done, or
 -- at one of the commands.
-abbrev pub StopsPlay : {K : Type 0} → (K → Option (List ℕ)) → (K → ℕ) → K → K → Counts → Counts
+abbrev pub HaltsReplay : {K : Type 0} → (K → Option (List ℕ)) → (K → ℕ) → K → K → Counts → Counts
     → List ℕ → Stop → Type 0
-StopsPlay held faults before after first last input stop =
+HaltsReplay held faults before after first last input stop =
     (clauses : List Clause) (script : List Command) → text_read (before_mark input) ≡ Ok clauses
     → script_read input ≡ Ok script
     → (IsUnbegun stop × (after ≡ before) × (last ≡ first))
-    ⊎ StopsAt held faults before after first last clauses script stop
+    ⊎ HaltsAt held faults before after first last clauses script stop
 
 -- so it is where the words of a run ask for a script, and the run ends with the status of that
-pub record StopsRun {K : Type 0} (held : K → Option (List ℕ)) (faults : K → ℕ)
+pub record HaltsRun {K : Type 0} (held : K → Option (List ℕ)) (faults : K → ℕ)
     (before after : K) (first last : Counts) (words : List (List ℕ)) (input : List ℕ)
     (status : Status) : Type 0 where
   pub stop : Stop
   pub is : status ≡ status_at stop
-  pub play : asked words ≡ Ok Replay → StopsPlay held faults before after first last input stop
+  pub replay : asked words ≡ Ok Replay → HaltsReplay held faults before after first last input stop

@@ -1,5 +1,5 @@
--- What a job that is served does to a sink and to a tally.
-use Rattle.std.specs.Prelude.{◌≡◌, ◌≢◌, ℕ, List, Option, Result, Err, IfErr, IfOk, IsOk, OnOk, All}
+-- What a job that is executed does to a sink and to a tally.
+use Rattle.std.specs.Prelude.{◌≡◌, ◌≢◌, ℕ, List, Option, Result, Err, IfErr, OnOk}
 use Rattle.fixed_ops.specs.Counts.{Counts}
 use Rattle.model_frames.specs.Frames.{Part}
 use Rattle.model_frames.specs.Work.{CountsWork}
@@ -7,11 +7,11 @@ use Rattle.modeller_io.specs.Count.{RoseBy, Stands}
 use Rattle.modeller_io.specs.Held.{Gains, GainsPrefix}
 use Rattle.view_settings.specs.declared.job.Job.{Job}
 use Rattle.view_settings.specs.declared.job.Job.TheVariants.{Replay}
-use Rattle.modeller_cmd.specs.Endings.{Ends, IsPlayStop, IsRefusal, IsServeStop, status_after}
+use Rattle.modeller_cmd.specs.Endings.{Ends, IsExecutionStop, IsHalt, IsRefusal, status_after}
 use Rattle.modeller_cmd.specs.Output.{made, output_as}
 use Rattle.modeller_cmd.specs.Parts.{work_of_parts}
-use Rattle.modeller_cmd.specs.Playing.{Played, Stopped}
-use Rattle.modeller_cmd.specs.Stopping.{StopsPlay}
+use Rattle.modeller_cmd.specs.Writing.{Halted, Written}
+use Rattle.modeller_cmd.specs.Halting.{HaltsReplay}
 use Rattle.modeller_cmd.specs.declared.refusal.Refusal.{Refusal}
 use Rattle.modeller_cmd.specs.declared.status.Status.TheVariants.{BadScript}
 use Rattle.modeller_cmd.specs.declared.stop.Stop.{Stop}
@@ -21,23 +21,23 @@ use Rattle.modeller_cmd.specs.declared.stop.Stop.TheVariants.{NoMemory, WriteFau
 -- none.
 pub record Sent {K T : Type 0} (held : K → Option (List ℕ)) (faults : K → ℕ) (before after : K)
     (bytes : List ℕ) (result : Result T Stop) : Type 0 where
-  pub stop : IfErr result IsPlayStop
+  pub stop : IfErr result IsHalt
   pub gained : OnOk result (Gains held before after bytes)
   pub no_fault : OnOk result (Stands faults before after)
   pub front : result ≡ Err WriteFault → GainsPrefix held before after bytes
   pub fault : result ≡ Err WriteFault → RoseBy faults before after 1
   pub unwritten : result ≡ Err NoMemory → after ≡ before
 
--- Work of this outcome was done, and its parts were written when the last of them was made: where it
--- comes to writing, all work is done, and all memory is taken.
-pub record ServedAtOnce {K T : Type 0} (held : K → Option (List ℕ)) (faults : K → ℕ)
+-- Work of this outcome was done, and its parts were written when the last of them was made: where
+-- it comes to writing, all work is done, and all memory is taken.
+pub record ExecutedAtOnce {K T : Type 0} (held : K → Option (List ℕ)) (faults : K → ℕ)
     (before after : K) (first last : Counts) (outcome : Result (List Part) Refusal)
     (result : Result T Stop) : Type 0 where
   pub ends : Ends outcome result
-  pub stop : IfErr result IsServeStop
-  pub played : OnOk result (Played held faults before after first last (output_as outcome).parts)
-  pub stopped : IfErr result
-      (Stopped held faults before after first last (output_as outcome).parts)
+  pub stop : IfErr result IsExecutionStop
+  pub written : OnOk result (Written held faults before after first last (output_as outcome).parts)
+  pub halted : IfErr result
+      (Halted held faults before after first last (output_as outcome).parts)
   pub refused : IsRefusal (status_after result) → (after ≡ before) × (last ≡ first)
   pub script : status_after result ≢ BadScript
   pub unwritten : result ≡ Err NoMemory → after ≡ before
@@ -46,18 +46,18 @@ pub record ServedAtOnce {K T : Type 0} (held : K → Option (List ℕ)) (faults 
 
 -- A job was done on an input, and what it makes was written: of a script each part as soon as it is
 -- made, and else all of them when the last is made.
-pub record Served {K T : Type 0} (held : K → Option (List ℕ)) (faults : K → ℕ)
+pub record Executed {K T : Type 0} (held : K → Option (List ℕ)) (faults : K → ℕ)
     (before after : K) (first last : Counts) (job : Job) (input : List ℕ)
     (result : Result T Stop) : Type 0 where
   pub ends : Ends (made job input) result
-  pub stop : IfErr result IsServeStop
-  pub played : OnOk result
-      (Played held faults before after first last (output_as (made job input)).parts)
-  pub stopped : IfErr result
-      (Stopped held faults before after first last (output_as (made job input)).parts)
+  pub stop : IfErr result IsExecutionStop
+  pub written : OnOk result
+      (Written held faults before after first last (output_as (made job input)).parts)
+  pub halted : IfErr result
+      (Halted held faults before after first last (output_as (made job input)).parts)
   pub refused : IsRefusal (status_after result) → (after ≡ before) × (last ≡ first)
   pub script : status_after result ≡ BadScript → job ≡ Replay
   pub unwritten : job ≢ Replay → result ≡ Err NoMemory → after ≡ before
   pub counted : job ≢ Replay → result ≡ Err WriteFault
       → CountsWork first last (work_of_parts (output_as (made job input)).parts)
-  pub stops : job ≡ Replay → IfErr result (StopsPlay held faults before after first last input)
+  pub halts : job ≡ Replay → IfErr result (HaltsReplay held faults before after first last input)

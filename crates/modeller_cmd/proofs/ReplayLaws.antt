@@ -59,7 +59,7 @@ pub items-between : {X A : Type 0} (s : IntoIter X A) (items xs : List X) (t u :
 items-between s items xs t u x is y next =
     sym is ∙ taken-front s xs t y ∙ ap (λ l. xs ++ l) next
 
--- no text and no script stops a run as a fault of its sink does
+-- no text and no script halts a run as a fault of its sink does
 pub text-other : (line : ℕ) (reason : TextReason) → stop_of_text (record { line = line; reason = reason }) ≢ WriteFault
 text-other line text.NoMemory is = cc
 text-other line other is = cc
