@@ -4,47 +4,69 @@ ghost use Rattle.clause_reader.specs.ModelText.{model_text};
 ghost use Rattle.solid_model.specs.Edits.{edited, MakesClause};
 ghost use Rattle.solid_model.specs.Refusals.{RefusesAs, WantsMemoryFor};
 ghost use Rattle.view_places.specs.Window.{FitsHeight, FitsMesh};
-ghost use Rattle.model_frames.specs.Frames.{CanDraw, frame_part};
+ghost use Rattle.model_frames.specs.Frames.{CanDraw};
 ghost use Rattle.model_frames.specs.Heights.{heights_of, plain_depths};
 ghost use Rattle.model_frames.specs.Images.{image_of, plain_points};
 ghost use Rattle.model_frames.specs.Meshes.{mesh_text, plain_grid};
-ghost use Rattle.model_frames.specs.Work.{CountsWithin, CountsWork, PointsRiseAtMost, frame_work, height_work, mesh_work};
+ghost use Rattle.model_frames.specs.Work.{CountsWithin, CountsWork, PointsRiseAtMost, height_work, image_work, mesh_work};
+ghost use Rattle.edit_session.specs.Sessions.{after_frame, after_refusal, session_part, started, with_clauses};
 
 use clause_reader::write_model;
 use fixed_ops::Tally;
-use model_frames::Frame;
+use live_clauses::RootRoom;
+use model_frames::{Frame, frames_add_up, render_after};
+use quad_descent::QuadTree;
 use solid_model::{Edit, EditFault, Model};
 use std::alloc::{AllocError, Global};
 use view_places::View;
 
-/// A model that is edited and drawn. Contracts see the clauses of the model then standing. Each frame
-/// shows that model, whatever was drawn before.
+/// A model that is edited and drawn. Each frame shows the model then standing, whatever was drawn
+/// before. Contracts see the clauses of that model, the view and the root list of the last image where
+/// one stands, and its cost.
 #[derive(Debug, Drop)]
 pub struct Session {
     alloc: Global,
     model: Model,
+    // The last image by its boxes, where none was refused since, and what it took.
+    image: Option<QuadTree>,
+    points: u64,
+    spans: u64,
+    // Memory for root lists.
+    room: RootRoom,
 }
 
 impl std::marker::Model for Session {
-    ghost use Rattle.std.specs.Prelude.{List};
-    ghost use Rattle.solid_model.specs.declared.clause.Clause.{Clause};
+    ghost use Rattle.std.specs.Prelude.{None};
+    ghost use Rattle.edit_session.specs.Sessions.{State};
 
-    ghost Value = { List Clause };
+    ghost Value = { State };
 
-    ghost view = { λ s. s.model };
+    ghost view = { λ s. record {
+      clauses = s.model;
+      image = s.image;
+      mesh = None;
+      cost = record { points = s.points; spans = s.spans };
+    } };
 }
 
 impl Session {
     /// A session on a model. Its later calls take their memory from `alloc`.
     #[inline]
     pub fn start(alloc: Global, model: Model) -> Session
-        ensures { result ≡ model }
+        ensures { result ≡ started model }
     {
-        Session { alloc, model }
+        Session {
+            alloc,
+            model,
+            image: None,
+            points: 0,
+            spans: 0,
+            room: RootRoom::new(alloc),
+        }
     }
 
-    /// Applies a change to the model. After an `Err` the session is as it was, and the change is
-    /// dropped.
+    /// Applies a change to the model. The last image and its cost stand. After an `Err` the session is
+    /// as it was, and the change is dropped.
     ///
     /// The first of these that holds is answered. `UnknownName`: an argument, or a name that should
     /// stand already, names no clause. `DoubleName`: the new name stands already. `NotEarlier`: an
@@ -52,81 +74,121 @@ impl Session {
     /// an argument. `LastClause`: the model has one clause. `Full`: the model has 65,535 clauses.
     /// `NoMemory`: memory was refused for a new clause, and none of these holds.
     pub fn edit(&mut self, edit: Edit) -> Result<(), EditFault>
-        ensures ok { OnOk result (edited self.old edit ≡ Ok self.new) }
-        ensures fault { RefusesAs (edited self.old edit) EditFault.NoMemory result }
-        ensures no_memory { WantsMemoryFor (edited self.old edit) EditFault.NoMemory result }
+        ensures ok { OnOk result (edited self.old.clauses edit ≡ Ok self.new.clauses) }
+        ensures stands { self.new ≡ with_clauses self.old self.new.clauses }
+        ensures fault { RefusesAs (edited self.old.clauses edit) EditFault.NoMemory result }
+        ensures no_memory { WantsMemoryFor (edited self.old.clauses edit) EditFault.NoMemory result }
         ensures makes { IfErr result (λ fault. fault ≡ EditFault.NoMemory → MakesClause edit) }
         ensures err { OnErr result (self.new ≡ self.old) }
     {
         self.model.apply(edit)
     }
 
-    /// The image of the model over a view, as PGM text. The work of a fresh image is counted. The
-    /// model stays. AllocError: memory was refused, after some of that work perhaps.
+    /// The image of the model over a view, as PGM text. What is counted is the work of those boxes
+    /// alone that the last image did not have with an equal list, where one of this very view stands,
+    /// and else the work of a fresh image. It stands as the last image then, with that cost.
+    /// AllocError: memory was refused, after some of that work perhaps. No last image stands then, and
+    /// all else stands.
     pub fn render(&mut self, view: &View, tally: &mut Tally) -> Result<Vec<u8>, AllocError>
-        ensures image { IfOk result (λ image. image.items ≡ image_of view.now self.old) }
-        ensures stands { self.new ≡ self.old }
-        ensures counted { OnOk result
-            (CountsWork tally.old tally.new (frame_work view.now self.old)) }
-        ensures at_most { CountsWithin tally.old tally.new (frame_work view.now self.old) }
+        ensures image { IfOk result (λ image. image.items ≡ image_of view.now self.old.clauses) }
+        ensures drawn { OnOk result (self.new ≡ after_frame self.old (Frame.Render view.now)) }
+        ensures refused { OnErr result (self.new ≡ after_refusal self.old (Frame.Render view.now)) }
+        ensures counted { OnOk result (CountsWork tally.old tally.new
+            (image_work self.old.image view.now self.old.clauses)) }
+        ensures at_most { CountsWithin tally.old tally.new
+            (image_work self.old.image view.now self.old.clauses) }
         ensures plain { PointsRiseAtMost tally.old tally.new
-            (plain_points view.now (length self.old)) }
+            (plain_points view.now (length self.old.clauses)) }
     {
-        Frame::Render(*view).bytes(self.alloc, &self.model, tally)
+        frames_add_up();
+        let before = self.image.take();
+        // The caller's tally may stand at its end, so the work is counted apart first.
+        let mut own = Tally::new();
+        let drawn = render_after(
+            self.alloc,
+            &mut self.room,
+            &self.model,
+            view,
+            before,
+            &mut own,
+        );
+        tally.join(&own);
+        let (tree, image) = drawn?;
+        self.points = own.points();
+        self.spans = own.spans();
+        self.image = Some(tree);
+        Ok(image)
     }
 
     /// The height map of the model over a view, as PGM text. The work of the samples that do not lie
-    /// behind a top is counted. The model stays. AllocError: memory was refused, after some of that
+    /// behind a top is counted. The session stays. AllocError: memory was refused, after some of that
     /// work perhaps.
     pub fn height(&mut self, view: &View, tally: &mut Tally) -> Result<Vec<u8>, AllocError>
         requires { FitsHeight view.now }
-        ensures heights { IfOk result (λ text. text.items ≡ heights_of view.now self.old) }
+        ensures heights { IfOk result (λ text. text.items ≡ heights_of view.now self.old.clauses) }
         ensures stands { self.new ≡ self.old }
         ensures counted { OnOk result
-            (CountsWork tally.old tally.new (height_work view.now self.old)) }
-        ensures at_most { CountsWithin tally.old tally.new (height_work view.now self.old) }
+            (CountsWork tally.old tally.new (height_work view.now self.old.clauses)) }
+        ensures at_most { CountsWithin tally.old tally.new
+            (height_work view.now self.old.clauses) }
         ensures plain { PointsRiseAtMost tally.old tally.new
-            (plain_depths view.now (length self.old)) }
+            (plain_depths view.now (length self.old.clauses)) }
     {
         Frame::Height(*view).bytes(self.alloc, &self.model, tally)
     }
 
     /// The mesh of the model over a view, as PLY text. The work of the boxes that are looked into and
-    /// of the corners of working cells is counted. The model stays. AllocError: memory was refused,
+    /// of the corners of working cells is counted. The session stays. AllocError: memory was refused,
     /// after some of that work perhaps.
     pub fn mesh(&mut self, view: &View, tally: &mut Tally) -> Result<Vec<u8>, AllocError>
         requires { FitsMesh view.now }
-        ensures mesh { IfOk result (λ text. text.items ≡ mesh_text view.now self.old) }
+        ensures mesh { IfOk result (λ text. text.items ≡ mesh_text view.now self.old.clauses) }
         ensures stands { self.new ≡ self.old }
         ensures counted { OnOk result
-            (CountsWork tally.old tally.new (mesh_work view.now self.old)) }
-        ensures at_most { CountsWithin tally.old tally.new (mesh_work view.now self.old) }
+            (CountsWork tally.old tally.new (mesh_work view.now self.old.clauses)) }
+        ensures at_most { CountsWithin tally.old tally.new (mesh_work view.now self.old.clauses) }
         ensures plain { PointsRiseAtMost tally.old tally.new
-            (plain_grid view.now (length self.old)) }
+            (plain_grid view.now (length self.old.clauses)) }
     {
         Frame::Mesh(*view).bytes(self.alloc, &self.model, tally)
     }
 
-    /// A frame of the model, as bytes. The work is counted. The model stands. AllocError: memory was
-    /// refused, after some of that work perhaps.
+    /// A frame of the model, as bytes, as the call of its kind gives it. AllocError: memory was
+    /// refused, after some of its work perhaps; where it was an image, no last image stands then.
     pub fn frame(&mut self, frame: &Frame, tally: &mut Tally) -> Result<Vec<u8>, AllocError>
         requires { CanDraw frame.now }
         ensures bytes { IfOk result (λ bytes.
-            bytes.items ≡ (frame_part frame.now self.old).bytes) }
-        ensures stands { self.new ≡ self.old }
+            bytes.items ≡ (session_part self.old frame.now).bytes) }
+        ensures drawn { OnOk result (self.new ≡ after_frame self.old frame.now) }
+        ensures refused { OnErr result (self.new ≡ after_refusal self.old frame.now) }
         ensures counted { OnOk result
-            (CountsWork tally.old tally.new (frame_part frame.now self.old).work) }
-        ensures at_most { CountsWithin tally.old tally.new (frame_part frame.now self.old).work }
+            (CountsWork tally.old tally.new (session_part self.old frame.now).work) }
+        ensures at_most { CountsWithin tally.old tally.new (session_part self.old frame.now).work }
         ensures plain { PointsRiseAtMost tally.old tally.new
-            (frame_part frame.now self.old).work.plain }
+            (session_part self.old frame.now).work.plain }
     {
-        frame.bytes(self.alloc, &self.model, tally)
+        match frame {
+            Frame::Render(view) => self.render(view, tally),
+            Frame::Height(_) | Frame::Mesh(_) | Frame::Text => {
+                frame.bytes(self.alloc, &self.model, tally)
+            }
+        }
     }
 
     /// The text of the model: a line for each clause. AllocError: memory was refused.
     pub fn text(&self) -> Result<Vec<u8>, AllocError>
-        ensures { IfOk result (λ text. text.items ≡ model_text self.now) }
+        ensures { IfOk result (λ text. text.items ≡ model_text self.now.clauses) }
     {
         write_model(self.alloc, &self.model)
+    }
+
+    /// What the last image that was drawn whole took: evaluations, and steps that were traced. Nothing
+    /// before the first.
+    #[inline]
+    pub fn cost(&self) -> (u64, u64)
+        ensures points { result.0 ≡ self.now.cost.points }
+        ensures spans { result.1 ≡ self.now.cost.spans }
+    {
+        (self.points, self.spans)
     }
 }

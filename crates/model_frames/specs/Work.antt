@@ -1,15 +1,15 @@
 -- The work that frames take, and how it is counted.
-use Rattle.std.specs.Prelude.{◌≡◌, ℕ, ◌+◌, ◌*◌, ◌^◌, ◌<◌, ◌≤◌, List, length}
+use Rattle.std.specs.Prelude.{◌≡◌, ℕ, ◌+◌, ◌*◌, ◌^◌, ◌<◌, ◌≤◌, List, length, Option}
 use Rattle.fixed_ops.specs.Counts.{Counts, RisesAtMost, RisesWithin, no_counts, plus, risen}
 use Rattle.height_map.specs.Bound.{height_points, height_spans, near_spans}
 use Rattle.live_clauses.specs.Live.{root_of}
 use Rattle.box_chains.specs.Tallied.{work_of}
 use Rattle.oct_descent.specs.Bound.{mesh_least, mesh_long_spans, mesh_points, mesh_spans}
-use Rattle.quad_descent.specs.Raster.{fresh_points, fresh_spans}
+use Rattle.quad_descent.specs.Raster.{Drawing, frame_points, frame_spans, fresh_points, fresh_spans}
 use Rattle.solid_model.specs.declared.clause.Clause.{Clause}
 use Rattle.view_places.specs.Window.{Window}
 use Rattle.model_frames.specs.Heights.{plain_depths}
-use Rattle.model_frames.specs.Images.{plain_points}
+use Rattle.model_frames.specs.Images.{list_before, plain_points}
 use Rattle.model_frames.specs.Meshes.{plain_grid}
 
 -- What a frame takes: where it is drawn, at least and at most so many evaluations, traced steps and
@@ -48,6 +48,14 @@ exactly points spans plain = record {
 abbrev pub frame_work : Window → List Clause → Work
 frame_work view clauses =
     exactly (fresh_points view (root_of clauses)) (fresh_spans view (root_of clauses))
+    (plain_points view (length clauses))
+
+-- the work of an image of a solid over a view after another one: exactly that of the boxes which that
+-- one did not have with an equal list, where it had this view, and else that of a fresh image
+abbrev pub image_work : Option Drawing → Window → List Clause → Work
+image_work before view clauses =
+    let list = list_before before view in
+    exactly (frame_points view list (root_of clauses)) (frame_spans view list (root_of clauses))
     (plain_points view (length clauses))
 
 -- the work of a height map of a solid over a view: exactly the evaluations of the samples that do

@@ -3,6 +3,8 @@ ghost use Rattle.std.specs.Prelude.{◌≡◌, length, IfOk, OnOk};
 ghost use Rattle.fixed_ops.specs.Points.{Point};
 ghost use Rattle.live_clauses.specs.Live.{root_of};
 ghost use Rattle.live_clauses.specs.Steps.{tape_value};
+ghost use Rattle.quad_descent.specs.Pixels.{pixels_of};
+ghost use Rattle.raster_pgm.specs.Pgm.{pgm_of};
 ghost use Rattle.solid_model.specs.Values.{solid_value};
 ghost use Rattle.view_places.specs.Window.{IsWindow};
 ghost use Rattle.model_frames.specs.Images.{image_of, plain_points};
@@ -10,7 +12,7 @@ ghost use Rattle.model_frames.specs.Work.{CountsWithin, CountsWork, FitsCounts, 
 
 use fixed_ops::{Tally, tallies_add_up};
 use live_clauses::root_tape;
-use quad_descent::{QuadTree, draw as draw_list, fresh_work_is_bounded, push_pixels};
+use quad_descent::{Picture, draw_picture, fresh_work_is_bounded, push_pixels};
 use raster_pgm::pgm_header;
 use solid_model::Model;
 use std::alloc::{AllocError, Global};
@@ -29,24 +31,22 @@ pub(crate) fn render(
     ensures plain { PointsRiseAtMost tally.old tally.new
         (plain_points view.now (length model.now)) }
 {
-    let tree = draw_tree(alloc, model, view, tally)?;
-    let mut image = pgm_header(alloc, view.w, view.h)?;
-    push_pixels(&tree, &mut image)?;
-    Ok(image)
+    let picture = draw_image(alloc, model, view, tally)?;
+    image_bytes(alloc, &picture, view)
 }
 
 /// The boxes of an image of a model over a view, without its bytes. The work of a fresh image is
 /// counted. AllocError: memory was refused, after some of that work perhaps.
-pub fn draw_tree(
+pub fn draw_image(
     alloc: Global,
     model: &Model,
     view: &View,
     tally: &mut Tally,
-) -> Result<QuadTree, AllocError>
-    ensures tree { IfOk result (λ tree.
-        tree ≡ record { view = view.now; list = root_of model.now }) }
-    ensures value { IfOk result (λ tree.
-        (p : Point) → tape_value p tree.list ≡ solid_value p model.now) }
+) -> Result<Picture, AllocError>
+    ensures picture { IfOk result (λ picture.
+        picture ≡ record { view = view.now; list = root_of model.now }) }
+    ensures value { IfOk result (λ picture.
+        (p : Point) → tape_value p picture.list ≡ solid_value p model.now) }
     ensures fits { OnOk result (FitsCounts (frame_work view.now model.now)) }
     ensures counted { OnOk result (CountsWork tally.old tally.new (frame_work view.now model.now)) }
     ensures at_most { CountsWithin tally.old tally.new (frame_work view.now model.now) }
@@ -57,7 +57,18 @@ pub fn draw_tree(
     fresh_work_is_bounded();
     window_holds(view);
     let list = root_tape(alloc, model)?;
-    draw_list(alloc, &list, view, tally)
+    draw_picture(alloc, &list, view, tally)
+}
+
+// The bytes of an image: the header, and the pixels behind it.
+pub(crate) fn image_bytes(alloc: Global, picture: &Picture, view: &View) -> Result<Vec<u8>, AllocError>
+    requires { picture.now.view ≡ view.now }
+    ensures { IfOk result (λ image. image.items
+        ≡ pgm_of view.now.w view.now.h (pixels_of view.now picture.now.list)) }
+{
+    let mut image = pgm_header(alloc, view.w, view.h)?;
+    push_pixels(picture, &mut image)?;
+    Ok(image)
 }
 
 // Lets a proof know what every view keeps.

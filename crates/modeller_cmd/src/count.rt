@@ -10,7 +10,7 @@ use crate::send::send;
 use crate::stop::Stop;
 use clause_reader::read_model;
 use fixed_ops::Tally;
-use model_frames::{Drawn, draw_tree, frames_add_up};
+use model_frames::{Drawn, draw_image, frames_add_up};
 use modeller_io::Sink;
 use solid_model::Model;
 use std::alloc::{AllocError, Global};
@@ -50,7 +50,7 @@ fn count_image(
 {
     frames_add_up();
     let mut frame = Tally::new();
-    let drawn = draw_tree(alloc, model, view, &mut frame);
+    let drawn = draw_image(alloc, model, view, &mut frame);
     tally.join(&frame);
     drawn?;
     let plain = plain_points(model, view);

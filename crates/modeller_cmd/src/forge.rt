@@ -14,9 +14,9 @@ use crate::send::send;
 use crate::stop::Stop;
 use fixed_ops::Tally;
 use model_forge::forge_model;
-use model_frames::{Drawn, draw_tree, frames_add_up};
+use model_frames::{Drawn, draw_image, frames_add_up};
 use modeller_io::Sink;
-use quad_descent::{QuadTree, image};
+use quad_descent::{Picture, image};
 use solid_model::Model;
 use std::alloc::{AllocError, Global};
 use view_settings::{Forge, View};
@@ -72,7 +72,7 @@ fn draw_lines(
 {
     frames_add_up();
     let mut frame = Tally::new();
-    let drawn = draw_tree(alloc, model, view, &mut frame);
+    let drawn = draw_image(alloc, model, view, &mut frame);
     tally.join(&frame);
     let tree = drawn?;
     let inside = inside_pixels(alloc, &tree)?;
@@ -88,7 +88,7 @@ fn draw_lines(
 }
 
 // How many pixels of an image are inside.
-fn inside_pixels(alloc: Global, tree: &QuadTree) -> Result<usize, AllocError>
+fn inside_pixels(alloc: Global, picture: &Picture) -> Result<usize, AllocError>
     ensures { IfOk result (λ inside. inside
         ≡ count_by (λ pixel. pixel == 255) (pixels_of tree.now.view tree.now.list)) }
 {

@@ -1,9 +1,9 @@
--- How much work a fresh image takes.
-use Rattle.std.specs.Prelude.{◌+◌, ◌*◌, ◌≤◌, List, length}
+-- How much work a fresh image takes, and one that is drawn after another.
+use Rattle.std.specs.Prelude.{◌≡◌, ◌+◌, ◌*◌, ◌≤◌, List, Option, Some, None, length}
 use Rattle.live_clauses.specs.Steps.{IsTape}
 use Rattle.live_clauses.specs.declared.step.Step.{Step}
 use Rattle.view_places.specs.Window.{Window, IsWindow}
-use Rattle.quad_descent.specs.Raster.{fresh_points, fresh_spans}
+use Rattle.quad_descent.specs.Raster.{frame_points, frame_spans, fresh_points, fresh_spans}
 
 -- no more evaluations than plain evaluation of the list at each sample
 abbrev pub FreshPointsAreBounded : Type 0
@@ -14,3 +14,19 @@ FreshPointsAreBounded = (view : Window) (list : List Step) → IsWindow view →
 abbrev pub FreshSpansAreBounded : Type 0
 FreshSpansAreBounded = (view : Window) (list : List Step) → IsWindow view → IsTape list
     → fresh_spans view list ≤ view.w * view.h * ((view.w + view.h + 1) * length list)
+
+-- An image takes no more after another one than a fresh image. Where there is none before it, it is a
+-- fresh one, and after one of an equal list it takes nothing.
+pub record FrameWorkIsBounded : Type 0 where
+  pub most_points : (view : Window) (before : Option (List Step)) (list : List Step)
+      → frame_points view before list ≤ fresh_points view list
+  pub most_spans : (view : Window) (before : Option (List Step)) (list : List Step)
+      → frame_spans view before list ≤ fresh_spans view list
+  pub fresh_points_of : (view : Window) (list : List Step)
+      → frame_points view None list ≡ fresh_points view list
+  pub fresh_spans_of : (view : Window) (list : List Step)
+      → frame_spans view None list ≡ fresh_spans view list
+  pub same_points : (view : Window) (list : List Step) → IsWindow view
+      → frame_points view (Some list) list ≡ 0
+  pub same_spans : (view : Window) (list : List Step) → IsWindow view
+      → frame_spans view (Some list) list ≡ 0

@@ -1,7 +1,7 @@
 // What always holds of the work that images take.
-ghost use Rattle.quad_descent.specs.Laws.{FreshPointsAreBounded, FreshSpansAreBounded};
+ghost use Rattle.quad_descent.specs.Laws.{FrameWorkIsBounded, FreshPointsAreBounded, FreshSpansAreBounded};
 
-use box_chains::work_adds_up;
+use box_chains::{redrawn_work_adds_up, work_adds_up};
 
 /// A fresh image takes no more evaluations than evaluating the list at each sample, and no more steps
 /// are traced than the list has, for each sample and each side of the boxes that hold it. So
@@ -11,4 +11,12 @@ pub fn fresh_work_is_bounded()
     ensures spans { FreshSpansAreBounded }
 {
     work_adds_up();
+}
+
+/// An image that is drawn after another takes no more than a fresh one, and nothing after one of an
+/// equal list.
+pub fn frame_work_is_bounded()
+    ensures { FrameWorkIsBounded }
+{
+    redrawn_work_adds_up();
 }

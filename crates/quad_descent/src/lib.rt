@@ -18,7 +18,7 @@ mod quad_tree;
 mod scan;
 
 pub use images::{draw, draw_picture, redraw};
-pub use laws::fresh_work_is_bounded;
+pub use laws::{frame_work_is_bounded, fresh_work_is_bounded};
 pub use painting::rows;
 pub use picture::Picture;
 pub use pixels::{image, push_pixels};

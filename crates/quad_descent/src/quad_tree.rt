@@ -4,6 +4,7 @@ ghost use Rattle.std.specs.Prelude.{◌≡◌};
 use crate::Picture;
 use live_clauses::Tape;
 use std::marker::Model;
+use view_places::View;
 
 /// An image of a list of steps over a view, with the lists that its boxes hand on, so that it can be
 /// drawn anew of another list. Contracts see the view and the list.
@@ -36,12 +37,21 @@ impl QuadTree {
         &self.picture
     }
 
-    // The list that it was drawn of.
+    /// The list that it was drawn of.
     #[inline]
-    pub(crate) fn list(&self) -> &Tape
+    pub fn list(&self) -> &Tape
         ensures { result.now ≡ self.now.list }
     {
         let picture = self.picture();
         &picture.list
+    }
+
+    /// The view that it was drawn over.
+    #[inline]
+    pub fn view(&self) -> &View
+        ensures { result.now ≡ self.now.view }
+    {
+        let picture = self.picture();
+        &picture.view
     }
 }

@@ -4,18 +4,18 @@ use Rattle.model_frames.specs.Images.{plain_points}
 use Rattle.model_frames.specs.Work.{frame_work}
 use Rattle.model_frames.proofs.WorkLaws.{within-none}
 use Rattle.model_frames.proofs.Frames.{drawn_counted, drawn_few, drawn_fits, drawn_within, on_ok, plain-within}
-use Rattle.model_frames.proofs.render.draw_tree.Goals as goal
+use Rattle.model_frames.proofs.render.draw_image.Goals as goal
 
 pub returns-in_err-list-clause-at_most : goal.returns-in_err-list-clause-at_most
 returns-in_err-list-clause-at_most c = within-none c.tallies_add_up.ensures c.args.tally.now (frame_work c.args.view.now c.args.model.now)
 
 pub returns-clause-counted : goal.returns-clause-counted
 returns-clause-counted c =
-    drawn_counted c.draw.result c.args.tally.now c.draw.new.tally c.args.view.now c.args.model.now c.in_ok-list.list c.in_ok-list.ensures.live c.draw.ensures.counted
+    drawn_counted c.draw_picture.result c.args.tally.now c.draw_picture.new.tally c.args.view.now c.args.model.now c.in_ok-list.list c.in_ok-list.ensures.live c.draw_picture.ensures.counted
 
 pub returns-clause-at_most : goal.returns-clause-at_most
 returns-clause-at_most c =
-    drawn_within c.draw.result c.args.tally.now c.draw.new.tally c.args.view.now c.args.model.now c.in_ok-list.list c.in_ok-list.ensures.live c.draw.ensures.counted c.draw.ensures.at_most
+    drawn_within c.draw_picture.result c.args.tally.now c.draw_picture.new.tally c.args.view.now c.args.model.now c.in_ok-list.list c.in_ok-list.ensures.live c.draw_picture.ensures.counted c.draw_picture.ensures.at_most
 
 pub returns-clause-fits : goal.returns-clause-fits
 returns-clause-fits c =
@@ -28,5 +28,5 @@ returns-clause-plain c =
     let clauses = c.args.model.now in
     let few = drawn_few view clauses c.in_ok-list.list c.in_ok-list.ensures.live c.window_holds.ensures
     (subst IsTape c.list.view_is c.list.invariant) c.fresh_work_is_bounded.ensures.points in
-    plain-within c.args.tally.now c.draw.new.tally (frame_work view clauses) (plain_points view (length clauses)) few
-    (drawn_within c.draw.result c.args.tally.now c.draw.new.tally view clauses c.in_ok-list.list c.in_ok-list.ensures.live c.draw.ensures.counted c.draw.ensures.at_most)
+    plain-within c.args.tally.now c.draw_picture.new.tally (frame_work view clauses) (plain_points view (length clauses)) few
+    (drawn_within c.draw_picture.result c.args.tally.now c.draw_picture.new.tally view clauses c.in_ok-list.list c.in_ok-list.ensures.live c.draw_picture.ensures.counted c.draw_picture.ensures.at_most)

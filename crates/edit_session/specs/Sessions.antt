@@ -1,0 +1,73 @@
+-- What a session is seen as, what its frames are, and what it is seen as after them.
+use Rattle.std.specs.Prelude.{ℕ, List, Option, Some, None}
+use Rattle.live_clauses.specs.Live.{root_of}
+use Rattle.model_frames.specs.Frames.{Part, frame_part}
+use Rattle.model_frames.specs.Images.{list_before}
+use Rattle.model_frames.specs.Work.{image_work}
+use Rattle.model_frames.specs.declared.frame.Frame.{Frame}
+use Rattle.model_frames.specs.declared.frame.Frame.TheVariants.{Render, Height, Mesh, Text}
+use Rattle.quad_descent.specs.Raster.{Drawing, frame_points, frame_spans}
+use Rattle.solid_model.specs.declared.clause.Clause.{Clause}
+use Rattle.view_places.specs.Window.{Window}
+
+-- how many evaluations and traced steps an image took
+pub record Cost : Type 0 where
+  pub points : ℕ
+  pub spans : ℕ
+
+-- a session: the clauses of the model then standing; the view and the root list of its last image, and
+-- of its last mesh, where one stands; and the cost of its last image, nothing before the first
+pub record State : Type 0 where
+  pub clauses : List Clause
+  pub image : Option Drawing
+  pub mesh : Option Drawing
+  pub cost : Cost
+
+-- a session that begins
+abbrev pub started : List Clause → State
+started clauses = record {
+  clauses = clauses;
+  image = None;
+  mesh = None;
+  cost = record { points = 0; spans = 0 };
+}
+
+-- a session whose model was edited
+abbrev pub with_clauses : State → List Clause → State
+with_clauses state clauses = record state { clauses = clauses }
+
+-- A frame of a session: its bytes hang on the clauses alone. An image takes the work of what changed
+-- since the last one.
+abbrev pub session_part : State → Frame → Part
+session_part state (Render view) = record {
+  bytes = (frame_part (Render view) state.clauses).bytes;
+  work = image_work state.image view state.clauses;
+}
+session_part state (Height view) = frame_part (Height view) state.clauses
+session_part state (Mesh view) = frame_part (Mesh view) state.clauses
+session_part state Text = frame_part Text state.clauses
+
+-- the cost of an image of this view that comes next
+abbrev pub image_cost : State → Window → Cost
+image_cost state view =
+    let list = list_before state.image view in record {
+      points = frame_points view list (root_of state.clauses);
+      spans = frame_spans view list (root_of state.clauses);
+    }
+
+-- the session after a frame: an image stands as the last one, with its cost
+abbrev pub after_frame : State → Frame → State
+after_frame state (Render view) = record state {
+  image = Some (record { view = view; list = root_of state.clauses });
+  cost = image_cost state view;
+}
+after_frame state (Height view) = state
+after_frame state (Mesh view) = state
+after_frame state Text = state
+
+-- the session after a frame that was refused: no image stands where it was one
+abbrev pub after_refusal : State → Frame → State
+after_refusal state (Render view) = record state { image = None }
+after_refusal state (Height view) = state
+after_refusal state (Mesh view) = state
+after_refusal state Text = state
