@@ -1,10 +1,14 @@
-// A plane that is edited, and the frames of the model then standing, worked out by hand.
+// Models that are edited, the frames of the model then standing, and what its images take, worked out
+// by hand.
+ghost use Rattle.std.specs.Prelude.{◌<◌, ◌≤◌, ◌^◌, length};
 ghost use Rattle.view_places.specs.Window.{FitsHeight, FitsMesh};
 
 use crate::Session;
 use clause_reader::{read_form, read_model};
 use fixed_ops::Tally;
 use solid_model::{Edit, EditFault, Name};
+use std::alloc::Global;
+use std::process::Abort;
 use std::test::Fail;
 use view_places::View;
 
@@ -18,8 +22,10 @@ const NO_MESH: &[u8] = b"ply\nformat ascii 1.0\nelement vertex 0\nproperty doubl
     property double y\nproperty double z\nelement face 0\n\
     property list uchar int vertex_indices\nend_header\n";
 
-// Three samples along each axis, from -1 to 1.
-fn view() -> View
+// So many columns and rows, from -1 to 1.
+fn view(w: u8, h: u8) -> View
+    requires columns { 1 ≤ w }
+    requires rows { 1 ≤ h }
     ensures height { FitsHeight result }
     ensures mesh { FitsMesh result }
 {
@@ -31,8 +37,8 @@ fn view() -> View
         z0: -1 << 32,
         z1: 1 << 32,
         z: 0,
-        w: 3,
-        h: 3,
+        w: u32::from(w),
+        h: u32::from(h),
         d: 3,
         n: 2,
     }
@@ -45,12 +51,162 @@ fn draws_the_model_as_it_stands(rt: HostRuntime) -> Result<(), Fail> {
     let mut tally = Tally::new();
     let turn = Edit::Set(Name::new(alloc, b"f")?, read_form(alloc, b"var-y")?);
     assert!(rt; session.edit(turn) == Ok(()));
-    // a refused edit leaves the plane
+    assert!(rt; session.cost() == (0, 0));
+    assert!(rt; session.render(&view(3, 3), &mut tally)?.as_slice() == BOTTOM);
+    assert!(rt; session.cost() == (9, 1));
+    // a refused edit leaves the plane, and like all other frames it leaves the image and its cost
     let cut = Edit::Cut(Name::new(alloc, b"f")?);
     assert!(rt; session.edit(cut) == Err(EditFault::LastClause));
-    assert!(rt; session.render(&view(), &mut tally)?.as_slice() == BOTTOM);
-    assert!(rt; session.height(&view(), &mut tally)?.as_slice() == BOTTOM_TOPS);
-    assert!(rt; session.mesh(&view(), &mut tally)?.as_slice() == NO_MESH);
+    assert!(rt; session.height(&view(3, 3), &mut tally)?.as_slice() == BOTTOM_TOPS);
+    assert!(rt; session.mesh(&view(3, 3), &mut tally)?.as_slice() == NO_MESH);
     assert!(rt; session.text()?.as_slice() == b"f var-y\n");
+    assert!(rt; session.cost() == (9, 1));
+    assert!(rt; session.render(&view(3, 3), &mut tally)?.as_slice() == BOTTOM);
+    assert!(rt; session.cost() == (0, 0));
+    Ok(())
+}
+
+// An edit, by its names and the form that it gives, or none.
+#[derive(Clone, Copy)]
+enum Change {
+    Nothing,
+    Set(&'static [u8], &'static [u8]),
+    Add(&'static [u8], &'static [u8]),
+    Put(&'static [u8], &'static [u8], &'static [u8]),
+    Cut(&'static [u8]),
+}
+
+use Change::{Add, Cut, Nothing, Put, Set};
+
+// An edit, the columns and rows of the image after it, and the evaluations and traced steps that this
+// takes, where it is drawn.
+type Row = (Change, u8, u8, Option<(u64, u64)>);
+
+// The lesser of the distances of x from -0.5 and from 0.5, less 0.25.
+const BARS: &[u8] = b"x var-x\np const -0.5\nq const 0.5\na sub x p\nb abs a\nc sub x q\nd abs c\n\
+    e min b d\nr const 0.25\nf sub e r\n";
+
+// The lesser of 0, whose hull over a box is wider, and of a constant that is never chosen.
+const ZERO: &[u8] = b"x var-x\nz sub x x\nk const 9\nm min z k\n";
+
+// Models, each with edits and images one after another.
+const SESSIONS: [(&[u8], &[Row]); 4] = [
+    (
+        BARS,
+        &[
+            (Nothing, 32, 1, Some((192, 54))),
+            (Nothing, 32, 1, Some((0, 0))),
+            // Another view, and the first one again.
+            (Nothing, 31, 1, Some((186, 54))),
+            (Nothing, 32, 1, Some((192, 54))),
+            // What is taken back takes nothing.
+            (Set(b"q", b"const 0.625"), 32, 1, None),
+            (Set(b"q", b"const 0.5"), 32, 1, Some((0, 0))),
+            // Nothing is inside, or all is, and no box below the first one is looked into.
+            (Set(b"r", b"const -9"), 32, 1, Some((0, 10))),
+            (Set(b"r", b"const 0.25"), 32, 1, Some((192, 54))),
+            (Set(b"r", b"const 9"), 32, 1, Some((0, 10))),
+            (Set(b"r", b"const 0.25"), 32, 1, Some((192, 54))),
+            // Clauses that the output does not need.
+            (Put(b"r", b"s", b"const 7"), 32, 1, Some((0, 0))),
+            (Put(b"x", b"y", b"var-y"), 32, 1, Some((0, 0))),
+            // One step more in each list, and one less.
+            (Add(b"g", b"min f f"), 32, 1, Some((224, 61))),
+            (Cut(b"g"), 32, 1, Some((192, 54))),
+        ],
+    ),
+    (
+        BARS,
+        &[
+            // Each end of a bar lies between two leaves, until a bar ends with the row.
+            (Nothing, 64, 1, Some((0, 102))),
+            (Set(b"q", b"const 0.75"), 64, 1, Some((48, 62))),
+            (Set(b"q", b"const 0.5"), 64, 1, Some((0, 66))),
+            (Set(b"p", b"const -0.75"), 64, 1, Some((48, 62))),
+        ],
+    ),
+    (
+        ZERO,
+        &[
+            // The first box alone receives the constant, and evaluates what it hands on.
+            (Nothing, 8, 8, Some((128, 4))),
+            (Set(b"k", b"const 8"), 8, 8, Some((128, 4))),
+        ],
+    ),
+    (
+        ZERO,
+        &[
+            // Its halves evaluate that.
+            (Nothing, 16, 1, Some((32, 8))),
+            (Set(b"k", b"const 8"), 16, 1, Some((0, 4))),
+        ],
+    ),
+];
+
+// The edit of a change, where it is one.
+fn edit_of(alloc: Global, change: Change) -> Result<Option<Edit>, Fail> {
+    let edit = match change {
+        Nothing => return Ok(None),
+        Set(name, form) => Edit::Set(Name::new(alloc, name)?, read_form(alloc, form)?),
+        Add(name, form) => Edit::Add(Name::new(alloc, name)?, read_form(alloc, form)?),
+        Put(next, name, form) => Edit::Put(
+            Name::new(alloc, next)?,
+            Name::new(alloc, name)?,
+            read_form(alloc, form)?,
+        ),
+        Cut(name) => Edit::Cut(Name::new(alloc, name)?),
+    };
+    Ok(Some(edit))
+}
+
+// A session on a model is edited and drawn row by row, and its images take what the rows say.
+fn assert_costs(
+    rt: &impl Abort,
+    alloc: Global,
+    model: &[u8],
+    rows: &[Row],
+    tally: &mut Tally,
+) -> Result<(), Fail>
+    requires { length model.now < 2 ^ 32 }
+{
+    let mut session = Session::start(alloc, read_model(alloc, model)?);
+    for (change, w, h, cost) in rows {
+        if let Some(edit) = edit_of(alloc, *change)? {
+            session.edit(edit)?;
+        }
+        if let Some(cost) = cost {
+            assert!(rt; *w > 0 && *h > 0);
+            session.render(&view(*w, *h), tally)?;
+            assert_eq!(rt; session.cost(), *cost);
+        }
+    }
+    Ok(())
+}
+
+// A tally whose counts stand at their ends where another one has counted something of each.
+fn at_its_end(tally: &Tally) -> Tally {
+    let mut end = Tally::new();
+    let mut other = Tally::new();
+    end.join(tally);
+    for _ in 0..64 {
+        other.join(&end);
+        end.join(&other);
+    }
+    end
+}
+
+#[test]
+fn an_image_takes_what_changed_since_the_last(rt: HostRuntime) -> Result<(), Fail> {
+    for (model, rows) in SESSIONS {
+        assert!(rt; model.len() < 200);
+        let mut tally = Tally::new();
+        assert_costs(&rt, rt.alloc(), model, rows, &mut tally)?;
+        // The same where the caller's tally can count no more.
+        let mut full = at_its_end(&tally);
+        assert!(rt; full.points() == u64::MAX);
+        assert!(rt; full.spans() == u64::MAX);
+        assert!(rt; full.corners() == u64::MAX);
+        assert_costs(&rt, rt.alloc(), model, rows, &mut full)?;
+    }
     Ok(())
 }
