@@ -19,10 +19,7 @@ pub(crate) fn keep(alloc: Global, list: &Steps<'_>) -> Result<Tape, AllocError>
     for at in 0..list.len() {
         push_step(&mut steps, &mut constants, list.step(at))?;
     }
-    Ok(Tape::from_packed(
-        RcSlice::from_vec(steps)?,
-        RcSlice::from_vec(constants)?,
-    ))
+    Ok(Tape::from_packed(RcSlice::from_vec(steps)?, RcSlice::from_vec(constants)?))
 }
 
 // How many constants a list has, for which there is to be memory.

@@ -10,8 +10,8 @@ ghost use Rattle.live_clauses.specs.Steps.{AreSteps, IsStepAt, IsTape, steps_of,
 
 use crate::choices::NoChoice;
 use crate::copying::copy_live;
-use crate::owned::keep;
 use crate::marking::mark;
+use crate::owned::keep;
 use crate::packed_step::PackedStep;
 use crate::words::words;
 use crate::{Step, Steps, Tape};
