@@ -1,6 +1,6 @@
 -- The work of an image is bounded and counted, and its pixels are those of the solid.
 use Rattle.std.proofs.Common.{◌≡◌, ℕ, zero, suc, ◌+◌, ◌*◌, ◌≤◌, Bool, true, false, List, [], ◌∷◌, ◌++◌, length, map, replicate, if◌then◌else◌, ap, subst, ◌∙◌, arith, mul-le-mul, mul-le-mul_left}
-use Rattle.std.specs.Prelude.{Result, Ok, Err, OnOk, OnErr}
+use Rattle.std.specs.Prelude.{Option, Result, Ok, Err, OnOk, OnErr}
 use Rattle.std.specs.List.{flat_map, range_with_len}
 use Rattle.std.proofs.lemmas.List.{length-append, length-map}
 use Rattle.fixed_ops.specs.Counts.{Counts}
@@ -12,17 +12,17 @@ use Rattle.live_clauses.specs.Choices.{step_at}
 use Rattle.live_clauses.specs.Live.{is_kept, live_below, new_place, renumbered, root_of}
 use Rattle.live_clauses.specs.Steps.{IsTape, step_of, steps_of, tape_value}
 use Rattle.live_clauses.specs.declared.step.Step.{Step}
-use Rattle.quad_descent.specs.Laws.{FreshPointsAreBounded, FreshSpansAreBounded}
+use Rattle.quad_descent.specs.Laws.{FrameWorkIsBounded, FreshPointsAreBounded, FreshSpansAreBounded}
 use Rattle.quad_descent.specs.Pixels.{pixels_of as drawn_pixels}
 use Rattle.box_chains.specs.Tallied.{CountsAtMost, CountsExactly, work_of}
-use Rattle.quad_descent.specs.Raster.{Drawing, fresh_points, fresh_spans}
-use Rattle.raster_pgm.specs.Pgm.{pgm_header_of}
+use Rattle.quad_descent.specs.Raster.{Drawing, frame_points, frame_spans, fresh_points, fresh_spans}
+use Rattle.raster_pgm.specs.Pgm.{pgm_header_of, pgm_of}
 use Rattle.solid_model.specs.Values.{solid_value}
 use Rattle.solid_model.specs.declared.clause.Clause.{Clause}
 use Rattle.view_places.specs.Places.{raster_point}
 use Rattle.view_places.specs.Window.{IsWindow, Window}
-use Rattle.model_frames.specs.Images.{image_of, solid_pixels, plain_points}
-use Rattle.model_frames.specs.Work.{CountsWithin, CountsWork, FitsCounts, PointsRiseAtMost, Work, exactly, frame_work}
+use Rattle.model_frames.specs.Images.{image_of, list_before, solid_pixels, plain_points}
+use Rattle.model_frames.specs.Work.{CountsWithin, CountsWork, FitsCounts, PointsRiseAtMost, Work, exactly, frame_work, image_work}
 
 -- an error says what holds anyway
 pub on_err : {T E : Type 0} (r : Result T E) (P : Type 0) → P → OnErr r P
@@ -45,14 +45,17 @@ pub pixels-same : (view : Window) (clauses : List Clause) (list : List Step) →
 pixels-same view clauses list same =
     λ k. flat_map (λ j. map (λ i. if is_inside (same (raster_point view i j) k) then 255 else 0) (range_with_len 0 view.w)) (range_with_len 0 view.h)
 
--- and so are the bytes of a header with these pixels behind it
-pub image-same : (view : Window) (clauses : List Clause) (tree : Drawing) (header bytes : List ℕ) (w h : ℕ) → tree ≡ record { view = view; list = root_of clauses }
-    → ((p : Point) → tape_value p tree.list ≡ solid_value p clauses) → w ≡ view.w → h ≡ view.h → header ≡ pgm_header_of w h
-    → bytes ≡ header ++ drawn_pixels tree.view tree.list → bytes ≡ image_of view clauses
-image-same view clauses tree header bytes w h is values wide high made put =
-    put ∙ ap (λ v. header ++ drawn_pixels v tree.list) (ap (λ t. t.view) is)
-    ∙ ap (λ pixels. header ++ pixels) (pixels-same view clauses tree.list values)
-    ∙ ap (λ front. front ++ solid_pixels view clauses) (made ∙ ap (λ n. pgm_header_of n h) wide ∙ ap (pgm_header_of view.w) high)
+-- the bytes of a header with these pixels behind it
+pub image-made : (view : Window) (drawing : Drawing) (header bytes : List ℕ) (w h : ℕ) → drawing.view ≡ view → w ≡ view.w → h ≡ view.h → header ≡ pgm_header_of w h
+    → bytes ≡ header ++ drawn_pixels drawing.view drawing.list → bytes ≡ pgm_of view.w view.h (drawn_pixels view drawing.list)
+image-made view drawing header bytes w h is wide high made put =
+    put ∙ ap (λ v. header ++ drawn_pixels v drawing.list) is
+    ∙ ap (λ front. front ++ drawn_pixels view drawing.list) (made ∙ ap (λ n. pgm_header_of n h) wide ∙ ap (pgm_header_of view.w) high)
+
+-- are those of the solid's image
+pub image-same : (view : Window) (clauses : List Clause) (list : List Step) (bytes : List ℕ) → ((p : Point) → tape_value p list ≡ solid_value p clauses)
+    → bytes ≡ pgm_of view.w view.h (drawn_pixels view list) → bytes ≡ image_of view clauses
+image-same view clauses list bytes values made = made ∙ ap (pgm_of view.w view.h) (pixels-same view clauses list values)
 
 -- no more steps are kept than there are
 kept-few : (steps : List Step) (choices : List Choice) (n : ℕ) → length (live_below steps choices n) ≤ n
@@ -128,6 +131,40 @@ pub plain-within : (before after : Counts) (work : Work) (most : ℕ) → work.b
 unfolding CountsWithin
 plain-within before after work most few h =
     record { by = h.by.points; few = omega (arith, few, h.within.points); rises = ap (λ c. c.points) h.rises }
+
+-- an image after another takes no more than a fresh one
+pub after-few : (view : Window) (clauses : List Clause) (list : List Step) (before : Option Drawing) → list ≡ root_of clauses → IsWindow view → IsTape list
+    → FreshPointsAreBounded → FrameWorkIsBounded → (image_work before view clauses).most.points ≤ plain_points view (length clauses)
+after-few view clauses list before is window tape points frames =
+    omega (arith, drawn_few view clauses list is window tape points, frames.most_points view (list_before before view) (root_of clauses))
+
+pub after-fits : (view : Window) (clauses : List Clause) (list : List Step) (before : Option Drawing) → list ≡ root_of clauses → IsWindow view → IsTape list
+    → FreshPointsAreBounded → FreshSpansAreBounded → FrameWorkIsBounded → FitsCounts (image_work before view clauses)
+after-fits view clauses list before is window tape points spans frames =
+    let fresh = drawn_fits view clauses list is window tape points spans in
+    record {
+      points = omega (arith, fresh.points, frames.most_points view (list_before before view) (root_of clauses));
+      spans = omega (arith, fresh.spans, frames.most_spans view (list_before before view) (root_of clauses));
+    }
+
+-- what a list counts is what its root list does
+pub image_counted : {T E : Type 0} (r : Result T E) (before after : Counts) (was : Option Drawing) (view : Window) (clauses : List Clause) (list : List Step) → list ≡ root_of clauses
+    → OnOk r (CountsExactly (frame_points view (list_before was view) list) (frame_spans view (list_before was view) list) before after)
+    → OnOk r (CountsWork before after (image_work was view clauses))
+image_counted (Err e) before after was view clauses list is h = tt
+image_counted (Ok x) before after was view clauses list is h =
+    exactly-done before after (frame_points view (list_before was view) (root_of clauses)) (frame_spans view (list_before was view) (root_of clauses)) (plain_points view (length clauses))
+    (subst (λ l. CountsExactly (frame_points view (list_before was view) l) (frame_spans view (list_before was view) l) before after) is h)
+
+pub image_within : {T E : Type 0} (r : Result T E) (before after : Counts) (was : Option Drawing) (view : Window) (clauses : List Clause) (list : List Step) → list ≡ root_of clauses
+    → OnOk r (CountsExactly (frame_points view (list_before was view) list) (frame_spans view (list_before was view) list) before after)
+    → OnErr r (CountsAtMost (frame_points view (list_before was view) list) (frame_spans view (list_before was view) list) before after) → CountsWithin before after (image_work was view clauses)
+image_within (Ok x) before after was view clauses list is h some =
+    exactly-within before after (frame_points view (list_before was view) (root_of clauses)) (frame_spans view (list_before was view) (root_of clauses)) (plain_points view (length clauses))
+    (subst (λ l. CountsExactly (frame_points view (list_before was view) l) (frame_spans view (list_before was view) l) before after) is h)
+image_within (Err e) before after was view clauses list is all h =
+    stopped-within before after (frame_points view (list_before was view) (root_of clauses)) (frame_spans view (list_before was view) (root_of clauses)) (plain_points view (length clauses))
+    (subst (λ l. CountsAtMost (frame_points view (list_before was view) l) (frame_spans view (list_before was view) l) before after) is h)
 
 -- what a list counts is what its root list does
 pub drawn_counted : {T E : Type 0} (r : Result T E) (before after : Counts) (view : Window) (clauses : List Clause) (list : List Step) → list ≡ root_of clauses

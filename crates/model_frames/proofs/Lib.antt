@@ -6,4 +6,5 @@ mod GridWork
 mod LeastWork
 mod MeshLaws
 mod SoundTexts
+pub mod Views
 pub mod WorkLaws

@@ -1,9 +1,9 @@
 -- How work that is done, work that may have stopped and no work go together.
-use Rattle.std.proofs.Common.{◌≡◌, ℕ, ◌+◌, ap, ◌∙◌, arith}
+use Rattle.std.proofs.Common.{◌≡◌, ℕ, ◌+◌, ◌^◌, ◌<◌, ◌≤◌, ap, ◌∙◌, arith}
 use Rattle.fixed_ops.specs.Counts.{Counts, IsAtMost, RisesBy, no_counts, plus, risen}
 use Rattle.fixed_ops.specs.Laws.{TalliesAddUp}
 use Rattle.model_frames.specs.Laws.{FramesAddUp}
-use Rattle.model_frames.specs.Work.{CountsWithin, CountsWork, PointsRiseAtMost, Work, both, no_work}
+use Rattle.model_frames.specs.Work.{CountsWithin, CountsWork, FitsCounts, PointsRiseAtMost, Work, both, exactly, no_work}
 
 -- counts that are at most greater ones
 at_most-trans : (a b c : Counts) → IsAtMost a b → IsAtMost b c → IsAtMost a c
@@ -108,6 +108,19 @@ plain-joined before after counts most h joined = record {
   rises = ap (λ c. c.points) joined ∙ risen-joined before.points counts.points h.by h.rises;
 }
 
+-- a count that rose from nothing by a number that fits a count is that number
+risen-alone : (count by n : ℕ) → count ≡ risen 0 by → n ≤ by → by ≤ n → n < 2 ^ 64 → count ≡ n
+risen-alone count by n rises enough within fits = omega (arith, rises, enough, within, fits)
+
+-- so a tally that began with nothing tells the numbers of exact work
+told-exactly : (counts : Counts) (points spans plain : ℕ) → FitsCounts (exactly points spans plain) → CountsWork no_counts counts (exactly points spans plain)
+    → (counts.points ≡ points) × (counts.spans ≡ spans)
+unfolding CountsWork
+told-exactly counts points spans plain fits h = (
+  risen-alone counts.points h.by.points points (ap (λ c. c.points) h.rises) h.enough.points h.within.points fits.points,
+  risen-alone counts.spans h.by.spans spans (ap (λ c. c.spans) h.rises) h.enough.spans h.within.spans fits.spans,
+)
+
 -- so the work of frames adds up
 pub frames_add_up_is : TalliesAddUp → FramesAddUp
 frames_add_up_is tallies = record {
@@ -123,4 +136,5 @@ frames_add_up_is tallies = record {
   joined = done-joined tallies;
   within_joined = within-joined tallies;
   plain_joined = plain-joined;
+  told = told-exactly;
 }

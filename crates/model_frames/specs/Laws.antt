@@ -1,12 +1,13 @@
 -- How the work of frames adds up.
-use Rattle.std.specs.Prelude.{ℕ, ◌+◌}
+use Rattle.std.specs.Prelude.{◌≡◌, ℕ, ◌+◌}
 use Rattle.fixed_ops.specs.Counts.{Counts, IsAtMost, RisesBy, no_counts}
-use Rattle.model_frames.specs.Work.{CountsWithin, CountsWork, PointsRiseAtMost, Work, both, no_work}
+use Rattle.model_frames.specs.Work.{CountsWithin, CountsWork, FitsCounts, PointsRiseAtMost, Work, both, exactly, no_work}
 
 -- No work is exactly none, and within any. Work that is done is within its bound, where that is no
 -- less than its most, and what is within a bound is within more. The work of two frames is that of
 -- one after the other: where it is done, at most, and in plain evaluations. A tally that takes in
--- what another has counted from nothing counts the same.
+-- what another has counted from nothing counts the same; and that other one tells the numbers of exact
+-- work, where they fit a count.
 pub record FramesAddUp : Type 0 where
   pub none : (counts : Counts) → CountsWork counts counts no_work
   pub within_none : (counts : Counts) (work : Work) → CountsWithin counts counts work
@@ -31,3 +32,6 @@ pub record FramesAddUp : Type 0 where
   pub plain_joined : (before after counts : Counts) (most : ℕ)
       → PointsRiseAtMost no_counts counts most → RisesBy before after counts
       → PointsRiseAtMost before after most
+  pub told : (counts : Counts) (points spans plain : ℕ) → FitsCounts (exactly points spans plain)
+      → CountsWork no_counts counts (exactly points spans plain)
+      → (counts.points ≡ points) × (counts.spans ≡ spans)

@@ -7,16 +7,16 @@ mod height;
 mod laws;
 mod mesh;
 mod pieces;
+mod redrawn;
 mod render;
-mod render_after;
 
 pub use drawn::Drawn;
 pub use frame::Frame;
 pub use laws::frames_add_up;
 pub use mesh::{mesh_texts_are_sound, solid_mesh};
 pub use pieces::Pieces;
+pub use redrawn::render_after;
 pub use render::draw_image;
-pub use render_after::render_after;
 
 #[cfg(test)]
 mod tests;

@@ -1,9 +1,14 @@
-use Rattle.std.proofs.Common.{ap}
+use Rattle.std.proofs.Common.{◌≡◌}
+use Rattle.std.proofs.lemmas.Result.{IfOk-weaker}
+use Rattle.raster_pgm.specs.Pgm.{pgm_of}
+use Rattle.quad_descent.specs.Pixels.{pixels_of}
+use Rattle.model_frames.specs.Images.{image_of}
 use Rattle.model_frames.proofs.Frames.{image-same}
 use Rattle.model_frames.proofs.render.render.Goals as goal
 
 pub returns-clause-ok : goal.returns-clause-ok
 returns-clause-ok c =
-    image-same c.args.view.now c.args.model.now c.in_ok-tree.tree c.in_ok-image.image.items c.push_pixels.new.bytes.items c.view.inside.w c.view.inside.h
-    c.in_ok-tree.ensures.tree c.in_ok-tree.ensures.value (ap (λ v. v.w) c.view.view_is) (ap (λ v. v.h) c.view.view_is)
-    c.in_ok-image.ensures.header c.in_ok-push_pixels.ensures.ok
+    let view = c.args.view.now in
+    let list = c.in_ok-picture.picture.list in
+    IfOk-weaker c.image_bytes.result (λ image. image.items ≡ pgm_of view.w view.h (pixels_of view list)) (λ image. image.items ≡ image_of view c.args.model.now)
+    (λ image made. image-same view c.args.model.now list image.items c.in_ok-picture.ensures.value made) c.image_bytes.ensures
