@@ -24,9 +24,9 @@ pixels-same view clauses list same =
     λ k. flat_map (λ j. map (λ i. if is_inside (same (raster_point view i j) k) then 255 else 0) (range_with_len 0 view.w)) (range_with_len 0 view.h)
 
 -- and so are the pixels that are inside
-pub inside-same : (view : Window) (clauses : List Clause) (tree : Drawing) (inside : ℕ) → tree ≡ record { view = view; list = root_of clauses }
-    → ((p : Point) → tape_value p tree.list ≡ solid_value p clauses)
-    → inside ≡ count_by (λ pixel. pixel == 255) (drawn_pixels tree.view tree.list) → inside ≡ inside_of view clauses
-inside-same view clauses tree inside is values counted =
-    counted ∙ ap (λ v. count_by (λ pixel. pixel == 255) (drawn_pixels v tree.list)) (ap (λ t. t.view) is)
-    ∙ ap (λ pixels. count_by (λ pixel. pixel == 255) pixels) (pixels-same view clauses tree.list values)
+pub inside-same : (view : Window) (clauses : List Clause) (picture : Drawing) (inside : ℕ) → picture ≡ record { view = view; list = root_of clauses }
+    → ((p : Point) → tape_value p picture.list ≡ solid_value p clauses)
+    → inside ≡ count_by (λ pixel. pixel == 255) (drawn_pixels picture.view picture.list) → inside ≡ inside_of view clauses
+inside-same view clauses picture inside is values counted =
+    counted ∙ ap (λ v. count_by (λ pixel. pixel == 255) (drawn_pixels v picture.list)) (ap (λ p. p.view) is)
+    ∙ ap (λ pixels. count_by (λ pixel. pixel == 255) pixels) (pixels-same view clauses picture.list values)
