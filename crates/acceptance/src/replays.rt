@@ -5,7 +5,8 @@ use modeller_io::MemSink;
 use std::alloc::{AllocError, Global};
 use std::test::Fail;
 
-// Inputs, and what they write. The pixels, the tops, the lengths and the costs were worked out by hand.
+// Inputs, and what they write. The pixels, the tops, the lengths and the costs were worked out by
+// hand.
 const CASES: [(&str, &[u8]); 13] = [
     // Edits that are refused, each for another reason, and the same picture before and after.
     (
@@ -27,7 +28,8 @@ const CASES: [(&str, &[u8]); 13] = [
     // Two bars, of which the right one is moved over the left one: all boxes have another list.
     (
         "x var-x\np const -0.5\nq const 0.5\na sub x p\nb abs a\nc sub x q\nd abs c\ne min b d\n\
-        r const 0.25\nf sub e r\n%%\nrender w=16 h=1\ncost\nset q const -0.75\nrender w=16 h=1\ncost",
+        r const 0.25\nf sub e r\n%%\nrender w=16 h=1\ncost\nset q const -0.75\n\
+        render w=16 h=1\ncost",
         b"@ render 28\nP5\n16 1\n255\n\
         \x00\x00\xff\xff\xff\xff\x00\x00\x00\x00\xff\xff\xff\xff\x00\x00@ cost 6\n96 30\n\
         @ render 28\nP5\n16 1\n255\n\
@@ -36,7 +38,8 @@ const CASES: [(&str, &[u8]); 13] = [
     // The right bar is moved a little: the quarters about the left one have their lists still.
     (
         "x var-x\np const -0.5\nq const 0.5\na sub x p\nb abs a\nc sub x q\nd abs c\ne min b d\n\
-        r const 0.25\nf sub e r\n%%\nrender w=32 h=1\ncost\nset q const 0.625\nrender w=32 h=1\ncost\n",
+        r const 0.25\nf sub e r\n%%\nrender w=32 h=1\ncost\nset q const 0.625\n\
+        render w=32 h=1\ncost\n",
         b"@ render 44\nP5\n32 1\n255\n\
         \x00\x00\x00\x00\xff\xff\xff\xff\xff\xff\xff\xff\x00\x00\x00\x00\
         \x00\x00\x00\x00\xff\xff\xff\xff\xff\xff\xff\xff\x00\x00\x00\x00@ cost 7\n192 54\n\
@@ -343,8 +346,8 @@ fn a_full_model_takes_no_clause_more(rt: HostRuntime) -> Result<(), Fail> {
     Ok(())
 }
 
-// A model of 65,535 clauses: one that is not live, x, and then 0 in a chain of negations; and a script
-// of an image, and of a thousand more, each after another value of the clause that is not live.
+// A model of 65,535 clauses: one that is not live, x, and then 0 in a chain of negations; and a
+// script of an image, and of a thousand more, each after an edit of the clause that is not live.
 fn chain_script(alloc: Global) -> Result<String, AllocError> {
     let mut script = String::from_str(alloc, "u const 5\nx var-x\nn0 sub x x\n")?;
     for last in 0..65_532u32 {

@@ -5,7 +5,7 @@ use Rattle.std.proofs.Math.Seq.{take-append-add}
 use Rattle.std.proofs.lemmas.List.{take-append-le}
 use Rattle.edit_script.specs.declared.command.Command.{Command as Given}
 use Rattle.edit_script.specs.declared.command.Command.TheVariants as Command
-use Rattle.edit_session.specs.Sessions.{State, with_clauses}
+use Rattle.edit_session.specs.Sessions.{State}
 use Rattle.model_frames.specs.Work.{CountsWithin, CountsWork, PointsRiseAtMost, both, no_work}
 use Rattle.model_frames.specs.Laws.{FramesAddUp}
 use Rattle.fixed_ops.specs.Counts.{Counts}
@@ -173,11 +173,6 @@ edit-refused : (state : State) (line : ℕ) (edit : Edit) (fault : Fault) → ed
     → parts_at state (Command.Edit line edit) ≡ refusal line fault ∷ []
 edit-refused state line edit fault is = rw is refl
 
--- and so does what stands after it
-pub edit-made : (state after : State) (line : ℕ) (edit : Edit) → edited state.clauses edit ≡ Ok after.clauses → after ≡ with_clauses state after.clauses
-    → after ≡ state_after state (Command.Edit line edit)
-edit-made state after line edit is stands = rw is stands
-
 edit-stands : (state : State) (line : ℕ) (edit : Edit) (fault : Fault) → edited state.clauses edit ≡ Err fault
     → state_after state (Command.Edit line edit) ≡ state
 edit-stands state line edit fault is = rw is refl
@@ -214,10 +209,6 @@ module _ (frames : FramesAddUp) {K T : Type 0} (held : K → Option (List ℕ)) 
 -- what is so of the parts of a command is so where the command is told
 pub at-command : (P : List Part → Type 0) (state : State) (command told : Given) → command ≡ told → P (parts_at state told) → P (parts_at state command)
 at-command P state command told is p = subst (λ one. P (parts_at state one)) (sym is) p
-
--- and what is so of the session after it
-pub after-command : (P : State → Type 0) (state : State) (command told : Given) → command ≡ told → P (state_after state told) → P (state_after state command)
-after-command P state command told is p = subst (λ one. P (state_after state one)) (sym is) p
 
 -- what is so whatever a tally holds is so of this one
 pub err-at : {T : Type 0} (r : Result T Stop) (P : Counts → Stop → Type 0) (counts : Counts) → IfErr r (λ stop. (held : Counts) → P held stop) → IfErr r (P counts)

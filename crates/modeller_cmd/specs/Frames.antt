@@ -21,8 +21,8 @@ fault_name LastClause = codes "LastClause"
 fault_name Full = codes "Full"
 fault_name NoMemory = codes "NoMemory"
 
--- the line of an edit that is refused: the number of its own line, as lines are counted from the start
--- of the input, and why
+-- the line of an edit that is refused: the number of its own line, as lines are counted from the
+-- start of the input, and why
 abbrev pub refused_line : ℕ → EditFault → List ℕ
 refused_line line fault =
     codes "@ refused " ++ decimal line ++ codes " " ++ fault_name fault ++ codes "\n"

@@ -30,8 +30,8 @@ use Rattle.modeller_cmd.specs.declared.status.Status.TheVariants as status
 abbrev pub input_limit : ℕ
 input_limit = 8388608
 
--- the parts that a script makes of a solid, or why it makes none: those of its commands, replayed in
--- a session that begins with the solid
+-- the parts that a script makes of a solid, or why it makes none: those of its commands in a
+-- session that begins with the solid
 abbrev pub parts_replayed : List Clause → Result (List Command) ScriptFault
     → Result (List Part) Refusal
 parts_replayed clauses (Ok commands) = Ok (replayed (started clauses) commands)

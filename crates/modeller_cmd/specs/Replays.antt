@@ -29,8 +29,8 @@ abbrev pub refusal : ℕ → EditFault → Part
 refusal line fault = record { bytes = refused_line line fault; work = no_work }
 
 -- the parts that a command writes of a session: nothing for an edit that is accepted, the line of
--- one that is refused, a frame of what is drawn, and one of the cost of the last image. An edit with
--- a token that begins with `#` is refused as one of a name that is unknown.
+-- one that is refused, a frame of what is drawn, and one of the cost of the last image. An edit
+-- with a token that begins with `#` is refused as one of a name that is unknown.
 abbrev pub parts_at : State → Command → List Part
 parts_at state (commands.Edit line edit) =
     on_result (edited state.clauses edit) (λ new. []) (λ fault. refusal line fault ∷ [])

@@ -11,8 +11,8 @@ use model_frames::Pieces;
 use modeller_io::{Failed, Sink};
 use solid_model::EditFault;
 
-/// Writes a frame: a line with the word for its kind and how many bytes it has, and then these bytes.
-/// After `Failed` some of all this was taken, from its front.
+/// Writes a frame: a line with the word for its kind and how many bytes it has, and then these
+/// bytes. After `Failed` some of all this was taken, from its front.
 pub fn write_frame<K: Sink>(out: &mut K, name: &[u8], bytes: &[u8]) -> Result<(), Failed>
     requires { length name.now ≤ 6 }
     ensures ok { OnOk result (Gains K.held out.old out.new (frame_of name.now bytes.now)) }

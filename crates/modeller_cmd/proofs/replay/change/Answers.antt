@@ -1,4 +1,4 @@
-use Rattle.modeller_cmd.proofs.Writing.{edit-made, edit-written, refused-written, refused-stands, refused-halted}
+use Rattle.modeller_cmd.proofs.Writing.{edit-written, refused-written, refused-stands, refused-halted}
 use Rattle.modeller_cmd.proofs.replay.change.Goals as goal
 
 pub returns-in-Ok-clause-written : goal.returns-in-Ok-clause-written
@@ -19,7 +19,3 @@ pub returns-in-Err-clause-stands : goal.returns-in-Err-clause-stands
 returns-in-Err-clause-stands g c =
     refused-stands c.frames_add_up.ensures g.K.Sink.held g.K.Sink.faults c.args.out.now c.refuse.new.out c.args.session.now c.args.line c.args.edit c.in-Err.fault c.refuse.result c.in-Err.ensures.fault c.refuse.ensures.memory
     c.edit.new.self c.in-Err.ensures.err
-
-pub returns-in-Ok-clause-stands : goal.returns-in-Ok-clause-stands
-returns-in-Ok-clause-stands g c =
-    edit-made c.args.session.now c.edit.new.self c.args.line c.args.edit c.in-Ok.ensures.ok c.edit.ensures.stands

@@ -1,4 +1,4 @@
-use Rattle.std.proofs.Common.{◌≡◌, ◌≢◌, refl, inl, sym, ap, subst, Ok, Err, ◌∙◌}
+use Rattle.std.proofs.Common.{◌≡◌, ◌≢◌, refl, inl, sym, ap, subst, Err, ◌∙◌}
 use Rattle.std.specs.Prelude.{IfErr}
 use Rattle.clause_reader.specs.Reading.{text_read}
 use Rattle.clause_reader.specs.declared.text_reason.TextReason.TheVariants as reasons

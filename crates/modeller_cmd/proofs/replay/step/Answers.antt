@@ -6,9 +6,9 @@ use Rattle.model_frames.specs.Work.{CountsWork}
 use Rattle.solid_model.specs.declared.edit.EditFault.TheVariants.{UnknownName}
 use Rattle.modeller_cmd.specs.Parts.{work_of_parts}
 use Rattle.modeller_cmd.specs.Writing.{Halted, Written}
-use Rattle.modeller_cmd.specs.Replays.{cost_part, refusal}
+use Rattle.modeller_cmd.specs.Replays.{refusal}
 use Rattle.modeller_cmd.specs.declared.stop.Stop.TheVariants.{WriteFault}
-use Rattle.modeller_cmd.proofs.Writing.{after-command, at-command, err-at, ok-at}
+use Rattle.modeller_cmd.proofs.Writing.{at-command, err-at, ok-at}
 use Rattle.modeller_cmd.proofs.Halting.{edit-work}
 use Rattle.modeller_cmd.proofs.replay.step.Goals as goal
 
@@ -95,41 +95,3 @@ returns-in-Edit-clause-counted g c =
     at-command (λ parts. c.change.result ≡ Err WriteFault → CountsWork c.args.tally.now c.args.tally.now (work_of_parts parts))
     c.args.session.now c.args.command (Command.Edit c.in-Edit.line c.in-Edit.edit) c.in-Edit.is
     (λ _. edit-work c.frames_add_up.ensures c.args.session.now c.in-Edit.line c.in-Edit.edit c.args.tally.now)
-
-pub returns-in-Render-clause-stands : goal.returns-in-Render-clause-stands
-returns-in-Render-clause-stands g c =
-    after-command (λ state. OnOk c.show.result (c.show.new.session ≡ state)) c.args.session.now c.args.command (Command.Render c.in-Render.view) c.in-Render.is
-    c.show.ensures.stands
-
-pub returns-in-Height-clause-stands : goal.returns-in-Height-clause-stands
-returns-in-Height-clause-stands g c =
-    after-command (λ state. OnOk c.show-in-Height.result (c.show-in-Height.new.session ≡ state)) c.args.session.now c.args.command (Command.Height c.in-Height.view) c.in-Height.is
-    c.show-in-Height.ensures.stands
-
-pub returns-in-Mesh-clause-stands : goal.returns-in-Mesh-clause-stands
-returns-in-Mesh-clause-stands g c =
-    after-command (λ state. OnOk c.show-in-Mesh.result (c.show-in-Mesh.new.session ≡ state)) c.args.session.now c.args.command (Command.Mesh c.in-Mesh.view) c.in-Mesh.is
-    c.show-in-Mesh.ensures.stands
-
-pub returns-in-Text-clause-stands : goal.returns-in-Text-clause-stands
-returns-in-Text-clause-stands g c =
-    after-command (λ state. OnOk c.show-in-Text.result (c.show-in-Text.new.session ≡ state)) c.args.session.now c.args.command Command.Text c.in-Text.is
-    c.show-in-Text.ensures.stands
-
-pub returns-in-Cost-clause-written : goal.returns-in-Cost-clause-written
-returns-in-Cost-clause-written g c =
-    at-command (λ parts. OnOk c.tell_cost.result (Written g.K.Sink.held g.K.Sink.faults c.args.out.now c.tell_cost.new.out c.args.tally.now c.args.tally.now parts))
-    c.args.session.now c.args.command Command.Cost c.in-Cost.is
-    (ok-at c.tell_cost.result (λ counts. Written g.K.Sink.held g.K.Sink.faults c.args.out.now c.tell_cost.new.out counts counts (cost_part c.args.session.now.cost ∷ [])) c.args.tally.now c.tell_cost.ensures.written)
-
-pub returns-in-Cost-clause-halted : goal.returns-in-Cost-clause-halted
-returns-in-Cost-clause-halted g c =
-    at-command (λ parts. IfErr c.tell_cost.result (Halted g.K.Sink.held g.K.Sink.faults c.args.out.now c.tell_cost.new.out c.args.tally.now c.args.tally.now parts))
-    c.args.session.now c.args.command Command.Cost c.in-Cost.is
-    (err-at c.tell_cost.result (λ counts stop. Halted g.K.Sink.held g.K.Sink.faults c.args.out.now c.tell_cost.new.out counts counts (cost_part c.args.session.now.cost ∷ []) stop) c.args.tally.now c.tell_cost.ensures.halted)
-
-pub returns-in-Cost-clause-counted : goal.returns-in-Cost-clause-counted
-returns-in-Cost-clause-counted g c =
-    at-command (λ parts. c.tell_cost.result ≡ Err WriteFault → CountsWork c.args.tally.now c.args.tally.now (work_of_parts parts))
-    c.args.session.now c.args.command Command.Cost c.in-Cost.is
-    (λ _. c.frames_add_up.ensures.none c.args.tally.now)
