@@ -94,6 +94,8 @@ keyword-holds law line keywords.Mesh tokens =
     draw-holds law line verbs.Mesh tokens (job_after tokens verbs.Mesh) refl
 keyword-holds law line keywords.Text [] = tt
 keyword-holds law line keywords.Text (next ∷ others) = tt
+keyword-holds law line keywords.Cost [] = tt
+keyword-holds law line keywords.Cost (next ∷ others) = tt
 
 command-holds : JobsHold → (line : ℕ) (tokens : List (List ℕ)) → Holds (command_read line tokens)
 command-holds law line [] = tt

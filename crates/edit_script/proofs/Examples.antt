@@ -13,7 +13,7 @@ use Rattle.clause_reader.specs.Lines.{tokens_of}
 use Rattle.edit_script.specs.Commands.{IsCommand, command_read}
 use Rattle.edit_script.specs.Keywords.{keyword_named}
 use Rattle.edit_script.specs.Marks.{before_mark, mark_ends}
-use Rattle.edit_script.specs.declared.command.Command.TheVariants.{Edit, Height, Mesh, Render, Stray, Text}
+use Rattle.edit_script.specs.declared.command.Command.TheVariants.{Cost, Edit, Height, Mesh, Render, Stray, Text}
 use Rattle.edit_script.specs.declared.keyword.Keyword.TheVariants as keywords
 use Rattle.edit_script.specs.declared.script_fault.ScriptFault.{ScriptFault}
 use Rattle.edit_script.specs.declared.script_reason.ScriptReason.{ScriptReason}
@@ -121,9 +121,9 @@ draws_of_a_script : script_read (codes "%%\nrender w=3\nheight h=4 d=5\nmesh n=6
 unfolding setting_of has_room
 draws_of_a_script = refl
 
--- a stray line and the text keep nothing
-kept_by_none : IsCommand (Stray 5) × IsCommand Text
-kept_by_none = (tt, tt)
+-- a stray line, the text and the cost keep nothing
+kept_by_none : IsCommand (Stray 5) × IsCommand Text × IsCommand Cost
+kept_by_none = (tt, tt, tt)
 
 -- what an edit names is a name, and each draw keeps to its own limits
 cut_of_no_name : IsCommand (Edit 3 (edits.Cut [])) → ⊥
@@ -146,10 +146,10 @@ small_cells is = absurd (omega (arith, ints, is.1.x))
 
 each_keyword_is_read : map keyword_named
     (codes "set" ∷ codes "add" ∷ codes "put" ∷ codes "cut" ∷ codes "render" ∷ codes "height"
-    ∷ codes "mesh" ∷ codes "text" ∷ codes "count" ∷ [])
+    ∷ codes "mesh" ∷ codes "text" ∷ codes "cost" ∷ codes "count" ∷ [])
     ≡ Some keywords.Set ∷ Some keywords.Add ∷ Some keywords.Put ∷ Some keywords.Cut
     ∷ Some keywords.Render ∷ Some keywords.Height ∷ Some keywords.Mesh ∷ Some keywords.Text
-    ∷ None ∷ []
+    ∷ Some keywords.Cost ∷ None ∷ []
 each_keyword_is_read = refl
 
 -- the reason against a line alone
@@ -168,8 +168,9 @@ new_names_that_begin_comments = refl
 -- a token too many is told before a bad numeral
 wrong_counts_of_tokens : map reason_against
     (codes "set x neg" ∷ codes "add x const y z" ∷ codes "cut x y" ∷ codes "text x"
-    ∷ codes "put x t sub y" ∷ [])
-    ≡ Some WrongArity ∷ Some WrongArity ∷ Some WrongArity ∷ Some WrongArity ∷ Some WrongArity ∷ []
+    ∷ codes "cost x" ∷ codes "put x t sub y" ∷ [])
+    ≡ Some WrongArity ∷ Some WrongArity ∷ Some WrongArity ∷ Some WrongArity ∷ Some WrongArity
+    ∷ Some WrongArity ∷ []
 wrong_counts_of_tokens = refl
 
 bad_numeral : reason_against (codes "put x t const y") ≡ Some BadNumeral

@@ -25,7 +25,7 @@ use Rattle.view_settings.specs.Steps.{◌>>=◌}
 use Rattle.view_places.specs.Window.{fits_mesh}
 use Rattle.view_settings.specs.Words.{after_words, job_after, refused_at}
 use Rattle.edit_script.specs.declared.keyword.Keyword.{Keyword}
-use Rattle.edit_script.specs.declared.keyword.Keyword.TheVariants.{Set, Add, Put, Cut, Render, Height, Mesh, Text}
+use Rattle.edit_script.specs.declared.keyword.Keyword.TheVariants.{Set, Add, Put, Cut, Render, Height, Mesh, Text, Cost}
 use Rattle.edit_script.specs.declared.script_reason.ScriptReason.{ScriptReason}
 use Rattle.edit_script.specs.declared.script_reason.ScriptReason.TheVariants.{UnknownCommand, TooShort, BadName, UnknownOperation, WrongArity, BadNumeral, BadSetting, NoMemory}
 use Rattle.edit_script.specs.declared.command.Command.{Command}
@@ -143,6 +143,8 @@ after-lowest line Height tokens = rw (not_below (length tokens) 0 (omega arith))
 after-lowest line Mesh tokens = rw (not_below (length tokens) 0 (omega arith)) (draw-lowest verbs.Mesh tokens mesh-settled)
 after-lowest line Text [] = refl
 after-lowest line Text (next ∷ others) = rw (not_below (suc (length others)) 0 (omega arith), below 0 (suc (length others)) (omega arith)) refl
+after-lowest line Cost [] = refl
+after-lowest line Cost (next ∷ others) = rw (not_below (suc (length others)) 0 (omega arith), below 0 (suc (length others)) (omega arith)) refl
 
 pub reasons-lowest : ReasonsAreLowest
 reasons-lowest line [] = refl

@@ -94,10 +94,10 @@ cut_read line (name ∷ []) =
     Ok (if begins_comment name then commands.Stray line else commands.Edit line (edits.Cut name))
 cut_read line (name ∷ next ∷ others) = Err WrongArity
 
--- `text`
-abbrev pub text_command_read : List (List ℕ) → Result Command ScriptReason
-text_command_read [] = Ok commands.Text
-text_command_read (next ∷ others) = Err WrongArity
+-- a command that is one word
+abbrev pub alone_read : Command → List (List ℕ) → Result Command ScriptReason
+alone_read command [] = Ok command
+alone_read command (next ∷ others) = Err WrongArity
 
 -- the command of a job that draws: a script draws what is named here, and nothing else
 abbrev pub draw_of : Job → Result Command ScriptReason
@@ -125,7 +125,8 @@ after_keyword line keywords.Cut tokens = cut_read line tokens
 after_keyword line keywords.Render tokens = draw_read verbs.Render tokens
 after_keyword line keywords.Height tokens = draw_read verbs.Height tokens
 after_keyword line keywords.Mesh tokens = draw_read verbs.Mesh tokens
-after_keyword line keywords.Text tokens = text_command_read tokens
+after_keyword line keywords.Text tokens = alone_read commands.Text tokens
+after_keyword line keywords.Cost tokens = alone_read commands.Cost tokens
 
 -- the command of a keyword and the tokens after it
 abbrev pub keyword_read : ℕ → Option Keyword → List (List ℕ) → Result Command ScriptReason
@@ -149,6 +150,7 @@ IsCommand (commands.Render view) = IsWindow view
 IsCommand (commands.Height view) = IsWindow view × FitsHeight view
 IsCommand (commands.Mesh view) = IsWindow view × FitsMesh view
 IsCommand commands.Text = ⊤
+IsCommand commands.Cost = ⊤
 
 -- what a command draws may be drawn of its view
 abbrev pub MayBeDrawn : Command → Type 0
@@ -158,3 +160,4 @@ MayBeDrawn (commands.Render view) = IsWindow view
 MayBeDrawn (commands.Height view) = IsWindow view × FitsHeight view
 MayBeDrawn (commands.Mesh view) = IsWindow view × FitsMesh view
 MayBeDrawn commands.Text = ⊤
+MayBeDrawn commands.Cost = ⊤

@@ -2,7 +2,7 @@
 use Rattle.std.specs.Prelude.{ℕ, List, [], ◌∷◌, Option, codes, find}
 use Rattle.std.specs.Str.{bytes_eq}
 use Rattle.edit_script.specs.declared.keyword.Keyword.{Keyword}
-use Rattle.edit_script.specs.declared.keyword.Keyword.TheVariants.{Set, Add, Put, Cut, Render, Height, Mesh, Text}
+use Rattle.edit_script.specs.declared.keyword.Keyword.TheVariants.{Set, Add, Put, Cut, Render, Height, Mesh, Text, Cost}
 
 -- the bytes of a keyword
 abbrev pub keyword_text : Keyword → List ℕ
@@ -14,9 +14,10 @@ keyword_text Render = codes "render"
 keyword_text Height = codes "height"
 keyword_text Mesh = codes "mesh"
 keyword_text Text = codes "text"
+keyword_text Cost = codes "cost"
 
 abbrev pub keywords : List Keyword
-keywords = Set ∷ Add ∷ Put ∷ Cut ∷ Render ∷ Height ∷ Mesh ∷ Text ∷ []
+keywords = Set ∷ Add ∷ Put ∷ Cut ∷ Render ∷ Height ∷ Mesh ∷ Text ∷ Cost ∷ []
 
 -- the keyword that is written so
 abbrev pub keyword_named : List ℕ → Option Keyword

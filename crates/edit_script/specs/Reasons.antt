@@ -10,7 +10,7 @@ use Rattle.view_settings.specs.declared.verb.Verb.TheVariants as verbs
 use Rattle.view_settings.specs.Words.{job_after}
 use Rattle.edit_script.specs.declared.command.Command.{Command}
 use Rattle.edit_script.specs.declared.keyword.Keyword.{Keyword}
-use Rattle.edit_script.specs.declared.keyword.Keyword.TheVariants.{Set, Add, Put, Cut, Render, Height, Mesh, Text}
+use Rattle.edit_script.specs.declared.keyword.Keyword.TheVariants.{Set, Add, Put, Cut, Render, Height, Mesh, Text, Cost}
 use Rattle.edit_script.specs.declared.script_reason.ScriptReason.{ScriptReason}
 use Rattle.edit_script.specs.declared.script_reason.ScriptReason.TheVariants.{UnknownCommand, TooShort, BadName, UnknownOperation, WrongArity, BadNumeral, BadSetting}
 use Rattle.edit_script.specs.Commands.{command_read}
@@ -31,6 +31,7 @@ least_after Render = 0
 least_after Height = 0
 least_after Mesh = 0
 least_after Text = 0
+least_after Cost = 0
 
 -- the new name among the tokens after a keyword
 abbrev pub new_name : Keyword → List (List ℕ) → Option (List ℕ)
@@ -59,6 +60,7 @@ of_form test (word ∷ args) = option_map_or (λ op. test op args) (operation_of
 abbrev pub has_more : Keyword → List (List ℕ) → Bool
 has_more Cut tokens = nat_lt 1 (length tokens)
 has_more Text tokens = nat_lt 0 (length tokens)
+has_more Cost tokens = nat_lt 0 (length tokens)
 has_more keyword tokens = false
 
 -- the settings of a draw have a fault

@@ -19,4 +19,6 @@ pub enum Command {
     Mesh(View),
     /// The model as a text.
     Text,
+    /// What the last image took.
+    Cost,
 }

@@ -1,6 +1,6 @@
-// Draws, and the text.
+// Draws, and commands that are one word.
 ghost use Rattle.std.specs.Prelude.{◌≡◌, IfOk};
-ghost use Rattle.edit_script.specs.Commands.{draw_read, job_or_bad, text_command_read, IsCommand};
+ghost use Rattle.edit_script.specs.Commands.{alone_read, draw_read, job_or_bad, IsCommand};
 ghost use Rattle.view_settings.specs.Verbs.{IsJob};
 ghost use Rattle.view_settings.specs.Words.{job_after};
 
@@ -39,13 +39,14 @@ fn read_settings(verb: Verb, mut tokens: Tokens<'_>) -> Result<Job, ScriptReason
     }
 }
 
-/// The command of `text`, after which no token stands.
-pub(crate) fn read_text(tokens: Tokens<'_>) -> Result<Command, ScriptReason>
-    ensures value { result ≡ text_command_read tokens.entry }
+/// A command that is one word, after which no token stands.
+pub(crate) fn read_alone(command: Command, tokens: Tokens<'_>) -> Result<Command, ScriptReason>
+    requires { IsCommand command }
+    ensures value { result ≡ alone_read command tokens.entry }
     ensures keeps { IfOk result IsCommand }
 {
     if tokens.is_empty() {
-        Ok(Command::Text)
+        Ok(command)
     } else {
         Err(ScriptReason::WrongArity)
     }

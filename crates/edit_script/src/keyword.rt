@@ -22,6 +22,8 @@ pub(crate) enum Keyword {
     Mesh,
     /// Write the model as a text.
     Text,
+    /// Tell what the last image took.
+    Cost,
 }
 
 // The keyword that is written so.
@@ -38,6 +40,7 @@ pub(crate) fn read_keyword(word: &[u8]) -> Option<Keyword>
         b"height" => Some(Keyword::Height),
         b"mesh" => Some(Keyword::Mesh),
         b"text" => Some(Keyword::Text),
+        b"cost" => Some(Keyword::Cost),
         _ => None,
     }
 }

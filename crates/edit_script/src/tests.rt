@@ -37,7 +37,7 @@ fn expect_refusal(rt: &impl Abort, alloc: Global, input: &[u8], fault: ScriptFau
 
 #[test]
 fn refuses_the_first_bad_line(rt: HostRuntime) {
-    let cases: [(&[u8], u32, ScriptReason); 12] = [
+    let cases: [(&[u8], u32, ScriptReason); 14] = [
         (b"", 0, ScriptReason::NoMark),
         (b"x var-x\nrender\n", 0, ScriptReason::NoMark),
         (b"x var-x\n%% render\n", 0, ScriptReason::NoMark),
@@ -46,8 +46,10 @@ fn refuses_the_first_bad_line(rt: HostRuntime) {
         (b"x var-x\n%%\ncut", 3, ScriptReason::TooShort),
         (b"x var-x\n%%\nadd #y var-x", 3, ScriptReason::BadName),
         (b"x var-x\n%%\ntext x", 3, ScriptReason::WrongArity),
+        (b"x var-x\n%%\ncost 1", 3, ScriptReason::WrongArity),
         (b"%%\n%%", 2, ScriptReason::UnknownCommand),
-        (b"%%\ncost", 2, ScriptReason::UnknownCommand),
+        (b"%%\nCost", 2, ScriptReason::UnknownCommand),
+        (b"%%\ncost#", 2, ScriptReason::UnknownCommand),
         (b"%%\nRender", 2, ScriptReason::UnknownCommand),
         (
             b"%%\ntext\n\n# cut\n \t\r\nset\nadd",
@@ -102,9 +104,9 @@ fn refuses_settings(rt: HostRuntime) {
 fn reads_each_command(rt: HostRuntime) -> Result<(), Fail> {
     let input = b"x var-x\n%%\r\nset x neg #y\nset #x var-x\nput #x y var-x\ncut #x\n\n# c\n\
         add y min x x\nput y c const 0.5\nset y var-z\ncut y\n\
-        render w=3 z=0.5\nheight w=1024 d=300\nmesh n=5\ntext";
+        render w=3 z=0.5\nheight w=1024 d=300\nmesh n=5\ntext\n cost ";
     let commands = read_script(rt.alloc(), input)?;
-    assert_eq!(rt; commands.len(), 12);
+    assert_eq!(rt; commands.len(), 13);
     for (at, line) in [3, 4, 5, 6].into_iter().enumerate() {
         let stray = matches!(&commands[at], Command::Stray(number) if *number == line);
         assert!(rt; stray, "at {at}");
@@ -130,6 +132,7 @@ fn reads_each_command(rt: HostRuntime) -> Result<(), Fail> {
     assert!(rt; matches!(&commands[9], Command::Height(view) if view.w == 1024 && view.d == 300));
     assert!(rt; matches!(&commands[10], Command::Mesh(view) if view.n == 5 && view.h == 512));
     assert!(rt; matches!(&commands[11], Command::Text));
+    assert!(rt; matches!(&commands[12], Command::Cost));
     Ok(())
 }
 
