@@ -42,6 +42,15 @@ front-stands clauses n stand =
     let is : get_or clauses place clause ≡ clause = sym (get_or-take n clauses place clause below) ∙ get_or_from_slice_get (take n clauses) place clause clause at in
     stand place clause (slice_get-get_or clauses place clause within ∙ ap Some is))
 
+-- and those of a front of a list
+pub taken-stand : (steps : List Step) (n : ℕ) → AreSteps steps → AreSteps (take n steps)
+taken-stand steps n stand place step at =
+    let less = slice_get_within (take n steps) place step at in
+    let below : place < n = omega (arith, less, length-take n steps) in
+    let within : place < length steps = omega (arith, less, length-take n steps) in
+    let is : get_or steps place step ≡ step = sym (get_or-take n steps place step below) ∙ get_or_from_slice_get (take n steps) place step step at in
+    stand place step (slice_get-get_or steps place step within ∙ ap Some is)
+
 pub steps_of-tape : (clauses : List Clause) → IsModel clauses → IsTape (steps_of clauses)
 steps_of-tape clauses model = record {
   some = omega (arith, length-map clauses step_of, model.some);

@@ -8,6 +8,7 @@ mod equality;
 mod laws;
 mod lists;
 mod marking;
+mod owned;
 mod packed_step;
 mod part;
 mod roots;

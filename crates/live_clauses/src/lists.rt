@@ -7,6 +7,7 @@ ghost use Rattle.live_clauses.specs.Live.{live_of};
 ghost use Rattle.live_clauses.specs.Steps.{IsTape};
 
 use crate::block::append_live;
+use crate::owned::keep;
 use crate::packed_step::PackedStep;
 use crate::part::Part;
 use crate::words::words;
@@ -121,15 +122,11 @@ impl Lists {
         self.parts.truncate(count);
     }
 
-    /// The list at a place, in memory of its own but for the table of constants. AllocError: there is
-    /// no memory for it.
+    /// The list at a place, in memory of its own. AllocError: there is no memory for it.
     pub fn keep(&self, at: usize) -> Result<Tape, AllocError>
         requires { at < length self.now }
         ensures { IfOk result (λ tape. tape ≡ list_at self.now at) }
     {
-        let part = self.parts[at];
-        let steps = &self.steps[part.start..part.end];
-        let steps = RcSlice::from_slice(*self.steps.allocator(), steps)?;
-        Ok(Tape::from_packed(steps, self.constants.clone()?))
+        keep(*self.steps.allocator(), &self.list(at))
     }
 }

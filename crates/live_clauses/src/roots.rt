@@ -11,6 +11,7 @@ ghost use Rattle.live_clauses.specs.Steps.{AreSteps, IsStepAt, IsTape, steps_of,
 use crate::choices::NoChoice;
 use crate::copying::copy_live;
 use crate::marking::mark;
+use crate::owned::keep;
 use crate::packed_step::PackedStep;
 use crate::words::words;
 use crate::{Step, Steps, Tape};
@@ -73,7 +74,7 @@ impl RootRoom {
         let root = Steps::from_packed(&self.live, &self.constants);
         match before {
             Some(tape) if tape.steps().same(&root) => tape.share(),
-            _ => root.keep(*self.live.allocator()),
+            _ => keep(*self.live.allocator(), &root),
         }
     }
 }
@@ -106,7 +107,7 @@ fn pack_clauses(
 }
 
 // Keeps one more step, with its number where it is a constant.
-fn push_step(
+pub(crate) fn push_step(
     steps: &mut Vec<PackedStep>,
     constants: &mut Vec<Fx>,
     step: Step,

@@ -8,7 +8,7 @@ use crate::Step;
 use crate::equality::same_steps;
 use crate::packed_step::PackedStep;
 use fixed_ops::Fx;
-use std::alloc::{AllocError, Global};
+use std::alloc::AllocError;
 use std::marker::Model;
 use std::rc::RcSlice;
 
@@ -17,7 +17,7 @@ use std::rc::RcSlice;
 #[derive(Debug, Drop)]
 pub struct Tape {
     steps: RcSlice<PackedStep>,
-    // The table of the numbers of constants, which the lists that come from one list share.
+    // The table of the numbers of constants, which lists that are shortened from one share.
     constants: RcSlice<Fx>,
 }
 
@@ -160,16 +160,6 @@ impl<'a> Steps<'a> {
     {
         let (packed, constants) = (self.packed, self.constants);
         packed[at as usize].unpack(constants)
-    }
-
-    // The same list in memory of its own.
-    pub(crate) fn keep(&self, alloc: Global) -> Result<Tape, AllocError>
-        ensures { IfOk result (λ tape. tape ≡ self.now) }
-    {
-        Ok(Tape {
-            steps: RcSlice::from_slice(alloc, self.packed)?,
-            constants: RcSlice::from_slice(alloc, self.constants)?,
-        })
     }
 
     /// Whether these are the same steps as others.

@@ -61,7 +61,11 @@ pub fn draw_image(
 }
 
 // The bytes of an image: the header, and the pixels behind it.
-pub(crate) fn image_bytes(alloc: Global, picture: &Picture, view: &View) -> Result<Vec<u8>, AllocError>
+pub(crate) fn image_bytes(
+    alloc: Global,
+    picture: &Picture,
+    view: &View,
+) -> Result<Vec<u8>, AllocError>
     requires { picture.now.view ≡ view.now }
     ensures { IfOk result (λ image. image.items
         ≡ pgm_of view.now.w view.now.h (pixels_of view.now picture.now.list)) }

@@ -77,11 +77,11 @@ received_by (Some old) = Some old.list.now
 
 -- some halves of a box stood in the tree before, from this place on, and received this list
 pub record AreOldHalves (view : Window) (b : Indices) (halves : List Indices) (old : OldBox) : Type 0
-    where
-  pub view_is : old.tree.now.view ≡ view
-  pub visit_is : IsVisit (raster view) (visit b old.list.now)
-  pub nodes : StandsAt (nodes_before old) (halves_nodes (raster view) old.list.now halves) old.at
-  pub lists : StandsAt (lists_before old) (halves_lists (raster view) old.list.now halves) old.at
+  where
+    pub view_is : old.tree.now.view ≡ view
+    pub visit_is : IsVisit (raster view) (visit b old.list.now)
+    pub nodes : StandsAt (nodes_before old) (halves_nodes (raster view) old.list.now halves) old.at
+    pub lists : StandsAt (lists_before old) (halves_lists (raster view) old.list.now halves) old.at
 
 -- the evaluations that some halves take which receive a list, after a frame that had their box so,
 -- and the steps that are traced over them

@@ -6,9 +6,9 @@ ghost use Rattle.quad_descent.specs.Drawn.{AreDrawnAt, IsDrawnAt};
 ghost use Rattle.quad_descent.specs.Painting.{IsBand, Paints, byte_at, covers};
 ghost use Rattle.quad_descent.specs.Pixels.{rows_from};
 
-use crate::{Picture, QuadTree};
 use crate::band::Band;
 use crate::node::Node;
+use crate::{Picture, QuadTree};
 use box_chains::{LEAF, layers_hold};
 use view_places::{IndexBox, Lattice, root, split};
 

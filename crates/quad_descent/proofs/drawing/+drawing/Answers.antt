@@ -117,7 +117,7 @@ draw_each_half-draw_outcome-requires t c =
               record { among = on.among; room = omega (arith, more.room, c.requires.may.room, on.few); whole = on.whole };
         },
         subst (λ w. IfSome c.loop-at.half_before (IsOldBox w half)) (sym more.view)
-        (half-old c.layers_hold.ensures desk.view c.args.b half c.loop-at.at halves c.loop-at.half_before all c.loop-at-test.true c.index-halves-at.is c.loop-at.invariant.stands),
+            (half-old c.layers_hold.ensures desk.view c.args.b half c.loop-at.at halves c.loop-at.half_before all c.loop-at-test.true c.index-halves-at.is c.loop-at.invariant.stands),
       ),
     )
 
