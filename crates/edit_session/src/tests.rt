@@ -59,7 +59,7 @@ fn draws_the_model_as_it_stands(rt: HostRuntime) -> Result<(), Fail> {
     assert!(rt; session.edit(cut) == Err(EditFault::LastClause));
     assert!(rt; session.height(&view(3, 3), &mut tally)?.as_slice() == BOTTOM_TOPS);
     assert!(rt; session.mesh(&view(3, 3), &mut tally)?.as_slice() == NO_MESH);
-    assert!(rt; session.text()?.as_slice() == b"f var-y\n");
+    assert!(rt; session.text()?.as_slice() == b"f var-y\n".as_slice());
     assert!(rt; session.cost() == (9, 1));
     assert!(rt; session.render(&view(3, 3), &mut tally)?.as_slice() == BOTTOM);
     assert!(rt; session.cost() == (0, 0));
