@@ -1,5 +1,6 @@
 // Boxes that are drawn, one after another.
-ghost use Rattle.std.specs.Prelude.{◌≡◌, ◌<◌, ◌∷◌, ◌++◌, [], None, Some, length, OnOk};
+ghost use Rattle.std.specs.Prelude.{◌≡◌, ◌<◌, ◌∷◌, ◌++◌, [], None, Some, length, IfOk, OnOk};
+ghost use Rattle.live_clauses.specs.Blocks.{list_at};
 
 use crate::node::Node;
 use crate::old_box::OldBox;
@@ -15,6 +16,9 @@ pub struct Boxes {
     pub lists: Vec<Option<Tape>>,
     /// Whether lists are kept.
     pub keeps: bool,
+    /// The list that the boxes receive which are drawn next, where lists are kept: one that hands on an
+    /// equal list shares it.
+    pub received: Option<Tape>,
 }
 
 impl Boxes {
@@ -23,17 +27,19 @@ impl Boxes {
     ghost use Rattle.quad_descent.specs.OldBoxes.{IsPlaced, lists_before, nodes_before, part_before};
     ghost use Rattle.quad_descent.specs.declared.node.Node.TheVariants.{Split};
 
-    /// No boxes.
-    pub fn new(alloc: Global, keeps: bool) -> Boxes
-        ensures nodes { result.nodes.items ≡ [] }
-        ensures lists { result.lists.items ≡ [] }
-        ensures keeps { result.keeps ≡ keeps }
+    /// No boxes. The first of them receives a list. AllocError: there is no memory to share it.
+    pub fn new(alloc: Global, list: &Tape, keeps: bool) -> Result<Boxes, AllocError>
+        ensures nodes { IfOk result (λ boxes. boxes.nodes.items ≡ []) }
+        ensures lists { IfOk result (λ boxes. boxes.lists.items ≡ []) }
+        ensures keeps { IfOk result (λ boxes. boxes.keeps ≡ keeps) }
     {
-        Boxes {
+        let received = if keeps { Some(list.share()?) } else { None };
+        Ok(Boxes {
             nodes: Vec::new(alloc),
             lists: Vec::new(alloc),
             keeps,
-        }
+            received,
+        })
     }
 
     /// Adds a box that hands no list on. AllocError: there is no memory for it.
@@ -47,17 +53,21 @@ impl Boxes {
         Ok(self.nodes.push(node)?)
     }
 
-    /// Adds a box that is split and hands on the list of a number: so far no node stands below it.
-    /// AllocError: there is no memory for it.
-    pub fn push_split(&mut self, lists: &Lists, live: usize) -> Result<(), AllocError>
+    /// Adds a box that is split and hands on the list of a number: so far no node stands below it. Its
+    /// halves are drawn next. Gives what the box received. AllocError: there is no memory for it.
+    pub fn push_split(&mut self, lists: &Lists, live: usize) -> Result<Option<Tape>, AllocError>
         requires { live < length lists.now }
         ensures { OnOk result (Adds self.old self.new (Split 0 ∷ [])
             (Some (list_at lists.now live) ∷ [])) }
     {
-        if self.keeps {
-            self.lists.push(Some(lists.keep(live)?))?;
+        self.nodes.push(Node::Split(0))?;
+        if !self.keeps {
+            return Ok(None);
         }
-        Ok(self.nodes.push(Node::Split(0))?)
+        let kept = keep(lists, live, &self.received)?;
+        let above = self.received.replace(kept.share()?);
+        self.lists.push(Some(kept))?;
+        Ok(above)
     }
 
     /// Adds a box as the tree before had it, with all boxes below it. AllocError: there is no memory
@@ -76,6 +86,18 @@ impl Boxes {
             share_all(&tree.lists[old.at..end], &mut self.lists)?;
         }
         Ok(())
+    }
+}
+
+// The list of a number, in memory of its own: that of an equal list, where it is this one. AllocError:
+// there is no memory for it.
+fn keep(lists: &Lists, at: usize, equal: &Option<Tape>) -> Result<Tape, AllocError>
+    requires { at < length lists.now }
+    ensures { IfOk result (λ tape. tape ≡ list_at lists.now at) }
+{
+    match equal {
+        Some(tape) if tape.steps().same(&lists.list(at)) => tape.share(),
+        _ => lists.keep(at),
     }
 }
 

@@ -213,9 +213,10 @@ fn draw_anew(
 {
     layers_hold();
     let at = boxes.nodes.len();
-    boxes.push_split(&desk.lists, live)?;
+    let above = boxes.push_split(&desk.lists, live)?;
     draw_halves(desk, b, before, live, boxes, tally)?;
     boxes.nodes[at] = Node::Split(boxes.nodes.len() - at - 1);
+    boxes.received = above;
     Ok(())
 }
 

@@ -132,7 +132,7 @@ fn draw_boxes(
     layers_hold();
     let mut desk = Desk::new(alloc, view, Lattice::Raster, list)?;
     let root = desk.root();
-    let mut boxes = Boxes::new(alloc, keeps);
+    let mut boxes = Boxes::new(alloc, list, keeps)?;
     // The list that the desk was made with has the number 0.
     draw_box(&mut desk, root, before, 0, &mut boxes, tally)?;
     Ok(boxes)

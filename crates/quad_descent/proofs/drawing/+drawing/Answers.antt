@@ -212,7 +212,7 @@ pub draw_anew-returns-clause-adds : goal.draw_anew-returns-clause-adds
 draw_anew-returns-clause-adds t c =
     let d = raster c.args.desk.now.view in
     let list = list_of c.args.desk.now c.args.live in
-    let first = subst (λ (w : Tracing). Adds c.args.boxes.now c.push_split.new.self (Split 0 ∷ []) (Some (list_of w c.args.live) ∷ [])) c.desk.view_is c.in_ok-push_split.ensures in
+    let first = subst (λ (w : Tracing). Adds c.args.boxes.now c.push_split.new.self (Split 0 ∷ []) (Some (list_of w c.args.live) ∷ [])) c.desk.view_is c.in_ok-above.ensures in
     let below = c.in_ok-draw_halves.ensures.adds in
     let split : split_node (halves_nodes d list (halves_of 8 c.args.b)) ≡ open_nodes d c.args.b list = rw c.requires.long refl in
     record {

@@ -29,3 +29,6 @@ returns-clause-counted c =
     (subst (λ d. c.root-root.result ≡ root_box_of d.view d.lattice) c.in_ok-desk.ensures c.root-root.ensures)
     (subst (λ (d : Tracing). CountsExactly (points_after (raster d.view) (visit_before c.args.before c.root-root.result) (visit c.root-root.result (list_of d 0))) (spans_after (raster d.view) (visit_before c.args.before c.root-root.result) (visit c.root-root.result (list_of d 0))) c.args.tally.now c.draw_box.new.tally)
     c.in_ok-desk.ensures c.in_ok-draw_box.ensures.counted))
+
+pub returns-in_err-boxes-clause-at_most : goal.returns-in_err-boxes-clause-at_most
+returns-in_err-boxes-clause-at_most c = on_err _ _ (c.layers_hold.ensures.bounds.none c.args.tally.now _ _)
