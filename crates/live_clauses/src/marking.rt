@@ -9,7 +9,7 @@ ghost use Rattle.live_clauses.specs.Steps.{IsTape};
 
 use crate::Choices;
 use crate::packed_step::{PackedStep, kept_if};
-use crate::words::{below, highest, mark_if};
+use crate::words::{below, highest_below, mark_if};
 use fixed_ops::{Fx, Op, arity};
 use interval_ops::Choice;
 
@@ -65,7 +65,7 @@ fn mark_word<C: Choices>(
     let mut rest = marks[word];
     let mut live = behind;
     while rest != 0 {
-        end = highest(rest);
+        end = highest_below(rest, end);
         let at = 64 * word + end;
         let choice = choices.at(at);
         live += visit(steps[at], choice, marks);

@@ -43,13 +43,31 @@ fn lowest_if(asked: bool) -> u64
 
 // The highest bit of a word that has one.
 #[inline(always)]
-pub(crate) fn highest(word: u64) -> usize
+fn highest(word: u64) -> usize
     requires { 0 < word }
     ensures within { result < 64 }
     ensures there { bit_at word result ≡ 1 }
     ensures highest { (bit : ℕ) → result < bit → bit_at word bit ≡ 0 }
 {
     63 - word.leading_zeros() as usize
+}
+
+// The highest bit of a word that has one, and none from `end` on. Where the next bit is set, as mostly
+// in a list of which much is needed, the place of the one after it does not wait for a search.
+#[inline(always)]
+pub(crate) fn highest_below(word: u64, end: usize) -> usize
+    requires some { 0 < word }
+    requires end { end ≤ 64 }
+    requires none { (bit : ℕ) → end ≤ bit → bit_at word bit ≡ 0 }
+    ensures within { result < 64 }
+    ensures there { bit_at word result ≡ 1 }
+    ensures highest { (bit : ℕ) → result < bit → bit_at word bit ≡ 0 }
+{
+    if end > 0 && (word >> (end - 1)) % 2 == 1 {
+        end - 1
+    } else {
+        highest(word)
+    }
 }
 
 // The bits of a word below one.
