@@ -5,6 +5,7 @@ use Rattle.std.specs.Fmt.{digits}
 use Rattle.std.proofs.lemmas.Bool.{le-ltb, lt-ltb}
 use Rattle.box_chains.specs.Chains.{chain_within}
 use Rattle.box_chains.specs.Counts.{points_in, spans_in}
+use Rattle.box_chains.specs.Redrawn.{points_after, spans_after}
 use Rattle.clause_reader.specs.Reading.{on_result, text_read}
 use Rattle.clause_reader.specs.declared.text_reason.TextReason.TheVariants as text
 use Rattle.edit_script.specs.declared.script_reason.ScriptReason.TheVariants as script
@@ -24,7 +25,6 @@ use Rattle.view_settings.specs.declared.word_fault.WordReason.TheVariants as wor
 use Rattle.modeller_cmd.specs.Asking.{asks_nothing, input_told, reads_nothing}
 use Rattle.modeller_cmd.specs.Endings.{CountsForSome, GainsParts, IsAnswer, IsRead, IsRefusal, IsUnwritten, IsWorked, NoFault, ReadsWhole, TakesLine, Tells}
 use Rattle.modeller_cmd.specs.Frames.{frame_header, frame_of, refused_line}
-use Rattle.model_frames.specs.declared.frame.Frame.TheVariants as frames
 use Rattle.solid_model.specs.declared.edit.EditFault.TheVariants as fault
 use Rattle.model_frames.specs.Heights.{heights_of}
 use Rattle.modeller_cmd.specs.Notes.{line_of}
@@ -42,6 +42,7 @@ use Rattle.solid_model.specs.declared.clause.Clause.{Clause}
 use Rattle.solid_model.specs.declared.edit.Edit.TheVariants as edits
 use Rattle.edit_script.specs.declared.command.Command.{Command}
 use Rattle.edit_script.specs.declared.command.Command.TheVariants as commands
+use Rattle.edit_session.specs.Sessions.{State, started}
 use Rattle.modeller_cmd.specs.Replays.{parts_at, replayed, standing}
 use Rattle.model_frames.specs.SoundTexts.{IsSoundText}
 use Rattle.model_frames.specs.Work.{CountsWithin, CountsWork, exactly, frame_work, no_work}
@@ -179,12 +180,23 @@ picture = record {
   work = exactly 9 3 9;
 }
 
+-- the same picture, drawn again where nothing has changed
+abbrev again : Part
+again = record { bytes = picture.bytes; work = exactly 0 0 9 }
+
 -- Of three pixels the places -1 and 0 lie below 0.5. Each of three edits is refused for its own reason, so the picture is
 -- the same afterwards.
 refused_edits_change_nothing : replayed_of (codes "x var-x\nc const 0.5\nf sub x c\n%%\nrender w=3 h=1\ncut c\nadd x var-y\nset c sub x f\nrender w=3 h=1\n")
-    ≡ written (picture ∷ idle (codes "@ refused 6 InUse\n") ∷ idle (codes "@ refused 7 DoubleName\n") ∷ idle (codes "@ refused 8 NotEarlier\n") ∷ picture ∷ [])
-unfolding digits points_in spans_in chain_within replayed is_unsigned_numeral unsigned_raw nearest_raw cut_magnitude setting_of
+    ≡ written (picture ∷ idle (codes "@ refused 6 InUse\n") ∷ idle (codes "@ refused 7 DoubleName\n") ∷ idle (codes "@ refused 8 NotEarlier\n") ∷ again ∷ [])
+unfolding digits points_after spans_after chain_within replayed is_unsigned_numeral unsigned_raw nearest_raw cut_magnitude setting_of
 refused_edits_change_nothing = refl
+
+-- the cost that is told is that of the last picture, and nothing before the first
+costs_are_told : replayed_of (codes "x var-x\nc const 0.5\nf sub x c\n%%\ncost\nrender w=3 h=1\ntext\ncost\nrender w=3 h=1\ncost\n")
+    ≡ written (idle (codes "@ cost 4\n0 0\n") ∷ picture ∷ idle (codes "@ text 39\nx var-x\nc const 0.5000000000\nf sub x c\n") ∷ idle (codes "@ cost 4\n9 3\n")
+    ∷ again ∷ idle (codes "@ cost 4\n0 0\n") ∷ [])
+unfolding digits points_after spans_after chain_within replayed is_unsigned_numeral unsigned_raw nearest_raw cut_magnitude size_text setting_of
+costs_are_told = refl
 
 -- a clause is put before another, the output is cut twice, and the last clause can not be
 clauses_come_and_go : replayed_of (codes "x var-x\n%%\nput x c const 0.5\nadd f sub x c\ntext\ncut f\ncut x\ncut c\n")
@@ -337,11 +349,11 @@ product_rounds_down : op_result op.Mul (negsuc 0) (pos 1) ≡ negsuc 0
 product_rounds_down = refl
 
 -- the words of frames, and of an edit that finds no room
-height_header : frame_header (frames.Height (window 3 3 (pos 0))) 12 ≡ codes "@ height 12\n"
+height_header : frame_header (codes "height") 12 ≡ codes "@ height 12\n"
 unfolding digits
 height_header = refl
 
-mesh_header : frame_header (frames.Mesh (window 3 3 (pos 0))) 305 ≡ codes "@ mesh 305\n"
+mesh_header : frame_header (codes "mesh") 305 ≡ codes "@ mesh 305\n"
 unfolding digits
 mesh_header = refl
 
@@ -484,37 +496,46 @@ unwritten_part : Written (λ (s : List ℕ). Some s) (λ s. 0) [] [] no_counts n
 unwritten_part written = let same : [] ≡ codes "a" = written.gained in (cc)
 
 -- where memory is refused nothing of the command is written
-part_without_memory : HaltsIn (λ (s : List ℕ). Some s) (λ s. 0) [] (codes "@") no_counts no_counts [] commands.Text stop.NoMemory → ⊥
+part_without_memory : HaltsIn (λ (s : List ℕ). Some s) (λ s. 0) [] (codes "@") no_counts no_counts (started []) commands.Text stop.NoMemory → ⊥
 part_without_memory halts = let same : codes "@" ≡ [] = halts.unwritten refl in (cc)
 
 -- memory is wanted for a frame and for a clause that is added, and for no edit that is refused or makes no clause
 abbrev two : List Clause
 two = record { name = codes "x"; op = op.X; a = 0; b = 0; value = pos 0 } ∷ record { name = codes "f"; op = op.Neg; a = 0; b = 0; value = pos 0 } ∷ []
 
-text_wants_memory : WantsMemory two commands.Text
+abbrev shown : State
+shown = started two
+
+text_wants_memory : WantsMemory shown commands.Text
 text_wants_memory = tt
 
-clause_wants_memory : WantsMemory two (commands.Edit 4 (edits.Add (codes "y") (record { op = op.Y; args = []; value = pos 0 })))
+clause_wants_memory : WantsMemory shown (commands.Edit 4 (edits.Add (codes "y") (record { op = op.Y; args = []; value = pos 0 })))
 clause_wants_memory = (refl, tt)
 
-double_name_wants_none : WantsMemory two (commands.Edit 4 (edits.Add (codes "f") (record { op = op.Y; args = []; value = pos 0 }))) → ⊥
+double_name_wants_none : WantsMemory shown (commands.Edit 4 (edits.Add (codes "f") (record { op = op.Y; args = []; value = pos 0 }))) → ⊥
 double_name_wants_none wants = let is : false ≡ true = wants.0 in (cc)
 
-cut_wants_none : WantsMemory two (commands.Edit 4 (edits.Cut (codes "f"))) → ⊥
+cut_wants_none : WantsMemory shown (commands.Edit 4 (edits.Cut (codes "f"))) → ⊥
 cut_wants_none wants = wants.1
 
-stray_wants_none : WantsMemory two (commands.Stray 4) → ⊥
+stray_wants_none : WantsMemory shown (commands.Stray 4) → ⊥
 stray_wants_none wants = wants
 
--- an edit writes a line where it is refused, and nothing where it is accepted
-refused_edit_writes : WritesSomething two (commands.Edit 4 (edits.Cut (codes "x")))
+cost_wants_none : WantsMemory shown commands.Cost → ⊥
+cost_wants_none wants = wants
+
+-- an edit writes a line where it is refused, and nothing where it is accepted, and a cost is always told
+refused_edit_writes : WritesSomething shown (commands.Edit 4 (edits.Cut (codes "x")))
 refused_edit_writes = refl
 
-accepted_edit_writes_nothing : WritesSomething two (commands.Edit 4 (edits.Cut (codes "f"))) → ⊥
+cost_writes : WritesSomething shown commands.Cost
+cost_writes = tt
+
+accepted_edit_writes_nothing : WritesSomething shown (commands.Edit 4 (edits.Cut (codes "f"))) → ⊥
 accepted_edit_writes_nothing writes = let is : false ≡ true = writes in (cc)
 
 -- what stands after an edit that is accepted
-after_a_cut : standing two (commands.Edit 3 (edits.Cut (codes "f")) ∷ commands.Text ∷ []) ≡ record { name = codes "x"; op = op.X; a = 0; b = 0; value = pos 0 } ∷ []
+after_a_cut : (standing shown (commands.Edit 3 (edits.Cut (codes "f")) ∷ commands.Text ∷ [])).clauses ≡ record { name = codes "x"; op = op.X; a = 0; b = 0; value = pos 0 } ∷ []
 unfolding standing
 after_a_cut = refl
 
@@ -522,20 +543,20 @@ after_a_cut = refl
 abbrev stray_and_text : List Command
 stray_and_text = commands.Stray 3 ∷ commands.Text ∷ []
 
-stray_is_passed : HaltsAt (λ (s : List ℕ). Some s) (λ s. 0) [] [] no_counts no_counts two stray_and_text stop.NoMemory → ⊥
+stray_is_passed : HaltsAt (λ (s : List ℕ). Some s) (λ s. 0) [] [] no_counts no_counts shown stray_and_text stop.NoMemory → ⊥
 unfolding digits replayed standing
 stray_is_passed at = by at.earlier at.command at.later at.split at.between at.counts at.written at.halts
   where
     by : (earlier : List Command) (command : Command) (later : List Command) → stray_and_text ≡ earlier ++ command ∷ later
-        → (between : List ℕ) (counts : Counts) → Written (λ (s : List ℕ). Some s) (λ s. 0) [] between no_counts counts (replayed two earlier)
-        → HaltsIn (λ (s : List ℕ). Some s) (λ s. 0) between [] counts no_counts (standing two earlier) command stop.NoMemory → ⊥
+        → (between : List ℕ) (counts : Counts) → Written (λ (s : List ℕ). Some s) (λ s. 0) [] between no_counts counts (replayed shown earlier)
+        → HaltsIn (λ (s : List ℕ). Some s) (λ s. 0) between [] counts no_counts (standing shown earlier) command stop.NoMemory → ⊥
     by [] command later split between counts written halts =
-        let same : commands.Stray 3 ≡ command = cc in subst (WantsMemory two) (sym same) (halts.wants refl)
+        let same : commands.Stray 3 ≡ command = cc in subst (WantsMemory shown) (sym same) (halts.wants refl)
     by (first ∷ earlier) command later split between counts written halts =
         let same : commands.Stray 3 ≡ first = cc in
         let none : [] ≡ between = halts.unwritten refl in
-        let some : between ≡ bytes_of_parts (replayed two (commands.Stray 3 ∷ earlier)) =
-        subst (λ command. between ≡ bytes_of_parts (replayed two (command ∷ earlier))) (sym same) written.gained in
+        let some : between ≡ bytes_of_parts (replayed shown (commands.Stray 3 ∷ earlier)) =
+        subst (λ command. between ≡ bytes_of_parts (replayed shown (command ∷ earlier))) (sym same) written.gained in
         let byte : None ≡ Some 64 = ap (λ s. slice_get s 0) none ∙ ap (λ s. slice_get s 0) some in
         (cc)
 
@@ -549,7 +570,7 @@ work_adds_up = refl
 -- an image, a map and a mesh have each their own plain evaluation: pixels, samples and points
 abbrev drawn_of_two : List Part
 drawn_of_two =
-    let view = record (window 2 3 (pos 0)) { d = 4; n = 1 } in replayed two (commands.Render view ∷ commands.Height view ∷ commands.Mesh view ∷ [])
+    let view = record (window 2 3 (pos 0)) { d = 4; n = 1 } in replayed shown (commands.Render view ∷ commands.Height view ∷ commands.Mesh view ∷ [])
 
 plain_evaluations : map (λ part. part.work.plain) drawn_of_two ≡ 12 ∷ 48 ∷ 16 ∷ []
 unfolding replayed
@@ -565,13 +586,13 @@ unfolding digits points_in spans_in chain_within
 forged_lines = refl
 
 -- an image and a height map take as many evaluations and traced steps at least as at most
-exact_evaluations : (view : Window) → map (λ part. part.work.least.points) (replayed two (commands.Render view ∷ commands.Height view ∷ []))
-    ≡ map (λ part. part.work.most.points) (replayed two (commands.Render view ∷ commands.Height view ∷ []))
+exact_evaluations : (view : Window) → map (λ part. part.work.least.points) (replayed shown (commands.Render view ∷ commands.Height view ∷ []))
+    ≡ map (λ part. part.work.most.points) (replayed shown (commands.Render view ∷ commands.Height view ∷ []))
 unfolding replayed
 exact_evaluations view = refl
 
-exact_traces : (view : Window) → map (λ part. part.work.least.spans) (replayed two (commands.Render view ∷ commands.Height view ∷ []))
-    ≡ map (λ part. part.work.most.spans) (replayed two (commands.Render view ∷ commands.Height view ∷ []))
+exact_traces : (view : Window) → map (λ part. part.work.least.spans) (replayed shown (commands.Render view ∷ commands.Height view ∷ []))
+    ≡ map (λ part. part.work.most.spans) (replayed shown (commands.Render view ∷ commands.Height view ∷ []))
 unfolding replayed
 exact_traces view = refl
 
@@ -731,24 +752,24 @@ bytes_are_lost : Halted (λ (s : List ℕ). Some s) (λ s. 0) (codes "ab") (code
 bytes_are_lost halted = let same : codes "a" ≡ codes "ab" ++ halted.grew.bytes = halted.grew.gained in (cc)
 
 -- a fault of the sink halts no edit that is accepted
-edit_meets_no_fault : HaltsIn (λ (s : List ℕ). Some s) (λ s. last_count) [] [] no_counts no_counts two (commands.Edit 4 (edits.Cut (codes "f"))) stop.WriteFault → ⊥
+edit_meets_no_fault : HaltsIn (λ (s : List ℕ). Some s) (λ s. last_count) [] [] no_counts no_counts shown (commands.Edit 4 (edits.Cut (codes "f"))) stop.WriteFault → ⊥
 edit_meets_no_fault halts = accepted_edit_writes_nothing (halts.writes refl)
 
 -- under such a fault the image of a frame was counted, and nothing is left but a front of the frame
 abbrev drawing : Command
 drawing = commands.Render (window 3 1 (pos 0))
 
-uncounted_frame : HaltsIn (λ (s : List ℕ). Some s) (λ s. last_count) [] [] no_counts no_counts two drawing stop.WriteFault → ⊥
-unfolding CountsWork points_in spans_in chain_within
+uncounted_frame : HaltsIn (λ (s : List ℕ). Some s) (λ s. last_count) [] [] no_counts no_counts shown drawing stop.WriteFault → ⊥
+unfolding CountsWork points_after spans_after chain_within
 uncounted_frame halts =
     let counts : RisesWithin no_counts no_counts (risen_by 6 2 0) (risen_by 6 2 8) = halts.counted refl in
     let points : 0 ≡ risen 0 counts.by.points = ap (λ (counts : Counts). counts.points) counts.rises in
     omega (arith, counts.enough.points, points)
 
-bytes_of_no_frame : HaltsIn (λ (s : List ℕ). Some s) (λ s. last_count) [] (codes "b") no_counts no_counts two commands.Text stop.WriteFault → ⊥
+bytes_of_no_frame : HaltsIn (λ (s : List ℕ). Some s) (λ s. last_count) [] (codes "b") no_counts no_counts shown commands.Text stop.WriteFault → ⊥
 bytes_of_no_frame halts = let front = halts.halted.front refl in by front.count front.gained
   where
-    by : (count : ℕ) → codes "b" ≡ take count (bytes_of_parts (parts_at two commands.Text)) → ⊥
+    by : (count : ℕ) → codes "b" ≡ take count (bytes_of_parts (parts_at shown commands.Text)) → ⊥
     by zero same = (cc)
     by (suc count) same = let byte : 98 ≡ 64 = ap (λ s. slice_index_or s 0 0) same in absurd (omega (arith, byte))
 
@@ -762,8 +783,8 @@ unfolding digits replayed standing
 half_a_frame run = by run.stop run.is (run.replay refl)
   where
     at : (earlier : List Command) (command : Command) (later : List Command) → commands.Text ∷ [] ≡ earlier ++ command ∷ later
-        → (between : List ℕ) (counts : Counts) → Written (λ (s : List ℕ). Some s) (λ s. 0) [] between no_counts counts (replayed (take 1 two) earlier)
-        → HaltsIn (λ (s : List ℕ). Some s) (λ s. 0) between (codes "@") counts no_counts (standing (take 1 two) earlier) command stop.NoMemory → ⊥
+        → (between : List ℕ) (counts : Counts) → Written (λ (s : List ℕ). Some s) (λ s. 0) [] between no_counts counts (replayed (started (take 1 two)) earlier)
+        → HaltsIn (λ (s : List ℕ). Some s) (λ s. 0) between (codes "@") counts no_counts (standing (started (take 1 two)) earlier) command stop.NoMemory → ⊥
     at [] command later split between counts written halts =
         let none : between ≡ [] = written.gained in
         let some : codes "@" ≡ between = halts.unwritten refl in
@@ -782,7 +803,7 @@ half_a_frame run = by run.stop run.is (run.replay refl)
     by stop.NoMemory is replay = either (replay (take 1 two) (commands.Text ∷ []) refl refl)
       where
         either : (IsUnbegun stop.NoMemory × (codes "@" ≡ []) × (no_counts ≡ no_counts))
-            ⊎ HaltsAt (λ (s : List ℕ). Some s) (λ s. 0) [] (codes "@") no_counts no_counts (take 1 two) (commands.Text ∷ []) stop.NoMemory → ⊥
+            ⊎ HaltsAt (λ (s : List ℕ). Some s) (λ s. 0) [] (codes "@") no_counts no_counts (started (take 1 two)) (commands.Text ∷ []) stop.NoMemory → ⊥
         either (inl none) = let same : codes "@" ≡ [] = none.1 in (cc)
         either (inr halts) = at halts.earlier halts.command halts.later halts.split halts.between halts.counts halts.written halts.halts
 
@@ -802,7 +823,7 @@ abbrev added : Command
 added = commands.Edit 3 (edits.Add (codes "f") (record { op = op.Neg; args = codes "x" ∷ []; value = pos 0 }))
 
 frame_is_told_sound : MeshFramesAreSound (codes "replay" ∷ []) meshed
-    → HasSoundFrame (cells 3) two (replayed (take 1 two) (added ∷ [])) (replayed_of meshed).parts
+    → HasSoundFrame (cells 3) two (replayed (started (take 1 two)) (added ∷ [])) (replayed_of meshed).parts
 unfolding digits setting_of has_room standing
 frame_is_told_sound sound = sound (take 1 two) (added ∷ []) (commands.Text ∷ []) (cells 3) refl refl refl refl
 
@@ -812,7 +833,7 @@ text_is_no_mesh : (view : Window) (clauses : List Clause)
 unfolding digits
 text_is_no_mesh view clauses has =
     let same : idle (codes "@ text 1\nb") ≡ has.frame = cc in
-    let bytes : codes "@ text 1\nb" ≡ frame_of (frames.Mesh view) has.text = ap (λ (part : Part). part.bytes) same ∙ has.bytes in
+    let bytes : codes "@ text 1\nb" ≡ frame_of (codes "mesh") has.text = ap (λ (part : Part). part.bytes) same ∙ has.bytes in
     let byte : 116 ≡ 109 = ap (λ s. slice_index_or s 2 0) bytes in
     omega (arith, byte)
 

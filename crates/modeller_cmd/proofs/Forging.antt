@@ -1,8 +1,9 @@
--- The pixels of an image that are inside.
-use Rattle.std.proofs.Common.{◌≡◌, ℕ, ◌==◌, map, if◌then◌else◌, ap, ◌∙◌}
-use Rattle.std.specs.Prelude.{count_by}
+-- The lines of a solid that is forged: how many clauses it has, and how many pixels of its image are inside.
+use Rattle.std.proofs.Common.{◌≡◌, ℕ, ◌==◌, ◌++◌, length, map, if◌then◌else◌, ap, ◌∙◌}
+use Rattle.std.specs.Prelude.{codes, count_by, decimal}
 use Rattle.std.specs.List.{flat_map, range_with_len}
 use Rattle.model_frames.specs.Images.{solid_pixels}
+use Rattle.model_frames.specs.Work.{frame_work}
 use Rattle.fixed_ops.specs.Points.{Point}
 use Rattle.fixed_ops.specs.Raw.{is_inside}
 use Rattle.live_clauses.specs.Live.{root_of}
@@ -15,7 +16,8 @@ use Rattle.solid_model.specs.declared.clause.Clause.{Clause}
 use Rattle.std.specs.Prelude.{List}
 use Rattle.view_places.specs.Places.{raster_point}
 use Rattle.view_places.specs.Window.{Window}
-use Rattle.modeller_cmd.specs.Forging.{inside_of}
+use Rattle.modeller_cmd.specs.CountTexts.{count_text}
+use Rattle.modeller_cmd.specs.Forging.{forge_text, inside_of}
 
 -- where a list of steps has the value of a solid, its image is that of the solid
 pixels-same : (view : Window) (clauses : List Clause) (list : List Step) → ((p : Point) → tape_value p list ≡ solid_value p clauses)
@@ -24,9 +26,18 @@ pixels-same view clauses list same =
     λ k. flat_map (λ j. map (λ i. if is_inside (same (raster_point view i j) k) then 255 else 0) (range_with_len 0 view.w)) (range_with_len 0 view.h)
 
 -- and so are the pixels that are inside
-pub inside-same : (view : Window) (clauses : List Clause) (tree : Drawing) (inside : ℕ) → tree ≡ record { view = view; list = root_of clauses }
-    → ((p : Point) → tape_value p tree.list ≡ solid_value p clauses)
-    → inside ≡ count_by (λ pixel. pixel == 255) (drawn_pixels tree.view tree.list) → inside ≡ inside_of view clauses
-inside-same view clauses tree inside is values counted =
-    counted ∙ ap (λ v. count_by (λ pixel. pixel == 255) (drawn_pixels v tree.list)) (ap (λ t. t.view) is)
-    ∙ ap (λ pixels. count_by (λ pixel. pixel == 255) pixels) (pixels-same view clauses tree.list values)
+pub inside-same : (view : Window) (clauses : List Clause) (picture : Drawing) (inside : ℕ) → picture ≡ record { view = view; list = root_of clauses }
+    → ((p : Point) → tape_value p picture.list ≡ solid_value p clauses)
+    → inside ≡ count_by (λ pixel. pixel == 255) (drawn_pixels picture.view picture.list) → inside ≡ inside_of view clauses
+inside-same view clauses picture inside is values counted =
+    counted ∙ ap (λ v. count_by (λ pixel. pixel == 255) (drawn_pixels v picture.list)) (ap (λ p. p.view) is)
+    ∙ ap (λ pixels. count_by (λ pixel. pixel == 255) pixels) (pixels-same view clauses picture.list values)
+
+-- so the lines of these counts are those of the solid
+pub forged-lines : (view : Window) (clauses : List Clause) (count inside : ℕ) (told : List ℕ) → count ≡ length clauses → inside ≡ inside_of view clauses
+    → told ≡ count_text (frame_work view clauses)
+    → codes "clauses " ++ decimal count ++ codes "\ninside " ++ decimal inside ++ codes "\n" ++ told ≡ forge_text view clauses
+forged-lines view clauses count inside told one two three =
+    ap (λ n. codes "clauses " ++ decimal n ++ codes "\ninside " ++ decimal inside ++ codes "\n" ++ told) one
+    ∙ ap (λ n. codes "clauses " ++ decimal (length clauses) ++ codes "\ninside " ++ decimal n ++ codes "\n" ++ told) two
+    ∙ ap (λ lines. codes "clauses " ++ decimal (length clauses) ++ codes "\ninside " ++ decimal (inside_of view clauses) ++ codes "\n" ++ lines) three

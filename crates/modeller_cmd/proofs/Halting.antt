@@ -13,6 +13,7 @@ use Rattle.edit_script.specs.Marks.{before_mark}
 use Rattle.edit_script.specs.Scripts.{script_read}
 use Rattle.edit_script.specs.declared.command.Command.{Command}
 use Rattle.edit_script.specs.declared.command.Command.TheVariants as commands
+use Rattle.edit_session.specs.Sessions.{State, started}
 use Rattle.model_frames.specs.Work.{CountsWork}
 use Rattle.model_frames.specs.Laws.{FramesAddUp}
 use Rattle.fixed_ops.specs.Counts.{Counts}
@@ -33,13 +34,13 @@ use Rattle.modeller_cmd.proofs.Execution.{told-input}
 module _ {K : Type 0} (held : K → Option (List ℕ)) (faults : K → ℕ) (before after : K) (s t : Counts) (input : List ℕ) where
   -- the solid and the script that were read are those of the input
   pub halts-replay : {T : Type 0} (r : Result T Stop) (clauses : List Clause) (script : List Command) → text_read (before_mark input) ≡ Ok clauses → script_read input ≡ Ok script
-      → IfErr r (HaltsAt held faults before after s t clauses script) → IfErr r (HaltsReplay held faults before after s t input)
+      → IfErr r (HaltsAt held faults before after s t (started clauses) script) → IfErr r (HaltsReplay held faults before after s t input)
   halts-replay (Ok x) clauses script read found at = tt
   halts-replay (Err stop) clauses script read found at = λ clauses2 script2 read2 found2.
       let same : clauses ≡ clauses2 = cc in
       let alike : script ≡ script2 = cc in
-      inr (subst (λ xs. HaltsAt held faults before after s t clauses2 xs stop) alike
-      (subst (λ cs. HaltsAt held faults before after s t cs script stop) same at))
+      inr (subst (λ xs. HaltsAt held faults before after s t (started clauses2) xs stop) alike
+      (subst (λ cs. HaltsAt held faults before after s t (started cs) script stop) same at))
 
   -- what is so of the bytes that were read is so of those that are told
   pub executed-halts : {T : Type 0} (r : Result T Stop) (words : List (List ℕ)) (told : Option (List ℕ)) (all : IfSome told (λ rest. input ≡ rest)) (job : Job) (asks : Ok job ≡ asked words)
@@ -78,9 +79,9 @@ unbegun-script input script line scripts.NoMemory read refused = tt
 unbegun-script input script line other read refused = let no = refused (λ is. cc) in absurd (cc)
 
 -- an edit takes no work
-pub edit-work : (frames : FramesAddUp) (clauses : List Clause) (line : ℕ) (edit : Edit) (counts : Counts) → CountsWork counts counts (work_of_parts (parts_at clauses (commands.Edit line edit)))
-edit-work frames clauses line edit counts = by (edited clauses edit) refl
+pub edit-work : (frames : FramesAddUp) (state : State) (line : ℕ) (edit : Edit) (counts : Counts) → CountsWork counts counts (work_of_parts (parts_at state (commands.Edit line edit)))
+edit-work frames state line edit counts = by (edited state.clauses edit) refl
   where
-    by : (r : Result (List Clause) Fault) → edited clauses edit ≡ r → CountsWork counts counts (work_of_parts (parts_at clauses (commands.Edit line edit)))
+    by : (r : Result (List Clause) Fault) → edited state.clauses edit ≡ r → CountsWork counts counts (work_of_parts (parts_at state (commands.Edit line edit)))
     by (Ok new) is = rw is (frames.none counts)
     by (Err fault) is = rw is (frames.none counts)

@@ -9,44 +9,44 @@ use Rattle.clause_reader.specs.declared.text_reason.TextReason.TheVariants as te
 use Rattle.edit_script.specs.declared.command.Command.{Command}
 use Rattle.edit_script.specs.declared.script_reason.ScriptReason.{ScriptReason}
 use Rattle.edit_script.specs.declared.script_reason.ScriptReason.TheVariants as script
-use Rattle.solid_model.specs.declared.clause.Clause.{Clause}
-use Rattle.modeller_cmd.specs.Replays.{clauses_after, parts_at, replayed, standing}
+use Rattle.edit_session.specs.Sessions.{State}
+use Rattle.modeller_cmd.specs.Replays.{parts_at, replayed, standing, state_after}
 use Rattle.modeller_cmd.specs.Stops.{stop_of_script, stop_of_text}
 use Rattle.modeller_cmd.specs.declared.stop.Stop.TheVariants.{WriteFault}
 
 -- before the first command
-pub standing-none : (clauses : List Clause) → standing clauses [] ≡ clauses
+pub standing-none : (state : State) → standing state [] ≡ state
 unfolding standing
-standing-none clauses = refl
+standing-none state = refl
 
-pub replayed-none : (clauses : List Clause) → replayed clauses [] ≡ []
+pub replayed-none : (state : State) → replayed state [] ≡ []
 unfolding replayed
-replayed-none clauses = refl
+replayed-none state = refl
 
 -- what stands after one more command
-pub standing-more : (clauses : List Clause) (xs : List Command) (x : Command) → standing clauses (xs ++ x ∷ []) ≡ clauses_after (standing clauses xs) x
+pub standing-more : (state : State) (xs : List Command) (x : Command) → standing state (xs ++ x ∷ []) ≡ state_after (standing state xs) x
 unfolding standing
-standing-more clauses xs x = fold-append clauses_after clauses xs (x ∷ [])
+standing-more state xs x = fold-append state_after state xs (x ∷ [])
 
 -- what some commands write, and others after them
-pub replayed-append : (clauses : List Clause) (xs ys : List Command) → replayed clauses (xs ++ ys) ≡ replayed clauses xs ++ replayed (standing clauses xs) ys
+pub replayed-append : (state : State) (xs ys : List Command) → replayed state (xs ++ ys) ≡ replayed state xs ++ replayed (standing state xs) ys
 unfolding replayed standing
-replayed-append clauses [] ys = refl
-replayed-append clauses (x ∷ xs) ys =
-    let next = clauses_after clauses x in
-    ap (λ parts. parts_at clauses x ++ parts) (replayed-append next xs ys)
-    ∙ sym (append_assoc (parts_at clauses x) (replayed next xs) (replayed (standing next xs) ys))
+replayed-append state [] ys = refl
+replayed-append state (x ∷ xs) ys =
+    let next = state_after state x in
+    ap (λ parts. parts_at state x ++ parts) (replayed-append next xs ys)
+    ∙ sym (append_assoc (parts_at state x) (replayed next xs) (replayed (standing next xs) ys))
 
 -- what one command writes between others
-pub replayed-between : (clauses : List Clause) (xs : List Command) (x : Command) (ys : List Command)
-    → replayed clauses (xs ++ x ∷ ys) ≡ replayed clauses xs ++ (parts_at (standing clauses xs) x ++ replayed (clauses_after (standing clauses xs) x) ys)
+pub replayed-between : (state : State) (xs : List Command) (x : Command) (ys : List Command)
+    → replayed state (xs ++ x ∷ ys) ≡ replayed state xs ++ (parts_at (standing state xs) x ++ replayed (state_after (standing state xs) x) ys)
 unfolding replayed
-replayed-between clauses xs x ys = replayed-append clauses xs (x ∷ ys)
+replayed-between state xs x ys = replayed-append state xs (x ∷ ys)
 
-pub replayed-more : (clauses : List Clause) (xs : List Command) (x : Command) → replayed clauses (xs ++ x ∷ []) ≡ replayed clauses xs ++ parts_at (standing clauses xs) x
+pub replayed-more : (state : State) (xs : List Command) (x : Command) → replayed state (xs ++ x ∷ []) ≡ replayed state xs ++ parts_at (standing state xs) x
 unfolding replayed
-replayed-more clauses xs x =
-    replayed-append clauses xs (x ∷ []) ∙ ap (λ parts. replayed clauses xs ++ parts) (append-nil (parts_at (standing clauses xs) x))
+replayed-more state xs x =
+    replayed-append state xs (x ∷ []) ∙ ap (λ parts. replayed state xs ++ parts) (append-nil (parts_at (standing state xs) x))
 
 -- what the iterator of a vector has given is a front of its items
 taken-front : {X A : Type 0} (s : IntoIter X A) (xs : List X) (t : IntoIter X A) → Yields into_iter_steps s xs t → into_iter_items s ≡ xs ++ into_iter_items t

@@ -9,6 +9,7 @@ use Rattle.edit_script.specs.Marks.{before_mark}
 use Rattle.edit_script.specs.Scripts.{script_read}
 use Rattle.edit_script.specs.declared.command.Command.{Command}
 use Rattle.edit_script.specs.declared.command.Command.TheVariants as commands
+use Rattle.edit_session.specs.Sessions.{started}
 use Rattle.model_frames.specs.Meshes.{mesh_text}
 use Rattle.model_frames.specs.SoundTexts.{IsSoundText, MeshTextsAreSound}
 use Rattle.view_settings.specs.Verbs.{IsJob}
@@ -20,7 +21,7 @@ use Rattle.solid_model.specs.declared.clause.Clause.{Clause}
 use Rattle.modeller_cmd.specs.Output.{input_limit, made, of_solid, outcome, output_as, parts_replayed}
 use Rattle.model_frames.specs.Frames.{Part, frame_part}
 use Rattle.modeller_cmd.specs.Parts.{bytes_of_parts}
-use Rattle.modeller_cmd.specs.Replays.{clauses_after, framed, replayed, standing}
+use Rattle.modeller_cmd.specs.Replays.{framed, replayed, standing, state_after}
 use Rattle.modeller_cmd.specs.SoundTexts.{HasSoundFrame, MeshFramesAreSound, MeshesAreSound}
 use Rattle.model_frames.specs.declared.frame.Frame.TheVariants as frames
 use Rattle.modeller_cmd.specs.declared.refusal.Refusal.{Refusal}
@@ -58,20 +59,20 @@ run_is_sound words input r is keeps texts view clauses asks reads done =
 -- what the commands of a script write for a mesh is the frame of the text of a sound one
 script_frames : (clauses : List Clause) (before after : List Command) (view : Window) (input : List ℕ) → MeshTextsAreSound → length input ≤ input_limit
     → text_read (before_mark input) ≡ Ok clauses → script_read input ≡ Ok (before ++ commands.Mesh view ∷ after) → IfOk (script_read input) (All MayBeDrawn)
-    → HasSoundFrame view (standing clauses before) (replayed clauses before) (output_as (made Replay input)).parts
+    → HasSoundFrame view (standing (started clauses) before).clauses (replayed (started clauses) before) (output_as (made Replay input)).parts
 script_frames clauses before after view input texts few reads says keeps =
-    let shown = standing clauses before in
+    let shown = standing (started clauses) before in
     let all = subst (λ r. IfOk r (All MayBeDrawn)) says keeps in
     let fits = All-between MayBeDrawn before (commands.Mesh view) after all in
     let written = solid_read input (before_mark input) (λ solid. parts_replayed solid (script_read input)) clauses few reads ∙ ap (parts_replayed clauses) says in
-    let after_it = replayed (clauses_after shown (commands.Mesh view)) after in
+    let after_it = replayed (state_after shown (commands.Mesh view)) after in
     record {
-      text = mesh_text view shown;
-      sound = texts view shown fits.0 fits.1;
+      text = mesh_text view shown.clauses;
+      sound = texts view shown.clauses fits.0 fits.1;
       frame = framed (frames.Mesh view) shown;
       bytes = refl;
       after = after_it;
-      stands = ap (λ o. (output_as o).parts) written ∙ replayed-between clauses before (commands.Mesh view) after;
+      stands = ap (λ o. (output_as o).parts) written ∙ replayed-between (started clauses) before (commands.Mesh view) after;
     }
 
 -- so it is of every run
@@ -80,5 +81,5 @@ frames_are_sound words input texts draws clauses before after view replays reads
     let made_of = outcome_of words input Replay replays in
     let finished = ap (λ o. (output_as o).status) (sym made_of) ∙ done in
     let few = few_of input (before_mark input) (λ solid. parts_replayed solid (script_read input)) finished in
-    subst (HasSoundFrame view (standing clauses before) (replayed clauses before)) (ap (λ o. (output_as o).parts) (sym made_of))
+    subst (HasSoundFrame view (standing (started clauses) before).clauses (replayed (started clauses) before)) (ap (λ o. (output_as o).parts) (sym made_of))
     (script_frames clauses before after view input texts few reads says (draws input))

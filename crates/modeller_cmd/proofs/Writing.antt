@@ -5,6 +5,7 @@ use Rattle.std.proofs.Math.Seq.{take-append-add}
 use Rattle.std.proofs.lemmas.List.{take-append-le}
 use Rattle.edit_script.specs.declared.command.Command.{Command as Given}
 use Rattle.edit_script.specs.declared.command.Command.TheVariants as Command
+use Rattle.edit_session.specs.Sessions.{State}
 use Rattle.model_frames.specs.Work.{CountsWithin, CountsWork, PointsRiseAtMost, both, no_work}
 use Rattle.model_frames.specs.Laws.{FramesAddUp}
 use Rattle.fixed_ops.specs.Counts.{Counts}
@@ -19,7 +20,7 @@ use Rattle.modeller_cmd.specs.Endings.{GainsParts}
 use Rattle.model_frames.specs.Frames.{Part}
 use Rattle.modeller_cmd.specs.Parts.{bytes_of_parts, work_of_parts}
 use Rattle.modeller_cmd.specs.Writing.{Halted, Written}
-use Rattle.modeller_cmd.specs.Replays.{clauses_after, parts_at, refusal}
+use Rattle.modeller_cmd.specs.Replays.{parts_at, refusal, state_after}
 use Rattle.modeller_cmd.specs.declared.stop.Stop.{Stop}
 use Rattle.modeller_cmd.specs.declared.stop.Stop.TheVariants.{WriteFault, NoMemory}
 use Rattle.modeller_cmd.proofs.Gaining.{Extends-none, Gains-then, GainsPrefix-after, Grew-after, Grew-gains, Grew-prefix, RoseBy-after, on-ok}
@@ -164,50 +165,50 @@ ends-with (Ok x) stop P is p = absurd is
 ends-with (Err e) stop P is p = subst P (sym is) p
 
 -- what is written of an edit depends on what the edit gives
-pub edit-written : (frames : FramesAddUp) {K : Type 0} (held : K → Option (List ℕ)) (faults : K → ℕ) (out : K) (counts : Counts) (clauses new : List Clause) (line : ℕ) (edit : Edit)
-    → edited clauses edit ≡ Ok new → Written held faults out out counts counts (parts_at clauses (Command.Edit line edit))
-edit-written frames held faults out counts clauses new line edit is = rw is (written-none frames held faults out counts)
+pub edit-written : (frames : FramesAddUp) {K : Type 0} (held : K → Option (List ℕ)) (faults : K → ℕ) (out : K) (counts : Counts) (state : State) (new : List Clause) (line : ℕ) (edit : Edit)
+    → edited state.clauses edit ≡ Ok new → Written held faults out out counts counts (parts_at state (Command.Edit line edit))
+edit-written frames held faults out counts state new line edit is = rw is (written-none frames held faults out counts)
 
-pub edit-refused : (clauses : List Clause) (line : ℕ) (edit : Edit) (fault : Fault) → edited clauses edit ≡ Err fault
-    → parts_at clauses (Command.Edit line edit) ≡ refusal line fault ∷ []
-edit-refused clauses line edit fault is = rw is refl
+edit-refused : (state : State) (line : ℕ) (edit : Edit) (fault : Fault) → edited state.clauses edit ≡ Err fault
+    → parts_at state (Command.Edit line edit) ≡ refusal line fault ∷ []
+edit-refused state line edit fault is = rw is refl
 
-pub edit-stands : (clauses : List Clause) (line : ℕ) (edit : Edit) (fault : Fault) → edited clauses edit ≡ Err fault
-    → clauses_after clauses (Command.Edit line edit) ≡ clauses
-edit-stands clauses line edit fault is = rw is refl
+edit-stands : (state : State) (line : ℕ) (edit : Edit) (fault : Fault) → edited state.clauses edit ≡ Err fault
+    → state_after state (Command.Edit line edit) ≡ state
+edit-stands state line edit fault is = rw is refl
 
 -- an edit that is refused for a fault other than want of memory
-module _ (frames : FramesAddUp) {K T : Type 0} (held : K → Option (List ℕ)) (faults : K → ℕ) (before after : K) (clauses : List Clause) (line : ℕ) (edit : Edit) (fault : Fault) (r : Result T Stop)
-    (refused : fault ≢ EditFault.NoMemory → edited clauses edit ≡ Err fault) (memory : fault ≡ EditFault.NoMemory → (r ≡ Err NoMemory) × (after ≡ before)) where
+module _ (frames : FramesAddUp) {K T : Type 0} (held : K → Option (List ℕ)) (faults : K → ℕ) (before after : K) (state : State) (line : ℕ) (edit : Edit) (fault : Fault) (r : Result T Stop)
+    (refused : fault ≢ EditFault.NoMemory → edited state.clauses edit ≡ Err fault) (memory : fault ≡ EditFault.NoMemory → (r ≡ Err NoMemory) × (after ≡ before)) where
   pub refused-written : OnOk r ((counts : Counts) → Written held faults before after counts counts (refusal line fault ∷ []))
-      → OnOk r ((counts : Counts) → Written held faults before after counts counts (parts_at clauses (Command.Edit line edit)))
+      → OnOk r ((counts : Counts) → Written held faults before after counts counts (parts_at state (Command.Edit line edit)))
   refused-written = by fault refl
     where
       by : (f : Fault) → fault ≡ f → OnOk r ((counts : Counts) → Written held faults before after counts counts (refusal line fault ∷ []))
-          → OnOk r ((counts : Counts) → Written held faults before after counts counts (parts_at clauses (Command.Edit line edit)))
+          → OnOk r ((counts : Counts) → Written held faults before after counts counts (parts_at state (Command.Edit line edit)))
       by EditFault.NoMemory is = λ p. rw (memory is).0 tt
-      by other is = λ p. subst (λ ps. OnOk r ((counts : Counts) → Written held faults before after counts counts ps)) (sym (edit-refused clauses line edit fault (refused (λ e. cc)))) p
+      by other is = λ p. subst (λ ps. OnOk r ((counts : Counts) → Written held faults before after counts counts ps)) (sym (edit-refused state line edit fault (refused (λ e. cc)))) p
 
   pub refused-halted : IfErr r (λ stop. (counts : Counts) → Halted held faults before after counts counts (refusal line fault ∷ []) stop)
-      → IfErr r (λ stop. (counts : Counts) → Halted held faults before after counts counts (parts_at clauses (Command.Edit line edit)) stop)
+      → IfErr r (λ stop. (counts : Counts) → Halted held faults before after counts counts (parts_at state (Command.Edit line edit)) stop)
   refused-halted = by fault refl
     where
       by : (f : Fault) → fault ≡ f → IfErr r (λ stop. (counts : Counts) → Halted held faults before after counts counts (refusal line fault ∷ []) stop)
-          → IfErr r (λ stop. (counts : Counts) → Halted held faults before after counts counts (parts_at clauses (Command.Edit line edit)) stop)
-      by EditFault.NoMemory is = λ p. rw ((memory is).0, (memory is).1) (λ counts. halted-at-once frames held faults before counts (parts_at clauses (Command.Edit line edit)) NoMemory (memory-other NoMemory refl))
-      by other is = λ p. subst (λ ps. IfErr r (λ stop. (counts : Counts) → Halted held faults before after counts counts ps stop)) (sym (edit-refused clauses line edit fault (refused (λ e. cc)))) p
+          → IfErr r (λ stop. (counts : Counts) → Halted held faults before after counts counts (parts_at state (Command.Edit line edit)) stop)
+      by EditFault.NoMemory is = λ p. rw ((memory is).0, (memory is).1) (λ counts. halted-at-once frames held faults before counts (parts_at state (Command.Edit line edit)) NoMemory (memory-other NoMemory refl))
+      by other is = λ p. subst (λ ps. IfErr r (λ stop. (counts : Counts) → Halted held faults before after counts counts ps stop)) (sym (edit-refused state line edit fault (refused (λ e. cc)))) p
 
-  pub refused-stands : (new : List Clause) → new ≡ clauses → OnOk r (new ≡ clauses_after clauses (Command.Edit line edit))
+  pub refused-stands : (new : State) → new ≡ state → OnOk r (new ≡ state_after state (Command.Edit line edit))
   refused-stands new same = by fault refl
     where
-      by : (f : Fault) → fault ≡ f → OnOk r (new ≡ clauses_after clauses (Command.Edit line edit))
+      by : (f : Fault) → fault ≡ f → OnOk r (new ≡ state_after state (Command.Edit line edit))
       by EditFault.NoMemory is = rw (memory is).0 tt
       by other is =
-          on-ok r (new ≡ clauses_after clauses (Command.Edit line edit)) (same ∙ sym (edit-stands clauses line edit fault (refused (λ e. cc))))
+          on-ok r (new ≡ state_after state (Command.Edit line edit)) (same ∙ sym (edit-stands state line edit fault (refused (λ e. cc))))
 
 -- what is so of the parts of a command is so where the command is told
-pub at-command : (P : List Part → Type 0) (clauses : List Clause) (command told : Given) → command ≡ told → P (parts_at clauses told) → P (parts_at clauses command)
-at-command P clauses command told is p = subst (λ one. P (parts_at clauses one)) (sym is) p
+pub at-command : (P : List Part → Type 0) (state : State) (command told : Given) → command ≡ told → P (parts_at state told) → P (parts_at state command)
+at-command P state command told is p = subst (λ one. P (parts_at state one)) (sym is) p
 
 -- what is so whatever a tally holds is so of this one
 pub err-at : {T : Type 0} (r : Result T Stop) (P : Counts → Stop → Type 0) (counts : Counts) → IfErr r (λ stop. (held : Counts) → P held stop) → IfErr r (P counts)

@@ -1,18 +1,15 @@
 -- The blocks that the commands of a script write: frames, and the lines of edits that are refused.
 use Rattle.std.specs.Prelude.{ℕ, List, ◌++◌, length, codes, decimal}
-use Rattle.model_frames.specs.Frames.{frame_name}
-use Rattle.model_frames.specs.declared.frame.Frame.{Frame}
 use Rattle.solid_model.specs.declared.edit.EditFault.{EditFault}
 use Rattle.solid_model.specs.declared.edit.EditFault.TheVariants.{UnknownName, DoubleName, NotEarlier, InUse, LastClause, Full, NoMemory}
 
--- the line before the bytes of a frame: its kind, and how many bytes they are
-abbrev pub frame_header : Frame → ℕ → List ℕ
-frame_header frame count =
-    codes "@ " ++ frame_name frame ++ codes " " ++ decimal count ++ codes "\n"
+-- the line before the bytes of a frame: the word for its kind, and how many bytes they are
+abbrev pub frame_header : List ℕ → ℕ → List ℕ
+frame_header name count = codes "@ " ++ name ++ codes " " ++ decimal count ++ codes "\n"
 
 -- a frame: that line, and the bytes
-abbrev pub frame_of : Frame → List ℕ → List ℕ
-frame_of frame bytes = frame_header frame (length bytes) ++ bytes
+abbrev pub frame_of : List ℕ → List ℕ → List ℕ
+frame_of name bytes = frame_header name (length bytes) ++ bytes
 
 -- the word for why an edit is refused
 abbrev pub fault_name : EditFault → List ℕ
@@ -24,8 +21,8 @@ fault_name LastClause = codes "LastClause"
 fault_name Full = codes "Full"
 fault_name NoMemory = codes "NoMemory"
 
--- the line of an edit that is refused: the number of its own line, as lines are counted from the start
--- of the input, and why
+-- the line of an edit that is refused: the number of its own line, as lines are counted from the
+-- start of the input, and why
 abbrev pub refused_line : ℕ → EditFault → List ℕ
 refused_line line fault =
     codes "@ refused " ++ decimal line ++ codes " " ++ fault_name fault ++ codes "\n"

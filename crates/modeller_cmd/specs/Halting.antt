@@ -5,6 +5,7 @@ use Rattle.edit_script.specs.Marks.{before_mark}
 use Rattle.edit_script.specs.Scripts.{script_read}
 use Rattle.edit_script.specs.declared.command.Command.{Command}
 use Rattle.edit_script.specs.declared.command.Command.TheVariants as commands
+use Rattle.edit_session.specs.Sessions.{State, started}
 use Rattle.model_frames.specs.Work.{CountsWork}
 use Rattle.fixed_ops.specs.Counts.{Counts}
 use Rattle.solid_model.specs.Edits.{MakesClause, edited}
@@ -21,32 +22,33 @@ use Rattle.modeller_cmd.specs.declared.stop.Stop.{Stop}
 use Rattle.modeller_cmd.specs.declared.stop.Stop.TheVariants.{Refused, ReadFault, WriteFault, NoMemory}
 
 -- Memory may be wanted for a command: for an edit only where it is accepted and makes a clause, and
--- never for one with a token that begins with `#`.
-abbrev pub WantsMemory : List Clause → Command → Type 0
-WantsMemory clauses (commands.Edit line edit) = IsOk (edited clauses edit) × MakesClause edit
-WantsMemory clauses (commands.Stray line) = ⊥
-WantsMemory clauses other = ⊤
+-- never for one with a token that begins with `#`, nor for the cost of an image.
+abbrev pub WantsMemory : State → Command → Type 0
+WantsMemory state (commands.Edit line edit) = IsOk (edited state.clauses edit) × MakesClause edit
+WantsMemory state (commands.Stray line) = ⊥
+WantsMemory state commands.Cost = ⊥
+WantsMemory state other = ⊤
 
 -- A command writes something: an edit only where it is refused.
-abbrev pub WritesSomething : List Clause → Command → Type 0
-WritesSomething clauses (commands.Edit line edit) = IsErr (edited clauses edit)
-WritesSomething clauses other = ⊤
+abbrev pub WritesSomething : State → Command → Type 0
+WritesSomething state (commands.Edit line edit) = IsErr (edited state.clauses edit)
+WritesSomething state other = ⊤
 
 -- Something halted one command. Where memory was refused nothing of it was written, and it may want
 -- memory; under a fault of the sink it writes something, and its work was done.
 pub record HaltsIn {K : Type 0} (held : K → Option (List ℕ)) (faults : K → ℕ)
-    (before after : K) (first last : Counts) (clauses : List Clause) (command : Command)
+    (before after : K) (first last : Counts) (state : State) (command : Command)
     (stop : Stop) : Type 0 where
   pub unwritten : stop ≡ NoMemory → after ≡ before
-  pub wants : stop ≡ NoMemory → WantsMemory clauses command
-  pub writes : stop ≡ WriteFault → WritesSomething clauses command
-  pub counted : stop ≡ WriteFault → CountsWork first last (work_of_parts (parts_at clauses command))
-  pub halted : Halted held faults before after first last (parts_at clauses command) stop
+  pub wants : stop ≡ NoMemory → WantsMemory state command
+  pub writes : stop ≡ WriteFault → WritesSomething state command
+  pub counted : stop ≡ WriteFault → CountsWork first last (work_of_parts (parts_at state command))
+  pub halted : Halted held faults before after first last (parts_at state command) stop
 
 -- Something halted one of these commands: those before it were replayed whole, and nothing was done
 -- of those after it.
 pub record HaltsAt {K : Type 0} (held : K → Option (List ℕ)) (faults : K → ℕ)
-    (before after : K) (first last : Counts) (clauses : List Clause) (commands : List Command)
+    (before after : K) (first last : Counts) (state : State) (commands : List Command)
     (stop : Stop) : Type 0 where
   pub earlier : List Command
   pub command : Command
@@ -54,8 +56,8 @@ pub record HaltsAt {K : Type 0} (held : K → Option (List ℕ)) (faults : K →
   pub split : commands ≡ earlier ++ command ∷ later
   pub between : K
   pub counts : Counts
-  pub written : Written held faults before between first counts (replayed clauses earlier)
-  pub halts : HaltsIn held faults between after counts last (standing clauses earlier) command stop
+  pub written : Written held faults before between first counts (replayed state earlier)
+  pub halts : HaltsIn held faults between after counts last (standing state earlier) command stop
 
 -- what may halt a script before anything of it is done: a fault of the source, an input that is too
 -- long, or want of memory
@@ -73,7 +75,7 @@ HaltsReplay held faults before after first last input stop =
     (clauses : List Clause) (script : List Command) → text_read (before_mark input) ≡ Ok clauses
     → script_read input ≡ Ok script
     → (IsUnbegun stop × (after ≡ before) × (last ≡ first))
-    ⊎ HaltsAt held faults before after first last clauses script stop
+    ⊎ HaltsAt held faults before after first last (started clauses) script stop
 
 -- so it is where the words of a run ask for a script, and the run ends with the status of that
 pub record HaltsRun {K : Type 0} (held : K → Option (List ℕ)) (faults : K → ℕ)

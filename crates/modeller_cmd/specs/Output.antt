@@ -6,6 +6,7 @@ use Rattle.edit_script.specs.Marks.{before_mark}
 use Rattle.edit_script.specs.Scripts.{script_read}
 use Rattle.edit_script.specs.declared.command.Command.{Command}
 use Rattle.edit_script.specs.declared.script_fault.ScriptFault.{ScriptFault}
+use Rattle.edit_session.specs.Sessions.{started}
 use Rattle.model_frames.specs.Frames.{Part, frame_part}
 use Rattle.model_frames.specs.Work.{frame_work}
 use Rattle.model_frames.specs.declared.frame.Frame.TheVariants as frames
@@ -29,10 +30,11 @@ use Rattle.modeller_cmd.specs.declared.status.Status.TheVariants as status
 abbrev pub input_limit : ℕ
 input_limit = 8388608
 
--- the parts that a script makes of a solid, or why it makes none: those of its commands
+-- the parts that a script makes of a solid, or why it makes none: those of its commands in a
+-- session that begins with the solid
 abbrev pub parts_replayed : List Clause → Result (List Command) ScriptFault
     → Result (List Part) Refusal
-parts_replayed clauses (Ok commands) = Ok (replayed clauses commands)
+parts_replayed clauses (Ok commands) = Ok (replayed (started clauses) commands)
 parts_replayed clauses (Err fault) = Err (Script fault)
 
 -- the part that tells the work of an image

@@ -1,10 +1,11 @@
 -- What a run writes of a mesh is the text of a sound one.
-use Rattle.std.specs.Prelude.{◌≡◌, ℕ, List, ◌∷◌, ◌++◌, Ok}
+use Rattle.std.specs.Prelude.{◌≡◌, ℕ, List, ◌∷◌, ◌++◌, Ok, codes}
 use Rattle.clause_reader.specs.Reading.{text_read}
 use Rattle.edit_script.specs.Marks.{before_mark}
 use Rattle.edit_script.specs.Scripts.{script_read}
 use Rattle.edit_script.specs.declared.command.Command.{Command}
 use Rattle.edit_script.specs.declared.command.Command.TheVariants as commands
+use Rattle.edit_session.specs.Sessions.{started}
 use Rattle.model_frames.specs.SoundTexts.{IsSoundText}
 use Rattle.solid_model.specs.declared.clause.Clause.{Clause}
 use Rattle.view_settings.specs.declared.job.Job.TheVariants.{Mesh, Replay}
@@ -15,7 +16,6 @@ use Rattle.modeller_cmd.specs.Output.{output_of}
 use Rattle.model_frames.specs.Frames.{Part}
 use Rattle.modeller_cmd.specs.Parts.{bytes_of_parts}
 use Rattle.modeller_cmd.specs.Replays.{replayed, standing}
-use Rattle.model_frames.specs.declared.frame.Frame.TheVariants as frames
 use Rattle.modeller_cmd.specs.declared.status.Status.TheVariants.{Done}
 
 -- where the words of a run ask for a mesh and its input is that of a solid, what it writes is the
@@ -33,7 +33,7 @@ pub record HasSoundFrame (view : Window) (clauses : List Clause)
   pub text : List ℕ
   pub sound : IsSoundText view clauses text
   pub frame : Part
-  pub bytes : frame.bytes ≡ frame_of (frames.Mesh view) text
+  pub bytes : frame.bytes ≡ frame_of (codes "mesh") text
   pub after : List Part
   pub stands : parts ≡ before ++ frame ∷ after
 
@@ -46,5 +46,5 @@ MeshFramesAreSound words input =
     → asked words ≡ Ok Replay → text_read (before_mark input) ≡ Ok clauses
     → script_read input ≡ Ok (before ++ commands.Mesh view ∷ after)
     → (output_of words input).status ≡ Done
-    → HasSoundFrame view (standing clauses before) (replayed clauses before)
-    (output_of words input).parts
+    → HasSoundFrame view (standing (started clauses) before).clauses
+    (replayed (started clauses) before) (output_of words input).parts

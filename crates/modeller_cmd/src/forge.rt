@@ -74,8 +74,8 @@ fn draw_lines(
     let mut frame = Tally::new();
     let drawn = draw_image(alloc, model, view, &mut frame);
     tally.join(&frame);
-    let tree = drawn?;
-    let inside = inside_pixels(alloc, &tree)?;
+    let picture = drawn?;
+    let inside = inside_pixels(alloc, &picture)?;
     let plain = plain_points(model, view);
     forge_lines(
         alloc,
@@ -90,9 +90,9 @@ fn draw_lines(
 // How many pixels of an image are inside.
 fn inside_pixels(alloc: Global, picture: &Picture) -> Result<usize, AllocError>
     ensures { IfOk result (λ inside. inside
-        ≡ count_by (λ pixel. pixel == 255) (pixels_of tree.now.view tree.now.list)) }
+        ≡ count_by (λ pixel. pixel == 255) (pixels_of picture.now.view picture.now.list)) }
 {
-    let image = image(alloc, tree)?;
+    let image = image(alloc, picture)?;
     Ok(image.pixels.iter().filter(|pixel| **pixel == 255).count())
 }
 

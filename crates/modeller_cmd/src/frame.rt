@@ -2,23 +2,25 @@
 ghost use Rattle.std.specs.Prelude.{◌≡◌, ◌≤◌, length, OnErr, OnOk};
 ghost use Rattle.modeller_io.specs.Count.{RoseBy, Stands};
 ghost use Rattle.modeller_io.specs.Held.{Gains, GainsPrefix};
+ghost use Rattle.modeller_cmd.specs.CountTexts.{cost_text};
 ghost use Rattle.modeller_cmd.specs.Frames.{fault_name, frame_header, frame_of, refused_line};
 
 use crate::line::Line;
 use crate::send::write_pieces;
-use model_frames::{Frame, Pieces};
+use model_frames::Pieces;
 use modeller_io::{Failed, Sink};
 use solid_model::EditFault;
 
-/// Writes a frame: a line with the word for its kind and how many bytes it has, and then these bytes. After
-/// `Failed` some of all this was taken, from its front.
-pub fn write_frame<K: Sink>(out: &mut K, frame: &Frame, bytes: &[u8]) -> Result<(), Failed>
-    ensures ok { OnOk result (Gains K.held out.old out.new (frame_of frame.now bytes.now)) }
-    ensures err { OnErr result (GainsPrefix K.held out.old out.new (frame_of frame.now bytes.now)) }
+/// Writes a frame: a line with the word for its kind and how many bytes it has, and then these
+/// bytes. After `Failed` some of all this was taken, from its front.
+pub fn write_frame<K: Sink>(out: &mut K, name: &[u8], bytes: &[u8]) -> Result<(), Failed>
+    requires { length name.now ≤ 6 }
+    ensures ok { OnOk result (Gains K.held out.old out.new (frame_of name.now bytes.now)) }
+    ensures err { OnErr result (GainsPrefix K.held out.old out.new (frame_of name.now bytes.now)) }
     ensures no_fault { OnOk result (Stands K.faults out.old out.new) }
     ensures cause { OnErr result (RoseBy K.faults out.old out.new 1) }
 {
-    let line = header(frame, bytes.len());
+    let line = header(name, bytes.len());
     write_pieces(out, Pieces::of(line.bytes(), bytes))
 }
 
@@ -34,13 +36,26 @@ pub fn write_refused<K: Sink>(out: &mut K, line: u32, fault: EditFault) -> Resul
     write_pieces(out, Pieces::of(line.bytes(), b""))
 }
 
+/// The line that tells what an image took: its evaluations, and its traced steps.
+pub fn cost_line(points: u64, spans: u64) -> Line
+    ensures { result ≡ cost_text (record { points = points; spans = spans }) }
+{
+    let mut line = Line::new();
+    line.push_number(points);
+    line.push(b" ");
+    line.push_number(spans);
+    line.push(b"\n");
+    line
+}
+
 // The line before the bytes of a frame, which are so many.
-fn header(frame: &Frame, count: usize) -> Line
-    ensures { result ≡ frame_header frame.now count }
+fn header(name: &[u8], count: usize) -> Line
+    requires { length name.now ≤ 6 }
+    ensures { result ≡ frame_header name.now count }
 {
     let mut line = Line::new();
     line.push(b"@ ");
-    line.push(frame.name());
+    line.push(name);
     line.push(b" ");
     line.push_number(count as u64);
     line.push(b"\n");

@@ -3,18 +3,19 @@ ghost use Rattle.std.specs.Prelude.{◌≡◌, ◌≢◌, ◌≤◌, [], ◌∷�
 ghost use Rattle.edit_script.specs.Commands.{IsCommand};
 ghost use Rattle.edit_script.specs.Marks.{before_mark};
 ghost use Rattle.edit_script.specs.Scripts.{script_read};
+ghost use Rattle.edit_session.specs.Sessions.{after_frame};
 ghost use Rattle.fixed_ops.specs.Counts.{Counts};
 ghost use Rattle.modeller_cmd.specs.Endings.{Ends, IsExecutionStop, IsHalt, IsRefusal, status_after};
 ghost use Rattle.modeller_cmd.specs.Output.{input_limit, made, output_as};
 ghost use Rattle.modeller_cmd.specs.Writing.{Halted, Written};
-ghost use Rattle.modeller_cmd.specs.Replays.{clauses_after, framed, parts_at, refusal, replayed};
+ghost use Rattle.modeller_cmd.specs.Replays.{cost_part, framed, parts_at, refusal, replayed, state_after};
 ghost use Rattle.modeller_cmd.specs.Halting.{HaltsAt, HaltsReplay, WantsMemory, WritesSomething};
 ghost use Rattle.modeller_cmd.specs.Parts.{work_of_parts};
 ghost use Rattle.model_frames.specs.Frames.{CanDraw};
 ghost use Rattle.model_frames.specs.Work.{CountsWork};
 ghost use Rattle.solid_model.specs.Edits.{MakesClause, edited};
 
-use crate::frame::{write_frame, write_refused};
+use crate::frame::{cost_line, write_frame, write_refused};
 use crate::stop::Stop;
 use clause_reader::read_model;
 use edit_script::{Command, read_script, split_input};
@@ -98,7 +99,7 @@ fn step<K: Sink>(
 ) -> Result<(), Stop>
     requires { IsCommand command }
     ensures stop { IfErr result IsHalt }
-    ensures model { OnOk result (session.new ≡ clauses_after session.old command) }
+    ensures stands { OnOk result (session.new ≡ state_after session.old command) }
     ensures written { OnOk result (Written K.held K.faults out.old out.new tally.old tally.new
         (parts_at session.old command)) }
     ensures halted { IfErr result (Halted K.held K.faults out.old out.new tally.old tally.new
@@ -117,6 +118,7 @@ fn step<K: Sink>(
         Command::Height(view) => show(session, &Frame::Height(view), out, tally),
         Command::Mesh(view) => show(session, &Frame::Mesh(view), out, tally),
         Command::Text => show(session, &Frame::Text, out, tally),
+        Command::Cost => tell_cost(session, out),
     }
 }
 
@@ -129,7 +131,7 @@ fn show<K: Sink>(
 ) -> Result<(), Stop>
     requires { CanDraw frame.now }
     ensures stop { IfErr result IsHalt }
-    ensures model { session.new ≡ session.old }
+    ensures stands { OnOk result (session.new ≡ after_frame session.old frame.now) }
     ensures written { OnOk result (Written K.held K.faults out.old out.new tally.old tally.new
         (framed frame.now session.old ∷ [])) }
     ensures halted { IfErr result (Halted K.held K.faults out.old out.new tally.old tally.new
@@ -139,13 +141,29 @@ fn show<K: Sink>(
         → CountsWork tally.old tally.new (work_of_parts (framed frame.now session.old ∷ [])) }
 {
     let bytes = session.frame(frame, tally)?;
-    Ok(write_frame(out, frame, &bytes)?)
+    Ok(write_frame(out, frame.name(), &bytes)?)
+}
+
+// Writes what the last image took. Nothing is counted.
+fn tell_cost<K: Sink>(session: &Session, out: &mut K) -> Result<(), Stop>
+    ensures stop { IfErr result IsHalt }
+    ensures written { OnOk result ((counts : Counts)
+        → Written K.held K.faults out.old out.new counts counts (cost_part session.now.cost ∷ [])) }
+    ensures halted { IfErr result (λ stop. (counts : Counts)
+        → Halted K.held K.faults out.old out.new counts counts (cost_part session.now.cost ∷ [])
+        stop) }
+    ensures memory { result ≢ Err Stop.NoMemory }
+{
+    frames_add_up();
+    let (points, spans) = session.cost();
+    let line = cost_line(points, spans);
+    Ok(write_frame(out, b"cost", line.bytes())?)
 }
 
 // Makes the edit of the line of this number, or writes why it is refused. Nothing is counted.
 fn change<K: Sink>(session: &mut Session, line: u32, edit: Edit, out: &mut K) -> Result<(), Stop>
     ensures stop { IfErr result IsHalt }
-    ensures model { OnOk result (session.new ≡ clauses_after session.old (Command.Edit line edit)) }
+    ensures stands { OnOk result (session.new ≡ state_after session.old (Command.Edit line edit)) }
     ensures written { OnOk result ((counts : Counts)
         → Written K.held K.faults out.old out.new counts counts
         (parts_at session.old (Command.Edit line edit))) }
@@ -153,8 +171,9 @@ fn change<K: Sink>(session: &mut Session, line: u32, edit: Edit, out: &mut K) ->
         → Halted K.held K.faults out.old out.new counts counts
         (parts_at session.old (Command.Edit line edit)) stop) }
     ensures unwritten { result ≡ Err Stop.NoMemory → out.new ≡ out.old }
-    ensures wants { result ≡ Err Stop.NoMemory → IsOk (edited session.old edit) × MakesClause edit }
-    ensures writes { result ≡ Err Stop.WriteFault → IsErr (edited session.old edit) }
+    ensures wants { result ≡ Err Stop.NoMemory
+        → IsOk (edited session.old.clauses edit) × MakesClause edit }
+    ensures writes { result ≡ Err Stop.WriteFault → IsErr (edited session.old.clauses edit) }
 {
     frames_add_up();
     match session.edit(edit) {

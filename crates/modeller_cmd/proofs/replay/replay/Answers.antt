@@ -1,4 +1,5 @@
-use Rattle.std.proofs.Common.{◌≡◌, ◌≢◌, refl, inl, sym, ap, subst, Ok, Err, ◌∙◌}
+use Rattle.std.proofs.Common.{◌≡◌, ◌≢◌, refl, inl, sym, ap, subst, Err, ◌∙◌}
+use Rattle.std.specs.Prelude.{IfErr}
 use Rattle.clause_reader.specs.Reading.{text_read}
 use Rattle.clause_reader.specs.declared.text_reason.TextReason.TheVariants as reasons
 use Rattle.edit_script.specs.Marks.{before_mark}
@@ -7,7 +8,7 @@ use Rattle.modeller_cmd.specs.Output.{made, output_as}
 use Rattle.modeller_cmd.specs.Writing.{Halted}
 use Rattle.modeller_cmd.specs.Stops.{stop_of_script, stop_of_text}
 use Rattle.modeller_cmd.proofs.ReplayLaws.{script-other, text-other}
-use Rattle.modeller_cmd.specs.Halting.{HaltsReplay}
+use Rattle.modeller_cmd.specs.Halting.{HaltsAt, HaltsReplay}
 use Rattle.modeller_cmd.proofs.Writing.{halted-at-once, ends-with}
 use Rattle.modeller_cmd.proofs.Halting.{halts-replay, unbegun-script, unbegun-text}
 use Rattle.modeller_cmd.proofs.replay.replay.Goals as goal
@@ -45,5 +46,7 @@ returns-in_err-commands-clause-halts g c =
 
 pub returns-clause-halts : goal.returns-clause-halts
 returns-clause-halts g c =
-    halts-replay g.K.Sink.held g.K.Sink.faults c.args.out.now c.replay_commands.new.out c.args.tally.now c.replay_commands.new.tally c.args.input.now c.replay_commands.result c.start.result c.in_ok-commands.commands.items
-    (ap text_read (sym c.model_text.ensures) ∙ c.in_ok-model.ensures ∙ ap (λ clauses. Ok clauses) (sym c.start.ensures)) c.in_ok-commands.ensures.script c.replay_commands.ensures.ends
+    halts-replay g.K.Sink.held g.K.Sink.faults c.args.out.now c.replay_commands.new.out c.args.tally.now c.replay_commands.new.tally c.args.input.now c.replay_commands.result c.in_ok-model.model c.in_ok-commands.commands.items
+    (ap text_read (sym c.model_text.ensures) ∙ c.in_ok-model.ensures) c.in_ok-commands.ensures.script
+    (subst (λ state. IfErr c.replay_commands.result (HaltsAt g.K.Sink.held g.K.Sink.faults c.args.out.now c.replay_commands.new.out c.args.tally.now c.replay_commands.new.tally state c.in_ok-commands.commands.items))
+    c.start.ensures c.replay_commands.ensures.ends)

@@ -1,7 +1,7 @@
 use Rattle.std.proofs.Common.{Err, sym, ap, subst, ◌∙◌}
 use Rattle.std.specs.Vec.Iter.{into_iter_items}
 use Rattle.modeller_cmd.specs.Writing.{Halted, Written}
-use Rattle.modeller_cmd.specs.Replays.{clauses_after, parts_at, replayed, standing}
+use Rattle.modeller_cmd.specs.Replays.{parts_at, replayed, standing, state_after}
 use Rattle.modeller_cmd.specs.Halting.{HaltsAt, HaltsIn}
 use Rattle.modeller_cmd.proofs.ReplayLaws.{items-between, replayed-between, replayed-more, replayed-none, standing-more, standing-none}
 use Rattle.modeller_cmd.proofs.Writing.{written-none, written-then, halted-after, ends-with}
@@ -21,12 +21,12 @@ loop-command-preserved g c =
     let command = c.in-Some.command in
     let shown = standing c.args.session before in
     record {
-      stands = c.in_ok-step.ensures.model ∙ ap (λ clauses. clauses_after clauses command) so_far.stands ∙ sym (standing-more c.args.session before command);
+      stands = c.in_ok-step.ensures.stands ∙ ap (λ state. state_after state command) so_far.stands ∙ sym (standing-more c.args.session before command);
       written = subst (Written g.K.Sink.held g.K.Sink.faults c.args.out.now c.step.new.out c.args.tally.now c.step.new.tally)
           (sym (replayed-more c.args.session before command))
           (written-then c.frames_add_up.ensures g.K.Sink.held g.K.Sink.faults c.args.out.now c.loop-command.out c.step.new.out c.args.tally.now c.loop-command.tally c.step.new.tally (replayed c.args.session before) (parts_at shown command)
           so_far.written
-          (subst (λ clauses. Written g.K.Sink.held g.K.Sink.faults c.loop-command.out c.step.new.out c.loop-command.tally c.step.new.tally (parts_at clauses command)) so_far.stands
+          (subst (λ state. Written g.K.Sink.held g.K.Sink.faults c.loop-command.out c.step.new.out c.loop-command.tally c.step.new.tally (parts_at state command)) so_far.stands
           c.in_ok-step.ensures.written));
     }
 
@@ -45,8 +45,8 @@ returns-in_err-step-clause-halted g c =
     (subst (λ parts. Halted g.K.Sink.held g.K.Sink.faults c.args.out.now c.step.new.out c.args.tally.now c.step.new.tally parts c.in_err-step.field-0.0)
     (sym (ap (replayed c.args.session) items ∙ replayed-between c.args.session before command after))
     (halted-after c.frames_add_up.ensures g.K.Sink.held g.K.Sink.faults c.args.out.now c.loop-command.out c.step.new.out c.args.tally.now c.loop-command.tally c.step.new.tally (replayed c.args.session before) (parts_at shown command)
-    (replayed (clauses_after shown command) after) c.in_err-step.field-0.0 so_far.written
-    (subst (λ clauses. Halted g.K.Sink.held g.K.Sink.faults c.loop-command.out c.step.new.out c.loop-command.tally c.step.new.tally (parts_at clauses command) c.in_err-step.field-0.0) so_far.stands
+    (replayed (state_after shown command) after) c.in_err-step.field-0.0 so_far.written
+    (subst (λ state. Halted g.K.Sink.held g.K.Sink.faults c.loop-command.out c.step.new.out c.loop-command.tally c.step.new.tally (parts_at state command) c.in_err-step.field-0.0) so_far.stands
     c.in_err-step.ensures.halted)))
 
 pub returns-in_err-step-clause-ends : goal.returns-in_err-step-clause-ends
@@ -69,7 +69,7 @@ returns-in_err-step-clause-ends g c =
       between = c.loop-command.out;
       counts = c.loop-command.tally;
       written = so_far.written;
-      halts = subst (λ clauses. HaltsIn g.K.Sink.held g.K.Sink.faults c.loop-command.out c.step.new.out c.loop-command.tally c.step.new.tally clauses command stop) so_far.stands
+      halts = subst (λ state. HaltsIn g.K.Sink.held g.K.Sink.faults c.loop-command.out c.step.new.out c.loop-command.tally c.step.new.tally state command stop) so_far.stands
           (record {
             unwritten = λ is. c.in_err-step.ensures.unwritten (ap (λ s. Err s) is);
             wants = λ is. c.in_err-step.ensures.wants (ap (λ s. Err s) is);

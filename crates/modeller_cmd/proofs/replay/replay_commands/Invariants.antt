@@ -1,4 +1,4 @@
--- The commands so far were replayed, and the session shows the solid that stands after them.
+-- The commands so far were replayed, and the session is the one that stands after them.
 use Rattle.std.proofs.Common.{◌≡◌}
 use Rattle.modeller_cmd.specs.Writing.{Written}
 use Rattle.modeller_cmd.specs.Replays.{replayed, standing}

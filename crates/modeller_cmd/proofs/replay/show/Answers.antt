@@ -1,5 +1,6 @@
 -- A frame is one part.
 use Rattle.std.proofs.Common.{[], ◌∷◌, ap, ◌∙◌}
+use Rattle.model_frames.specs.Frames.{frame_name}
 use Rattle.modeller_cmd.specs.Frames.{frame_of}
 use Rattle.modeller_cmd.specs.Writing.{Halted}
 use Rattle.modeller_cmd.specs.Replays.{framed}
@@ -18,15 +19,15 @@ returns-in_err-write_frame-clause-halted g c =
     let part = framed c.args.frame.now c.args.session.now in
     ends-with c.from_residual-in_err-write_frame.result WriteFault (Halted g.K.Sink.held g.K.Sink.faults c.args.out.now c.write_frame.new.out c.args.tally.now c.frame.new.tally (part ∷ []))
     c.from_residual-in_err-write_frame.ensures.1
-    (part-halted g.K.Sink.held g.K.Sink.faults c.args.out.now c.write_frame.new.out c.args.tally.now c.frame.new.tally part (frame_of c.args.frame.now c.deref.result.now)
-    (ap (frame_of c.args.frame.now) (c.deref.ensures.value ∙ c.in_ok-bytes.ensures.bytes))
+    (part-halted g.K.Sink.held g.K.Sink.faults c.args.out.now c.write_frame.new.out c.args.tally.now c.frame.new.tally part (frame_of c.name.result.now c.deref.result.now)
+    (ap (λ name. frame_of name c.deref.result.now) c.name.ensures.name ∙ ap (frame_of (frame_name c.args.frame.now)) (c.deref.ensures.value ∙ c.in_ok-bytes.ensures.bytes))
     c.in_err-write_frame.ensures.err c.in_err-write_frame.ensures.cause c.in_ok-bytes.ensures.at_most c.in_ok-bytes.ensures.plain)
 
 pub returns-clause-written : goal.returns-clause-written
 returns-clause-written g c =
     let part = framed c.args.frame.now c.args.session.now in
-    part-written g.K.Sink.held g.K.Sink.faults c.args.out.now c.write_frame.new.out c.args.tally.now c.frame.new.tally part (frame_of c.args.frame.now c.deref.result.now)
-    (ap (frame_of c.args.frame.now) (c.deref.ensures.value ∙ c.in_ok-bytes.ensures.bytes))
+    part-written g.K.Sink.held g.K.Sink.faults c.args.out.now c.write_frame.new.out c.args.tally.now c.frame.new.tally part (frame_of c.name.result.now c.deref.result.now)
+    (ap (λ name. frame_of name c.deref.result.now) c.name.ensures.name ∙ ap (frame_of (frame_name c.args.frame.now)) (c.deref.ensures.value ∙ c.in_ok-bytes.ensures.bytes))
     c.in_ok-write_frame.ensures.ok c.in_ok-write_frame.ensures.no_fault c.in_ok-bytes.ensures.counted c.in_ok-bytes.ensures.at_most c.in_ok-bytes.ensures.plain
 
 pub returns-in_err-write_frame-clause-counted : goal.returns-in_err-write_frame-clause-counted
