@@ -5,8 +5,9 @@ use modeller_io::MemSink;
 use std::alloc::{AllocError, Global};
 use std::test::Fail;
 
-// Inputs, and what they write. The pixels, the tops and the lengths were worked out by hand.
-const CASES: [(&str, &[u8]); 9] = [
+// Inputs, and what they write. The pixels, the tops, the lengths and the costs were worked out by
+// hand.
+const CASES: [(&str, &[u8]); 13] = [
     // Edits that are refused, each for another reason, and the same picture before and after.
     (
         "x var-x\nc const 0.5\nf sub x c\n%%\nrender w=3 h=1\ncut c\nadd x var-y\nset c sub x f\n\
@@ -24,14 +25,44 @@ const CASES: [(&str, &[u8]); 9] = [
         "x var-x\n%%\nadd f floor x\nput f floor floor x\nset f floor floor\ntext\n",
         b"@ text 36\nx var-x\nfloor floor x\nf floor floor\n",
     ),
-    // Two bars, of which the right one is moved over the left one.
+    // Two bars, of which the right one is moved over the left one: all boxes have another list.
     (
         "x var-x\np const -0.5\nq const 0.5\na sub x p\nb abs a\nc sub x q\nd abs c\ne min b d\n\
-        r const 0.25\nf sub e r\n%%\nrender w=16 h=1\nset q const -0.75\nrender w=16 h=1",
+        r const 0.25\nf sub e r\n%%\nrender w=16 h=1\ncost\nset q const -0.75\n\
+        render w=16 h=1\ncost",
         b"@ render 28\nP5\n16 1\n255\n\
-        \x00\x00\xff\xff\xff\xff\x00\x00\x00\x00\xff\xff\xff\xff\x00\x00@ render 28\nP5\n16 1\n\
-        255\n\x00\xff\xff\xff\xff\xff\x00\x00\x00\x00\x00\x00\x00\x00\x00\x00",
+        \x00\x00\xff\xff\xff\xff\x00\x00\x00\x00\xff\xff\xff\xff\x00\x00@ cost 6\n96 30\n\
+        @ render 28\nP5\n16 1\n255\n\
+        \x00\xff\xff\xff\xff\xff\x00\x00\x00\x00\x00\x00\x00\x00\x00\x00@ cost 6\n80 30\n",
     ),
+    // The right bar is moved a little: the quarters about the left one have their lists still.
+    (
+        "x var-x\np const -0.5\nq const 0.5\na sub x p\nb abs a\nc sub x q\nd abs c\ne min b d\n\
+        r const 0.25\nf sub e r\n%%\nrender w=32 h=1\ncost\nset q const 0.625\n\
+        render w=32 h=1\ncost\n",
+        b"@ render 44\nP5\n32 1\n255\n\
+        \x00\x00\x00\x00\xff\xff\xff\xff\xff\xff\xff\xff\x00\x00\x00\x00\
+        \x00\x00\x00\x00\xff\xff\xff\xff\xff\xff\xff\xff\x00\x00\x00\x00@ cost 7\n192 54\n\
+        @ render 44\nP5\n32 1\n255\n\
+        \x00\x00\x00\x00\xff\xff\xff\xff\xff\xff\xff\xff\x00\x00\x00\x00\
+        \x00\x00\x00\x00\x00\x00\xff\xff\xff\xff\xff\xff\xff\xff\x00\x00@ cost 7\n128 50\n",
+    ),
+    // A clause that is not live is changed, which takes nothing.
+    (
+        "u const 5\nx var-x\n%%\nrender w=8 h=1\ncost\nset u const 7\nrender w=8 h=1\ncost\n",
+        b"@ render 19\nP5\n8 1\n255\n\xff\xff\xff\xff\x00\x00\x00\x00@ cost 4\n8 1\n\
+        @ render 19\nP5\n8 1\n255\n\xff\xff\xff\xff\x00\x00\x00\x00@ cost 4\n0 0\n",
+    ),
+    // Another view is drawn anew, and what is no image leaves the cost of the last one.
+    (
+        "x var-x\n%%\nrender w=8 h=1\nrender w=4 h=1\ntext\ncut y\ncost\nrender w=8 h=1\ncost\n",
+        b"@ render 19\nP5\n8 1\n255\n\xff\xff\xff\xff\x00\x00\x00\x00\
+        @ render 15\nP5\n4 1\n255\n\xff\xff\x00\x00@ text 8\nx var-x\n\
+        @ refused 6 UnknownName\n@ cost 4\n4 1\n\
+        @ render 19\nP5\n8 1\n255\n\xff\xff\xff\xff\x00\x00\x00\x00@ cost 4\n8 1\n",
+    ),
+    // No image yet.
+    ("x var-x\n%%\ncost\n", b"@ cost 4\n0 0\n"),
     // Height maps of a slope, of all and of nothing.
     (
         "z var-z\n%%\nheight w=1 h=1 d=3\nheight w=1 h=1 d=300\nset z const -1\n\
@@ -315,8 +346,51 @@ fn a_full_model_takes_no_clause_more(rt: HostRuntime) -> Result<(), Fail> {
     Ok(())
 }
 
+// A model of 65,535 clauses: one that is not live, x, and then 0 in a chain of negations; and a
+// script of an image, and of a thousand more, each after an edit of the clause that is not live.
+fn chain_script(alloc: Global) -> Result<String, AllocError> {
+    let mut script = String::from_str(alloc, "u const 5\nx var-x\nn0 sub x x\n")?;
+    for last in 0..65_532u32 {
+        writeln!(script, "n{} neg n{last}", last + 1)?;
+    }
+    script.push_str("%%\nrender w=32 h=32\ncost\n")?;
+    for _ in 0..1000u32 {
+        script.push_str("set u const 7\nrender w=32 h=32\n")?;
+    }
+    script.push_str("cost\n")?;
+    Ok(script)
+}
+
+// Adds the frame of an image of 32 rows and columns, all of which is outside.
+fn push_black_frame(written: &mut Vec<u8>) -> Result<(), AllocError> {
+    written.extend_from_slice(b"@ render 1037\nP5\n32 32\n255\n")?;
+    for _ in 0..1024u32 {
+        written.push(0)?;
+    }
+    Ok(())
+}
+
 #[test]
-fn frames_take_the_work_that_they_take_alone(rt: HostRuntime) -> Result<(), Fail> {
+fn a_clause_that_is_not_live_costs_nothing(rt: HostRuntime) -> Result<(), Fail> {
+    let script = chain_script(rt.alloc())?;
+    let mut written = Vec::new(rt.alloc());
+    push_black_frame(&mut written)?;
+    // 65,534 steps are live: at each of 1024 samples, and over each of 21 boxes.
+    written.extend_from_slice(b"@ cost 17\n67106816 1376214\n")?;
+    for _ in 0..1000u32 {
+        push_black_frame(&mut written)?;
+    }
+    written.extend_from_slice(b"@ cost 4\n0 0\n")?;
+    let mut trial = Trial::new(rt.alloc(), script.as_bytes())?;
+    let room = vec![in rt.alloc(); 0; 1_100_000]?;
+    trial.out = MemSink::new(8192, Vec::new(rt.alloc()), room);
+    assert_eq!(rt; trial.run(rt.alloc(), &["replay"])?, Status::Done);
+    trial.assert_holds(&rt, &written, b"");
+    Ok(())
+}
+
+#[test]
+fn images_of_other_lists_take_the_work_that_they_take_alone(rt: HostRuntime) -> Result<(), Fail> {
     // Three samples of three clauses, and then three of two, whose boxes are leaves.
     let input =
         "x var-x\nc const 0.5\nf sub x c\n%%\nrender w=3 h=1\ncut f\nadd f neg x\nrender w=3 h=1\n";

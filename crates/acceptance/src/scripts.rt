@@ -4,7 +4,7 @@ use modeller_cmd::Status;
 use std::test::Fail;
 
 // Inputs, and the status and the note that they end with.
-const CASES: [(&str, Status, &str); 22] = [
+const CASES: [(&str, Status, &str); 24] = [
     (
         "x var-x\n",
         Status::BadScript,
@@ -36,7 +36,12 @@ const CASES: [(&str, Status, &str); 22] = [
         "modeller: script line 3: UnknownCommand\n",
     ),
     (
-        "x var-x\n%%\ncost\n",
+        "x var-x\n%%\nCost\n",
+        Status::BadScript,
+        "modeller: script line 3: UnknownCommand\n",
+    ),
+    (
+        "x var-x\n%%\ncost#\n",
         Status::BadScript,
         "modeller: script line 3: UnknownCommand\n",
     ),
@@ -87,6 +92,11 @@ const CASES: [(&str, Status, &str); 22] = [
     ),
     (
         "x var-x\n%%\ntext x\n",
+        Status::BadScript,
+        "modeller: script line 3: WrongArity\n",
+    ),
+    (
+        "x var-x\n%%\ncost #\n",
         Status::BadScript,
         "modeller: script line 3: WrongArity\n",
     ),
