@@ -370,28 +370,6 @@ fn push_black_frame(written: &mut Vec<u8>) -> Result<(), AllocError> {
     Ok(())
 }
 
-<<<<<<< HEAD
-#[test]
-fn a_clause_that_is_not_live_costs_nothing(rt: HostRuntime) -> Result<(), Fail> {
-    let script = chain_script(rt.alloc())?;
-    let mut written = Vec::new(rt.alloc());
-    push_black_frame(&mut written)?;
-    // 65,534 steps are live: at each of 1024 samples, and over each of 21 boxes.
-    written.extend_from_slice(b"@ cost 17\n67106816 1376214\n")?;
-    for _ in 0..1000u32 {
-        push_black_frame(&mut written)?;
-    }
-    written.extend_from_slice(b"@ cost 4\n0 0\n")?;
-    let mut trial = Trial::new(rt.alloc(), script.as_bytes())?;
-    let room = vec![in rt.alloc(); 0; 1_100_000]?;
-    trial.out = MemSink::new(8192, Vec::new(rt.alloc()), room);
-    assert_eq!(rt; trial.run(rt.alloc(), &["replay"])?, Status::Done);
-    trial.assert_holds(&rt, &written, b"");
-    Ok(())
-}
-
-=======
->>>>>>> 2c4dcc7754ddade390af379674bd643d07c8e262
 #[test]
 fn a_clause_that_is_not_live_costs_nothing(rt: HostRuntime) -> Result<(), Fail> {
     let script = chain_script(rt.alloc())?;
