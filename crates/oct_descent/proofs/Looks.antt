@@ -23,7 +23,6 @@ use Rattle.interval_ops.specs.declared.choice.Choice.{Choice}
 use Rattle.interval_ops.specs.declared.region.Region.{Region}
 use Rattle.fixed_ops.specs.Raw.{is_inside}
 use Rattle.kuhn_cells.specs.Triangles.{GridPoint, further, point}
-use Rattle.kuhn_cells.specs.Sizes.{SameSize}
 use Rattle.kuhn_cells.specs.declared.grid_size.GridSize.{GridSize}
 use Rattle.live_clauses.specs.Live.{live_of}
 use Rattle.live_clauses.specs.Steps.{IsTape}

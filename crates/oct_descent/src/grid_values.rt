@@ -1,9 +1,9 @@
 // The values that are known of the points of a grid.
-ghost use Rattle.std.specs.Prelude.{◌≡◌, ◌+◌, ◌*◌, ◌/◌, ◌%◌, ◌<◌, ◌≤◌, None, Some, IfOk, IfSome, IsTrue, OnOk, length};
+ghost use Rattle.std.specs.Prelude.{◌≡◌, ◌+◌, ◌*◌, ◌/◌, ◌%◌, ◌^◌, ◌<◌, ◌≤◌, None, Some, IfOk, IfSome, IsTrue, OnOk, length};
 ghost use Rattle.kuhn_cells.specs.Triangles.{GridPoint, further, point};
 ghost use Rattle.kuhn_cells.specs.Sizes.{IsBounded};
 ghost use Rattle.oct_descent.specs.Corners.{AreTogether, IsRow};
-ghost use Rattle.oct_descent.specs.Tables.{IsSame, KeepsPlaces, Sets, brick_of as brick_of_point, is_known as is_known_of, is_within, known_at, read as read_of, slot as slot_of, stand as stand_of};
+ghost use Rattle.oct_descent.specs.Tables.{AreKept, IsSame, KeepsPlaces, Sets, brick_of as brick_of_point, is_known as is_known_of, is_within, known_at, read as read_of, slot as slot_of, stand as stand_of};
 
 use fixed_ops::Fx;
 use kuhn_cells::GridSize;
@@ -59,6 +59,18 @@ impl GridValues {
         })
     }
 
+    // Lets a proof know what the values of a grid always keep: no grid has more than 512 cells along an
+    // axis, and each brick that is kept has a place of its own, with room for all its points.
+    #[inline]
+    fn holds(&self)
+        ensures bounded { IsBounded self.now.n }
+        ensures kept { AreKept self.now.places (length self.now.kept.known)
+            (length self.now.kept.values) }
+        ensures few { length self.now.kept.known < 2 ^ 63 }
+    {
+        let _n = self.n;
+    }
+
     /// How many cells the grid has along each axis.
     #[inline]
     pub fn n(&self) -> GridSize
@@ -105,8 +117,7 @@ impl GridValues {
         ensures row { IfSome result (IsRow self.now (point x y z)) }
         ensures none { result ≡ None → stand_of self.now (point x y z) ≡ None }
     {
-        // Each brick that is kept has room for all its points.
-        let _kept = &self.known;
+        self.holds();
         self.stand(x, y, z)
     }
 
@@ -128,8 +139,7 @@ impl GridValues {
         requires z { z < self.now.n.z }
         ensures { IfSome result (AreTogether self.now (point x y z)) }
     {
-        // Each brick that is kept has a place of its own.
-        let _kept = &self.known;
+        self.holds();
         if x % 8 == 7 || y % 8 == 7 || z % 8 == 7 {
             return None;
         }
@@ -146,8 +156,7 @@ impl GridValues {
         requires c { c < 8 }
         ensures { result ≡ known_at self.now (further (point x y z) c) }
     {
-        // No grid has more than 512 cells along an axis.
-        let _n = self.n;
+        self.holds();
         let (i, j, k) = (c % 2, c / 2 % 2, c / 4 % 2);
         match first {
             Some(first) => self.read(first + (k * 64 + j * 8 + i) as usize),
@@ -176,8 +185,7 @@ impl GridValues {
         ensures keeps { OnOk result (KeepsPlaces self.old self.new) }
         ensures same { IsSame self.old self.new }
     {
-        // No grid has more than 512 cells along an axis.
-        let _n = self.n;
+        self.holds();
         let (i, j, k) = (c % 2, c / 2 % 2, c / 4 % 2);
         match first {
             Some(first) => Ok(first + (k * 64 + j * 8 + i) as usize),

@@ -27,16 +27,18 @@ impl Boxes {
     ghost use Rattle.quad_descent.specs.OldBoxes.{IsPlaced, lists_before, nodes_before, part_before};
     ghost use Rattle.quad_descent.specs.declared.node.Node.TheVariants.{Split};
 
-    /// No boxes. The first of them receives a list. AllocError: there is no memory to share it.
-    pub fn new(alloc: Global, list: &Tape, keeps: bool) -> Result<Boxes, AllocError>
+    /// No boxes, with memory for so many. The first of them receives a list. AllocError: there is no
+    /// memory for them, or to share the list.
+    pub fn new(alloc: Global, list: &Tape, keeps: bool, room: usize) -> Result<Boxes, AllocError>
         ensures nodes { IfOk result (λ boxes. boxes.nodes.items ≡ []) }
         ensures lists { IfOk result (λ boxes. boxes.lists.items ≡ []) }
         ensures keeps { IfOk result (λ boxes. boxes.keeps ≡ keeps) }
     {
         let received = if keeps { Some(list.share()?) } else { None };
+        let kept = if keeps { room } else { 0 };
         Ok(Boxes {
-            nodes: Vec::new(alloc),
-            lists: Vec::new(alloc),
+            nodes: Vec::with_capacity(alloc, room)?,
+            lists: Vec::with_capacity(alloc, kept)?,
             keeps,
             received,
         })

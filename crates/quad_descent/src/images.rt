@@ -132,7 +132,12 @@ fn draw_boxes(
     layers_hold();
     let mut desk = Desk::new(alloc, view, Lattice::Raster, list)?;
     let root = desk.root();
-    let mut boxes = Boxes::new(alloc, list, keeps)?;
+    // An image has about as many boxes as the one before it.
+    let room = match before {
+        Some(root) => root.tree_len(),
+        None => 0,
+    };
+    let mut boxes = Boxes::new(alloc, list, keeps, room)?;
     // The list that the desk was made with has the number 0.
     draw_box(&mut desk, root, before, 0, &mut boxes, tally)?;
     Ok(boxes)

@@ -18,6 +18,14 @@ impl<'a> OldBox<'a> {
     ghost use Rattle.std.specs.Prelude.{◌≡◌, ◌↔◌, IfNone, IfSome, IsTrue, None, Some};
     ghost use Rattle.quad_descent.specs.OldBoxes.{IsFirstHalf, IsNextHalf, IsPlaced, list_handed};
 
+    /// How many boxes its tree has.
+    #[inline]
+    pub fn tree_len(self) -> usize {
+        let tree = self.tree;
+        let picture = tree.picture();
+        picture.nodes.len()
+    }
+
     /// The first of its halves, where it had some. They received the list that it handed on.
     #[inline]
     pub fn first_half(self) -> Option<OldBox<'a>>

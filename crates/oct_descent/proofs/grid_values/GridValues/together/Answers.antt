@@ -1,4 +1,4 @@
-use Rattle.std.proofs.Common.{◌≡◌, ℕ, arith, length, subst, sym}
+use Rattle.std.proofs.Common.{◌≡◌, ℕ, arith, length, sym}
 use Rattle.std.specs.Prelude.{Option, Some, None, IfSome}
 use Rattle.kuhn_cells.specs.Triangles.{point}
 use Rattle.oct_descent.specs.Corners.{AreTogether}
@@ -13,7 +13,7 @@ returns c = by c.stand.result c.stand.ensures.stand
     t = c.args.self.now
 
     kept : AreKept t.places (length t.kept.known) (length t.kept.values)
-    kept = subst (λ (u : PointValues). AreKept u.places (length u.kept.known) (length u.kept.values)) c.self.view_is c.self.invariant.2
+    kept = c.holds.ensures.kept
 
     by : (o : Option ℕ) → o ≡ stand t (point c.args.x c.args.y c.args.z) → IfSome o (AreTogether t (point c.args.x c.args.y c.args.z))
     by None e = tt
