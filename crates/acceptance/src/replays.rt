@@ -3,6 +3,7 @@ use crate::trial::{Trial, sink};
 use modeller_cmd::Status;
 use modeller_io::MemSink;
 use std::alloc::{AllocError, Global};
+use std::process::Abort;
 use std::test::Fail;
 
 // Inputs, and what they write. The pixels, the tops, the lengths and the costs were worked out by
@@ -420,4 +421,60 @@ fn a_write_that_fails_leaves_a_front_of_the_frames(rt: HostRuntime) -> Result<()
         trial.assert_holds(&rt, held, b"modeller: write fault\n");
     }
     Ok(())
+}
+
+// Two images, of 33 rows and of 17, of which those below the middle one are inside.
+const TWO_IMAGES: &[u8] = b"y var-y\n%%\nrender w=3 h=33\nrender w=3 h=17\n";
+
+// Their frames, of which the first has so many bytes.
+const FIRST_FRAME: usize = 124;
+
+fn two_frames(alloc: Global) -> Result<Vec<u8>, AllocError> {
+    let mut frames = Vec::from_slice(alloc, b"@ render 111\nP5\n3 33\n255\n")?;
+    frames.extend_from_slice(&[0; 51])?;
+    frames.extend_from_slice(&[255; 48])?;
+    frames.extend_from_slice(b"@ render 63\nP5\n3 17\n255\n")?;
+    frames.extend_from_slice(&[0; 27])?;
+    frames.extend_from_slice(&[255; 24])?;
+    Ok(frames)
+}
+
+#[test]
+fn an_image_is_written_whole_before_the_next_one(rt: HostRuntime) -> Result<(), Fail> {
+    let frames = two_frames(rt.alloc())?;
+    // At the ends of the first frame, of the line, of the header and of rows that are written together,
+    // and among them.
+    let fronts: [u8; 10] = [0, 50, 124, 125, 136, 148, 149, 195, 196, 198];
+    for taken in fronts {
+        let fails = [u64::from(taken) + 1].to_vec(rt.alloc())?;
+        let room = vec![in rt.alloc(); 0; 256]?;
+        let mut trial = Trial::new(rt.alloc(), TWO_IMAGES)?;
+        trial.out = MemSink::new(1, fails, room);
+        assert_eq!(rt; trial.run(rt.alloc(), &["replay"])?, Status::WriteFault);
+        let front = &frames[..usize::from(taken).min(frames.len())];
+        trial.assert_holds(&rt, front, b"modeller: write fault\n");
+    }
+    Ok(())
+}
+
+#[test]
+fn frames_are_written_whole_or_not_at_all(rt: HostRuntime) -> Result<(), Fail> {
+    let frames = two_frames(rt.alloc())?;
+    let mut trial = Trial::new(rt.alloc(), TWO_IMAGES)?;
+    trial.out = MemSink::new(8192, Vec::new(rt.alloc()), vec![in rt.alloc(); 0; 256]?);
+    let status = trial.run(rt.alloc(), &["replay"])?;
+    match trial.out.held() {
+        Some(held) => assert_whole(&rt, status, held, &frames),
+        None => assert!(rt; false, "more than both frames"),
+    }
+    Ok(())
+}
+
+// What is held is both frames, or where memory was refused the first one, or nothing.
+fn assert_whole(rt: &impl Abort, status: Status, held: &[u8], frames: &[u8]) {
+    assert!(rt; frames.starts_with(held));
+    if held.len() != frames.len() {
+        assert_eq!(rt; status, Status::NoMemory);
+        assert!(rt; held.is_empty() || held.len() == FIRST_FRAME);
+    }
 }

@@ -6,9 +6,9 @@ use Rattle.std.proofs.lemmas.List.Elements.{All-map}
 use Rattle.std.proofs.Math.Seq.{take-add}
 use Rattle.interval_ops.specs.Decided.{decided_of}
 use Rattle.interval_ops.specs.Spans.{Interval, all_numbers}
-use Rattle.interval_ops.specs.declared.choice.Choice.{Choice}
 use Rattle.live_clauses.specs.Choices.{lane}
 use Rattle.live_clauses.specs.Live.{live_of}
+use Rattle.live_clauses.specs.declared.choice_row.ChoiceRow.{ChoiceRow}
 use Rattle.live_clauses.specs.declared.step.Step.{Step}
 use Rattle.view_places.specs.Boxes.{Indices}
 use Rattle.std.specs.List.{All, range_with_len}
@@ -17,7 +17,7 @@ use Rattle.interval_ops.specs.declared.region.Region.{Region}
 use Rattle.view_places.specs.Spans.{IsInRoot, region_of}
 use Rattle.choice_trace.specs.Halves.{region_in}
 use Rattle.choice_trace.specs.Hulls.{choices_over, hull_in, tape_hull}
-use Rattle.box_chains.specs.Outcomes.{AreInRoot, asked_outcome, asked_outcomes, held_decision, held_in, lane_outcome, outcome_by, outcomes_of, plain_box}
+use Rattle.box_chains.specs.Outcomes.{AreInRoot, asked_outcome, asked_outcomes, held_decision, held_in, lane_decision, lane_outcome, outcome_by, outcomes_of, plain_box}
 use Rattle.box_chains.specs.Placing.{Sampling}
 use Rattle.box_chains.specs.declared.asked_box.AskedBox.{AskedBox}
 use Rattle.box_chains.specs.declared.outcome.Outcome.{Outcome}
@@ -46,19 +46,23 @@ plain-told places list boxes = map-map (asked_outcome places list) plain_box box
 pub plain-in_root : (places : Sampling) (boxes : List Indices) → All (IsInRoot places.view places.lattice) boxes → AreInRoot places (map plain_box boxes)
 plain-in_root places boxes h = All-map (λ (a : AskedBox). IsInRoot places.view places.lattice a.range) plain_box boxes h
 
+-- what is decided in a lane
+pub decision-read : (asked : List AskedBox) (hulls : List Interval) (l : ℕ) (hull : Interval) (box : AskedBox) → l < length hulls → hull ≡ get_or hulls l hull → l < length asked → box ≡ get_or asked l box
+    → held_decision box.held (decided_of hull) ≡ lane_decision asked hulls l
+decision-read asked hulls l hull box within is among read =
+    ap (λ h. held_decision h (decided_of hull)) (ap (λ a. a.held) read ∙ sym (get_or-map (λ a. a.held) asked l box false among))
+    ∙ ap (λ h. held_decision (held_in asked l) (decided_of h)) (get_or_read hulls l hull within is all_numbers)
+
 -- what is told in a lane
-pub outcome-read : (list : List Step) (asked : List AskedBox) (hulls : List Interval) (rows : List (List Choice)) (l : ℕ) (hull : Interval) (box : AskedBox) (o : Outcome (List Step))
+pub outcome-read : (list : List Step) (asked : List AskedBox) (hulls : List Interval) (rows : List ChoiceRow) (l : ℕ) (hull : Interval) (box : AskedBox) (o : Outcome (List Step))
     → l < length hulls → hull ≡ get_or hulls l hull → l < length asked → box ≡ get_or asked l box
     → o ≡ outcome_by (held_decision box.held (decided_of hull)) (live_of list (take (length list) (lane l rows)))
     → o ≡ lane_outcome list asked hulls rows l
 outcome-read list asked hulls rows l hull box o within is among read told =
-    told ∙ ap (λ h. outcome_by (held_decision h (decided_of hull)) (live_of list (take (length list) (lane l rows))))
-    (ap (λ a. a.held) read ∙ sym (get_or-map (λ a. a.held) asked l box false among))
-    ∙ ap (λ h. outcome_by (held_decision (held_in asked l) (decided_of h)) (live_of list (take (length list) (lane l rows))))
-    (get_or_read hulls l hull within is all_numbers)
+    told ∙ ap (λ d. outcome_by d (live_of list (take (length list) (lane l rows)))) (decision-read asked hulls l hull box within is among read)
 
 -- what the hulls and the choices in all lanes tell, where each is that of its box
-pub lanes-told : (places : Sampling) (list : List Step) (asked : List AskedBox) (regions : List Region) (hulls : List Interval) (rows : List (List Choice)) (n : ℕ)
+pub lanes-told : (places : Sampling) (list : List Step) (asked : List AskedBox) (regions : List Region) (hulls : List Interval) (rows : List ChoiceRow) (n : ℕ)
     → regions ≡ map (λ a. region_of places.view places.lattice a.range) asked → length asked ≡ n
     → ((l : ℕ) → l < n → hull_in hulls l ≡ tape_hull (region_in regions l) list)
     → ((l : ℕ) → l < n → take (length list) (lane l rows) ≡ choices_over (region_in regions l) list)

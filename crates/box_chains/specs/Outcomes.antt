@@ -1,5 +1,5 @@
 -- What tracing a list over boxes tells.
-use Rattle.std.specs.Prelude.{◌≡◌, ◌<◌, ◌≤◌, ℕ, Bool, true, false, List, length, map, take, Option, Some, None}
+use Rattle.std.specs.Prelude.{◌≡◌, ◌<◌, ◌≤◌, ℕ, Bool, true, false, ◌&&◌, is_none, List, length, map, take, Option, Some, None}
 use Rattle.std.specs.List.{All}
 use Rattle.choice_trace.specs.Halves.{flag_in}
 use Rattle.choice_trace.specs.Hulls.{choices_over, hull_in, tape_hull}
@@ -10,6 +10,7 @@ use Rattle.live_clauses.specs.Choices.{choice_at, lane}
 use Rattle.interval_ops.specs.Decided.{decided_of}
 use Rattle.live_clauses.specs.Blocks.{list_at}
 use Rattle.live_clauses.specs.Live.{IsWhole, live_of}
+use Rattle.live_clauses.specs.declared.choice_row.ChoiceRow.{ChoiceRow}
 use Rattle.live_clauses.specs.declared.step.Step.{Step}
 use Rattle.view_places.specs.Boxes.{Indices}
 use Rattle.view_places.specs.Spans.{IsInRoot, region_of}
@@ -97,11 +98,19 @@ AreFirst first all = take (length first) all ≡ first
 abbrev pub held_in : List AskedBox → ℕ → Bool
 held_in asked l = flag_in (map (λ a. a.held) asked) l
 
+-- what the hull in a lane decides of its box
+abbrev pub lane_decision : List AskedBox → List Interval → ℕ → Option Bool
+lane_decision asked hulls l = held_decision (held_in asked l) (decided_of (hull_in hulls l))
+
+-- whether the box of a lane hands on a shorter list: it stays open, and some step chooses an operand
+abbrev pub is_shortened : List AskedBox → List Interval → List Bool → ℕ → Bool
+is_shortened asked hulls chosen l = is_none (lane_decision asked hulls l) && flag_in chosen l
+
 -- what a hull in a lane tells of a list, with the choices in that lane of some rows
-abbrev pub lane_outcome : List Step → List AskedBox → List Interval → List (List Choice) → ℕ
+abbrev pub lane_outcome : List Step → List AskedBox → List Interval → List ChoiceRow → ℕ
     → Outcome (List Step)
 lane_outcome list asked hulls rows l =
-    outcome_by (held_decision (held_in asked l) (decided_of (hull_in hulls l)))
+    outcome_by (lane_decision asked hulls l)
     (live_of list (take (length list) (lane l rows)))
 
 -- no choice is of an operand

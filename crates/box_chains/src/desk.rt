@@ -74,6 +74,24 @@ impl Desk {
         })
     }
 
+    /// The same with another list, in the memory that there is already. AllocError: there is not enough
+    /// of it, and it is given up.
+    pub fn restart(self, list: &Tape) -> Result<Desk, AllocError>
+        ensures { IfOk result (λ desk. desk ≡ record {
+          view = self.view;
+          lattice = self.lattice;
+          room = length list.now;
+          lists = list.now ∷ [];
+        }) }
+    {
+        Ok(Desk {
+            places: self.places,
+            room: self.room.restart(list.len())?,
+            lists: self.lists.restart(list)?,
+            rows: self.rows,
+        })
+    }
+
     /// The box of all samples.
     #[inline]
     pub fn root(&self) -> IndexBox

@@ -1,69 +1,78 @@
 // Rows for boxes that are traced at once.
 ghost use Rattle.arrayvec.specs.ArrayVec.{array_vec_len};
 ghost use Rattle.std.specs.List.{range_with_len};
-ghost use Rattle.std.specs.Prelude.{◌≡◌, ◌+◌, ◌*◌, ◌<◌, ◌≤◌, ◌++◌, ℕ, false, List, length, map, min, take, IfOk, OnOk};
+ghost use Rattle.std.specs.Prelude.{◌≡◌, ◌+◌, ◌*◌, ◌<◌, ◌≤◌, ◌++◌, ℕ, true, false, List, None, length, map, take, IfOk, OnOk};
 ghost use Rattle.choice_trace.specs.Halves.{flag_in};
 ghost use Rattle.interval_ops.specs.Decided.{decided_of};
 ghost use Rattle.interval_ops.specs.HullCounts.{CountsHulls};
-ghost use Rattle.live_clauses.specs.Choices.{AreChoices, lane};
+ghost use Rattle.live_clauses.specs.Choices.{AreChoices, has_bit, lane};
+ghost use Rattle.live_clauses.specs.Marks.{AreMarks};
 ghost use Rattle.live_clauses.specs.Blocks.{list_at};
 ghost use Rattle.live_clauses.specs.Live.{IsWhole, live_of};
 ghost use Rattle.live_clauses.specs.declared.step.Step.{Step};
 ghost use Rattle.view_places.specs.Spans.{region_of};
-ghost use Rattle.box_chains.specs.Outcomes.{AreFirst, AreInRoot, AreSeen, ChoosesNone, HandsOn, IsHandedOn, asked_outcomes, held_decision, lane_outcome, outcome_by, seen};
+ghost use Rattle.box_chains.specs.Outcomes.{AreFirst, AreInRoot, AreSeen, ChoosesNone, HandsOn, IsHandedOn, asked_outcomes, held_decision, is_shortened, lane_outcome, outcome_by, seen};
 ghost use Rattle.box_chains.specs.declared.outcome.Outcome.{Outcome};
 
 use crate::{AskedBox, Outcome, Places};
 use arrayvec::ArrayVec;
 use choice_trace::{Halves, trace_halves};
 use fixed_ops::{Fx, Tally};
-use interval_ops::{Choice, Region, Span, decided};
-use live_clauses::{Lane, Lists, live_lists_are_whole, live_steps_are_the_least};
+use interval_ops::{Region, Span, decided};
+use live_clauses::{
+    ChoiceRow, Lane, Lists, live_lists_are_whole, live_steps_are_the_least, mark_lanes, with_bit,
+};
 use std::alloc::{AllocError, Global};
 use std::marker::Model;
 
-// The longest list that is traced over several boxes at once. The rows of a longer one would leave
-// the processor's cache.
-const LONGEST: u32 = 8192;
+// The longest list that is traced over several boxes at once. The rows of a longer one take more time
+// to fetch than is gained.
+pub(crate) const LONGEST: usize = 32_768;
 
 // A row of hulls and a row of choices for each step of a list, with a lane for each of up to four
-// boxes. Contracts see the rows of choices.
+// boxes, and memory to mark what is needed in each lane. Contracts see the rows of choices.
 #[derive(Debug, Drop)]
 pub(crate) struct Rows {
     hulls: Vec<[Span; 4]>,
-    choices: Vec<[Choice; 4]>,
+    choices: Vec<ChoiceRow>,
+    marks: Vec<u8>,
 }
 
 impl Model for Rows {
-    ghost use Rattle.std.specs.Prelude.{◌≡◌, List, length};
-    ghost use Rattle.interval_ops.specs.declared.choice.Choice.{Choice};
+    ghost use Rattle.std.specs.Prelude.{◌≤◌, List, length};
+    ghost use Rattle.live_clauses.specs.declared.choice_row.ChoiceRow.{ChoiceRow};
 
-    ghost Value = { List (List Choice) };
+    ghost Value = { List ChoiceRow };
 
     ghost view = { λ r. r.choices.items };
 
-    ghost invariant = { λ r. length r.hulls.items ≡ length r.choices.items };
+    ghost invariant = { λ r. (length r.choices.items ≤ length r.hulls.items)
+        × (length r.choices.items ≤ length r.marks.items) };
 }
 
 impl Rows {
-    // Rows for lists of at most `len` steps, and of no more than are traced at once. AllocError: there
-    // is no memory for them.
-    pub(crate) fn new(alloc: Global, len: u32) -> Result<Rows, AllocError>
-        ensures { IfOk result (λ rows. length rows ≡ min len LONGEST) }
-    {
-        let zero = Span::new(Fx::from_raw(0), Fx::from_raw(0));
-        let count = len.min(LONGEST) as usize;
-        let hulls = vec![in alloc; [zero; 4]; count]?;
-        let choices = vec![in alloc; [Choice::Both; 4]; count]?;
-        Ok(Rows { hulls, choices })
+    // No rows.
+    pub(crate) fn new(alloc: Global) -> Rows {
+        Rows {
+            hulls: Vec::new(alloc),
+            choices: Vec::new(alloc),
+            marks: Vec::new(alloc),
+        }
     }
 
-    // For how many steps there are rows.
+    // Makes rows for a list of so many steps, where there are not as many yet. AllocError: there is no
+    // memory for them.
     #[inline]
-    pub(crate) fn room(&self) -> usize
-        ensures { result ≡ length self.now }
+    pub(crate) fn make_room(&mut self, len: usize) -> Result<(), AllocError>
+        ensures { OnOk result (len ≤ length self.new) }
     {
-        self.choices.len()
+        if self.choices.len() < len {
+            let zero = Span::new(Fx::from_raw(0), Fx::from_raw(0));
+            self.hulls.resize(len, [zero; 4])?;
+            self.marks.resize(len, 0)?;
+            self.choices.resize(len, ChoiceRow::both())?;
+        }
+        Ok(())
     }
 
     // What tracing a list over L boxes at once tells of each, put behind some outcomes. The list is
@@ -94,9 +103,10 @@ impl Rows {
         ensures counted { CountsHulls (L * length (list_at lists.old at)) tally.old tally.new }
     {
         let regions = regions_of::<L>(places, asked);
-        let rows = self.choices.as_mut_slice();
+        let (rows, marks) = (self.choices.as_mut_slice(), self.marks.as_mut_slice());
         let halves = trace_halves(&lists.list(at), &regions, &mut self.hulls, rows, tally);
-        push_outcomes(lists, at, asked, &halves, rows, outcomes)
+        mark_shortened(lists, at, asked, &halves, rows, marks);
+        push_outcomes(lists, at, asked, &halves, rows, marks, outcomes)
     }
 }
 
@@ -120,6 +130,53 @@ fn regions_of<const L: usize>(places: &Places, asked: &[AskedBox]) -> [Region; L
     regions
 }
 
+// Marks the needed steps of a list, in the lane of each box that hands on a shorter one.
+#[inline]
+fn mark_shortened<const L: usize>(
+    lists: &Lists,
+    at: usize,
+    asked: &[AskedBox],
+    halves: &Halves<L>,
+    rows: &[ChoiceRow],
+    marks: &mut [u8],
+)
+    requires lanes { L ≤ 4 }
+    requires boxes { length asked.now ≡ L }
+    requires among { at < length lists.now }
+    requires rows { length (list_at lists.now at) ≤ length rows.now }
+    requires room { length (list_at lists.now at) ≤ length marks.old }
+    requires only { (l : ℕ) → l < L → AreChoices (list_at lists.now at)
+        (take (length (list_at lists.now at)) (lane l rows.now)) }
+    ensures { (l : ℕ) → l < L
+        → is_shortened asked.now halves.now.hulls halves.now.chosen l ≡ true
+        → AreMarks l (list_at lists.now at)
+        (take (length (list_at lists.now at)) (lane l rows.now)) marks.new }
+{
+    let lanes = shortened(asked, halves);
+    if lanes != 0 {
+        let list = lists.list(at);
+        mark_lanes(&list, &rows[..list.len() as usize], lanes, marks);
+    }
+}
+
+// The lanes of the boxes that hand on a shorter list: those that stay open, where some step chooses an
+// operand.
+#[inline]
+fn shortened<const L: usize>(asked: &[AskedBox], halves: &Halves<L>) -> u8
+    requires lanes { L ≤ 4 }
+    requires boxes { length asked.now ≡ L }
+    ensures within { (l : ℕ) → l < L
+        → has_bit result l ≡ is_shortened asked.now halves.now.hulls halves.now.chosen l }
+    ensures others { (l : ℕ) → L ≤ l → has_bit result l ≡ false }
+{
+    let mut lanes = 0;
+    for l in 0..L {
+        let told = held_open(decided(halves.hulls[l]), asked[l].held);
+        lanes = with_bit(lanes, l, told.is_none() && halves.chosen[l]);
+    }
+    lanes
+}
+
 // Adds what the hulls of a list tell, each with the choices in its lane of the rows. AllocError:
 // there is no memory for a shorter list.
 #[inline]
@@ -128,10 +185,16 @@ fn push_outcomes<const L: usize>(
     at: usize,
     asked: &[AskedBox],
     halves: &Halves<L>,
-    rows: &[[Choice; 4]],
+    rows: &[ChoiceRow],
+    marks: &[u8],
     outcomes: &mut ArrayVec<Outcome<usize>, 8>,
 ) -> Result<(), AllocError>
     requires lanes { L ≤ 4 }
+    requires marked { length (list_at lists.old at) ≤ length marks.now }
+    requires marks { (l : ℕ) → l < L
+        → is_shortened asked.now halves.now.hulls halves.now.chosen l ≡ true
+        → AreMarks l (list_at lists.old at)
+        (take (length (list_at lists.old at)) (lane l rows.now)) marks.now }
     requires among { at < length lists.old }
     requires whole { IsWhole (list_at lists.old at) }
     requires boxes { length asked.now ≡ L }
@@ -152,7 +215,7 @@ fn push_outcomes<const L: usize>(
     for l in 0..L {
         let told = held_open(decided(halves.hulls[l]), asked[l].held);
         let chosen = halves.chosen[l];
-        let outcome = outcome_in_lane(lists, at, told, chosen, rows, l)?;
+        let outcome = outcome_in_lane(lists, at, told, chosen, rows, marks, l)?;
         outcomes.push(outcome);
     }
     Ok(())
@@ -178,10 +241,14 @@ fn outcome_in_lane(
     at: usize,
     told: Option<bool>,
     chosen: bool,
-    rows: &[[Choice; 4]],
+    rows: &[ChoiceRow],
+    marks: &[u8],
     l: usize,
 ) -> Result<Outcome<usize>, AllocError>
     requires lane { l < 4 }
+    requires marked { length (list_at lists.old at) ≤ length marks.now }
+    requires marks { told ≡ None → chosen ≡ true → AreMarks l (list_at lists.old at)
+        (take (length (list_at lists.old at)) (lane l rows.now)) marks.now }
     requires among { at < length lists.old }
     requires rows { length (list_at lists.old at) ≤ length rows.now }
     requires only { AreChoices (list_at lists.old at)
@@ -199,7 +266,7 @@ fn outcome_in_lane(
         Some(false) => Ok(Outcome::Outside),
         None => {
             let live = if chosen {
-                hand_on_lane(lists, at, rows, l)?
+                hand_on_lane(lists, at, rows, marks, l)?
             } else {
                 hand_on_whole(lists, at, rows, l)
             };
@@ -208,15 +275,19 @@ fn outcome_in_lane(
     }
 }
 
-// What is live of a list under the choices in one lane of its rows, put behind the other lists. Gives
-// its number. AllocError: there is no memory for it.
+// What is live of a list under the choices in one lane of its rows, where it is marked, put behind the
+// other lists. Gives its number. AllocError: there is no memory for it.
 fn hand_on_lane(
     lists: &mut Lists,
     at: usize,
-    rows: &[[Choice; 4]],
+    rows: &[ChoiceRow],
+    marks: &[u8],
     l: usize,
 ) -> Result<usize, AllocError>
     requires lane { l < 4 }
+    requires marked { length (list_at lists.old at) ≤ length marks.now }
+    requires marks { AreMarks l (list_at lists.old at)
+        (take (length (list_at lists.old at)) (lane l rows.now)) marks.now }
     requires among { at < length lists.old }
     requires rows { length (list_at lists.old at) ≤ length rows.now }
     requires only { AreChoices (list_at lists.old at)
@@ -234,13 +305,13 @@ fn hand_on_lane(
         rows: &rows[..len],
         lane: l,
     };
-    lists.push_live(at, choices)?;
+    lists.push_marked(at, choices, marks, l)?;
     Ok(live)
 }
 
 // What is live of a list where no step chooses an operand: the list itself.
 #[inline]
-fn hand_on_whole(lists: &Lists, at: usize, rows: &[[Choice; 4]], l: usize) -> usize
+fn hand_on_whole(lists: &Lists, at: usize, rows: &[ChoiceRow], l: usize) -> usize
     requires among { at < length lists.now }
     requires whole { IsWhole (list_at lists.now at) }
     requires chosen { ChoosesNone (take (length (list_at lists.now at)) (lane l rows.now)) }

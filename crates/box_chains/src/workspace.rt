@@ -14,7 +14,7 @@ ghost use Rattle.box_chains.specs.Outcomes.{AreFirst, AreInRoot, AreSeen, HandsO
 ghost use Rattle.box_chains.specs.declared.outcome.Outcome.{Outcome};
 ghost use Rattle.box_chains.specs.Tallied.{CountsAtMost};
 
-use crate::rows::{Rows, held_open};
+use crate::rows::{LONGEST, Rows, held_open};
 use crate::{AskedBox, Outcome, Places};
 use arrayvec::ArrayVec;
 use choice_trace::{trace_steps, traces_are_right};
@@ -50,10 +50,27 @@ impl Workspace {
     pub fn new(alloc: Global, len: u32) -> Result<Workspace, AllocError>
         ensures { IfOk result (λ room. length room ≡ len) }
     {
+        let none = Workspace {
+            hulls: Vec::new(alloc),
+            choices: Vec::new(alloc),
+            rows: Rows::new(alloc),
+        };
+        none.restart(len)
+    }
+
+    /// The same in memory that there is already. AllocError: there is not enough of it, and it is given
+    /// up.
+    pub fn restart(self, len: u32) -> Result<Workspace, AllocError>
+        ensures { IfOk result (λ room. length room ≡ len) }
+    {
+        let Workspace {
+            mut hulls,
+            mut choices,
+            rows,
+        } = self;
         let zero = Span::new(Fx::from_raw(0), Fx::from_raw(0));
-        let hulls = vec![in alloc; zero; len as usize]?;
-        let choices = vec![in alloc; Choice::Both; len as usize]?;
-        let rows = Rows::new(alloc, len)?;
+        hulls.resize(len as usize, zero)?;
+        choices.resize(len as usize, Choice::Both)?;
         Ok(Workspace {
             hulls,
             choices,
@@ -216,20 +233,23 @@ impl Workspace {
         ensures at_most { OnErr result (CountsAtMost 0
             (length asked.now * length (list_at lists.old at)) tally.old tally.new) }
     {
-        let fits = lists.list(at).len() as usize <= self.rows.room();
-        if fits && asked.len() >= 4 {
+        hull_counts();
+        let len = lists.list(at).len() as usize;
+        if len > LONGEST || asked.len() < 2 {
+            outcomes.push(self.trace_asked_box(lists, at, places, asked[0], tally)?);
+            return Ok(1);
+        }
+        self.rows.make_room(len)?;
+        if asked.len() >= 4 {
             let four = &asked[..4];
             self.rows
                 .trace::<4>(lists, at, places, four, outcomes, tally)?;
             Ok(4)
-        } else if fits && asked.len() >= 2 {
+        } else {
             let two = &asked[..2];
             self.rows
                 .trace::<2>(lists, at, places, two, outcomes, tally)?;
             Ok(2)
-        } else {
-            outcomes.push(self.trace_asked_box(lists, at, places, asked[0], tally)?);
-            Ok(1)
         }
     }
 

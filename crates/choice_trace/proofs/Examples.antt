@@ -8,7 +8,6 @@ use Rattle.interval_ops.specs.Spans.{all_numbers}
 use Rattle.interval_ops.specs.declared.choice.Choice.TheVariants.{Left, Right, Both}
 use Rattle.interval_ops.specs.declared.region.Region.{Region}
 use Rattle.live_clauses.specs.declared.step.Step.{Step}
-use Rattle.live_clauses.specs.Choices.{lane}
 use Rattle.choice_trace.specs.Halves.{flag_in, region_in}
 use Rattle.choice_trace.specs.Hulls.{choices_over, tape_hull}
 use Rattle.choice_trace.specs.Meaning.{StandForPoint, StandsForResults}
@@ -64,13 +63,6 @@ lesser_choices = refl
 
 lesser_hull : tape_hull (region (pos 0) (pos 1)) lesser ≡ between (pos 8589934592) (pos 12884901888)
 lesser_hull = refl
-
--- of two rows of choices, the second lane and one that the first row lacks
-second_lane : lane 1 ((Left ∷ Right ∷ []) ∷ (Both ∷ Left ∷ Right ∷ []) ∷ []) ≡ Right ∷ Left ∷ []
-second_lane = refl
-
-third_lane : lane 2 ((Left ∷ Right ∷ []) ∷ (Both ∷ Left ∷ Right ∷ []) ∷ []) ≡ Both ∷ Right ∷ []
-third_lane = refl
 
 -- the second of two regions, and what stands behind them
 second_region : region_in (region (pos 0) (pos 1) ∷ region (pos 2) (pos 3) ∷ []) 1 ≡ region (pos 2) (pos 3)

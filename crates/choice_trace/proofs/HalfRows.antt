@@ -1,13 +1,14 @@
 -- Rows that are written lane by lane, and what is so of the lanes of a list's rows then.
-use Rattle.std.proofs.Common.{◌≡◌, ℕ, ◌+◌, ◌-◌, ◌<◌, ◌≤◌, ◌||◌, ◌↔◌, Bool, true, false, List, [], ◌++◌, Some, slice_get, ap, refl, below_more, get_or, get_or-set_other, get_or-set_same, length, set, subst, sym, take, ◌∙◌, arith}
+use Rattle.std.proofs.Common.{◌≡◌, ℕ, ◌+◌, ◌-◌, ◌<◌, ◌≤◌, ◌||◌, ◌↔◌, Bool, true, false, List, [], ◌++◌, Some, slice_get, ap, refl, below_more, get_or, get_or-set_other, get_or-set_same, length, length-set, set, subst, sym, take, ◌∙◌, arith}
 use Rattle.std.proofs.lemmas.List.{ext_get_or, get_or-map, get_or-take, get_or_default, get_or_read, length-map, length-take-le, set-append_right}
 use Rattle.interval_ops.specs.Choices.{choice_of}
 use Rattle.interval_ops.specs.Spans.{Interval, all_numbers}
 use Rattle.interval_ops.specs.declared.choice.Choice.{Choice}
 use Rattle.interval_ops.specs.declared.choice.Choice.TheVariants.{Left, Right, Both}
 use Rattle.interval_ops.specs.declared.region.Region.{Region}
-use Rattle.live_clauses.specs.Choices.{choice_at, lane}
+use Rattle.live_clauses.specs.Choices.{choice_at, choice_in, lane}
 use Rattle.live_clauses.specs.Steps.{AreSteps}
+use Rattle.live_clauses.specs.declared.choice_row.ChoiceRow.{ChoiceRow}
 use Rattle.live_clauses.specs.declared.step.Step.{Step}
 use Rattle.choice_trace.specs.Halves.{is_made, row_in}
 use Rattle.choice_trace.specs.Hulls.{choices_over, hull_at, hull_in, step_hull}
@@ -100,13 +101,21 @@ flag_more old new choices at choice is here both = (
   λ all. is ∙ ap (λ flag. flag || is_made choice) (both.1 (λ place h. all place (omega (arith, h)))) ∙ ap is_made (here ∙ all at (omega arith)),
 )
 
--- the choices of a lane are the list's
-pub lane_traced : (rows : List (List Choice)) (all : List Choice) (n l : ℕ) → n ≤ length rows → length all ≡ n
-    → ((place : ℕ) → place < n → choice_at (row_in rows place) l ≡ choice_at all place) → take n (lane l rows) ≡ all
-lane_traced rows all n l room len each =
-    let kept : length (take n (lane l rows)) ≡ n = length-take-le n (lane l rows) (omega (arith, length-map rows (λ row. choice_at row l))) in
-    ext_get_or Both (take n (lane l rows)) all (kept ∙ sym len)
+-- a row that is written is one choice more in each lane
+pub lane_written : (rows : List ChoiceRow) (all : List Choice) (at l : ℕ) (new : ChoiceRow) → at < length rows → ((place : ℕ) → place < at → choice_at (lane l rows) place ≡ choice_at all place)
+    → choice_in new l ≡ choice_at all at → (place : ℕ) → place < at + 1 → choice_at (lane l (set rows at new)) place ≡ choice_at all place
+lane_written rows all at l new room below here =
+    let f : ChoiceRow → Choice = λ row. choice_in row l in
+    below_more (λ place. choice_at (lane l (set rows at new)) place ≡ choice_at all place) at
     (λ place h.
-    get_or-take n (lane l rows) place Both (omega (arith, h, kept))
-    ∙ get_or-map (λ (row : List Choice). choice_at row l) rows place [] Both (omega (arith, h, kept))
-    ∙ each place (omega (arith, h, kept)))
+    get_or-map f (set rows at new) place new Both (omega (arith, h, room, length-set rows at new)) ∙ ap f (get_or-set_other rows at place new new (λ e. omega (arith, e, h)))
+    ∙ sym (get_or-map f rows place new Both (omega (arith, h, room))) ∙ below place h)
+    (get_or-map f (set rows at new) at new Both (omega (arith, room, length-set rows at new)) ∙ ap f (get_or-set_same rows at new new room) ∙ here)
+
+-- the choices of a lane are the list's
+pub lane_traced : (rows : List ChoiceRow) (all : List Choice) (n l : ℕ) → n ≤ length rows → length all ≡ n
+    → ((place : ℕ) → place < n → choice_at (lane l rows) place ≡ choice_at all place) → take n (lane l rows) ≡ all
+lane_traced rows all n l room len each =
+    let kept : length (take n (lane l rows)) ≡ n = length-take-le n (lane l rows) (omega (arith, length-map rows (λ row. choice_in row l))) in
+    ext_get_or Both (take n (lane l rows)) all (kept ∙ sym len)
+    (λ place h. get_or-take n (lane l rows) place Both (omega (arith, h, kept)) ∙ each place (omega (arith, h, kept)))

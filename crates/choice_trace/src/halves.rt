@@ -5,7 +5,7 @@ ghost use Rattle.fixed_ops.specs.Points.{Point};
 ghost use Rattle.interval_ops.specs.Choices.{choice_of};
 ghost use Rattle.interval_ops.specs.HullCounts.{CountsHulls};
 ghost use Rattle.interval_ops.specs.Hulls.{hull_of};
-ghost use Rattle.live_clauses.specs.Choices.{AreChoices, AreRight, choice_at, lane};
+ghost use Rattle.live_clauses.specs.Choices.{AreChoices, AreRight, choice_at, choice_in, lane};
 ghost use Rattle.choice_trace.specs.Halves.{is_made, flag_in, region_in, region_of, row_in};
 ghost use Rattle.choice_trace.specs.Hulls.{IsIn, choices_over, hull_in, step_hull, tape_hull};
 ghost use Rattle.choice_trace.specs.Laws.{AreRanges};
@@ -14,7 +14,7 @@ use crate::Inputs;
 use crate::laws::layers_hold;
 use fixed_ops::{Fx, Op, Tally};
 use interval_ops::{Choice, Region, Span, choose, hull_counts, span_apply};
-use live_clauses::{Step, Steps};
+use live_clauses::{ChoiceRow, Step, Steps};
 
 /// What a list is over some regions, one lane for each.
 #[derive(Clone, Copy, Debug, PartialEq, Eq)]
@@ -33,7 +33,7 @@ pub fn trace_halves<const L: usize>(
     list: &Steps<'_>,
     regions: &[Region; L],
     regs: &mut [[Span; 4]],
-    choices: &mut [[Choice; 4]],
+    choices: &mut [ChoiceRow],
     tally: &mut Tally,
 ) -> Halves<L>
     requires lanes { L ≤ 4 }
@@ -133,7 +133,7 @@ fn trace_step<const L: usize>(
     inputs: &Inputs<[Span; 4]>,
     earlier: &[[Span; 4]],
     hulls: &mut [Span; 4],
-    choices: &mut [Choice; 4],
+    choices: &mut ChoiceRow,
     chosen: &mut [bool; L],
     work: &mut Tally,
 )
@@ -143,16 +143,15 @@ fn trace_step<const L: usize>(
     ensures hulls { (l : ℕ) → l < L → hull_in hulls.new l
         ≡ step_hull step.now.op (region_of inputs.now l) step.now.value
         (hull_in (row_in earlier.now step.now.a) l) (hull_in (row_in earlier.now step.now.b) l) }
-    ensures choices { (l : ℕ) → l < L → choice_at choices.new l
+    ensures choices { (l : ℕ) → l < L → choice_in choices.new l
         ≡ choice_of step.now.op
         (hull_in (row_in earlier.now step.now.a) l) (hull_in (row_in earlier.now step.now.b) l) }
     ensures chosen { (l : ℕ) → l < L → flag_in chosen.new l
-        ≡ (flag_in chosen.old l || is_made (choice_at choices.new l)) }
+        ≡ (flag_in chosen.old l || is_made (choice_in choices.new l)) }
     ensures counted { CountsHulls L work.old work.new }
 {
     let (a, b) = (step.a as usize, step.b as usize);
-    let none = [Choice::Both; 4];
-    *choices = none;
+    *choices = ChoiceRow::both();
     match step.op {
         Op::X => hull_row::<L>(Op::X, &inputs.x, &inputs.x, hulls, work),
         Op::Y => hull_row::<L>(Op::Y, &inputs.y, &inputs.y, hulls, work),
@@ -171,24 +170,12 @@ fn trace_step<const L: usize>(
         Op::Sub => hull_row::<L>(Op::Sub, &earlier[a], &earlier[b], hulls, work),
         Op::Mul => hull_row::<L>(Op::Mul, &earlier[a], &earlier[b], hulls, work),
         Op::Div => hull_row::<L>(Op::Div, &earlier[a], &earlier[b], hulls, work),
-        Op::Min => chosen_row(
-            Op::Min,
-            &earlier[a],
-            &earlier[b],
-            hulls,
-            choices,
-            chosen,
-            work,
-        ),
-        Op::Max => chosen_row(
-            Op::Max,
-            &earlier[a],
-            &earlier[b],
-            hulls,
-            choices,
-            chosen,
-            work,
-        ),
+        Op::Min => {
+            *choices = chosen_row(Op::Min, &earlier[a], &earlier[b], hulls, chosen, work);
+        }
+        Op::Max => {
+            *choices = chosen_row(Op::Max, &earlier[a], &earlier[b], hulls, chosen, work);
+        }
     }
 }
 
@@ -212,34 +199,36 @@ fn hull_row<const L: usize>(
     }
 }
 
-// The same of a minimum or a maximum, with the choices, and the flags of the lanes where one is made.
+// The same of a minimum or a maximum. Gives the choices, and sets the flags of the lanes where one is
+// made.
 #[inline(always)]
 fn chosen_row<const L: usize>(
     op: Op,
     a: &[Span; 4],
     b: &[Span; 4],
     hulls: &mut [Span; 4],
-    choices: &mut [Choice; 4],
     chosen: &mut [bool; L],
     work: &mut Tally,
-)
+) -> ChoiceRow
     requires { L ≤ 4 }
     ensures hulls { (l : ℕ) → l < L
         → hull_in hulls.new l ≡ hull_of op (hull_in a.now l) (hull_in b.now l) }
     ensures choices { (l : ℕ) → l < L
-        → choice_at choices.new l ≡ choice_of op (hull_in a.now l) (hull_in b.now l) }
+        → choice_in result l ≡ choice_of op (hull_in a.now l) (hull_in b.now l) }
     ensures chosen { (l : ℕ) → l < L → flag_in chosen.new l
         ≡ (flag_in chosen.old l || is_made (choice_of op (hull_in a.now l) (hull_in b.now l))) }
     ensures counted { CountsHulls L work.old work.new }
 {
     hull_counts();
+    let mut row = ChoiceRow::both();
     for l in 0..L {
         let (left, right) = (a[l], b[l]);
         let choice = choose(op, left, right);
-        choices[l] = choice;
+        row = row.with(l, choice);
         chosen[l] |= made(choice);
         hulls[l] = span_apply(op, left, right, work);
     }
+    row
 }
 
 // Whether an operand is chosen.

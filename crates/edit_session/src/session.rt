@@ -1,21 +1,22 @@
 // A model that is edited and drawn.
-ghost use Rattle.std.specs.Prelude.{◌≡◌, length, Ok, IfErr, IfOk, OnErr, OnOk};
+ghost use Rattle.std.specs.Prelude.{◌≡◌, length, None, Ok, IfErr, IfOk, OnErr, OnOk};
 ghost use Rattle.clause_reader.specs.ModelText.{model_text};
 ghost use Rattle.solid_model.specs.Edits.{edited, MakesClause};
 ghost use Rattle.solid_model.specs.Refusals.{RefusesAs, WantsMemoryFor};
 ghost use Rattle.view_places.specs.Window.{FitsHeight, FitsMesh};
 ghost use Rattle.model_frames.specs.Frames.{CanDraw};
 ghost use Rattle.model_frames.specs.Heights.{heights_of, plain_depths};
-ghost use Rattle.model_frames.specs.Images.{image_of, plain_points};
+ghost use Rattle.model_frames.specs.Images.{drawn_text, image_of, plain_points};
 ghost use Rattle.model_frames.specs.Meshes.{mesh_text, plain_grid};
 ghost use Rattle.model_frames.specs.Work.{CountsWithin, CountsWork, PointsRiseAtMost, height_work, image_work, mesh_work};
+ghost use Rattle.quad_descent.specs.Rows.{AreRows, rows_at};
 ghost use Rattle.edit_session.specs.Sessions.{after_frame, after_refusal, session_part, started, with_clauses};
 
 use clause_reader::write_model;
 use fixed_ops::Tally;
 use live_clauses::RootRoom;
-use model_frames::{Frame, frames_add_up, render_after};
-use quad_descent::QuadTree;
+use model_frames::{Frame, frames_add_up, image_text, redraw_image};
+use quad_descent::{QuadTree, RowSource, rows};
 use solid_model::{Edit, EditFault, Model};
 use std::alloc::{AllocError, Global};
 use view_places::View;
@@ -84,13 +85,37 @@ impl Session {
         self.model.apply(edit)
     }
 
-    /// The image of the model over a view, as PGM text. What is counted is the work of those boxes
-    /// alone that the last image did not have with an equal list, where one of this very view stands,
-    /// and else the work of a fresh image. It stands as the last image then, with that cost.
-    /// AllocError: memory was refused, after some of that work perhaps. No last image stands then, and
-    /// all else stands.
+    /// The image of the model over a view, as PGM text. It is drawn as `draw_raster` does. AllocError:
+    /// memory was refused, after some of its work perhaps. No last image stands then, and all else
+    /// stands.
     pub fn render(&mut self, view: &View, tally: &mut Tally) -> Result<Vec<u8>, AllocError>
         ensures image { IfOk result (λ image. image.items ≡ image_of view.now self.old.clauses) }
+        ensures drawn { OnOk result (self.new ≡ after_frame self.old (Frame.Render view.now)) }
+        ensures refused { OnErr result (self.new ≡ after_refusal self.old (Frame.Render view.now)) }
+        ensures counted { OnOk result (CountsWork tally.old tally.new
+            (image_work self.old.image view.now self.old.clauses)) }
+        ensures at_most { CountsWithin tally.old tally.new
+            (image_work self.old.image view.now self.old.clauses) }
+        ensures plain { PointsRiseAtMost tally.old tally.new
+            (plain_points view.now (length self.old.clauses)) }
+    {
+        let (points, spans) = self.cost();
+        self.draw_raster(view, tally)?;
+        let text = self.last_text();
+        if text.is_err() {
+            self.give_up(points, spans);
+        }
+        text
+    }
+
+    /// Draws the image of the model over a view, without its bytes: `raster_rows` paints its rows. What
+    /// is counted is the work of those boxes alone that the last image did not have with an equal list,
+    /// where one of this very view stands, and else the work of a fresh image. It stands as the last
+    /// image then, with that cost. AllocError: memory was refused, after some of that work perhaps. No
+    /// last image stands then, and all else stands.
+    pub fn draw_raster(&mut self, view: &View, tally: &mut Tally) -> Result<(), AllocError>
+        ensures text { OnOk result
+            (drawn_text self.new.image ≡ image_of view.now self.old.clauses) }
         ensures drawn { OnOk result (self.new ≡ after_frame self.old (Frame.Render view.now)) }
         ensures refused { OnErr result (self.new ≡ after_refusal self.old (Frame.Render view.now)) }
         ensures counted { OnOk result (CountsWork tally.old tally.new
@@ -104,7 +129,7 @@ impl Session {
         let before = self.image.take();
         // The caller's tally may stand at its end, so the work is counted apart first.
         let mut own = Tally::new();
-        let drawn = render_after(
+        let drawn = redraw_image(
             self.alloc,
             &mut self.room,
             &self.model,
@@ -113,11 +138,44 @@ impl Session {
             &mut own,
         );
         tally.join(&own);
-        let (tree, image) = drawn?;
+        let tree = drawn?;
         self.points = own.points();
         self.spans = own.spans();
         self.image = Some(tree);
-        Ok(image)
+        Ok(())
+    }
+
+    /// Paints the rows of the last image from `row` on, as many as there are places for. They are those
+    /// of the model that stood when it was drawn, whatever was edited since.
+    pub fn raster_rows(&self, row: u32, pixels: &mut [u8])
+        requires { AreRows self.now.image row (length pixels.old) }
+        ensures { pixels.new ≡ rows_at self.now.image row (length pixels.old) }
+    {
+        if let Some(tree) = &self.image {
+            rows(tree, row, pixels);
+        }
+    }
+
+    // The bytes of the last image, and none where none stands. AllocError: memory was refused.
+    fn last_text(&self) -> Result<Vec<u8>, AllocError>
+        ensures { IfOk result (λ text. text.items ≡ drawn_text self.now.image) }
+    {
+        match &self.image {
+            Some(tree) => image_text(self.alloc, tree.picture()),
+            None => Ok(Vec::new(self.alloc)),
+        }
+    }
+
+    // Gives up the last image, with its cost, before which this one stood.
+    fn give_up(&mut self, points: u64, spans: u64)
+        ensures { self.new ≡ record self.old {
+          image = None;
+          cost = record { points = points; spans = spans };
+        } }
+    {
+        self.image = None;
+        self.points = points;
+        self.spans = spans;
     }
 
     /// The height map of the model over a view, as PGM text. The work of the samples that do not lie
@@ -190,5 +248,13 @@ impl Session {
         ensures spans { result.1 ≡ self.now.cost.spans }
     {
         (self.points, self.spans)
+    }
+}
+
+impl RowSource for Session {
+    ghost image = { λ session. session.image };
+
+    fn paint(&self, row: u32, pixels: &mut [u8]) {
+        self.raster_rows(row, pixels);
     }
 }

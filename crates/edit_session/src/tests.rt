@@ -1,13 +1,16 @@
 // Models that are edited, the frames of the model then standing, and what its images take, worked out
 // by hand.
-ghost use Rattle.std.specs.Prelude.{◌<◌, ◌≤◌, ◌^◌, length};
+ghost use Rattle.std.specs.Prelude.{◌≡◌, ◌<◌, ◌≤◌, ◌^◌, length};
+ghost use Rattle.quad_descent.specs.Rows.{IsOver};
 ghost use Rattle.view_places.specs.Window.{FitsHeight, FitsMesh};
 
 use crate::Session;
 use clause_reader::{read_form, read_model};
 use fixed_ops::Tally;
+use model_frames::draw_image;
+use quad_descent::image;
 use solid_model::{Edit, EditFault, Name};
-use std::alloc::Global;
+use std::alloc::{AllocError, Global};
 use std::process::Abort;
 use std::test::Fail;
 use view_places::View;
@@ -44,26 +47,45 @@ fn view(w: u8, h: u8) -> View
     }
 }
 
-#[test]
-fn draws_the_model_as_it_stands(rt: HostRuntime) -> Result<(), Fail> {
-    let alloc = rt.alloc();
-    let mut session = Session::start(alloc, read_model(alloc, b"f var-x\n")?);
-    let mut tally = Tally::new();
+// Turns the plane, and draws it.
+fn assert_turned(
+    rt: &impl Abort,
+    alloc: Global,
+    session: &mut Session,
+    tally: &mut Tally,
+) -> Result<(), Fail> {
     let turn = Edit::Set(Name::new(alloc, b"f")?, read_form(alloc, b"var-y")?);
     assert!(rt; session.edit(turn) == Ok(()));
     assert!(rt; session.cost() == (0, 0));
-    assert!(rt; session.render(&view(3, 3), &mut tally)?.as_slice() == BOTTOM);
+    assert!(rt; session.render(&view(3, 3), tally)?.as_slice() == BOTTOM);
     assert!(rt; session.cost() == (9, 1));
-    // a refused edit leaves the plane, and like all other frames it leaves the image and its cost
+    Ok(())
+}
+
+// A refused edit leaves the plane, and like all other frames it leaves the image and its cost.
+fn assert_stays(
+    rt: &impl Abort,
+    alloc: Global,
+    session: &mut Session,
+    tally: &mut Tally,
+) -> Result<(), Fail> {
     let cut = Edit::Cut(Name::new(alloc, b"f")?);
     assert!(rt; session.edit(cut) == Err(EditFault::LastClause));
-    assert!(rt; session.height(&view(3, 3), &mut tally)?.as_slice() == BOTTOM_TOPS);
-    assert!(rt; session.mesh(&view(3, 3), &mut tally)?.as_slice() == NO_MESH);
+    assert!(rt; session.height(&view(3, 3), tally)?.as_slice() == BOTTOM_TOPS);
+    assert!(rt; session.mesh(&view(3, 3), tally)?.as_slice() == NO_MESH);
     assert!(rt; session.text()?.as_slice() == b"f var-y\n".as_slice());
     assert!(rt; session.cost() == (9, 1));
-    assert!(rt; session.render(&view(3, 3), &mut tally)?.as_slice() == BOTTOM);
+    assert!(rt; session.render(&view(3, 3), tally)?.as_slice() == BOTTOM);
     assert!(rt; session.cost() == (0, 0));
     Ok(())
+}
+
+#[test]
+fn draws_the_model_as_it_stands(rt: HostRuntime) -> Result<(), Fail> {
+    let mut session = Session::start(rt.alloc(), read_model(rt.alloc(), b"f var-x\n")?);
+    let mut tally = Tally::new();
+    assert_turned(&rt, rt.alloc(), &mut session, &mut tally)?;
+    assert_stays(&rt, rt.alloc(), &mut session, &mut tally)
 }
 
 // An edit, by its names and the form that it gives, or none.
@@ -209,4 +231,139 @@ fn an_image_takes_what_changed_since_the_last(rt: HostRuntime) -> Result<(), Fai
         assert_costs(&rt, rt.alloc(), model, rows, &mut full)?;
     }
     Ok(())
+}
+
+// A disc about the middle.
+const DISC: &[u8] =
+    b"a var-x\nb var-y\nc square a\nd square b\ne add c d\nr const 0.5\nf sub e r\n";
+
+// The columns and rows of images, and how many rows are painted together.
+const SIDES: [u32; 4] = [1, 9, 17, 1000];
+
+const TOGETHER: [u32; 4] = [1, 2, 7, 16];
+
+// Paints rows of the last image of a session, which are those of these pixels.
+#[tactic(auto, using(crate::proofs::Asked::are_rows))]
+fn assert_rows(
+    rt: &impl Abort,
+    session: &Session,
+    view: &View,
+    row: u32,
+    band: &mut [u8],
+    pixels: &[u8],
+)
+    requires { IsOver session.now.image view.now }
+{
+    let columns = view.w as usize;
+    assert!(rt; band.len() % columns == 0);
+    assert!(rt; row as usize + band.len() / columns <= view.h as usize);
+    session.raster_rows(row, band);
+    let front = row as usize * columns;
+    match pixels.get(front..) {
+        Some(rest) => assert!(rt; rest.starts_with(band)),
+        None => assert!(rt; false, "more rows than the image has"),
+    }
+}
+
+// Paints the last image of a session, so many rows at a time.
+fn assert_bands(
+    rt: &impl Abort,
+    alloc: Global,
+    session: &Session,
+    view: &View,
+    together: u32,
+    pixels: &[u8],
+) -> Result<(), AllocError>
+    requires over { IsOver session.now.image view.now }
+    requires some { 0 < together }
+{
+    for row in 0..view.h {
+        if row % together == 0 {
+            let rows = together.min(view.h - row);
+            let mut band = vec![in alloc; 1; rows as usize * view.w as usize]?;
+            assert_rows(rt, session, view, row, &mut band, pixels);
+        }
+    }
+    Ok(())
+}
+
+// Paints the last image of a session in bands of several heights.
+fn assert_painted(
+    rt: &impl Abort,
+    alloc: Global,
+    session: &Session,
+    view: &View,
+    pixels: &[u8],
+) -> Result<(), AllocError>
+    requires { IsOver session.now.image view.now }
+{
+    for together in TOGETHER {
+        assert!(rt; 0 < together);
+        assert_bands(rt, alloc, session, view, together, pixels)?;
+    }
+    Ok(())
+}
+
+// Draws an image of the disc, and paints it in bands.
+#[tactic(auto, using(crate::proofs::Asked::over_drawn))]
+fn assert_disc(
+    rt: &impl Abort,
+    alloc: Global,
+    session: &mut Session,
+    view: &View,
+) -> Result<(), Fail> {
+    let mut tally = Tally::new();
+    let picture = draw_image(alloc, &read_model(alloc, DISC)?, view, &mut tally)?;
+    let grid = image(alloc, &picture)?;
+    let text = session.render(view, &mut tally)?;
+    assert!(rt; text.as_slice().ends_with(&grid.pixels));
+    assert_painted(rt, alloc, session, view, &grid.pixels)?;
+    Ok(())
+}
+
+#[test]
+fn rows_are_the_same_however_many_are_asked_for(rt: HostRuntime) -> Result<(), Fail> {
+    let mut session = Session::start(rt.alloc(), read_model(rt.alloc(), DISC)?);
+    for w in SIDES {
+        for h in SIDES {
+            assert!(rt; 0 < w && w <= 1000 && 0 < h && h <= 1000);
+            let view = View { w, h, ..view(1, 1) };
+            assert_disc(&rt, rt.alloc(), &mut session, &view)?;
+        }
+    }
+    Ok(())
+}
+
+// Turns the plane, and draws what is no image.
+fn turn(alloc: Global, session: &mut Session, tally: &mut Tally) -> Result<(), Fail>
+    ensures { session.new.image ≡ session.old.image }
+{
+    let turned = Edit::Set(Name::new(alloc, b"f")?, read_form(alloc, b"var-x")?);
+    session.edit(turned)?;
+    session.height(&view(3, 3), tally)?;
+    session.mesh(&view(3, 3), tally)?;
+    Ok(())
+}
+
+// Draws a plane, and paints its image when it was turned.
+#[tactic(auto, using(crate::proofs::Asked::over_drawn, crate::proofs::Asked::over_kept))]
+fn assert_old(
+    rt: &impl Abort,
+    alloc: Global,
+    session: &mut Session,
+    view: &View,
+) -> Result<(), Fail> {
+    let mut tally = Tally::new();
+    session.draw_raster(view, &mut tally)?;
+    assert!(rt; session.cost() == (9, 1));
+    turn(alloc, session, &mut tally)?;
+    assert!(rt; session.cost() == (9, 1));
+    assert_painted(rt, alloc, session, view, &[0, 0, 0, 0, 0, 0, 255, 255, 255])?;
+    Ok(())
+}
+
+#[test]
+fn rows_are_those_of_the_model_that_was_drawn(rt: HostRuntime) -> Result<(), Fail> {
+    let mut session = Session::start(rt.alloc(), read_model(rt.alloc(), b"f var-y\n")?);
+    assert_old(&rt, rt.alloc(), &mut session, &view(3, 3))
 }

@@ -5,8 +5,9 @@ use Rattle.fixed_ops.specs.Raw.{IsRaw}
 use Rattle.fixed_ops.specs.declared.operation.Op.{Op}
 use Rattle.fixed_ops.specs.declared.operation.Op.TheVariants.{X, Y, Z, Neg, Sub, Min}
 use Rattle.interval_ops.specs.declared.choice.Choice.TheVariants.{Left, Right, Both}
+use Rattle.live_clauses.specs.declared.choice_row.ChoiceRow.{ChoiceRow}
 use Rattle.live_clauses.specs.declared.step.Step.{Step}
-use Rattle.live_clauses.specs.Choices.{AreChoices, AreRight}
+use Rattle.live_clauses.specs.Choices.{AreChoices, AreRight, lane}
 use Rattle.live_clauses.specs.Live.{live_of, IsWhole}
 use Rattle.live_clauses.specs.Meanings.{Meaning, MeanTheirChoices, ReadsItsOperands, meanings, tape_meaning}
 use Rattle.live_clauses.specs.Steps.{IsStepAt, IsTape, tape_value, values}
@@ -122,3 +123,13 @@ first_of = record { step = λ op constant a b. a; absent = 0 }
 reads_too_much : ReadsItsOperands first_of → ⊥
 unfolding first_of
 reads_too_much reads = let same : 0 ≡ 1 = reads.no_first X (pos 0) 0 0 1 refl in omega (arith, same)
+
+-- of two rows of choices, the second lane, and the third, in which the first row makes none
+abbrev two_rows : List ChoiceRow
+two_rows = record { left = 1; right = 2 } ∷ record { left = 2; right = 4 } ∷ []
+
+second_lane : lane 1 two_rows ≡ Right ∷ Left ∷ []
+second_lane = refl
+
+third_lane : lane 2 two_rows ≡ Both ∷ Right ∷ []
+third_lane = refl

@@ -5,6 +5,7 @@ mod Examples
 pub mod Joined
 pub mod Keeping
 pub mod Kept
+pub mod MarkTurns
 pub mod MeaningLaws
 pub mod Needs
 pub mod Numbering
@@ -12,7 +13,6 @@ pub mod Parts
 pub mod Representatives
 pub mod RootLaws
 pub mod Stored
-pub mod Turns
 pub mod ValueLaws
 pub mod Walks
 pub mod Whole

@@ -1,6 +1,6 @@
 -- One step up a list: its number is that of what stands for it, and a live step is copied with new numbers.
-use Rattle.std.proofs.Common.{ℤ, ◌≡◌, ◌≢◌, ℕ, zero, suc, ◌+◌, ◌-◌, ◌<◌, ◌≤◌, Bool, true, false, cond, ◌&&◌, ltb, ◌⊎◌, List, [], ◌∷◌, ◌++◌, length, map, take, get_or, set, slice_index, inl, inr, refl, ap, sym, subst, ◌∙◌, arith}
-use Rattle.std.proofs.lemmas.List.{length-map, get_or-set_same, get_or-set_other, take_all}
+use Rattle.std.proofs.Common.{ℤ, ◌≡◌, ◌≢◌, ℕ, suc, ◌+◌, ◌<◌, Bool, true, false, cond, ◌&&◌, ltb, ◌⊎◌, List, [], ◌∷◌, ◌++◌, length, map, take, get_or, set, slice_index, inl, inr, refl, ap, sym, ◌∙◌, arith}
+use Rattle.std.proofs.lemmas.List.{length-map, get_or-set_same, get_or-set_other}
 use Rattle.std.proofs.lemmas.Bool.{false≢true, cases_lt}
 use Rattle.std.proofs.lemmas.Bool.Decides.{Decides-ltb}
 use Rattle.fixed_ops.specs.Arity.{arity_of}
@@ -9,16 +9,14 @@ use Rattle.interval_ops.specs.declared.choice.Choice.TheVariants.{Left, Right, B
 use Rattle.live_clauses.specs.declared.packed_step.PackedStep.{PackedStep}
 use Rattle.live_clauses.specs.declared.step.Step.{Step}
 use Rattle.live_clauses.specs.Choices.{step_at, choice_at, AreChoices}
-use Rattle.live_clauses.specs.Live.{chosen, is_needed, is_both, is_kept, kept_below, new_place, renumbered, live_below, live_of}
+use Rattle.live_clauses.specs.Live.{chosen, is_needed, is_both, is_kept, kept_below, new_place, renumbered, live_below}
 use Rattle.live_clauses.specs.Marks.{AreNumbers, IsCopied}
 use Rattle.live_clauses.specs.Packed.{first_of, is_constant, unpacked}
 use Rattle.live_clauses.specs.Steps.{IsTape}
 use Rattle.live_clauses.proofs.Representatives.{choice_cases, chosen_left, chosen_right, chosen_both, step_at-stands, choosing_operands, left_chooses, right_chooses, representative_left, representative_right, representative_both}
 use Rattle.live_clauses.proofs.Needs.{needed_on, hands_on_left, hands_on_right, hands_on_first, hands_on_second}
-use Rattle.live_clauses.proofs.Joined.{true_both}
-use Rattle.live_clauses.proofs.Kept.{kept_below-dropped, kept_below-less, live_below-dropped}
+use Rattle.live_clauses.proofs.Kept.{kept_below-dropped, live_below-dropped}
 use Rattle.live_clauses.proofs.Stored.{chosen-first, constant-both, step_at-unpacked}
-use Rattle.live_clauses.proofs.Turns.{kept_below-past, live_below-past}
 
 -- new numbers count only where an operand is
 renumbered-same : (step : Step) (f g : ℕ → ℕ) → (0 < arity_of step.op → f step.a ≡ g step.a) → (1 < arity_of step.op → f step.b ≡ g step.b) → renumbered f step ≡ renumbered g step
@@ -89,7 +87,7 @@ module _ (steps : List Step) (choices : List Choice) (tape : IsTape steps) (choo
       ]
 
   -- a walk up passes a step that is not needed
-  copied-passed : (constants : List ℤ) (at : ℕ) (numbers : List ℕ) (new : List PackedStep) (count : ℕ) → is_needed steps choices at ≡ false
+  pub copied-passed : (constants : List ℤ) (at : ℕ) (numbers : List ℕ) (new : List PackedStep) (count : ℕ) → is_needed steps choices at ≡ false
       → IsCopied constants at steps choices numbers new count → IsCopied constants (suc at) steps choices numbers new count
   copied-passed constants at numbers new count idle so =
       let dropped : is_kept steps choices at ≡ false = ap (λ b. b && is_both (choice_at choices at)) idle in
@@ -99,24 +97,8 @@ module _ (steps : List Step) (choices : List Choice) (tape : IsTape steps) (choo
         copied = so.copied ∙ sym (live_below-dropped steps choices at dropped);
       }
 
-  pub copied-up : (constants : List ℤ) (gap low : ℕ) (numbers : List ℕ) (new : List PackedStep) (count : ℕ) → ((place : ℕ) → low ≤ place → place < low + gap → is_needed steps choices place ≡ false)
-      → IsCopied constants low steps choices numbers new count → IsCopied constants (low + gap) steps choices numbers new count
-  copied-up constants zero low numbers new count none so = let same : low ≡ low + 0 = omega arith in subst (λ p. IsCopied constants p steps choices numbers new count) same so
-  copied-up constants (suc gap) low numbers new count none so =
-      let next : suc (low + gap) ≡ low + suc gap = omega arith in
-      subst (λ p. IsCopied constants p steps choices numbers new count) next
-      (copied-passed constants (low + gap) numbers new count (none (low + gap) (omega arith) (omega arith))
-      (copied-up constants gap low numbers new count (λ place from below. none place from (omega (arith, below))) so))
-
 -- the same of steps as they are kept
 module _ (constants : List ℤ) (kept : List PackedStep) (choices : List Choice) (tape : IsTape (map (unpacked constants) kept)) (choose : AreChoices (map (unpacked constants) kept) choices) where
-  -- a live step has room in a list that is as long as there are live ones
-  pub room-copied : (at count room : ℕ) → at < length kept → is_needed (map (unpacked constants) kept) choices at ≡ true → count ≡ kept_below (map (unpacked constants) kept) choices at
-      → room ≡ kept_below (map (unpacked constants) kept) choices (length kept) → (choice : Choice) → choice ≡ choice_at choices at → is_both choice ≡ true → count < room
-  room-copied at count room within needed is all choice chosen_is both =
-      let live : is_kept (map (unpacked constants) kept) choices at ≡ true = true_both _ _ needed (ap is_both (sym chosen_is) ∙ both) in
-      omega (arith, is, all, kept_below-less (map (unpacked constants) kept) choices at (length kept) live within)
-
   pub visited : (at number count after : ℕ) (numbers : List ℕ) (new made : List PackedStep) (read : PackedStep) (choice : Choice) → at < length kept
       → read ≡ get_or kept at read → choice ≡ choice_at choices at → is_needed (map (unpacked constants) kept) choices at ≡ true → at < length numbers
       → IsCopied constants at (map (unpacked constants) kept) choices numbers new count
@@ -143,13 +125,3 @@ module _ (constants : List ℤ) (kept : List PackedStep) (choices : List Choice)
             ∙ ap (λ b. kept_below steps choices at + cond b 1 0) (sym live);
         copied = made_at ∙ copied-visited steps choices tape choose at numbers there needed so.numbered;
       }
-
-  -- at the end of the list all is copied
-  pub copied-all : (numbers : List ℕ) (new : List PackedStep) (count end : ℕ) → length kept ≤ end → length new ≡ kept_below (map (unpacked constants) kept) choices (length kept)
-      → IsCopied constants end (map (unpacked constants) kept) choices numbers new count → map (unpacked constants) new ≡ live_of (map (unpacked constants) kept) choices
-  copied-all numbers new count end past room so =
-      let steps = map (unpacked constants) kept in
-      let many : length steps ≡ length kept = length-map kept (unpacked constants) in
-      let here : length steps + (end - length steps) ≡ end = omega (arith, many, past) in
-      let all : count ≡ length new = so.counted ∙ ap (kept_below steps choices) (sym here) ∙ kept_below-past steps choices tape choose (end - length steps) ∙ ap (kept_below steps choices) many ∙ sym room in
-      ap (map (unpacked constants)) (sym (take_all count new (omega (arith, all)))) ∙ so.copied ∙ ap (live_below steps choices) (sym here) ∙ live_below-past steps choices tape choose (end - length steps)

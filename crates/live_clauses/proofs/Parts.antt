@@ -147,21 +147,18 @@ module _ (constants : List ℤ) where
       )
 
   -- what is written behind the parts of a block is one more of them
-  pub written : (block new : List PackedStep) (most : ℕ) (parts : List Part) (start count : ℕ) (part : Part) (list : List Step) → AreParts constants block most parts → start ≡ end_of parts
-      → take start block ≡ take start new → part ≡ record { start = start; end = start + count } → start + count ≤ length new → count ≤ most → part_of constants new (record { start = start; end = start + count }) ≡ list → IsTape list
+  pub written : (block new : List PackedStep) (most : ℕ) (parts : List Part) (start : ℕ) (part : Part) (list : List Step) → AreParts constants block most parts → start ≡ end_of parts
+      → take start block ≡ take start new → part.start ≡ start → start ≤ part.end → part.end ≤ length new → part.end ≤ start + most → part_of constants new part ≡ list → IsTape list
       → AreParts constants new most (parts ++ part ∷ []) × (parts_of constants new (parts ++ part ∷ []) ≡ parts_of constants block parts ++ list ∷ [])
-  written block new most parts start count part list are ends same is room few listed tape =
-      let starts : part.start ≡ start = ap (λ p. p.start) is in
-      let stops : part.end ≡ start + count = ap (λ p. p.end) is in
-      let one : part_of constants new part ≡ list = ap (part_of constants new) is ∙ listed in
-      let stay = parts-stay block most parts are new start same (omega (arith, ends)) (omega (arith, room)) in (
+  written block new most parts start part list are ends same starts order room few listed tape =
+      let stay = parts-stay block most parts are new start same (omega (arith, ends)) (omega (arith, order, room)) in (
         parts-pushed new most parts stay part (omega (arith, starts, ends)) (record {
-          order = omega (arith, starts, stops);
-          within = omega (arith, stops, room);
-          few = omega (arith, starts, stops, few);
-          tape = subst IsTape (sym one) tape;
+          order = omega (arith, starts, order);
+          within = room;
+          few = omega (arith, starts, few);
+          tape = subst IsTape (sym listed) tape;
         }),
-        map_push (part_of constants new) parts part ∙ ap (λ l. parts_of constants new parts ++ l ∷ []) one ∙ ap (λ ls. ls ++ list ∷ []) (sym (parts-same block most parts are new start same (omega (arith, ends)))),
+        map_push (part_of constants new) parts part ∙ ap (λ l. parts_of constants new parts ++ l ∷ []) listed ∙ ap (λ ls. ls ++ list ∷ []) (sym (parts-same block most parts are new start same (omega (arith, ends)))),
       )
 
   -- a block that is made longer

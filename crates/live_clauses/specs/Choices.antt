@@ -1,9 +1,11 @@
 -- Choices between the operands of steps, and where they are right.
-use Rattle.std.specs.Prelude.{◌≡◌, ◌≢◌, ℕ, pos, List, map, slice_get, slice_index_or, Some}
+use Rattle.std.specs.Prelude.{◌≡◌, ◌≢◌, ℕ, pos, nat_lt, Bool, if◌then◌else◌, List, map, slice_get, slice_index_or, Some}
+use Rattle.std.specs.Int.{bit_at}
 use Rattle.fixed_ops.specs.declared.operation.Op.TheVariants.{X, Min, Max}
 use Rattle.fixed_ops.specs.Points.{Point}
 use Rattle.interval_ops.specs.declared.choice.Choice.{Choice}
 use Rattle.interval_ops.specs.declared.choice.Choice.TheVariants.{Left, Right, Both}
+use Rattle.live_clauses.specs.declared.choice_row.ChoiceRow.{ChoiceRow}
 use Rattle.live_clauses.specs.declared.step.Step.{Step}
 use Rattle.live_clauses.specs.Steps.{value_at}
 
@@ -15,9 +17,18 @@ step_at steps place = slice_index_or steps place (record { op = X; a = 0; b = 0;
 abbrev pub choice_at : List Choice → ℕ → Choice
 choice_at choices place = slice_index_or choices place Both
 
+-- whether a bit of a byte is set
+abbrev pub has_bit : ℕ → ℕ → Bool
+has_bit byte bit = nat_lt 0 (bit_at byte bit)
+
+-- the choice in a lane of a row
+abbrev pub choice_in : ChoiceRow → ℕ → Choice
+choice_in row l =
+    if has_bit row.left l then Left else (if has_bit row.right l then Right else Both)
+
 -- the choices in one lane of some rows: of each row the one that stands in it
-abbrev pub lane : ℕ → List (List Choice) → List Choice
-lane l rows = map (λ row. choice_at row l) rows
+abbrev pub lane : ℕ → List ChoiceRow → List Choice
+lane l rows = map (λ row. choice_in row l) rows
 
 -- choices of some steps: only a minimum and a maximum choose an operand
 abbrev pub AreChoices : List Step → List Choice → Type 0

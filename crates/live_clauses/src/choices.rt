@@ -1,9 +1,10 @@
 // Choices of the steps of a list.
-ghost use Rattle.std.specs.Prelude.{◌≡◌, ◌<◌, List, [], length, replicate, slice_index_or};
+ghost use Rattle.std.specs.Prelude.{◌≡◌, ◌<◌, ℕ, List, length, replicate};
 ghost use Rattle.interval_ops.specs.declared.choice.Choice.{Choice};
 ghost use Rattle.interval_ops.specs.declared.choice.Choice.TheVariants.{Both};
-ghost use Rattle.live_clauses.specs.Choices.{choice_at, lane};
+ghost use Rattle.live_clauses.specs.Choices.{choice_at, choice_in, lane};
 
+use crate::ChoiceRow;
 use interval_ops::Choice;
 
 /// Choices of the steps of a list, wherever they stand.
@@ -46,7 +47,7 @@ impl Choices for NoChoice {
 #[derive(Clone, Copy, Debug)]
 pub struct Lane<'a> {
     /// A row for each step, in the order of the steps.
-    pub rows: &'a [[Choice; 4]],
+    pub rows: &'a [ChoiceRow],
     /// The place of the choices in each row.
     pub lane: usize,
     ghost within: { lane < 4 },
@@ -63,10 +64,54 @@ impl<'a> Choices for Lane<'a> {
 
 // What stands in a lane of the row at a place.
 #[inline]
-fn in_lane(rows: &[[Choice; 4]], place: usize, lane: usize) -> Choice
+fn in_lane(rows: &[ChoiceRow], place: usize, l: usize) -> Choice
     requires place { place < length rows.now }
-    requires lane { lane < 4 }
-    ensures { result ≡ choice_at (slice_index_or rows.now place []) lane }
+    requires lane { l < 4 }
+    ensures { result ≡ choice_at (lane l rows.now) place }
 {
-    rows[place][lane]
+    rows[place].choice(l)
+}
+
+// Choices of the steps of a list in four lanes, wherever they stand.
+pub(crate) trait ChoiceRows: Copy {
+    // The choice of each step in a lane, in the order of the steps.
+    ghost lanes: { Self → ℕ → List Choice };
+
+    // What the step at a place chooses in each lane.
+    fn row(self, place: usize) -> ChoiceRow
+        requires { (l : ℕ) → l < 4 → place < length (lanes self l) }
+        ensures { (l : ℕ) → l < 4 → choice_in result l ≡ choice_at (lanes self l) place };
+}
+
+impl<'a> ChoiceRows for &'a [ChoiceRow] {
+    ghost lanes = { λ rows l. lane l rows.now };
+
+    #[inline]
+    fn row(self, place: usize) -> ChoiceRow {
+        row_at(self, place)
+    }
+}
+
+// The row at a place.
+#[inline]
+fn row_at(rows: &[ChoiceRow], place: usize) -> ChoiceRow
+    requires { place < length rows.now }
+    ensures { (l : ℕ) → choice_in result l ≡ choice_at (lane l rows.now) place }
+{
+    rows[place]
+}
+
+// The same choices in each lane.
+#[derive(Clone, Copy, Debug)]
+pub(crate) struct EachLane<C> {
+    pub(crate) choices: C,
+}
+
+impl<C: Choices> ChoiceRows for EachLane<C> {
+    ghost lanes = { λ each l. C.list each.choices };
+
+    #[inline]
+    fn row(self, place: usize) -> ChoiceRow {
+        ChoiceRow::all(self.choices.at(place))
+    }
 }

@@ -1,94 +1,51 @@
 // Up a list from mark to mark: its live steps, numbered anew.
-ghost use Rattle.std.specs.Prelude.{◌≡◌, ℕ, ◌+◌, ◌*◌, ◌<◌, ◌≤◌, ◌++◌, [], ◌∷◌, true, ℤ, List, map, length, slice_index, take, if◌then◌else◌};
+ghost use Rattle.std.specs.Prelude.{◌≡◌, ◌+◌, ◌<◌, ◌≤◌, ◌++◌, [], ◌∷◌, true, ℤ, List, map, length, slice_index, take, if◌then◌else◌};
 ghost use Rattle.fixed_ops.specs.Arity.{arity_of};
 ghost use Rattle.live_clauses.specs.Choices.{AreChoices};
-ghost use Rattle.live_clauses.specs.Live.{chosen, is_both, is_needed, kept_below, live_of, renumbered};
-ghost use Rattle.live_clauses.specs.Marks.{AreMarks, IsCopied, has_bit};
+ghost use Rattle.live_clauses.specs.Live.{chosen, is_both, live_of, renumbered};
+ghost use Rattle.live_clauses.specs.Marks.{AreMarks};
 ghost use Rattle.live_clauses.specs.Packed.{first_of, unpacked};
 ghost use Rattle.live_clauses.specs.Steps.{IsTape};
 
 use crate::Choices;
+use crate::choice_row::is_set;
 use crate::packed_step::PackedStep;
-use crate::words::{lowest, without};
 use fixed_ops::Fx;
 use interval_ops::Choice;
 
-// Fills a list with the live steps, of which there are as many as it has places. The new numbers of
-// the needed steps are kept on the way; what the memory for them holds before and after means nothing.
-// Only contracts speak of the numbers of constants, which stay where they are.
+// Writes the live steps of a list to the front of a memory, and gives how many there are. A step is
+// needed where its byte of the marks has the lane's bit. The new numbers of the needed steps are kept
+// on the way; what the memory for them holds before and after means nothing.
 pub(crate) fn copy_live<C: Choices>(
     steps: &[PackedStep],
     constants: &[Fx],
     choices: C,
-    marks: &[u64],
+    marks: &[u8],
+    lane: usize,
     numbers: &mut [u16],
     new: &mut [PackedStep],
-)
+) -> usize
+    requires lane { lane < 8 }
     requires tape { IsTape (map (unpacked constants.now) steps.now) }
     requires enough { length steps.now ≤ length (C.list choices) }
     requires choices { AreChoices (map (unpacked constants.now) steps.now) (C.list choices) }
-    requires marks { AreMarks (map (unpacked constants.now) steps.now) (C.list choices) marks.now }
-    requires words { length steps.now ≤ 64 * length marks.now }
+    requires marks { AreMarks lane (map (unpacked constants.now) steps.now) (C.list choices)
+        marks.now }
+    requires marked { length steps.now ≤ length marks.now }
     requires numbers { length steps.now ≤ length numbers.old }
     requires table { length constants.now ≤ length numbers.old }
-    requires room { length new.old
-        ≡ kept_below (map (unpacked constants.now) steps.now) (C.list choices) (length steps.now) }
-    ensures { map (unpacked constants.now) new.new
+    requires room { length steps.now ≤ length new.old }
+    ensures few { result ≤ length steps.now }
+    ensures copied { map (unpacked constants.now) (take result new.new)
         ≡ live_of (map (unpacked constants.now) steps.now) (C.list choices) }
 {
     let mut count = 0;
-    for word in 0..marks.len() {
-        count = copy_word(
-            steps,
-            constants,
-            choices,
-            marks[word],
-            word,
-            numbers,
-            new,
-            count,
-        );
-    }
-}
-
-// Goes up the needed steps of one word, and gives how many live ones there are up to its end.
-#[inline]
-fn copy_word<C: Choices>(
-    steps: &[PackedStep],
-    constants: &[Fx],
-    choices: C,
-    needed: u64,
-    word: usize,
-    numbers: &mut [u16],
-    new: &mut [PackedStep],
-    before: usize,
-) -> usize
-    requires tape { IsTape (map (unpacked constants.now) steps.now) }
-    requires enough { length steps.now ≤ length (C.list choices) }
-    requires choices { AreChoices (map (unpacked constants.now) steps.now) (C.list choices) }
-    requires needed { (bit : ℕ) → bit < 64 → has_bit needed bit
-        ≡ is_needed (map (unpacked constants.now) steps.now) (C.list choices) (64 * word + bit) }
-    requires numbers { length steps.now ≤ length numbers.old }
-    requires table { length constants.now ≤ length numbers.old }
-    requires room { length new.old
-        ≡ kept_below (map (unpacked constants.now) steps.now) (C.list choices) (length steps.now) }
-    requires copied { IsCopied constants.now (64 * word)
-        (map (unpacked constants.now) steps.now) (C.list choices) numbers.old new.old before }
-    ensures { IsCopied constants.now (64 * word + 64)
-        (map (unpacked constants.now) steps.now) (C.list choices) numbers.new new.new result }
-{
-    let mut from = 0;
-    let mut rest = needed;
-    let mut count = before;
-    while rest != 0 {
-        let bit = lowest(rest);
-        let at = 64 * word + bit;
-        let choice = choices.at(at);
-        let (number, after) = copy_step(steps[at], choice, numbers, new, count);
-        numbers[at] = number;
-        count = after;
-        rest = without(rest, bit);
-        from = bit + 1;
+    for at in 0..steps.len() {
+        if is_set(marks[at], lane) {
+            let (number, after) = copy_step(steps[at], choices.at(at), numbers, new, count);
+            numbers[at] = number;
+            count = after;
+        }
     }
     count
 }
@@ -106,7 +63,7 @@ fn copy_step(
     requires a { step.a < length numbers.now }
     requires b { step.b < length numbers.now }
     requires none { arity_of step.op ≡ 0 → first_of step ≡ 0 }
-    requires few { length new.old ≤ 65535 }
+    requires few { count ≤ 65535 }
     requires room { is_both choice ≡ true → count < length new.old }
     ensures number { result.0 ≡ chosen choice (slice_index numbers.now step.a)
         (slice_index numbers.now step.b) count }

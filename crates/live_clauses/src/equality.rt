@@ -6,7 +6,9 @@ ghost use Rattle.live_clauses.specs.Steps.{IsTape};
 use crate::packed_step::PackedStep;
 use fixed_ops::{Fx, Op};
 
-// Whether two lists, each with the table of its constants, have the same steps.
+// Whether two lists, each with the table of its constants, have the same steps. Its loop has all
+// registers where it stands apart.
+#[inline(never)]
 pub(crate) fn same_steps(
     a: &[PackedStep],
     a_constants: &[Fx],

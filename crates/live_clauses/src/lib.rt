@@ -2,6 +2,7 @@
 #![tactic(auto)]
 
 mod block;
+mod choice_row;
 mod choices;
 mod copying;
 mod equality;
@@ -15,14 +16,15 @@ mod roots;
 mod shortening;
 mod step;
 mod tape;
-mod words;
 
+pub use choice_row::{ChoiceRow, with_bit};
 pub use choices::{Choices, Lane};
 pub use laws::{
     choices_keep_the_value, lists_are_told_apart, live_lists_are_whole, live_lists_keep_meanings,
     live_steps_are_the_least, root_has_the_value, values_are_of_operands,
 };
 pub use lists::Lists;
+pub use marking::mark_lanes;
 pub use roots::{RootRoom, root_tape};
 pub use shortening::prune;
 pub use step::Step;

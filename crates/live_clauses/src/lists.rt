@@ -4,13 +4,13 @@ ghost use Rattle.std.specs.List.{All};
 ghost use Rattle.live_clauses.specs.Blocks.{AreParts, list_at};
 ghost use Rattle.live_clauses.specs.Choices.{AreChoices};
 ghost use Rattle.live_clauses.specs.Live.{live_of};
+ghost use Rattle.live_clauses.specs.Marks.{AreMarks};
 ghost use Rattle.live_clauses.specs.Steps.{IsTape};
 
-use crate::block::append_live;
+use crate::block::{append_live, append_marked};
 use crate::owned::keep;
 use crate::packed_step::PackedStep;
 use crate::part::Part;
-use crate::words::words;
 use crate::{Choices, Steps, Tape};
 use fixed_ops::Fx;
 use std::alloc::{AllocError, Global};
@@ -28,12 +28,12 @@ pub struct Lists {
     constants: RcSlice<Fx>,
     // What is needed of a list that is shortened, and its new numbers, with room for the longest
     // list and for as many steps as there are constants.
-    marks: Vec<u64>,
+    marks: Vec<u8>,
     numbers: Vec<u16>,
 }
 
 impl Model for Lists {
-    ghost use Rattle.std.specs.Prelude.{◌*◌, ◌≤◌, List, length};
+    ghost use Rattle.std.specs.Prelude.{◌≤◌, List, length};
     ghost use Rattle.std.specs.Rc.{rc_slice_items};
     ghost use Rattle.live_clauses.specs.declared.step.Step.{Step};
 
@@ -45,7 +45,7 @@ impl Model for Lists {
 
     ghost invariant = { λ l.
         AreParts (rc_slice_items l.constants) l.steps.items (length l.numbers.items) l.parts.items
-        × (length l.numbers.items ≤ 64 * length l.marks.items)
+        × (length l.numbers.items ≤ length l.marks.items)
         × (length (rc_slice_items l.constants) ≤ length l.numbers.items) };
 }
 
@@ -55,19 +55,46 @@ impl Lists {
     pub fn new(alloc: Global, root: &Tape) -> Result<Lists, AllocError>
         ensures { IfOk result (λ lists. lists ≡ root.now ∷ []) }
     {
+        let (steps, parts) = (Vec::new(alloc), Vec::new(alloc));
+        let (marks, numbers) = (Vec::new(alloc), Vec::new(alloc));
+        Lists::begin(steps, parts, marks, numbers, root)
+    }
+
+    /// One list in place of all others, in their memory. AllocError: there is not enough of it, and the
+    /// others are given up.
+    pub fn restart(self, root: &Tape) -> Result<Lists, AllocError>
+        ensures { IfOk result (λ lists. lists ≡ root.now ∷ []) }
+    {
+        Lists::begin(self.steps, self.parts, self.marks, self.numbers, root)
+    }
+
+    // One list in memory that may hold anything.
+    fn begin(
+        mut steps: Vec<PackedStep>,
+        mut parts: Vec<Part>,
+        mut marks: Vec<u8>,
+        mut numbers: Vec<u16>,
+        root: &Tape,
+    ) -> Result<Lists, AllocError>
+        ensures { IfOk result (λ lists. lists ≡ root.now ∷ []) }
+    {
         let (packed, constants) = root.packed();
         let room = packed.len().max(constants.len());
-        let steps = Vec::from_slice(alloc, packed)?;
-        let part = Part {
+        marks.resize(room, 0)?;
+        numbers.resize(room, 0)?;
+        steps.clear();
+        steps.extend_from_slice(packed)?;
+        parts.clear();
+        parts.push(Part {
             start: 0,
-            end: steps.len(),
-        };
+            end: packed.len(),
+        })?;
         Ok(Lists {
             steps,
-            parts: Vec::from_array(alloc, [part])?,
+            parts,
             constants: constants.clone()?,
-            marks: vec![in alloc; 0u64; words(room)]?,
-            numbers: vec![in alloc; 0u16; room]?,
+            marks,
+            numbers,
         })
     }
 
@@ -107,6 +134,38 @@ impl Lists {
             &mut self.steps,
             &mut self.parts,
             &mut self.marks,
+            &mut self.numbers,
+            part,
+            self.constants.as_slice(),
+            choices,
+        )
+    }
+
+    /// The same where the steps that are needed are marked already: each in the bit of a lane, of
+    /// which there are eight.
+    pub fn push_marked<C: Choices>(
+        &mut self,
+        at: usize,
+        choices: C,
+        marks: &[u8],
+        lane: usize,
+    ) -> Result<(), AllocError>
+        requires lane { lane < 8 }
+        requires at { at < length self.old }
+        requires enough { length (list_at self.old at) ≤ length (C.list choices) }
+        requires choices { AreChoices (list_at self.old at) (C.list choices) }
+        requires marked { length (list_at self.old at) ≤ length marks.now }
+        requires marks { AreMarks lane (list_at self.old at) (C.list choices) marks.now }
+        ensures pushed { OnOk result (self.new
+            ≡ self.old ++ live_of (list_at self.old at) (C.list choices) ∷ []) }
+        ensures stays { OnErr result (self.new ≡ self.old) }
+    {
+        let part = self.parts[at];
+        append_marked(
+            &mut self.steps,
+            &mut self.parts,
+            marks,
+            lane,
             &mut self.numbers,
             part,
             self.constants.as_slice(),

@@ -1,111 +1,89 @@
-// Down a list from its last step: what is needed, and how much of it is live.
-ghost use Rattle.std.specs.Prelude.{◌≡◌, ◌+◌, ◌-◌, ◌*◌, ◌<◌, ◌≤◌, true, false, nat_lt, ℤ, List, map, length, if◌then◌else◌};
+// Down a list from its last step: what is needed.
+ghost use Rattle.std.specs.Prelude.{◌≡◌, ◌<◌, ◌≤◌, ◌-◌, ◌==◌, ℕ, ℤ, true, List, length, ◌&&◌};
 ghost use Rattle.fixed_ops.specs.Arity.{arity_of};
-ghost use Rattle.live_clauses.specs.Choices.{AreChoices};
-ghost use Rattle.live_clauses.specs.Live.{chosen, hands_on, is_both, kept_below};
-ghost use Rattle.live_clauses.specs.Marks.{AreMarks, IsMarked, Marks};
-ghost use Rattle.live_clauses.specs.Packed.{first_of, is_constant, unpacked};
+ghost use Rattle.live_clauses.specs.Choices.{AreChoices, choice_in, has_bit, lane};
+ghost use Rattle.live_clauses.specs.Live.{hands_on};
+ghost use Rattle.live_clauses.specs.Marks.{AreMarks, Marks, is_marked};
+ghost use Rattle.live_clauses.specs.Packed.{first_of, unpacked};
 ghost use Rattle.live_clauses.specs.Steps.{IsTape};
 
-use crate::Choices;
+use crate::choices::ChoiceRows;
 use crate::packed_step::{PackedStep, kept_if};
-use crate::words::{below, highest_below, mark_if};
-use fixed_ops::{Fx, Op, arity};
-use interval_ops::Choice;
+use crate::{ChoiceRow, Steps};
+use fixed_ops::arity;
 
-// Marks the steps that are needed, and gives how many of them are live. Only contracts speak of the
-// numbers of constants.
-pub(crate) fn mark<C: Choices>(
-    steps: &[PackedStep],
-    constants: &[Fx],
-    choices: C,
-    marks: &mut [u64],
-) -> usize
-    requires tape { IsTape (map (unpacked constants.now) steps.now) }
-    requires enough { length steps.now ≤ length (C.list choices) }
-    requires choices { AreChoices (map (unpacked constants.now) steps.now) (C.list choices) }
-    requires room { length steps.now ≤ 64 * length marks.old }
-    ensures live { result
-        ≡ kept_below (map (unpacked constants.now) steps.now) (C.list choices) (length steps.now) }
-    ensures marks { AreMarks (map (unpacked constants.now) steps.now) (C.list choices) marks.new }
+// The first lane alone.
+pub(crate) const ONE_LANE: u8 = 1;
+
+/// Marks the steps of a list that are needed, in each lane that `lanes` has a bit for: in the byte of a
+/// step the bit of each lane in which the last step needs it. What stands behind the bytes of the
+/// steps stays.
+pub fn mark_lanes(list: &Steps<'_>, rows: &[ChoiceRow], lanes: u8, marks: &mut [u8])
+    requires enough { length list.now ≤ length rows.now }
+    requires choices { (l : ℕ) → l < 4 → has_bit lanes l ≡ true
+        → AreChoices list.now (lane l rows.now) }
+    requires room { length list.now ≤ length marks.old }
+    ensures { (l : ℕ) → l < 4 → has_bit lanes l ≡ true
+        → AreMarks l list.now (lane l rows.now) marks.new }
 {
-    marks.fill(0);
-    mark_if(marks, steps.len() - 1, true);
-    let mut word = marks.len();
-    let mut live = 0;
-    while word > 0 {
-        word -= 1;
-        live = mark_word(steps, constants, choices, marks, word, live);
-    }
-    live
+    mark(list, rows, lanes, marks);
 }
 
-// Goes down the marked steps of one word and marks what they need, which may stand in the same word.
-// Gives how many steps are live from the word on.
+// The same of choices wherever they stand.
 #[inline]
-fn mark_word<C: Choices>(
-    steps: &[PackedStep],
-    constants: &[Fx],
-    choices: C,
-    marks: &mut [u64],
-    word: usize,
-    behind: usize,
-) -> usize
-    requires tape { IsTape (map (unpacked constants.now) steps.now) }
-    requires enough { length steps.now ≤ length (C.list choices) }
-    requires choices { AreChoices (map (unpacked constants.now) steps.now) (C.list choices) }
-    requires room { length steps.now ≤ 64 * length marks.old }
-    requires word { word < length marks.old }
-    requires marked { IsMarked (64 * word + 64) (map (unpacked constants.now) steps.now)
-        (C.list choices) marks.old behind }
-    ensures { IsMarked (64 * word) (map (unpacked constants.now) steps.now) (C.list choices)
-        marks.new result }
+pub(crate) fn mark<R: ChoiceRows>(list: &Steps<'_>, rows: R, lanes: u8, marks: &mut [u8])
+    requires enough { (l : ℕ) → l < 4 → length list.now ≤ length (R.lanes rows l) }
+    requires choices { (l : ℕ) → l < 4 → has_bit lanes l ≡ true
+        → AreChoices list.now (R.lanes rows l) }
+    requires room { length list.now ≤ length marks.old }
+    ensures { (l : ℕ) → l < 4 → has_bit lanes l ≡ true
+        → AreMarks l list.now (R.lanes rows l) marks.new }
 {
-    let mut end = 64;
-    let mut rest = marks[word];
-    let mut live = behind;
-    while rest != 0 {
-        end = highest_below(rest, end);
-        let at = 64 * word + end;
-        let choice = choices.at(at);
-        live += visit(steps[at], choice, marks);
-        rest = below(marks[word], end);
-    }
-    live
-}
-
-// Marks what a needed step needs, and counts it where it stands for itself.
-#[inline(always)]
-fn visit(step: PackedStep, choice: Choice, marks: &mut [u64]) -> usize
-    requires a { first_of step < 64 * length marks.old }
-    requires b { step.b < 64 * length marks.old }
-    requires choice { is_constant step.op ≡ true → choice ≡ Choice.Both }
-    ensures live { result ≡ (if is_both choice then 1 else 0) }
-    ensures marks { (constants : List ℤ)
-        → Marks marks.old marks.new (hands_on (unpacked constants step) choice) }
-{
-    let (first, second) = needs(step.op, choice);
-    // What a constant has there is no place in the list.
-    mark_if(marks, kept_if(first, step.a) as usize, first);
-    mark_if(marks, step.b as usize, second);
-    match choice {
-        Choice::Left | Choice::Right => 0,
-        Choice::Both => 1,
-    }
-}
-
-// Whether a step, as it chooses, needs its first operand, and whether it needs its second.
-#[inline(always)]
-fn needs(op: Op, choice: Choice) -> (bool, bool)
-    ensures first { result.0 ≡ chosen choice true false (nat_lt 0 (arity_of op)) }
-    ensures second { result.1 ≡ chosen choice false true (nat_lt 1 (arity_of op)) }
-{
-    match choice {
-        Choice::Left => (true, false),
-        Choice::Right => (false, true),
-        Choice::Both => {
-            let operands = arity(op);
-            (operands > 0, operands > 1)
+    let (steps, _) = list.packed();
+    mark_last(marks, steps.len(), lanes);
+    let mut at = steps.len();
+    while at > 0 {
+        at -= 1;
+        let asked = marks[at];
+        if asked != 0 {
+            visit(steps[at], rows.row(at), asked, marks);
         }
     }
+}
+
+// Marks the last of so many places, and no other.
+#[inline]
+fn mark_last(marks: &mut [u8], places: usize, lanes: u8)
+    requires some { 0 < places }
+    requires room { places ≤ length marks.old }
+    ensures { (l place : ℕ) → place < places
+        → is_marked l marks.new place ≡ (has_bit lanes l && place == places - 1) }
+{
+    marks[..places].fill(0);
+    marks[places - 1] = lanes;
+}
+
+// Marks what a step needs in the lanes in which it is needed itself.
+#[inline(always)]
+fn visit(step: PackedStep, row: ChoiceRow, asked: u8, marks: &mut [u8])
+    requires a { first_of step < length marks.old }
+    requires b { step.b < length marks.old }
+    requires none { arity_of step.op ≡ 0 → first_of step ≡ 0 }
+    ensures { (constants : List ℤ) (l : ℕ) → l < 4 → Marks l marks.old marks.new
+        (λ place. has_bit asked l && hands_on (unpacked constants step) (choice_in row l) place) }
+{
+    let operands = arity(step.op);
+    // What a constant has there is no place in the list.
+    let a = kept_if(operands > 0, step.a) as usize;
+    mark_in(marks, a, asked & row.first(operands > 0));
+    mark_in(marks, step.b as usize, asked & row.second(operands > 1));
+}
+
+// Marks a place in some lanes.
+#[inline(always)]
+fn mark_in(marks: &mut [u8], place: usize, lanes: u8)
+    requires { place < length marks.old }
+    ensures { (l : ℕ) → l < 4 → Marks l marks.old marks.new (λ other. has_bit lanes l && other == place) }
+{
+    marks[place] |= lanes;
 }

@@ -9,11 +9,9 @@ ghost use Rattle.live_clauses.specs.Packed.{is_constant, unpacked};
 ghost use Rattle.live_clauses.specs.Steps.{AreSteps, IsStepAt, IsTape, steps_of, tape_value};
 
 use crate::choices::NoChoice;
-use crate::copying::copy_live;
-use crate::marking::mark;
 use crate::owned::keep;
 use crate::packed_step::PackedStep;
-use crate::words::words;
+use crate::shortening::shorten;
 use crate::{Step, Steps, Tape};
 use fixed_ops::{Fx, Op};
 use solid_model::Model;
@@ -38,7 +36,7 @@ pub struct RootRoom {
     steps: Vec<PackedStep>,
     constants: Vec<Fx>,
     // Which of them are needed, and the new numbers of these.
-    marks: Vec<u64>,
+    marks: Vec<u8>,
     numbers: Vec<u16>,
     // Those that are live.
     live: Vec<PackedStep>,
@@ -64,9 +62,12 @@ impl RootRoom {
             → tape_value p tape ≡ solid_value p model.now) }
     {
         pack_clauses(model, &mut self.steps, &mut self.constants)?;
-        shorten_clauses(
+        shorten(
             &self.steps,
             &self.constants,
+            NoChoice {
+                steps: self.steps.len(),
+            },
             &mut self.marks,
             &mut self.numbers,
             &mut self.live,
@@ -107,7 +108,7 @@ fn pack_clauses(
 }
 
 // Keeps one more step, with its number where it is a constant.
-pub(crate) fn push_step(
+fn push_step(
     steps: &mut Vec<PackedStep>,
     constants: &mut Vec<Fx>,
     step: Step,
@@ -138,26 +139,4 @@ fn push_number(constants: &mut Vec<Fx>, op: Op, value: Fx) -> Result<(), AllocEr
         }
         _ => Ok(()),
     }
-}
-
-// The live steps of a list where no choice is made.
-fn shorten_clauses(
-    steps: &[PackedStep],
-    constants: &[Fx],
-    marks: &mut Vec<u64>,
-    numbers: &mut Vec<u16>,
-    live: &mut Vec<PackedStep>,
-) -> Result<(), AllocError>
-    requires tape { IsTape (map (unpacked constants.now) steps.now) }
-    requires table { length constants.now ≤ length steps.now }
-    ensures { OnOk result (map (unpacked constants.now) live.new.items
-        ≡ live_of (map (unpacked constants.now) steps.now) (replicate (length steps.now) Both)) }
-{
-    let choices = NoChoice { steps: steps.len() };
-    marks.resize(words(steps.len()), 0)?;
-    numbers.resize(steps.len(), 0)?;
-    let count = mark(steps, constants, choices, marks);
-    live.resize(count, PackedStep::blank())?;
-    copy_live(steps, constants, choices, marks, numbers, live);
-    Ok(())
 }

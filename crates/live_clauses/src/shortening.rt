@@ -1,17 +1,16 @@
 // The live list of a list.
-ghost use Rattle.std.specs.Prelude.{◌≡◌, ◌*◌, ◌≤◌, length, map, IfOk};
+ghost use Rattle.std.specs.Prelude.{◌≡◌, ◌≤◌, length, map, take, IfOk, OnOk};
 ghost use Rattle.fixed_ops.specs.Points.{Point};
 ghost use Rattle.live_clauses.specs.Choices.{AreChoices, AreRight};
-ghost use Rattle.live_clauses.specs.Live.{kept_below, live_of};
-ghost use Rattle.live_clauses.specs.Marks.{AreMarks};
+ghost use Rattle.live_clauses.specs.Live.{live_of};
 ghost use Rattle.live_clauses.specs.Packed.{unpacked};
 ghost use Rattle.live_clauses.specs.Steps.{IsTape, tape_value};
 
-use crate::Tape;
+use crate::choices::EachLane;
 use crate::copying::copy_live;
-use crate::marking::mark;
+use crate::marking::{ONE_LANE, mark};
 use crate::packed_step::PackedStep;
-use crate::words::words;
+use crate::{Choices, Steps, Tape};
 use fixed_ops::Fx;
 use interval_ops::Choice;
 use std::alloc::{AllocError, Global};
@@ -29,44 +28,65 @@ pub fn prune(alloc: Global, tape: &Tape, choices: &[Choice]) -> Result<Tape, All
         → tape_value p new ≡ tape_value p tape.now) }
 {
     let (steps, constants) = tape.packed();
-    let mut marks = vec![in alloc; 0u64; words(steps.len())]?;
-    let live = mark(steps, constants.as_slice(), choices, &mut marks);
-    if live == steps.len() {
+    let (mut marks, mut numbers) = (Vec::new(alloc), Vec::new(alloc));
+    let mut live = Vec::new(alloc);
+    shorten(
+        steps,
+        constants.as_slice(),
+        choices,
+        &mut marks,
+        &mut numbers,
+        &mut live,
+    )?;
+    if live.len() == steps.len() {
         return tape.share();
     }
-    let steps = live_steps(alloc, steps, constants.as_slice(), choices, &marks, live)?;
-    Ok(Tape::from_packed(RcSlice::from_vec(steps)?, constants.clone()?))
+    Ok(Tape::from_packed(RcSlice::from_vec(live)?, constants.clone()?))
 }
 
-// The live steps, of which there are so many, in memory of their own.
-fn live_steps(
-    alloc: Global,
+// Keeps the live steps of a list. What the memory for marks and for new numbers holds means nothing.
+pub(crate) fn shorten<C: Choices>(
     steps: &[PackedStep],
     constants: &[Fx],
-    choices: &[Choice],
-    marks: &[u64],
-    live: usize,
-) -> Result<Vec<PackedStep>, AllocError>
+    choices: C,
+    marks: &mut Vec<u8>,
+    numbers: &mut Vec<u16>,
+    live: &mut Vec<PackedStep>,
+) -> Result<(), AllocError>
     requires tape { IsTape (map (unpacked constants.now) steps.now) }
-    requires enough { length steps.now ≤ length choices.now }
-    requires choices { AreChoices (map (unpacked constants.now) steps.now) choices.now }
-    requires marks { AreMarks (map (unpacked constants.now) steps.now) choices.now marks.now }
-    requires words { length steps.now ≤ 64 * length marks.now }
-    requires live { live ≡ kept_below (map (unpacked constants.now) steps.now) choices.now
-        (length steps.now) }
-    ensures { IfOk result (λ new. map (unpacked constants.now) new.items
-        ≡ live_of (map (unpacked constants.now) steps.now) choices.now) }
+    requires enough { length steps.now ≤ length (C.list choices) }
+    requires choices { AreChoices (map (unpacked constants.now) steps.now) (C.list choices) }
+    ensures { OnOk result (map (unpacked constants.now) live.new.items
+        ≡ live_of (map (unpacked constants.now) steps.now) (C.list choices)) }
 {
-    let room = steps.len().max(constants.len());
-    let mut numbers = vec![in alloc; 0u16; room]?;
-    let mut new = vec![in alloc; PackedStep::blank(); live]?;
-    copy_live(
-        steps,
-        constants,
-        choices,
-        marks,
-        &mut numbers,
-        new.as_mut_slice(),
-    );
-    Ok(new)
+    marks.resize(steps.len(), 0)?;
+    numbers.resize(steps.len().max(constants.len()), 0)?;
+    live.resize(steps.len(), PackedStep::blank())?;
+    let count = copy_needed(steps, constants, choices, marks, numbers, live);
+    live.truncate(count);
+    Ok(())
+}
+
+// Writes the live steps of a list to the front of a memory, and gives how many there are.
+fn copy_needed<C: Choices>(
+    steps: &[PackedStep],
+    constants: &[Fx],
+    choices: C,
+    marks: &mut [u8],
+    numbers: &mut [u16],
+    new: &mut [PackedStep],
+) -> usize
+    requires tape { IsTape (map (unpacked constants.now) steps.now) }
+    requires enough { length steps.now ≤ length (C.list choices) }
+    requires choices { AreChoices (map (unpacked constants.now) steps.now) (C.list choices) }
+    requires marks { length steps.now ≤ length marks.old }
+    requires numbers { length steps.now ≤ length numbers.old }
+    requires table { length constants.now ≤ length numbers.old }
+    requires room { length steps.now ≤ length new.old }
+    ensures { map (unpacked constants.now) (take result new.new)
+        ≡ live_of (map (unpacked constants.now) steps.now) (C.list choices) }
+{
+    let list = Steps::from_packed(steps, constants);
+    mark(&list, EachLane { choices }, ONE_LANE, marks);
+    copy_live(steps, constants, choices, marks, 0, numbers, new)
 }

@@ -129,6 +129,16 @@ impl<'a> Steps<'a> {
         Steps { packed, constants }
     }
 
+    // The steps as they are kept, and the table of their constants.
+    #[inline]
+    pub(crate) fn packed(&self) -> (&[PackedStep], &[Fx])
+        ensures steps { map (unpacked result.1.now) result.0.now ≡ self.now }
+        ensures len { length result.0.now ≡ length self.now }
+        ensures tape { IsTape self.now }
+    {
+        (self.packed, self.constants)
+    }
+
     /// The same steps once more. A loop that reads its own of them keeps them in registers.
     #[inline]
     pub fn again(&self) -> Steps<'_>

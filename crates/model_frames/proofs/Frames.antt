@@ -1,6 +1,6 @@
 -- The work of an image is bounded and counted, and its pixels are those of the solid.
 use Rattle.std.proofs.Common.{◌≡◌, ℕ, zero, suc, ◌+◌, ◌*◌, ◌≤◌, Bool, true, false, List, [], ◌∷◌, ◌++◌, length, map, replicate, if◌then◌else◌, ap, subst, ◌∙◌, arith, mul-le-mul, mul-le-mul_left}
-use Rattle.std.specs.Prelude.{Option, Result, Ok, Err, OnOk, OnErr}
+use Rattle.std.specs.Prelude.{Option, Some, Result, Ok, Err, IfOk, OnOk, OnErr}
 use Rattle.std.specs.List.{flat_map, range_with_len}
 use Rattle.std.proofs.lemmas.List.{length-append, length-map}
 use Rattle.fixed_ops.specs.Counts.{Counts}
@@ -16,12 +16,12 @@ use Rattle.quad_descent.specs.Laws.{FrameWorkIsBounded, FreshPointsAreBounded, F
 use Rattle.quad_descent.specs.Pixels.{pixels_of as drawn_pixels}
 use Rattle.box_chains.specs.Tallied.{CountsAtMost, CountsExactly, work_of}
 use Rattle.quad_descent.specs.Raster.{Drawing, frame_points, frame_spans, fresh_points, fresh_spans}
-use Rattle.raster_pgm.specs.Pgm.{pgm_header_of, pgm_of}
+use Rattle.raster_pgm.specs.Pgm.{pgm_of}
 use Rattle.solid_model.specs.Values.{solid_value}
 use Rattle.solid_model.specs.declared.clause.Clause.{Clause}
 use Rattle.view_places.specs.Places.{raster_point}
 use Rattle.view_places.specs.Window.{IsWindow, Window}
-use Rattle.model_frames.specs.Images.{image_of, list_before, solid_pixels, plain_points}
+use Rattle.model_frames.specs.Images.{drawn_text, image_of, list_before, solid_pixels, plain_points}
 use Rattle.model_frames.specs.Work.{CountsWithin, CountsWork, FitsCounts, PointsRiseAtMost, Work, exactly, frame_work, image_work}
 
 -- an error says what holds anyway
@@ -45,17 +45,15 @@ pub pixels-same : (view : Window) (clauses : List Clause) (list : List Step) →
 pixels-same view clauses list same =
     λ k. flat_map (λ j. map (λ i. if is_inside (same (raster_point view i j) k) then 255 else 0) (range_with_len 0 view.w)) (range_with_len 0 view.h)
 
--- the bytes of a header with these pixels behind it
-pub image-made : (view : Window) (drawing : Drawing) (header bytes : List ℕ) (w h : ℕ) → drawing.view ≡ view → w ≡ view.w → h ≡ view.h → header ≡ pgm_header_of w h
-    → bytes ≡ header ++ drawn_pixels drawing.view drawing.list → bytes ≡ pgm_of view.w view.h (drawn_pixels view drawing.list)
-image-made view drawing header bytes w h is wide high made put =
-    put ∙ ap (λ v. header ++ drawn_pixels v drawing.list) is
-    ∙ ap (λ front. front ++ drawn_pixels view drawing.list) (made ∙ ap (λ n. pgm_header_of n h) wide ∙ ap (pgm_header_of view.w) high)
+-- so is its text
+pub text-same : (view : Window) (clauses : List Clause) (list : List Step) (image : Drawing) → image ≡ record { view = view; list = list }
+    → ((p : Point) → tape_value p list ≡ solid_value p clauses) → drawn_text (Some image) ≡ image_of view clauses
+text-same view clauses list image is values = ap (λ d. drawn_text (Some d)) is ∙ ap (pgm_of view.w view.h) (pixels-same view clauses list values)
 
--- are those of the solid's image
-pub image-same : (view : Window) (clauses : List Clause) (list : List Step) (bytes : List ℕ) → ((p : Point) → tape_value p list ≡ solid_value p clauses)
-    → bytes ≡ pgm_of view.w view.h (drawn_pixels view list) → bytes ≡ image_of view clauses
-image-same view clauses list bytes values made = made ∙ ap (pgm_of view.w view.h) (pixels-same view clauses list values)
+pub text-drawn : {T E : Type 0} (r : Result T E) (view : Window) (clauses : List Clause) (list : List Step) (image : T → Drawing) → ((p : Point) → tape_value p list ≡ solid_value p clauses)
+    → IfOk r (λ t. image t ≡ record { view = view; list = list }) → IfOk r (λ t. drawn_text (Some (image t)) ≡ image_of view clauses)
+text-drawn (Ok t) view clauses list image values is = text-same view clauses list (image t) is values
+text-drawn (Err e) view clauses list image values is = tt
 
 -- no more steps are kept than there are
 kept-few : (steps : List Step) (choices : List Choice) (n : ℕ) → length (live_below steps choices n) ≤ n

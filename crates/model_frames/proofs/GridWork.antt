@@ -1,8 +1,10 @@
 -- What looking into the boxes of a grid takes.
-use Rattle.std.proofs.Common.{◌≡◌, ℕ, ◌+◌, ◌*◌, ◌≤◌, List, length, max, ap, refl, subst, arith, mul-le-mul_left}
+use Rattle.std.proofs.Common.{◌≡◌, ℕ, ◌+◌, ◌*◌, ◌≤◌, List, length, max, Ok, Err, ap, refl, subst, sym, ◌∙◌, arith, mul-le-mul_left}
 use Rattle.std.specs.Prelude.{IfOk, OnOk, Result}
 use Rattle.box_chains.specs.Tallied.{CountsAtMost, work_of}
 use Rattle.fixed_ops.specs.Counts.{Counts, risen}
+use Rattle.fixed_ops.specs.Points.{Point}
+use Rattle.grid_text.specs.Texts.{text_of}
 use Rattle.kuhn_cells.specs.declared.cell_list.CellList.{CellList}
 use Rattle.kuhn_cells.specs.Grids.{Grid}
 use Rattle.kuhn_cells.specs.Lists.{ListsCells}
@@ -13,12 +15,16 @@ use Rattle.oct_descent.specs.Bound.{CountsAtLeast, CountsHullsAtLeast, mesh_leas
 use Rattle.oct_descent.specs.GridValues.{list_grid as list_grid}
 use Rattle.oct_descent.specs.Laws.{MeshPointsAreBounded}
 use Rattle.oct_descent.specs.Trees.{Gridding}
+use Rattle.ply_writer.specs.Ply.{ply_of}
+use Rattle.solid_model.specs.Values.{solid_value}
 use Rattle.solid_model.specs.declared.clause.Clause.{Clause}
+use Rattle.tetra_mesh.specs.Cuts.{mesh_of}
 use Rattle.tetra_mesh.specs.Sizes.{size_of}
 use Rattle.view_places.specs.Window.{IsWindow, Window}
-use Rattle.model_frames.specs.Meshes.{grid_of, plain_grid}
+use Rattle.model_frames.specs.Meshes.{grid_of, mesh_text, plain_grid}
 use Rattle.model_frames.specs.Work.{CountsWithin, CountsWork, PointsRiseAtMost, mesh_work}
 use Rattle.model_frames.proofs.Frames.{on_ok, plain-within, root-few}
+use Rattle.model_frames.proofs.MeshLaws.{grid_same, solid_text}
 use Rattle.model_frames.proofs.LeastWork.{least-most, long-all}
 
 -- the grid of a list is that of its values
@@ -84,9 +90,24 @@ mesh_plain before after view clauses list is window tape points h =
     let same : n * (n * n) * length (root_of clauses) ≡ n * (n * (n * length (root_of clauses))) = grind arith in
     plain-within before after (mesh_work view clauses) (plain_grid view (length clauses)) (omega (arith, most, same, less)) h
 
+-- the same, where no grid is known yet
+pub mesh_counted_then : {T E : Type 0} (r : Result T E) (before after : Counts) (view : Window) (clauses : List Clause) (list : List Step) → list ≡ root_of clauses
+    → CountsAtMost (mesh_points view list) (mesh_spans view list) before after → OnOk r (CountsAtLeast (mesh_least view list) before after)
+    → OnOk r (CountsHullsAtLeast (mesh_long_spans view list) before after) → OnOk r (CountsWork before after (mesh_work view clauses))
+mesh_counted_then {E = E} (Ok made) before after view clauses list is h points spans = mesh_counted {E = E} (Ok made) before after view clauses list is h points spans
+mesh_counted_then (Err why) before after view clauses list is h points spans = points
+
 -- the cells that a tree of a list lists are those of the list's grid
 pub cells-same : {E : Type 0} (r : Result CellList E) (view : Window) (list : List Step) (tree : Gridding) → tree ≡ record { view = view; list = list }
     → IfOk r (λ cells. ListsCells (size_of tree.view) cells (list_grid tree.view tree.list)) → IfOk r (λ cells. ListsCells (size_of view) cells (grid_of view (λ p. tape_value p list)))
 cells-same r view list tree is =
     subst (λ (g : Grid). IfOk r (λ cells. ListsCells (size_of tree.view) cells (list_grid tree.view tree.list)) → IfOk r (λ cells. ListsCells (size_of view) cells g)) (list_grid_is view list)
     (λ h. subst (λ (t : Gridding). IfOk r (λ cells. ListsCells (size_of t.view) cells (list_grid t.view t.list))) is h)
+
+-- the text of the mesh of a tree's grid is that of the solid whose values the list has
+pub text_same : {E : Type 0} (r : Result Gridding E) (view : Window) (clauses : List Clause) (list : List Step) → ((p : Point) → tape_value p list ≡ solid_value p clauses)
+    → IfOk r (λ tree. tree ≡ record { view = view; list = list }) → IfOk r (λ tree. text_of tree.view tree.list ≡ mesh_text view clauses)
+text_same (Ok tree) view clauses list same is =
+    subst (λ (t : Gridding). text_of t.view t.list ≡ mesh_text view clauses) (sym is)
+    (ap (λ g. ply_of view (mesh_of g).vertices (mesh_of g).faces) (list_grid_is view list ∙ grid_same view clauses list same) ∙ solid_text view clauses)
+text_same (Err why) view clauses list same is = is

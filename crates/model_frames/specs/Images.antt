@@ -1,9 +1,10 @@
 -- The image of a solid over a view: 255 inside and 0 outside, row by row from the top.
-use Rattle.std.specs.Prelude.{◌==◌, ℕ, ◌*◌, Bool, ◌&&◌, List, Option, Some, None, map, if◌then◌else◌}
+use Rattle.std.specs.Prelude.{◌==◌, ℕ, ◌*◌, Bool, ◌&&◌, List, [], Option, Some, None, map, if◌then◌else◌}
 use Rattle.std.specs.List.{flat_map, range_with_len}
 use Rattle.std.specs.Ordering.{int_eq}
 use Rattle.fixed_ops.specs.Raw.{is_inside}
 use Rattle.live_clauses.specs.declared.step.Step.{Step}
+use Rattle.quad_descent.specs.Pixels.{pixels_of}
 use Rattle.quad_descent.specs.Raster.{Drawing}
 use Rattle.raster_pgm.specs.Pgm.{pgm_of}
 use Rattle.solid_model.specs.Values.{solid_value}
@@ -27,6 +28,12 @@ solid_pixels view clauses = flat_map (row_at view clauses) (range_with_len 0 vie
 -- the whole image, as PGM text
 abbrev pub image_of : Window → List Clause → List ℕ
 image_of view clauses = pgm_of view.w view.h (solid_pixels view clauses)
+
+-- the whole image that is drawn of a list, where one stands, as PGM text
+abbrev pub drawn_text : Option Drawing → List ℕ
+drawn_text None = []
+drawn_text (Some image) =
+    pgm_of image.view.w image.view.h (pixels_of image.view image.list)
 
 -- how many evaluations evaluating each of so many clauses once at each sample takes
 abbrev pub plain_points : Window → ℕ → ℕ

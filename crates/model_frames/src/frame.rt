@@ -3,7 +3,7 @@
 use crate::drawn::Drawn;
 use crate::height::height;
 use crate::laws::frames_add_up;
-use crate::mesh::{mesh, solid_mesh};
+use crate::mesh::{mesh, solid_grid};
 use crate::render::render;
 use clause_reader::write_model;
 use fixed_ops::Tally;
@@ -26,7 +26,7 @@ pub enum Frame {
 
 impl Frame {
     ghost use Rattle.std.specs.Prelude.{◌≡◌, ◌≤◌, length, IfOk, OnOk};
-    ghost use Rattle.model_frames.specs.Drawn.{HasText, drawn_bytes};
+    ghost use Rattle.model_frames.specs.Drawn.{drawn_bytes};
     ghost use Rattle.model_frames.specs.Frames.{CanDraw, frame_name, frame_part};
     ghost use Rattle.model_frames.specs.Work.{CountsWithin, CountsWork, PointsRiseAtMost};
 
@@ -50,7 +50,6 @@ impl Frame {
         requires { CanDraw self.now }
         ensures bytes { IfOk result (λ drawn.
             drawn_bytes drawn ≡ (frame_part self.now model.now).bytes) }
-        ensures text { IfOk result HasText }
         ensures counted { OnOk result
             (CountsWork tally.old tally.new (frame_part self.now model.now).work) }
         ensures at_most { CountsWithin tally.old tally.new (frame_part self.now model.now).work }
@@ -58,7 +57,7 @@ impl Frame {
             (frame_part self.now model.now).work.plain }
     {
         match self {
-            Frame::Mesh(view) => Ok(Drawn::Mesh(*view, solid_mesh(alloc, model, view, tally)?)),
+            Frame::Mesh(view) => Ok(Drawn::Mesh(solid_grid(alloc, model, view, tally)?)),
             Frame::Render(_) | Frame::Height(_) | Frame::Text => {
                 Ok(Drawn::Bytes(self.bytes(alloc, model, tally)?))
             }

@@ -15,8 +15,8 @@ pub use frame::Frame;
 pub use laws::frames_add_up;
 pub use mesh::{mesh_texts_are_sound, solid_mesh};
 pub use pieces::Pieces;
-pub use redrawn::render_after;
-pub use render::draw_image;
+pub use redrawn::redraw_image;
+pub use render::{draw_image, image_text};
 
 #[cfg(test)]
 mod tests;

@@ -1,6 +1,7 @@
 // The mesh of a solid over a view.
 ghost use Rattle.std.specs.Prelude.{◌≡◌, ◌<◌, ◌^◌, length, All, IfOk, OnOk};
 ghost use Rattle.box_chains.specs.Tallied.{CountsAtMost};
+ghost use Rattle.grid_text.specs.Texts.{text_of};
 ghost use Rattle.kuhn_cells.specs.Lists.{ListsCells};
 ghost use Rattle.live_clauses.specs.Steps.{tape_value};
 ghost use Rattle.oct_descent.specs.Bound.{CountsAtLeast, CountsHullsAtLeast, mesh_least, mesh_long_spans, mesh_points, mesh_spans};
@@ -16,10 +17,10 @@ ghost use Rattle.model_frames.specs.Work.{CountsWithin, CountsWork, PointsRiseAt
 
 use crate::render::window_holds;
 use fixed_ops::{Tally, tallies_add_up};
+use grid_text::grid_text;
 use kuhn_cells::{CellList, vertices_are_mixed_edges};
 use live_clauses::{Tape, root_tape};
-use oct_descent::{cell_list, cells, grid_work_is_bounded};
-use ply_writer::ply_text;
+use oct_descent::{OctTree, cell_list, cells, grid_work_is_bounded};
 use solid_model::Model;
 use std::alloc::{AllocError, Global};
 use tetra_mesh::{Mesh, build_from, meshes_are_sound};
@@ -40,8 +41,31 @@ pub(crate) fn mesh(
     ensures at_most { CountsWithin tally.old tally.new (mesh_work view.now model.now) }
     ensures plain { PointsRiseAtMost tally.old tally.new (plain_grid view.now (length model.now)) }
 {
-    let mesh = solid_mesh(alloc, model, view, tally)?;
-    ply_text(alloc, &mesh, view)
+    let tree = solid_grid(alloc, model, view, tally)?;
+    grid_text(alloc, &tree)
+}
+
+// The grid of a model's root list over a view, the text of whose mesh is the model's. The work of the
+// boxes that are looked into and of the corners of working cells is counted. AllocError: memory was
+// refused, after some of that work perhaps.
+pub(crate) fn solid_grid(
+    alloc: Global,
+    model: &Model,
+    view: &View,
+    tally: &mut Tally,
+) -> Result<OctTree, AllocError>
+    requires { FitsMesh view.now }
+    ensures text { IfOk result (λ tree. text_of tree.view tree.list ≡ mesh_text view.now model.now) }
+    ensures counted { OnOk result
+        (CountsWork tally.old tally.new (mesh_work view.now model.now)) }
+    ensures at_most { CountsWithin tally.old tally.new (mesh_work view.now model.now) }
+    ensures plain { PointsRiseAtMost tally.old tally.new (plain_grid view.now (length model.now)) }
+{
+    tallies_add_up();
+    grid_work_is_bounded();
+    window_holds(view);
+    let list = root_tape(alloc, model)?;
+    cells(alloc, &list, view, tally)
 }
 
 /// The mesh of a model over a view, whose text is the one that a session gives. The work of the boxes

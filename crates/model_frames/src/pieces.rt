@@ -1,13 +1,11 @@
 // Bytes that go out one piece after the other.
-ghost use Rattle.std.specs.Prelude.{◌≡◌, ◌<◌, ◌^◌, ◌↔◌, ◌++◌, [], All, IfOk, IsFalse, IsTrue, length};
-ghost use Rattle.ply_writer.specs.Ply.{ply_of};
-ghost use Rattle.tetra_mesh.specs.Places.{IsPlaced};
+ghost use Rattle.std.specs.Prelude.{◌≡◌, ◌<◌, ◌^◌, ◌↔◌, ◌++◌, [], IfOk, IsFalse, IsTrue, length};
+ghost use Rattle.grid_text.specs.Texts.{text_of};
 
-use ply_writer::PlyPieces;
+use grid_text::GridPieces;
+use oct_descent::OctTree;
 use std::alloc::{AllocError, Global};
 use std::marker::Model;
-use tetra_mesh::Mesh;
-use view_places::View;
 
 /// Bytes that go out one piece after the other. No piece after the first takes memory. Contracts see
 /// the piece that stands first, and what comes after it.
@@ -22,7 +20,7 @@ enum Form<'a> {
     // A text, and one after it.
     Texts(&'a [u8], &'a [u8]),
     // The text of a mesh.
-    Mesh(PlyPieces<'a>),
+    Mesh(GridPieces<'a>),
 }
 
 impl<'a> Model for Pieces<'a> {
@@ -45,16 +43,12 @@ impl<'a> Pieces<'a> {
         }
     }
 
-    /// The text of a mesh over a view. AllocError: there is no memory to make it in.
-    pub fn of_mesh(alloc: Global, mesh: &'a Mesh, view: &View) -> Result<Pieces<'a>, AllocError>
-        requires placed { All (IsPlaced view.now) mesh.now.vertices }
-        requires vertices { length mesh.now.vertices < 2 ^ 31 }
-        requires faces { length mesh.now.faces < 2 ^ 31 }
-        ensures { IfOk result (λ p. p.piece ++ p.rest
-            ≡ ply_of view.now mesh.now.vertices mesh.now.faces) }
+    /// The text of the mesh of a grid. AllocError: there is no memory to make it in.
+    pub fn of_grid(alloc: Global, tree: &'a OctTree) -> Result<Pieces<'a>, AllocError>
+        ensures { IfOk result (λ p. p.piece ++ p.rest ≡ text_of tree.now.view tree.now.list) }
     {
         Ok(Pieces {
-            form: Form::Mesh(PlyPieces::new(alloc, mesh, view)?),
+            form: Form::Mesh(GridPieces::new(alloc, tree)?),
         })
     }
 

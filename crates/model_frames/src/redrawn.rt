@@ -1,15 +1,15 @@
 // The image of a solid over a view, after another image.
-ghost use Rattle.std.specs.Prelude.{◌≡◌, length, IfOk, IsTrue, OnErr, OnOk};
+ghost use Rattle.std.specs.Prelude.{◌≡◌, length, Some, IfOk, IsTrue, OnErr, OnOk};
 ghost use Rattle.box_chains.specs.Tallied.{CountsAtMost, CountsExactly};
 ghost use Rattle.fixed_ops.specs.Points.{Point};
 ghost use Rattle.live_clauses.specs.Live.{root_of};
 ghost use Rattle.live_clauses.specs.Steps.{tape_value};
 ghost use Rattle.quad_descent.specs.Raster.{frame_points, frame_spans};
 ghost use Rattle.solid_model.specs.Values.{solid_value};
-ghost use Rattle.model_frames.specs.Images.{image_of, list_before, plain_points, same_view};
+ghost use Rattle.model_frames.specs.Images.{drawn_text, image_of, list_before, plain_points, same_view};
 ghost use Rattle.model_frames.specs.Work.{CountsWithin, CountsWork, FitsCounts, PointsRiseAtMost, image_work};
 
-use crate::render::{image_bytes, window_holds};
+use crate::render::window_holds;
 use fixed_ops::{Tally, tallies_add_up};
 use live_clauses::{RootRoom, Tape};
 use quad_descent::{QuadTree, draw, frame_work_is_bounded, fresh_work_is_bounded, redraw};
@@ -17,22 +17,22 @@ use solid_model::Model;
 use std::alloc::{AllocError, Global};
 use view_places::View;
 
-/// The image of a model over a view, as PGM text, with the boxes that it was drawn by, after another
-/// image. `room` is memory for the model's list. What is counted is the work of those boxes alone that
-/// the other image did not have with an equal list, where it had this very view, and else the work of
-/// a fresh image. AllocError: memory was refused, after some of that work perhaps, and the boxes of the
-/// other image are given up.
-pub fn render_after(
+/// The boxes of an image of a model over a view, after another image, without its bytes. Its rows are
+/// those of the model. `room` is memory for the model's list. What is counted is the work of those boxes
+/// alone that the other image did not have with an equal list, where it had this very view, and else the
+/// work of a fresh image. AllocError: memory was refused, after some of that work perhaps, and the boxes
+/// of the other image are given up.
+pub fn redraw_image(
     alloc: Global,
     room: &mut RootRoom,
     model: &Model,
     view: &View,
     before: Option<QuadTree>,
     tally: &mut Tally,
-) -> Result<(QuadTree, Vec<u8>), AllocError>
-    ensures tree { IfOk result (λ drawn.
-        drawn.0 ≡ record { view = view.now; list = root_of model.now }) }
-    ensures image { IfOk result (λ drawn. drawn.1.items ≡ image_of view.now model.now) }
+) -> Result<QuadTree, AllocError>
+    ensures tree { IfOk result (λ tree.
+        tree ≡ record { view = view.now; list = root_of model.now }) }
+    ensures text { IfOk result (λ tree. drawn_text (Some tree) ≡ image_of view.now model.now) }
     ensures fits { OnOk result (FitsCounts (image_work before view.now model.now)) }
     ensures counted { OnOk result
         (CountsWork tally.old tally.new (image_work before view.now model.now)) }
@@ -45,9 +45,7 @@ pub fn render_after(
     frame_work_is_bounded();
     window_holds(view);
     let list = root_after(room, model, &before)?;
-    let tree = draw_after(alloc, &list, view, before, tally)?;
-    let image = image_bytes(alloc, tree.picture(), view)?;
-    Ok((tree, image))
+    draw_after(alloc, &list, view, before, tally)
 }
 
 // The root list of a model: that of an image before, where it is equal.

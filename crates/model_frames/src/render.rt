@@ -1,19 +1,17 @@
 // The image of a solid over a view.
-ghost use Rattle.std.specs.Prelude.{◌≡◌, length, IfOk, OnOk};
+ghost use Rattle.std.specs.Prelude.{◌≡◌, length, Some, IfOk, OnOk};
 ghost use Rattle.fixed_ops.specs.Points.{Point};
 ghost use Rattle.live_clauses.specs.Live.{root_of};
 ghost use Rattle.live_clauses.specs.Steps.{tape_value};
-ghost use Rattle.quad_descent.specs.Pixels.{pixels_of};
-ghost use Rattle.raster_pgm.specs.Pgm.{pgm_of};
 ghost use Rattle.solid_model.specs.Values.{solid_value};
 ghost use Rattle.view_places.specs.Window.{IsWindow};
-ghost use Rattle.model_frames.specs.Images.{image_of, plain_points};
+ghost use Rattle.model_frames.specs.Images.{drawn_text, image_of, plain_points};
 ghost use Rattle.model_frames.specs.Work.{CountsWithin, CountsWork, FitsCounts, PointsRiseAtMost, frame_work};
 
 use fixed_ops::{Tally, tallies_add_up};
 use live_clauses::root_tape;
-use quad_descent::{Picture, draw_picture, fresh_work_is_bounded, push_pixels};
-use raster_pgm::pgm_header;
+use quad_descent::{Picture, draw_picture, fresh_work_is_bounded, image};
+use raster_pgm::pgm_text;
 use solid_model::Model;
 use std::alloc::{AllocError, Global};
 use view_places::View;
@@ -32,10 +30,10 @@ pub(crate) fn render(
         (plain_points view.now (length model.now)) }
 {
     let picture = draw_image(alloc, model, view, tally)?;
-    image_bytes(alloc, &picture, view)
+    image_text(alloc, &picture)
 }
 
-/// The boxes of an image of a model over a view, without its bytes. The work of a fresh image is
+/// The boxes of an image of a model over a view, without its bytes. Its rows are those of the model. The work of a fresh image is
 /// counted. AllocError: memory was refused, after some of that work perhaps.
 pub fn draw_image(
     alloc: Global,
@@ -47,6 +45,8 @@ pub fn draw_image(
         picture ≡ record { view = view.now; list = root_of model.now }) }
     ensures value { IfOk result (λ picture.
         (p : Point) → tape_value p picture.list ≡ solid_value p model.now) }
+    ensures text { IfOk result (λ picture.
+        drawn_text (Some picture) ≡ image_of view.now model.now) }
     ensures fits { OnOk result (FitsCounts (frame_work view.now model.now)) }
     ensures counted { OnOk result (CountsWork tally.old tally.new (frame_work view.now model.now)) }
     ensures at_most { CountsWithin tally.old tally.new (frame_work view.now model.now) }
@@ -60,19 +60,12 @@ pub fn draw_image(
     draw_picture(alloc, &list, view, tally)
 }
 
-// The bytes of an image: the header, and the pixels behind it.
-pub(crate) fn image_bytes(
-    alloc: Global,
-    picture: &Picture,
-    view: &View,
-) -> Result<Vec<u8>, AllocError>
-    requires { picture.now.view ≡ view.now }
-    ensures { IfOk result (λ image. image.items
-        ≡ pgm_of view.now.w view.now.h (pixels_of view.now picture.now.list)) }
+/// The bytes of an image that is drawn, as PGM text. AllocError: there is no memory for them.
+pub fn image_text(alloc: Global, picture: &Picture) -> Result<Vec<u8>, AllocError>
+    ensures { IfOk result (λ text. text.items ≡ drawn_text (Some picture.now)) }
 {
-    let mut image = pgm_header(alloc, view.w, view.h)?;
-    push_pixels(picture, &mut image)?;
-    Ok(image)
+    let image = image(alloc, picture)?;
+    pgm_text(alloc, &image)
 }
 
 // Lets a proof know what every view keeps.

@@ -1,11 +1,11 @@
 // Frames of a ball, worked out by hand, as bytes and piece by piece.
 ghost use Rattle.view_places.specs.Window.{FitsHeight, FitsMesh};
-ghost use Rattle.model_frames.specs.Drawn.{HasText};
 ghost use Rattle.model_frames.specs.Frames.{CanDraw};
 
-use crate::{Drawn, Frame};
+use crate::{Drawn, Frame, solid_mesh};
 use clause_reader::read_model;
 use fixed_ops::Tally;
+use ply_writer::ply_text;
 use solid_model::Model;
 use std::alloc::Global;
 use std::process::Abort;
@@ -84,9 +84,7 @@ fn expect(
 }
 
 // The bytes of what is drawn, one piece after the other.
-fn written(alloc: Global, drawn: &Drawn) -> Result<Vec<u8>, Fail>
-    requires { HasText drawn.now }
-{
+fn written(alloc: Global, drawn: &Drawn) -> Result<Vec<u8>, Fail> {
     let mut pieces = drawn.pieces(alloc)?;
     let mut bytes = Vec::new(alloc);
     bytes.extend_from_slice(pieces.piece())?;
@@ -128,4 +126,15 @@ fn draws_each_kind_of_frame(rt: HostRuntime) -> Result<(), Fail> {
         b"mesh",
     )?;
     expect(&rt, rt.alloc(), &model, Frame::Text, BALL_TEXT, b"text")
+}
+
+#[test]
+fn a_mesh_by_its_lists_has_the_same_text(rt: HostRuntime) -> Result<(), Fail> {
+    let model = read_model(rt.alloc(), BALL)?;
+    let view = view();
+    let mut tally = Tally::new();
+    let mesh = solid_mesh(rt.alloc(), &model, &view, &mut tally)?;
+    let text = ply_text(rt.alloc(), &mesh, &view)?;
+    assert!(rt; text.as_slice() == MIDDLE_MESH);
+    Ok(())
 }

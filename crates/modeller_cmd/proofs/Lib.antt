@@ -1,4 +1,5 @@
 mod AtOnce
+mod Bands
 mod Counting
 mod Examples
 mod Execution

@@ -1,4 +1,5 @@
 pub mod Asking
+pub mod Bands
 pub mod CountTexts
 pub mod Endings
 pub mod Execution

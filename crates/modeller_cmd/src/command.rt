@@ -19,7 +19,7 @@ ghost use Rattle.model_frames.specs.Work.{CountsWithin, CountsWork, PointsRiseAt
 use crate::Status;
 use crate::asking::read_job;
 use crate::count::count;
-use crate::drawing::draw;
+use crate::drawing::{draw, render};
 use crate::forge::forge;
 use crate::note::note_of;
 use crate::replay::replay;
@@ -293,7 +293,7 @@ fn execute<K: Sink>(
         result }
 {
     match job {
-        Job::Render(view) => draw(alloc, &Frame::Render(*view), input, out, tally),
+        Job::Render(view) => render(alloc, view, input, out, tally),
         Job::Height(view) => draw(alloc, &Frame::Height(*view), input, out, tally),
         Job::Mesh(view) => draw(alloc, &Frame::Mesh(*view), input, out, tally),
         Job::Text => draw(alloc, &Frame::Text, input, out, tally),

@@ -1,22 +1,24 @@
 // A model that is made from a seed, and what its image takes, as text.
-ghost use Rattle.std.specs.Prelude.{◌≡◌, ◌==◌, ◌++◌, [], ◌∷◌, Ok, codes, count_by, decimal, length, IfOk, OnOk};
+ghost use Rattle.std.specs.Prelude.{◌≡◌, ◌==◌, ◌≤◌, ◌++◌, [], ◌∷◌, Ok, codes, count_by, decimal, length, IfOk, OnOk};
 ghost use Rattle.model_frames.specs.Images.{plain_points as plain_points_of};
 ghost use Rattle.model_frames.specs.Work.{CountsWithin, CountsWork, PointsRiseAtMost, exactly, frame_work};
 ghost use Rattle.quad_descent.specs.Pixels.{pixels_of};
 ghost use Rattle.view_settings.specs.Verbs.{IsJob};
 ghost use Rattle.view_settings.specs.declared.job.Job.TheVariants as jobs;
+ghost use Rattle.modeller_cmd.specs.Bands.{HasRoom};
 ghost use Rattle.modeller_cmd.specs.CountTexts.{count_text};
 ghost use Rattle.modeller_cmd.specs.Forging.{forge_part, forge_text, forged_clauses};
 ghost use Rattle.modeller_cmd.specs.Execution.{ExecutedAtOnce};
 
 use crate::count::plain_points;
+use crate::image::{band_rows, make_room, put_rows};
 use crate::send::send;
 use crate::stop::Stop;
 use fixed_ops::Tally;
 use model_forge::forge_model;
 use model_frames::{Drawn, draw_image, frames_add_up};
 use modeller_io::Sink;
-use quad_descent::{Picture, image};
+use quad_descent::Picture;
 use solid_model::Model;
 use std::alloc::{AllocError, Global};
 use view_settings::{Forge, View};
@@ -75,7 +77,7 @@ fn draw_lines(
     let drawn = draw_image(alloc, model, view, &mut frame);
     tally.join(&frame);
     let picture = drawn?;
-    let inside = inside_pixels(alloc, &picture)?;
+    let inside = inside_pixels(alloc, &picture, view)?;
     let plain = plain_points(model, view);
     forge_lines(
         alloc,
@@ -87,13 +89,41 @@ fn draw_lines(
     )
 }
 
-// How many pixels of an image are inside.
-fn inside_pixels(alloc: Global, picture: &Picture) -> Result<usize, AllocError>
+// How many pixels of an image over a view are inside. They are painted some rows at a time.
+fn inside_pixels(alloc: Global, picture: &Picture, view: &View) -> Result<usize, AllocError>
+    requires { picture.now.view ≡ view.now }
     ensures { IfOk result (λ inside. inside
         ≡ count_by (λ pixel. pixel == 255) (pixels_of picture.now.view picture.now.list)) }
 {
-    let image = image(alloc, picture)?;
-    Ok(image.pixels.iter().filter(|pixel| **pixel == 255).count())
+    let mut buffer = Vec::new(alloc);
+    make_room(view, &mut buffer)?;
+    Ok(count_inside(picture, view, &mut buffer))
+}
+
+// How many pixels of an image over a view are inside.
+fn count_inside(picture: &Picture, view: &View, buffer: &mut [u8]) -> usize
+    requires over { picture.now.view ≡ view.now }
+    requires room { HasRoom view.now buffer.old }
+    ensures { result
+        ≡ count_by (λ pixel. pixel == 255) (pixels_of picture.now.view picture.now.list) }
+{
+    let mut inside = 0;
+    let mut row = 0;
+    while row < view.h {
+        let rows = band_rows(view, row);
+        let end = put_rows(picture, view, row, rows, 0, buffer);
+        inside += count_white(&buffer[..end]);
+        row += rows;
+    }
+    inside
+}
+
+// How many of some pixels are inside.
+fn count_white(pixels: &[u8]) -> usize
+    ensures count { result ≡ count_by (λ pixel. pixel == 255) pixels.now }
+    ensures few { result ≤ length pixels.now }
+{
+    pixels.iter().filter(|pixel| **pixel == 255).count()
 }
 
 // The five lines of these counts.

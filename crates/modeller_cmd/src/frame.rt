@@ -1,15 +1,22 @@
 // The blocks that a script writes: frames, and the lines of edits that are refused.
-ghost use Rattle.std.specs.Prelude.{◌≡◌, ◌≤◌, length, OnErr, OnOk};
+ghost use Rattle.std.specs.Prelude.{◌≡◌, ◌≤◌, codes, length, OnErr, OnOk};
+ghost use Rattle.model_frames.specs.Images.{drawn_text};
 ghost use Rattle.modeller_io.specs.Count.{RoseBy, Stands};
 ghost use Rattle.modeller_io.specs.Held.{Gains, GainsPrefix};
+ghost use Rattle.quad_descent.specs.Rows.{IsOver};
+ghost use Rattle.modeller_cmd.specs.Bands.{HasRoom};
 ghost use Rattle.modeller_cmd.specs.CountTexts.{cost_text};
 ghost use Rattle.modeller_cmd.specs.Frames.{fault_name, frame_header, frame_of, refused_line};
 
+use crate::image::write_image;
 use crate::line::Line;
 use crate::send::write_pieces;
 use model_frames::Pieces;
 use modeller_io::{Failed, Sink};
+use quad_descent::RowSource;
+use raster_pgm::raster_length;
 use solid_model::EditFault;
+use view_settings::View;
 
 /// Writes a frame: a line with the word for its kind and how many bytes it has, and then these
 /// bytes. After `Failed` some of all this was taken, from its front.
@@ -20,8 +27,29 @@ pub fn write_frame<K: Sink>(out: &mut K, name: &[u8], bytes: &[u8]) -> Result<()
     ensures no_fault { OnOk result (Stands K.faults out.old out.new) }
     ensures cause { OnErr result (RoseBy K.faults out.old out.new 1) }
 {
-    let line = header(name, bytes.len());
+    let line = header(name, bytes.len() as u64);
     write_pieces(out, Pieces::of(line.bytes(), bytes))
+}
+
+/// Writes the frame of an image over a view, from a buffer. After `Failed` some of it was taken, from
+/// its front.
+pub fn write_image_frame<K: Sink, R: RowSource>(
+    out: &mut K,
+    image: &R,
+    view: &View,
+    buffer: &mut [u8],
+) -> Result<(), Failed>
+    requires over { IsOver (R.image image.now) view.now }
+    requires room { HasRoom view.now buffer.old }
+    ensures ok { OnOk result (Gains K.held out.old out.new
+        (frame_of (codes "render") (drawn_text (R.image image.now)))) }
+    ensures err { OnErr result (GainsPrefix K.held out.old out.new
+        (frame_of (codes "render") (drawn_text (R.image image.now)))) }
+    ensures no_fault { OnOk result (Stands K.faults out.old out.new) }
+    ensures cause { OnErr result (RoseBy K.faults out.old out.new 1) }
+{
+    let line = header(b"render", raster_length(view.w, view.h));
+    write_image(out, image, view, line.bytes(), buffer)
 }
 
 /// Writes the line of an edit that is refused: the number of its line in the script, and why. After
@@ -49,7 +77,7 @@ pub fn cost_line(points: u64, spans: u64) -> Line
 }
 
 // The line before the bytes of a frame, which are so many.
-fn header(name: &[u8], count: usize) -> Line
+fn header(name: &[u8], count: u64) -> Line
     requires { length name.now ≤ 6 }
     ensures { result ≡ frame_header name.now count }
 {
@@ -57,7 +85,7 @@ fn header(name: &[u8], count: usize) -> Line
     line.push(b"@ ");
     line.push(name);
     line.push(b" ");
-    line.push_number(count as u64);
+    line.push_number(count);
     line.push(b"\n");
     line
 }

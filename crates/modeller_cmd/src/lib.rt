@@ -8,6 +8,7 @@ mod count;
 mod drawing;
 mod forge;
 mod frame;
+mod image;
 mod line;
 mod note;
 mod refusal;

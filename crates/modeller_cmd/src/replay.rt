@@ -15,7 +15,8 @@ ghost use Rattle.model_frames.specs.Frames.{CanDraw};
 ghost use Rattle.model_frames.specs.Work.{CountsWork};
 ghost use Rattle.solid_model.specs.Edits.{MakesClause, edited};
 
-use crate::frame::{cost_line, write_frame, write_refused};
+use crate::frame::{cost_line, write_frame, write_image_frame, write_refused};
+use crate::image::make_room;
 use crate::stop::Stop;
 use clause_reader::read_model;
 use edit_script::{Command, read_script, split_input};
@@ -25,7 +26,7 @@ use model_frames::{Frame, frames_add_up};
 use modeller_io::Sink;
 use solid_model::{Edit, EditFault};
 use std::alloc::Global;
-use view_settings::Job;
+use view_settings::{Job, View};
 
 /// Replays the script of an input on the model before its mark. What a command writes is written as
 /// soon as it is made, and nothing before the whole script was read.
@@ -54,7 +55,8 @@ pub fn replay<K: Sink>(
     frames_add_up();
     let model = read_model(alloc, model_text(input))?;
     let commands = read_script(alloc, input)?;
-    replay_commands(Session::start(alloc, model), commands, out, tally)
+    let session = Session::start(alloc, model);
+    replay_commands(session, commands, Vec::new(alloc), out, tally)
 }
 
 // The text of the model in an input: what stands before the mark.
@@ -67,10 +69,11 @@ fn model_text(input: &[u8]) -> &[u8]
     }
 }
 
-// Replays commands one after the other.
+// Replays commands one after the other. The images are written from one buffer.
 fn replay_commands<K: Sink>(
     mut session: Session,
     commands: Vec<Command>,
+    mut buffer: Vec<u8>,
     out: &mut K,
     tally: &mut Tally,
 ) -> Result<(), Stop>
@@ -85,7 +88,7 @@ fn replay_commands<K: Sink>(
 {
     frames_add_up();
     for command in commands {
-        step(&mut session, command, out, tally)?;
+        step(&mut session, command, &mut buffer, out, tally)?;
     }
     Ok(())
 }
@@ -94,6 +97,7 @@ fn replay_commands<K: Sink>(
 fn step<K: Sink>(
     session: &mut Session,
     command: Command,
+    buffer: &mut Vec<u8>,
     out: &mut K,
     tally: &mut Tally,
 ) -> Result<(), Stop>
@@ -114,7 +118,7 @@ fn step<K: Sink>(
     match command {
         Command::Edit(line, edit) => change(session, line, edit, out),
         Command::Stray(line) => refuse(out, line, EditFault::UnknownName),
-        Command::Render(view) => show(session, &Frame::Render(view), out, tally),
+        Command::Render(view) => show_image(session, &view, buffer, out, tally),
         Command::Height(view) => show(session, &Frame::Height(view), out, tally),
         Command::Mesh(view) => show(session, &Frame::Mesh(view), out, tally),
         Command::Text => show(session, &Frame::Text, out, tally),
@@ -142,6 +146,31 @@ fn show<K: Sink>(
 {
     let bytes = session.frame(frame, tally)?;
     Ok(write_frame(out, frame.name(), &bytes)?)
+}
+
+// Draws an image and writes it. It is drawn whole, and all memory is taken, before its first byte is
+// written.
+fn show_image<K: Sink>(
+    session: &mut Session,
+    view: &View,
+    buffer: &mut Vec<u8>,
+    out: &mut K,
+    tally: &mut Tally,
+) -> Result<(), Stop>
+    ensures stop { IfErr result IsHalt }
+    ensures stands { OnOk result
+        (session.new ≡ after_frame session.old (Frame.Render view.now)) }
+    ensures written { OnOk result (Written K.held K.faults out.old out.new tally.old tally.new
+        (framed (Frame.Render view.now) session.old ∷ [])) }
+    ensures halted { IfErr result (Halted K.held K.faults out.old out.new tally.old tally.new
+        (framed (Frame.Render view.now) session.old ∷ [])) }
+    ensures unwritten { result ≡ Err Stop.NoMemory → out.new ≡ out.old }
+    ensures counted { result ≡ Err Stop.WriteFault → CountsWork tally.old tally.new
+        (work_of_parts (framed (Frame.Render view.now) session.old ∷ [])) }
+{
+    session.draw_raster(view, tally)?;
+    make_room(view, buffer)?;
+    Ok(write_image_frame(out, session, view, buffer)?)
 }
 
 // Writes what the last image took. Nothing is counted.

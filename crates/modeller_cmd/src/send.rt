@@ -1,6 +1,6 @@
 // How bytes go out: piece by piece.
 ghost use Rattle.std.specs.Prelude.{◌++◌, OnErr, OnOk};
-ghost use Rattle.model_frames.specs.Drawn.{HasText, drawn_bytes};
+ghost use Rattle.model_frames.specs.Drawn.{drawn_bytes};
 ghost use Rattle.modeller_io.specs.Count.{RoseBy, Stands};
 ghost use Rattle.modeller_io.specs.Held.{Gains, GainsPrefix};
 ghost use Rattle.modeller_cmd.specs.Execution.{Sent};
@@ -12,7 +12,6 @@ use std::alloc::Global;
 
 /// Writes the bytes of what is drawn. All memory is taken before the first byte is written.
 pub fn send<K: Sink>(alloc: Global, drawn: &Drawn, out: &mut K) -> Result<(), Stop>
-    requires { HasText drawn.now }
     ensures { Sent K.held K.faults out.old out.new (drawn_bytes drawn.now) result }
 {
     let pieces = drawn.pieces(alloc)?;

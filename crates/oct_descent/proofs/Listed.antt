@@ -1,6 +1,6 @@
 -- The mixed cells of a list's grid, from what is known of its points.
 use Rattle.std.proofs.Common.{◌≡◌, ℕ, zero, suc, ◌+◌, ◌-◌, ◌*◌, ◌/◌, ◌%◌, ◌<◌, ◌≤◌, ℤ, Bool, true, false, cond, List, [], ◌∷◌, ◌++◌, get_or, refl, sym, ap, ◌∙◌, ◌⊎◌, inl, inr, append_assoc, append-nil, add-zero, arith}
-use Rattle.std.specs.Prelude.{None, pos, min, map, filter, not, ◌&&◌, unwrap_or}
+use Rattle.std.specs.Prelude.{IfSome, None, Option, Some, length, pos, min, map, filter, not, ◌&&◌, unwrap_or}
 use Rattle.std.specs.List.{All, flat_map, list_any, range_with_len}
 use Rattle.std.proofs.lemmas.Bool.{false≢true}
 use Rattle.std.proofs.lemmas.List.{ext_get_or}
@@ -183,6 +183,16 @@ listed-none view list t p told x y z lacks = by (told.settled (sample_of p) (rec
     by : AllKnown t (cell_box (sample_of p)) ⊎ IsUniform g (cell_box (sample_of p)) → [] ≡ cells_at view list p
     by (inl known) = absurd (false≢true (sym lacks.unknown ∙ known (further p lacks.corner) (mask-covered (cell_box (sample_of p)) lacks.corner one)))
     by (inr uniform) = sym (ap (λ b. cond b (cell_at (list_grid view list) p ∷ []) []) (side uniform))
+
+-- the corners of a mixed cell are known, and the cell is the grid's
+pub cell-found : (view : Window) (list : List Step) (t : PointValues) (p : GridPoint) (found : Option (List ℤ)) (else : List ℤ) → IsTold view list t → p.x < view.n → p.y < view.n → p.z < view.n
+    → IfSome found (λ values. AreCorners t p values) → (found ≡ None → LacksCorner t p) → is_mixed_cell (cell_at (list_grid view list) p) ≡ true
+    → record { x = p.x; y = p.y; z = p.z; values = unwrap_or found else } ≡ cell_at (list_grid view list) p
+cell-found view list t p (Some values) else told x y z all lacks mixed = cell-is view list t p values told x y z all
+cell-found view list t p None else told x y z all lacks mixed =
+    let none : [] ≡ cells_at view list p = listed-none view list t p told x y z (lacks refl) in
+    let one : cells_at view list p ≡ cell_at (list_grid view list) p ∷ [] = ap (λ b. cond b (cell_at (list_grid view list) p ∷ []) []) mixed in
+    absurd (omega (arith, ap length (none ∙ one)))
 
 -- ---- the grid
 

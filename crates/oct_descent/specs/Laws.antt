@@ -1,15 +1,16 @@
 -- What always holds of grids of lists and of the work that their cells take.
 use Rattle.std.specs.Prelude.{◌≡◌, ◌≢◌, ◌+◌, ◌*◌, ◌<◌, ◌≤◌, List, [], ◌∷◌, length, if◌then◌else◌}
-use Rattle.std.specs.List.{AllPairs, Contains, sum_by}
+use Rattle.std.specs.List.{AllPairs, Contains, flat_map, range_with_len, sum_by}
 use Rattle.box_chains.specs.Chains.{Visit, handed_on, is_long, next_visit, visit}
 use Rattle.box_chains.specs.Sums.{LiesIn, Sample}
-use Rattle.kuhn_cells.specs.Cells.{IsBordered}
+use Rattle.kuhn_cells.specs.Cells.{IsBordered, mixed_cells}
 use Rattle.live_clauses.specs.Steps.{IsTape}
 use Rattle.live_clauses.specs.declared.step.Step.{Step}
 use Rattle.view_places.specs.Boxes.{IsBox, halves_of}
 use Rattle.view_places.specs.Window.{Window, IsWindow}
 use Rattle.oct_descent.specs.Bound.{long_spans_in, mesh_points, mesh_spans, cell_spans_in}
 use Rattle.oct_descent.specs.GridValues.{list_grid}
+use Rattle.oct_descent.specs.Rows.{cells_in_layer}
 use Rattle.oct_descent.specs.Sizes.{size_of}
 use Rattle.oct_descent.specs.Ways.{CellDescent, is_cut, way}
 
@@ -68,3 +69,8 @@ pub record CountsReachedOnce (d : CellDescent) (v : Visit) : Type 0 where
 abbrev pub ReachedBoxesAreCountedOnce : Type 0
 ReachedBoxesAreCountedOnce = (d : CellDescent) (v : Visit) → 0 < d.boxes.leaf → IsBox v.box
     → CountsReachedOnce d v
+
+-- the mixed cells of a list's grid are those of its layers, one after the other
+abbrev pub LayersHaveTheCells : Type 0
+LayersHaveTheCells = (view : Window) (list : List Step)
+    → flat_map (cells_in_layer view list) (range_with_len 0 (size_of view).z) ≡ mixed_cells (list_grid view list)

@@ -46,7 +46,7 @@ fn with_corner(seen: Seen, corner: Option<Fx>) -> Seen
 
 /// The values of the corners of the cell at a place, each at the place of its mask, where all of
 /// them are known.
-#[inline]
+#[inline(always)]
 pub fn corners(values: &GridValues, x: u32, y: u32, z: u32) -> Option<[Fx; 8]>
     requires few { IsBounded values.now.n }
     requires x { x < values.now.n.x }

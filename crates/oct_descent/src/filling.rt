@@ -1,5 +1,5 @@
 // Working cells, whose corners are evaluated.
-ghost use Rattle.std.specs.Prelude.{◌≡◌, ◌<◌, false, IfOk, length, OnOk};
+ghost use Rattle.std.specs.Prelude.{◌≡◌, ◌<◌, [], false, length, OnOk};
 ghost use Rattle.box_chains.specs.Chains.{is_long as is_long_for};
 ghost use Rattle.box_chains.specs.Desks.{list_of};
 ghost use Rattle.kuhn_cells.specs.Sizes.{IsBounded};
@@ -43,7 +43,8 @@ pub fn fill_cell(
     let list = desk.lists.list(received);
     // All memory is taken first, so that no value is lost for want of it.
     make_rows(&mut desk.rows, list.len())?;
-    let gaps = gaps_of(b.x0, b.y0, b.z0, values)?;
+    let mut gaps = ArrayVec::new();
+    find_gaps(b.x0, b.y0, b.z0, values, &mut gaps)?;
     fill_gaps(
         &desk.places,
         gaps.as_slice(),
@@ -55,18 +56,25 @@ pub fn fill_cell(
     Ok(())
 }
 
-// Those corners of a cell that are not known, each with room for its value. AllocError: there is no
-// memory for that.
-fn gaps_of(x: u32, y: u32, z: u32, values: &mut GridValues) -> Result<ArrayVec<Gap, 8>, AllocError>
+// Finds those corners of a cell that are not known, each with room for its value. AllocError: there
+// is no memory for that.
+#[inline]
+fn find_gaps(
+    x: u32,
+    y: u32,
+    z: u32,
+    values: &mut GridValues,
+    gaps: &mut ArrayVec<Gap, 8>,
+) -> Result<(), AllocError>
     requires few { IsBounded values.old.n }
     requires x { x < values.old.n.x }
     requires y { y < values.old.n.y }
     requires z { z < values.old.n.z }
-    ensures gaps { IfOk result (λ gaps. AreGaps values.new (point x y z) gaps.items) }
+    requires none { gaps.old.items ≡ [] }
+    ensures gaps { OnOk result (AreGaps values.new (point x y z) gaps.new.items) }
     ensures same { IsSame values.old values.new }
 {
     let first = values.together(x, y, z);
-    let mut gaps = ArrayVec::new();
     for c in 0..8 {
         if values.corner(first, x, y, z, c).is_none() {
             let at = values.corner_room(first, x, y, z, c)?;
@@ -78,5 +86,5 @@ fn gaps_of(x: u32, y: u32, z: u32, values: &mut GridValues) -> Result<ArrayVec<G
             });
         }
     }
-    Ok(gaps)
+    Ok(())
 }

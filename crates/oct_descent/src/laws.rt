@@ -1,5 +1,5 @@
 // What always holds of grids of lists and of the work that their cells take.
-ghost use Rattle.oct_descent.specs.Laws.{GridsAreBordered, LongMeshSpansAddUp, MeshPointsAreBounded, MeshSpansAddUp, MeshSpansAreBounded, ReachedBoxesAreCountedOnce, WaysGoOn};
+ghost use Rattle.oct_descent.specs.Laws.{GridsAreBordered, LayersHaveTheCells, LongMeshSpansAddUp, MeshPointsAreBounded, MeshSpansAddUp, MeshSpansAreBounded, ReachedBoxesAreCountedOnce, WaysGoOn};
 
 use box_chains::layers_hold;
 
@@ -42,3 +42,8 @@ pub fn reached_boxes_are_counted_once()
 {
     layers_hold();
 }
+
+/// The mixed cells of a list's grid are those of its layers, one after the other.
+pub fn layers_have_the_cells()
+    ensures { LayersHaveTheCells }
+{}

@@ -15,8 +15,8 @@ mod oct_tree;
 mod seen;
 
 pub use laws::{
-    grid_work_is_bounded, grids_are_bordered, mesh_spans_add_up, reached_boxes_are_counted_once,
-    ways_go_on,
+    grid_work_is_bounded, grids_are_bordered, layers_have_the_cells, mesh_spans_add_up,
+    reached_boxes_are_counted_once, ways_go_on,
 };
 pub use listing::cell_list;
 pub use oct_tree::{OctTree, cells};

@@ -1,7 +1,10 @@
 // The list of the mixed cells of a grid.
-ghost use Rattle.std.specs.Prelude.{◌≡◌, ◌+◌, ◌%◌, ◌<◌, ◌++◌, min, IfOk, OnOk};
+ghost use Rattle.std.specs.Prelude.{◌≡◌, ◌+◌, ◌%◌, ◌<◌, ◌++◌, min, IfOk, IsTrue, OnOk};
+ghost use Rattle.kuhn_cells.specs.Cells.{cell_at, is_mixed_cell};
 ghost use Rattle.kuhn_cells.specs.Lists.{ListsCells};
+ghost use Rattle.kuhn_cells.specs.Sizes.{IsBounded};
 ghost use Rattle.kuhn_cells.specs.Triangles.{point};
+ghost use Rattle.view_places.specs.Window.{IsWindow};
 ghost use Rattle.oct_descent.specs.GridValues.{list_grid};
 ghost use Rattle.oct_descent.specs.Rows.{cells_at, cells_between, cells_in_layer, cells_in_row};
 ghost use Rattle.oct_descent.specs.Sizes.{size_of};
@@ -9,8 +12,10 @@ ghost use Rattle.oct_descent.specs.Sizes.{size_of};
 use crate::OctTree;
 use crate::corner_values::{corners, is_mixed};
 use crate::mesh_size::mesh_size;
-use kuhn_cells::{CellList, CellValues};
+use fixed_ops::Fx;
+use kuhn_cells::{CellList, CellValues, GridSize};
 use std::alloc::{AllocError, Global};
+use view_places::View;
 
 /// The cells of a grid that have both an inside and an outside corner, with the values of their
 /// corners, by z, then by y, then by x. AllocError: there is no memory for them.
@@ -29,6 +34,40 @@ pub fn cell_list(alloc: Global, tree: &OctTree) -> Result<CellList, AllocError>
 }
 
 impl OctTree {
+    /// How many cells the grid has along each axis.
+    #[inline]
+    pub fn n(&self) -> GridSize
+        ensures size { result ≡ size_of self.now.view }
+        ensures bounded { IsBounded result }
+        ensures window { IsWindow self.now.view }
+    {
+        mesh_size(&self.view)
+    }
+
+    /// The view.
+    #[inline]
+    pub fn view(&self) -> &View
+        ensures { result.now ≡ self.now.view }
+    {
+        &self.view
+    }
+
+    /// The cell at a place, which is mixed.
+    #[inline]
+    pub fn cell(&self, x: u16, y: u16, z: u16) -> CellValues
+        requires x { x < (size_of self.now.view).x }
+        requires y { y < (size_of self.now.view).y }
+        requires z { z < (size_of self.now.view).z }
+        requires mixed { IsTrue (is_mixed_cell
+            (cell_at (list_grid self.now.view self.now.list) (point x y z))) }
+        ensures { result ≡ cell_at (list_grid self.now.view self.now.list) (point x y z) }
+    {
+        // All corners of a mixed cell are known.
+        let known = corners(&self.values, u32::from(x), u32::from(y), u32::from(z));
+        let values = known.unwrap_or([Fx::from_raw(0); 8]);
+        CellValues { x, y, z, values }
+    }
+
     // Adds the mixed cells of layer z.
     fn push_layer(&self, z: u32, cells: &mut Vec<CellValues>) -> Result<(), AllocError>
         requires { z < (size_of self.now.view).z }
@@ -41,8 +80,9 @@ impl OctTree {
         Ok(())
     }
 
-    // Adds the mixed cells of row y of layer z, eight at once.
-    fn push_row(&self, y: u32, z: u32, cells: &mut Vec<CellValues>) -> Result<(), AllocError>
+    /// Adds the mixed cells of row y of layer z, by x, with the values of their corners. AllocError:
+    /// there is no memory for them.
+    pub fn push_row(&self, y: u32, z: u32, cells: &mut Vec<CellValues>) -> Result<(), AllocError>
         requires y { y < (size_of self.now.view).y }
         requires z { z < (size_of self.now.view).z }
         ensures { OnOk result (cells.new.items ≡ cells.old.items ++ cells_in_row self.now.view

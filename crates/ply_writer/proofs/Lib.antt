@@ -3,3 +3,4 @@ pub mod DigitLaws
 pub mod LineLaws
 pub mod PieceLaws
 pub mod TripleLaws
+pub mod TextLaws

@@ -3,7 +3,7 @@ use Rattle.std.proofs.Common.{◌≡◌, ℕ, ◌<◌, ◌≤◌, true, IsFalse,
 use Rattle.std.specs.List.{flat_map}
 use Rattle.std.specs.Prelude.{codes, decimal}
 use Rattle.std.proofs.lemmas.Grind.{flat_map-append}
-use Rattle.std.proofs.lemmas.List.{append-nil, drop_all, take-append-drop, take_at}
+use Rattle.std.proofs.lemmas.List.{append-nil, take-append-drop}
 use Rattle.std.proofs.lemmas.List.Concat.{flat_map-cons}
 use Rattle.fixed_ops.specs.NumberTexts.{number_text}
 use Rattle.kuhn_cells.specs.Faces.{Face}
@@ -80,14 +80,23 @@ faces_less before n faces batch h =
       length-append before (flat_map face_line faces),
     )
 
--- a block that ends in a text, and what comes after it
-ends_in : (block old text vertices faces : List ℕ) (n start : ℕ) → length block ≡ n → length old ≤ n → drop start block ≡ text ++ drop n old
-    → drop start (take n (block ++ drop (length block) old)) ++ (vertices ++ faces) ≡ text ++ vertices ++ faces
-ends_in block old text vertices faces n start full within written =
-    rw (take_at block (drop (length block) old) n full, written, drop_all n old within, append-nil text) (sym (append_assoc text vertices faces))
+-- so there are at least as many bytes as things
+lines_long : {X : Type 0} (line : X → List ℕ) → ((x : X) → 0 < length (line x)) → (xs : List X) → length xs ≤ length (flat_map line xs)
+lines_long line some [] = omega arith
+lines_long line some (x ∷ xs) = rw (flat_map-cons line x xs) (omega (arith, some x, length-append (line x) (flat_map line xs), lines_long line some xs))
 
--- a block that ends in the header, and what comes after it
-pub header_first : (w : Window) (vertices : List Vertex) (faces : List Face) (block old : List ℕ) (n start : ℕ)
-    → length block ≡ n → length old ≤ n → drop start block ≡ ply_header (length vertices) (length faces) ++ drop n old
-    → drop start (take n (block ++ drop (length block) old)) ++ (flat_map (vertex_line w) vertices ++ flat_map face_line faces) ≡ ply_of w vertices faces
-header_first w vertices faces block old = ends_in block old (ply_header (length vertices) (length faces)) (flat_map (vertex_line w) vertices) (flat_map face_line faces)
+pub vertex_lines_long : (w : Window) (vertices : List Vertex) → length vertices ≤ length (flat_map (vertex_line w) vertices)
+vertex_lines_long w = lines_long (vertex_line w) (vertex_line_some w)
+
+pub face_lines_long : (faces : List Face) → length faces ≤ length (flat_map face_line faces)
+face_lines_long = lines_long face_line face_line_some
+
+-- a piece that is the header, and what comes after it
+pub header_first : (w v : Window) (vertices : List Vertex) (faces : List Face) (bytes none : List ℕ) → v ≡ w → none ≡ [] → bytes ≡ ply_header (length vertices) (length faces) ++ none
+    → bytes ++ (flat_map (vertex_line v) vertices ++ flat_map face_line faces) ≡ ply_of w vertices faces
+header_first w v vertices faces bytes none same empty is =
+    let header = ply_header (length vertices) (length faces) in
+    let lines = flat_map (vertex_line w) vertices in
+    ap (λ x. bytes ++ (flat_map (vertex_line x) vertices ++ flat_map face_line faces)) same
+    ∙ ap (λ l. l ++ (lines ++ flat_map face_line faces)) (is ∙ ap (λ l. header ++ l) empty ∙ append-nil header)
+    ∙ sym (append_assoc header lines (flat_map face_line faces))

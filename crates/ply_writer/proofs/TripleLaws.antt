@@ -1,5 +1,5 @@
 -- Counts in threes of digits.
-use Rattle.std.proofs.Common.{◌≡◌, ℕ, ◌+◌, ◌-◌, ◌*◌, ◌/◌, ◌%◌, ◌^◌, ◌<◌, ◌≤◌, Bool, true, false, List, [], ◌∷◌, ◌++◌, drop, length, ap, sym, ◌∙◌, refl, arith, append_assoc, inl, inr}
+use Rattle.std.proofs.Common.{◌≡◌, ℕ, ◌+◌, ◌/◌, ◌%◌, ◌^◌, ◌<◌, ◌≤◌, List, [], ◌∷◌, ◌++◌, drop, length, ap, sym, ◌∙◌, arith, append_assoc, inl, inr}
 use Rattle.std.specs.Prelude.{◌⊎◌, decimal, get_or}
 use Rattle.std.proofs.lemmas.Fmt.{decimal_digit, decimal_step}
 use Rattle.std.proofs.lemmas.List.{drop-append-le, drop-drop}
@@ -75,6 +75,15 @@ behind k start line text rest is = sym (drop-drop k start line) ∙ ap (drop k) 
 pub count_pieces : (n : ℕ) (rest : List ℕ) → 1000 ≤ n → n < 2 ^ 32 → decimal (n / 1000) ++ (triple_text (n % 1000) ++ rest) ≡ decimal n ++ rest
 count_pieces n rest some h =
     sym (ap (λ (t : List ℕ). t ++ rest) (three_more n some h) ∙ append_assoc (decimal (n / 1000)) (triple_text (n % 1000)) rest)
+
+-- a count by its millions, its thousands and its last three digits
+pub count_parts : (n millions : ℕ) (rest : List ℕ) → 1000000 ≤ n → n < 2 ^ 32 → millions ≡ n / 1000000
+    → decimal millions ++ (triple_text (n / 1000 % 1000) ++ (triple_text (n % 1000) ++ rest)) ≡ decimal n ++ rest
+count_parts n millions rest some h is =
+    let same : millions ≡ n / 1000 / 1000 = omega (arith, is) in
+    ap (λ m. decimal m ++ (triple_text (n / 1000 % 1000) ++ (triple_text (n % 1000) ++ rest))) same
+    ∙ count_pieces (n / 1000) (triple_text (n % 1000) ++ rest) (omega (arith, some)) (omega (arith, h))
+    ∙ count_pieces n rest (omega (arith, some)) h
 
 -- the digits of an entry of the table, written one before the other
 pub triple_chain : (entry : List ℕ) (n : ℕ) (rest third second first : List ℕ) → entry ≡ zeros_before n ∷ triple_text n → third ≡ get_or entry 3 0 ∷ rest → second ≡ get_or entry 2 0 ∷ third → first ≡ get_or entry 1 0 ∷ second

@@ -5,7 +5,7 @@ ghost use Rattle.ply_writer.specs.Ply.{ply_header};
 use crate::digits::{bytes_before, digits_before};
 
 /// The longest header: its 155 bytes and two counts of at most ten digits.
-pub(crate) const HEADER: usize = 175;
+pub const HEADER: usize = 175;
 
 /// Writes the header of so many vertices and faces before `end`, and returns where it starts.
 #[tactic(auto, using(crate::proofs::DigitLaws::count_short))]

@@ -6,11 +6,17 @@ mod header;
 mod line;
 mod pieces;
 mod ply;
+mod ply_block;
+mod point_texts;
 mod room;
 mod triples;
 
+pub use header::HEADER;
+pub use line::{FACE_LINE, VERTEX_LINE};
 pub use pieces::PlyPieces;
 pub use ply::ply_text;
+pub use ply_block::{BLOCK, PlyBlock};
+pub use room::room_for;
 
 #[cfg(test)]
 mod tests;

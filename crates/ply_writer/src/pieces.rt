@@ -3,42 +3,44 @@ ghost use Rattle.std.specs.Prelude.{◌≡◌, ◌<◌, ◌≤◌, ◌^◌, ◌�
 ghost use Rattle.tetra_mesh.specs.Places.{IsPlaced};
 ghost use Rattle.ply_writer.specs.Ply.{ply_of};
 
-use crate::header::header_before;
-use crate::line::{BLOCK, FACES, VERTICES, face_lines, vertex_lines};
-use crate::triples::Triples;
+use crate::line::{FACE_LINE, VERTEX_LINE};
+use crate::ply_block::{BLOCK, PlyBlock};
 use std::alloc::{AllocError, Global};
 use std::marker::Model;
-use tetra_mesh::{Face, GridPlaces, Mesh, Vertex};
+use tetra_mesh::{Face, Mesh, Vertex};
 use view_places::View;
+
+// How many vertices a block has room for.
+const VERTICES: usize = BLOCK / VERTEX_LINE;
+
+// How many faces a block has room for.
+const FACES: usize = BLOCK / FACE_LINE;
 
 /// The text of a mesh over a view, made piece by piece in one block. Contracts see the piece that
 /// was made last and what comes after it.
 #[derive(Debug, Drop)]
 pub struct PlyPieces<'a> {
-    places: GridPlaces,
-    triples: Triples,
+    block: PlyBlock,
     // Those whose lines are still to come.
     vertices: &'a [Vertex],
     faces: &'a [Face],
-    // The piece that was made last stands at its end, from `start` on.
-    block: Vec<u8>,
-    start: usize,
 }
 
 impl<'a> Model for PlyPieces<'a> {
-    ghost use Rattle.std.specs.Prelude.{◌++◌, drop};
+    ghost use Rattle.std.specs.Prelude.{◌++◌, All};
     ghost use Rattle.std.specs.List.{flat_map};
-    ghost use Rattle.ply_writer.specs.Pieces.{CanGoOn, Stage};
+    ghost use Rattle.tetra_mesh.specs.Places.{IsPlaced};
+    ghost use Rattle.ply_writer.specs.Pieces.{Stage};
     ghost use Rattle.ply_writer.specs.Ply.{face_line, vertex_line};
 
     ghost Value = { Stage };
 
     ghost view = { λ p. record {
-      piece = drop p.start p.block.items;
-      rest = flat_map (vertex_line p.places) p.vertices.now ++ flat_map face_line p.faces.now;
+      piece = p.block.bytes;
+      rest = flat_map (vertex_line p.block.view) p.vertices.now ++ flat_map face_line p.faces.now;
     } };
 
-    ghost invariant = { λ p. CanGoOn p.places p.triples p.vertices.now p.block.items p.start };
+    ghost invariant = { λ p. All (IsPlaced p.block.view) p.vertices.now };
 }
 
 impl<'a> PlyPieces<'a> {
@@ -51,19 +53,14 @@ impl<'a> PlyPieces<'a> {
         ensures { IfOk result (λ p. p.piece ++ p.rest
             ≡ ply_of view.now mesh.now.vertices mesh.now.faces) }
     {
-        let places = GridPlaces::new(view);
-        let triples = Triples::new(alloc)?;
+        let mut block = PlyBlock::new(alloc, view)?;
         let vertices = mesh.vertices.as_slice();
         let faces = mesh.faces.as_slice();
-        let mut block = vec![in alloc; 0; BLOCK]?;
-        let start = header_before(vertices.len() as u32, faces.len() as u32, &mut block, BLOCK);
+        block.put_header(vertices.len() as u32, faces.len() as u32);
         Ok(PlyPieces {
-            places,
-            triples,
+            block,
             vertices,
             faces,
-            block,
-            start,
         })
     }
 
@@ -73,7 +70,7 @@ impl<'a> PlyPieces<'a> {
         ensures piece { result.now ≡ self.now.piece }
         ensures few { length result.now ≤ 2 ^ 16 }
     {
-        &self.block[self.start..]
+        self.block.piece()
     }
 
     /// Makes the next piece, of whole lines and at most 64 KiB, and says whether there is one. It
@@ -86,13 +83,15 @@ impl<'a> PlyPieces<'a> {
     {
         if !self.vertices.is_empty() {
             let (batch, after) = self.vertices.split_at(self.vertices.len().min(VERTICES));
-            self.start = vertex_lines(&self.places, batch, &mut self.block);
+            self.block.clear();
+            self.block.put_vertices(batch);
             self.vertices = after;
             return true;
         }
         if !self.faces.is_empty() {
             let (batch, after) = self.faces.split_at(self.faces.len().min(FACES));
-            self.start = face_lines(&self.triples, batch, &mut self.block);
+            self.block.clear();
+            self.block.put_faces(batch);
             self.faces = after;
             return true;
         }

@@ -20,7 +20,8 @@ pub fn ply_text(alloc: Global, mesh: &Mesh, view: &View) -> Result<Vec<u8>, Allo
         ≡ ply_of view.now mesh.now.vertices mesh.now.faces) }
 {
     let mut pieces = PlyPieces::new(alloc, mesh, view)?;
-    let mut text = Vec::with_capacity(alloc, room_for(mesh, view))?;
+    let room = room_for(mesh.vertices.len(), mesh.faces.len(), view);
+    let mut text = Vec::with_capacity(alloc, room)?;
     text.extend_from_slice(pieces.piece())?;
     while pieces.advance() {
         text.extend_from_slice(pieces.piece())?;

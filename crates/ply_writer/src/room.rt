@@ -1,24 +1,22 @@
 // How much room the text of a mesh takes.
-ghost use Rattle.std.specs.Prelude.{◌+◌, ◌*◌, ◌≤◌, ◌<◌, ◌^◌, length};
+ghost use Rattle.std.specs.Prelude.{◌+◌, ◌*◌, ◌≤◌, ◌<◌, ◌^◌};
 ghost use Rattle.fixed_ops.specs.Raw.{IsRaw};
 
 use crate::header::HEADER;
 use arrayvec::ArrayVec;
 use fixed_ops::write_raw;
 use itoa::Buffer;
-use tetra_mesh::Mesh;
 use view_places::View;
 
-/// A bound on the bytes of the text of a mesh, near to them: no number is longer than the longer
-/// end of its axis, and none of a vertex longer than the count of vertices.
-pub(crate) fn room_for(mesh: &Mesh, view: &View) -> usize
-    requires vertices { length mesh.now.vertices < 2 ^ 31 }
-    requires faces { length mesh.now.faces < 2 ^ 31 }
-    ensures { result ≤ HEADER + 69 * length mesh.now.vertices + 65 * length mesh.now.faces }
+/// A bound on the bytes of the text of a mesh over a view, near to them: no number is longer than
+/// the longer end of its axis, and none of a vertex longer than the count of vertices.
+pub fn room_for(vertices: usize, faces: usize, view: &View) -> usize
+    requires vertices { vertices < 2 ^ 31 }
+    requires faces { faces < 2 ^ 31 }
+    ensures { result ≤ HEADER + 69 * vertices + 65 * faces }
 {
     let numbers = longer(view.x0, view.x1) + longer(view.y0, view.y1) + longer(view.z0, view.z1);
-    let vertices = mesh.vertices.len();
-    HEADER + vertices * (numbers + 3) + mesh.faces.len() * (3 * count_len(vertices) + 5)
+    HEADER + vertices * (numbers + 3) + faces * (3 * count_len(vertices) + 5)
 }
 
 // The length of the longer text of two raw numbers.

@@ -40,6 +40,11 @@ impl Triples {
             let start = self.triple_before(count % 1000, line, end);
             return self.front_before(count / 1000, line, start);
         }
+        if 1_000_000 <= count && count < 1_000_000_000 {
+            let last = self.triple_before(count % 1000, line, end);
+            let start = self.triple_before(count / 1000 % 1000, line, last);
+            return self.front_before(count / 1_000_000, line, start);
+        }
         digits_before(count, line, end)
     }
 

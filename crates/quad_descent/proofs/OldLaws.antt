@@ -1,9 +1,9 @@
 -- What the lists of a box are, and where a box of the tree before and its halves stand there.
-use Rattle.std.proofs.Common.{◌≡◌, ℕ, zero, suc, ◌+◌, ◌<◌, Bool, true, false, cond, List, [], ◌∷◌, append-nil, length, get_or, drop, refl, sym, ap, subst, ◌∙◌, arith}
+use Rattle.std.proofs.Common.{◌≡◌, ℕ, zero, suc, ◌+◌, ◌<◌, ◌≤◌, Bool, true, false, cond, List, [], ◌∷◌, append-nil, length, get_or, take, drop, refl, sym, ap, subst, ◌∙◌, arith}
 use Rattle.std.specs.Prelude.{Option, Some, None}
 use Rattle.std.specs.List.{flat_map}
 use Rattle.std.proofs.lemmas.Bool.{false≢true}
-use Rattle.std.proofs.lemmas.List.{drop_more, length-append}
+use Rattle.std.proofs.lemmas.List.{drop-drop, drop_more, length-append}
 use Rattle.std.proofs.lemmas.List.Concat.{flat_map-cons}
 use Rattle.std.proofs.lemmas.Option.{cond_some, none-some}
 use Rattle.box_chains.specs.Chains.{Descent, Visit, decision, half_visit, handed_on, is_long, is_split, sides, visit}
@@ -18,18 +18,18 @@ use Rattle.view_places.specs.Boxes.{Indices, IsBox, halves_of}
 use Rattle.view_places.specs.Spans.{root_box_of}
 use Rattle.view_places.specs.Window.{Window}
 use Rattle.view_places.specs.declared.lattice.Lattice.TheVariants.{Raster}
-use Rattle.quad_descent.specs.Drawn.{StandsAt, count_of}
+use Rattle.quad_descent.specs.Drawn.{count_of}
 use Rattle.quad_descent.specs.KeptLists.{box_lists, halves_lists, lists_of, open_lists, outcome_lists}
 use Rattle.quad_descent.specs.Nodes.{box_nodes, halves_nodes, kept_within, nodes_of}
-use Rattle.quad_descent.specs.OldBoxes.{AreOldHalves, IsFirstHalf, IsNextHalf, IsOldBox, IsPlaced, list_handed, lists_before, node_before, nodes_before, part_before}
-use Rattle.quad_descent.specs.Raster.{Drawing, raster, raster_root}
+use Rattle.quad_descent.specs.OldBoxes.{AreOldHalves, IsOldBox, IsThere, StandsFirst, behind_halves, count_before, handed_by}
+use Rattle.quad_descent.specs.Raster.{raster, raster_root}
 use Rattle.quad_descent.specs.declared.node.Node.{Node}
 use Rattle.quad_descent.specs.declared.node.Node.TheVariants.{Outside, Split}
 use Rattle.quad_descent.specs.declared.old_box.OldBox.{OldBox}
-use Rattle.quad_descent.proofs.Drawn.{half-part, half-within, nodes-open}
+use Rattle.quad_descent.proofs.Drawn.{half-part, half-within, handed_in, nodes-open}
 use Rattle.quad_descent.proofs.NodeLaws.{lists-are}
 use Rattle.quad_descent.proofs.Painted.{head-of}
-use Rattle.quad_descent.proofs.Stands.{stands-below, stands-first, stands-head, stands-more, stands-part, stands-within}
+use Rattle.quad_descent.proofs.Stands.{first-below, first-head, first-more, first-of, first-part, first-within}
 
 -- the lists of a box by its decision
 lists-decided : (laws : Lawful) (d : Descent) (v : Visit) (inside : Bool) → 0 < d.leaf → IsBox v.box → decision d v ≡ Some inside → lists_of d v ≡ None ∷ []
@@ -121,163 +121,192 @@ nodes-split laws d v some is split =
     let told = split-open d v split in
     nodes-open laws d v some is told.0 ∙ rw told.1 refl
 
+-- the elements from a place on are the one there and those behind it
+next-of : (halves : List Indices) (i : ℕ) (h : Indices) → i < length halves → h ≡ get_or halves i h → drop i halves ≡ h ∷ drop (i + 1) halves
+next-of halves i h within read = drop_more halves i h within ∙ ap (λ x. x ∷ drop (i + 1) halves) (sym read)
+
 -- ---- a box of the tree before
 
--- the list that stands at its place
-handed-by : (laws : Lawful) (view : Window) (b : Indices) (old : OldBox) → IsOldBox view b old
-    → list_handed old ≡ cond (is_split (raster view) (visit b old.list.now)) (Some (handed_on (raster view) (visit b old.list.now))) None
-handed-by laws view b old is =
+-- the list that stands first of those left
+pub handed-by : (laws : Lawful) (view : Window) (b : Indices) (lists : List (Option (List Step))) (old : OldBox) → IsOldBox view b lists old
+    → handed_by (Some old) lists ≡ handed_in (raster view) (Some (visit b old.list.now))
+handed-by laws view b lists old is =
     let v = visit b old.list.now in
     let split = is_split (raster view) v in
-    stands-head (lists_before old) (lists_of (raster view) v) (cond split (halves_lists (raster view) (handed_on (raster view) v) (halves_of 8 b)) []) (cond split (Some (handed_on (raster view) v)) None) None old.at is.lists
+    first-head lists (lists_of (raster view) v) (cond split (halves_lists (raster view) (handed_on (raster view) v) (halves_of 8 b)) []) (cond split (Some (handed_on (raster view) v)) None) None is.lists
     (lists-parts laws (raster view) v (omega arith) is.visit_is.box)
 
-pub handed-some : (laws : Lawful) (view : Window) (b : Indices) (old : OldBox) (list : List Step) → IsOldBox view b old → list_handed old ≡ Some list
+pub handed-some : (laws : Lawful) (view : Window) (b : Indices) (lists : List (Option (List Step))) (old : OldBox) (list : List Step) → IsOldBox view b lists old → handed_by (Some old) lists ≡ Some list
     → (is_split (raster view) (visit b old.list.now) ≡ true) × (handed_on (raster view) (visit b old.list.now) ≡ list)
-handed-some laws view b old list is handed =
+handed-some laws view b lists old list is handed =
     let v = visit b old.list.now in
-    cond_some (is_split (raster view) v) (handed_on (raster view) v) list (sym (handed-by laws view b old is) ∙ handed)
+    cond_some (is_split (raster view) v) (handed_on (raster view) v) list (sym (handed-by laws view b lists old is) ∙ handed)
 
-pub handed-none : (laws : Lawful) (view : Window) (b : Indices) (old : OldBox) → IsOldBox view b old → list_handed old ≡ None → is_split (raster view) (visit b old.list.now) ≡ false
-handed-none laws view b old is handed =
-    by (is_split (raster view) (visit b old.list.now)) (handed_on (raster view) (visit b old.list.now)) (sym (handed-by laws view b old is) ∙ handed)
+handed-none : (laws : Lawful) (view : Window) (b : Indices) (lists : List (Option (List Step))) (old : OldBox) → IsOldBox view b lists old → handed_by (Some old) lists ≡ None
+    → is_split (raster view) (visit b old.list.now) ≡ false
+handed-none laws view b lists old is handed =
+    by (is_split (raster view) (visit b old.list.now)) (handed_on (raster view) (visit b old.list.now)) (sym (handed-by laws view b lists old is) ∙ handed)
   where
     by : (split : Bool) (list : List Step) → cond split (Some list) None ≡ None → split ≡ false
     by true list e = absurd (none-some list (sym e))
     by false list e = refl
 
 -- its first node stands for all its nodes
-old-count : (laws : Lawful) (view : Window) (b : Indices) (old : OldBox) → IsOldBox view b old → count_of (node_before old) ≡ length (nodes_of (raster view) (visit b old.list.now))
-old-count laws view b old is =
+old-count : (laws : Lawful) (view : Window) (b : Indices) (lists : List (Option (List Step))) (old : OldBox) → IsOldBox view b lists old
+    → count_before old ≡ length (nodes_of (raster view) (visit b old.list.now))
+old-count laws view b lists old is =
     let head = head-of laws (raster view) (visit b old.list.now) (omega arith) is.visit_is.box in
-    ap count_of (stands-head (nodes_before old) (nodes_of (raster view) (visit b old.list.now)) head.below head.node Outside old.at is.nodes head.is) ∙ head.count ∙ ap length (sym head.is)
+    ap count_of (first-head old.nodes.now (nodes_of (raster view) (visit b old.list.now)) head.below head.node Outside is.nodes head.is) ∙ head.count ∙ ap length (sym head.is)
 
-pub old-placed : (laws : Lawful) (view : Window) (b : Indices) (old : OldBox) → IsOldBox view b old → IsPlaced old
-old-placed laws view b old is =
+-- and for as many lists
+lists-count : (laws : Lawful) (view : Window) (b : Indices) (lists : List (Option (List Step))) (old : OldBox) → IsOldBox view b lists old
+    → count_before old ≡ length (lists_of (raster view) (visit b old.list.now))
+lists-count laws view b lists old is = old-count laws view b lists old is ∙ sym (as-many (raster view) (visit b old.list.now))
+
+pub old-there : (laws : Lawful) (view : Window) (b : Indices) (lists : List (Option (List Step))) (old : OldBox) → IsOldBox view b lists old → IsThere old
+old-there laws view b lists old is =
     let nodes = nodes_of (raster view) (visit b old.list.now) in
     let head = head-of laws (raster view) (visit b old.list.now) (omega arith) is.visit_is.box in
-    let within = stands-within (nodes_before old) nodes old.at is.nodes in
-    let tree = old.tree.now in
+    let within = first-within old.nodes.now nodes is.nodes in
     record {
       some = omega (arith, within, ap length head.is);
-      whole = omega (arith, within, old-count laws view b old is);
-      as_many = as-many (raster tree.view) (raster_root tree.view tree.list);
+      whole = omega (arith, within, old-count laws view b lists old is);
     }
 
-pub old-nodes : (laws : Lawful) (view : Window) (b : Indices) (old : OldBox) → IsOldBox view b old → part_before (nodes_before old) old ≡ nodes_of (raster view) (visit b old.list.now)
-old-nodes laws view b old is =
-    stands-part (nodes_before old) (nodes_of (raster view) (visit b old.list.now)) old.at (count_of (node_before old)) is.nodes (old-count laws view b old is)
+pub old-many : (laws : Lawful) (view : Window) (b : Indices) (lists : List (Option (List Step))) (old : OldBox) → IsOldBox view b lists old → count_before old ≤ length lists
+old-many laws view b lists old is =
+    omega (arith, first-within lists (lists_of (raster view) (visit b old.list.now)) is.lists, lists-count laws view b lists old is)
 
-pub old-lists : (laws : Lawful) (view : Window) (b : Indices) (old : OldBox) → IsOldBox view b old → part_before (lists_before old) old ≡ lists_of (raster view) (visit b old.list.now)
-old-lists laws view b old is =
-    stands-part (lists_before old) (lists_of (raster view) (visit b old.list.now)) old.at (count_of (node_before old)) is.lists
-    (old-count laws view b old is ∙ sym (as-many (raster view) (visit b old.list.now)))
+pub old-nodes : (laws : Lawful) (view : Window) (b : Indices) (lists : List (Option (List Step))) (old : OldBox) → IsOldBox view b lists old
+    → take (count_before old) old.nodes.now ≡ nodes_of (raster view) (visit b old.list.now)
+old-nodes laws view b lists old is =
+    first-part old.nodes.now (nodes_of (raster view) (visit b old.list.now)) (count_before old) is.nodes (old-count laws view b lists old is)
 
--- the nodes and the lists of a tree
-abbrev tree_nodes : Drawing → List Node
-tree_nodes tree = nodes_of (raster tree.view) (raster_root tree.view tree.list)
-
-abbrev tree_lists : Drawing → List (Option (List Step))
-tree_lists tree = lists_of (raster tree.view) (raster_root tree.view tree.list)
-
--- what stands in one tree stands in an equal one
-stands-moved : {K : Type 0} (all : Drawing → List K) (part : List Step → List K) (tree : Drawing) (list : List Step) (at : ℕ) (new : OldBox)
-    → new.tree.now ≡ tree → new.at ≡ at → list ≡ new.list.now → StandsAt (all tree) (part list) at → StandsAt (all new.tree.now) (part new.list.now) new.at
-stands-moved all part tree list at new same_tree same_at same_list stands =
-    subst (λ n. StandsAt (all new.tree.now) (part new.list.now) n) (sym same_at)
-    (subst (λ t. StandsAt (all t) (part new.list.now) at) (sym same_tree) (subst (λ l. StandsAt (all tree) (part l) at) same_list stands))
+pub old-lists : (laws : Lawful) (view : Window) (b : Indices) (lists : List (Option (List Step))) (old : OldBox) → IsOldBox view b lists old
+    → take (count_before old) lists ≡ lists_of (raster view) (visit b old.list.now)
+old-lists laws view b lists old is =
+    first-part lists (lists_of (raster view) (visit b old.list.now)) (count_before old) is.lists (lists-count laws view b lists old is)
 
 -- its halves stand behind its first node, and behind its first list
-pub old-halves : (laws : Lawful) (view : Window) (b : Indices) (old half : OldBox) → IsOldBox view b old → IsFirstHalf old half → list_handed old ≡ Some half.list.now
-    → AreOldHalves view b (halves_of 8 b) half
-old-halves laws view b old half is first handed =
+pub old-halves : (laws : Lawful) (view : Window) (b : Indices) (lists : List (Option (List Step))) (old half : OldBox) → IsOldBox view b lists old → half.nodes.now ≡ drop 1 old.nodes.now
+    → handed_by (Some old) lists ≡ Some half.list.now → AreOldHalves view b (halves_of 8 b) (drop 1 lists) half
+old-halves laws view b lists old half is behind handed =
     let d = raster view in
     let v = visit b old.list.now in
     let list = handed_on d v in
-    let told = handed-some laws view b old half.list.now is handed in
+    let told = handed-some laws view b lists old half.list.now is handed in
     let nodes = halves_nodes d list (halves_of 8 b) in
-    let lists = halves_lists d list (halves_of 8 b) in
     record {
-      view_is = ap (λ t. t.view) first.tree ∙ is.view_is;
       visit_is = record {
         window = is.visit_is.window;
         box = is.visit_is.box;
         within = is.visit_is.within;
         tape = subst IsTape told.1 (laws.visits.handed d v is.visit_is).0;
       };
-      nodes = stands-moved tree_nodes (λ l. halves_nodes d l (halves_of 8 b)) old.tree.now list (old.at + 1) half first.tree first.at told.1
-          (stands-below (nodes_before old) (nodes_of d v) nodes (Split (length nodes)) old.at is.nodes (nodes-split laws d v (omega arith) is.visit_is.box told.0));
-      lists = stands-moved tree_lists (λ l. halves_lists d l (halves_of 8 b)) old.tree.now list (old.at + 1) half first.tree first.at told.1
-          (stands-below (lists_before old) (lists_of d v) lists (Some list) old.at is.lists (lists-split laws d v (omega arith) is.visit_is.box told.0));
+      nodes = subst (λ ns. StandsFirst ns (halves_nodes d half.list.now (halves_of 8 b))) (sym behind)
+          (subst (λ l. StandsFirst (drop 1 old.nodes.now) (halves_nodes d l (halves_of 8 b))) told.1
+          (first-below old.nodes.now (nodes_of d v) nodes (Split (length nodes)) is.nodes (nodes-split laws d v (omega arith) is.visit_is.box told.0)));
+      lists = subst (λ l. StandsFirst (drop 1 lists) (halves_lists d l (halves_of 8 b))) told.1
+          (first-below lists (lists_of d v) (halves_lists d list (halves_of 8 b)) (Some list) is.lists (lists-split laws d v (omega arith) is.visit_is.box told.0));
     }
 
 -- the next of some halves, with those behind it
-halves-next : (view : Window) (b h : Indices) (i : ℕ) (halves : List Indices) (half : OldBox) → i < length halves → h ≡ get_or halves i h
-    → AreOldHalves view b (drop i halves) half → AreOldHalves view b (h ∷ drop (i + 1) halves) half
-halves-next view b h i halves half within read are =
-    subst (λ hs. AreOldHalves view b hs half) (drop_more halves i h within ∙ ap (λ x. x ∷ drop (i + 1) halves) (sym read)) are
+halves-next : (view : Window) (b h : Indices) (i : ℕ) (halves : List Indices) (lists : List (Option (List Step))) (half : OldBox) → i < length halves → h ≡ get_or halves i h
+    → AreOldHalves view b (drop i halves) lists half → AreOldHalves view b (h ∷ drop (i + 1) halves) lists half
+halves-next view b h i halves lists half within read are =
+    subst (λ hs. AreOldHalves view b hs lists half) (next-of halves i h within read) are
 
 -- the first of some halves stands where they begin
-first-stands : (laws : Lawful) (view : Window) (b h : Indices) (rest : List Indices) (half : OldBox) → IsPart 8 b h → AreOldHalves view b (h ∷ rest) half → IsOldBox view h half
-first-stands laws view b h rest half part are =
+first-stands : (laws : Lawful) (view : Window) (b h : Indices) (rest : List Indices) (lists : List (Option (List Step))) (half : OldBox) → IsPart 8 b h → AreOldHalves view b (h ∷ rest) lists half
+    → IsOldBox view h lists half
+first-stands laws view b h rest lists half part are =
     let d = raster view in
     let list = half.list.now in
     record {
-      view_is = are.view_is;
       visit_is = record {
         window = are.visit_is.window;
         box = laws.parts.box 8 b h part;
         within = half-within view b h part are.visit_is.within;
         tape = are.visit_is.tape;
       };
-      nodes = stands-first (nodes_before half) (nodes_of d (visit h list)) (halves_nodes d list rest) half.at
-          (subst (λ l. StandsAt (nodes_before half) l half.at) (flat_map-cons (λ x. nodes_of d (visit x list)) h rest) are.nodes);
-      lists = stands-first (lists_before half) (lists_of d (visit h list)) (halves_lists d list rest) half.at
-          (subst (λ l. StandsAt (lists_before half) l half.at) (flat_map-cons (λ x. lists_of d (visit x list)) h rest) are.lists);
+      nodes = first-of half.nodes.now (nodes_of d (visit h list)) (halves_nodes d list rest)
+          (subst (StandsFirst half.nodes.now) (flat_map-cons (λ x. nodes_of d (visit x list)) h rest) are.nodes);
+      lists = first-of lists (lists_of d (visit h list)) (halves_lists d list rest)
+          (subst (StandsFirst lists) (flat_map-cons (λ x. lists_of d (visit x list)) h rest) are.lists);
     }
 
 -- and the others behind it
-others-stand : (laws : Lawful) (view : Window) (b h : Indices) (rest : List Indices) (half next : OldBox) → IsPart 8 b h → AreOldHalves view b (h ∷ rest) half → IsNextHalf half next
-    → next.list.now ≡ half.list.now → AreOldHalves view b rest next
-others-stand laws view b h rest half next part are behind same =
+others-stand : (laws : Lawful) (view : Window) (b h : Indices) (rest : List Indices) (lists : List (Option (List Step))) (half next : OldBox) → IsPart 8 b h → AreOldHalves view b (h ∷ rest) lists half
+    → next.nodes.now ≡ drop (count_before half) half.nodes.now → next.list.now ≡ half.list.now → AreOldHalves view b rest (drop (count_before half) lists) next
+others-stand laws view b h rest lists half next part are behind same =
     let d = raster view in
     let list = half.list.now in
     let nodes = nodes_of d (visit h list) in
-    let lists = lists_of d (visit h list) in
-    let at : next.at ≡ half.at + length nodes = behind.at ∙ ap (λ n. half.at + n) (old-count laws view h half (first-stands laws view b h rest half part are)) in
+    let own = lists_of d (visit h list) in
+    let is = first-stands laws view b h rest lists half part are in
     record {
-      view_is = ap (λ t. t.view) behind.tree ∙ are.view_is;
       visit_is = subst (λ l. IsVisit d (visit b l)) (sym same) are.visit_is;
-      nodes = stands-moved tree_nodes (λ l. halves_nodes d l rest) half.tree.now list (half.at + length nodes) next behind.tree at (sym same)
-          (stands-more (nodes_before half) nodes (halves_nodes d list rest) half.at
-          (subst (λ l. StandsAt (nodes_before half) l half.at) (flat_map-cons (λ x. nodes_of d (visit x list)) h rest) are.nodes));
-      lists = stands-moved tree_lists (λ l. halves_lists d l rest) half.tree.now list (half.at + length lists) next behind.tree (at ∙ ap (λ n. half.at + n) (sym (as-many d (visit h list)))) (sym same)
-          (stands-more (lists_before half) lists (halves_lists d list rest) half.at
-          (subst (λ l. StandsAt (lists_before half) l half.at) (flat_map-cons (λ x. lists_of d (visit x list)) h rest) are.lists));
+      nodes = subst (λ ns. StandsFirst ns (halves_nodes d next.list.now rest)) (sym (behind ∙ ap (λ n. drop n half.nodes.now) (old-count laws view h lists half is)))
+          (subst (λ l. StandsFirst (drop (length nodes) half.nodes.now) (halves_nodes d l rest)) (sym same)
+          (first-more half.nodes.now nodes (halves_nodes d list rest)
+          (subst (StandsFirst half.nodes.now) (flat_map-cons (λ x. nodes_of d (visit x list)) h rest) are.nodes)));
+      lists = subst (λ n. StandsFirst (drop n lists) (halves_lists d next.list.now rest)) (sym (lists-count laws view h lists half is))
+          (subst (λ l. StandsFirst (drop (length own) lists) (halves_lists d l rest)) (sym same)
+          (first-more lists own (halves_lists d list rest)
+          (subst (StandsFirst lists) (flat_map-cons (λ x. lists_of d (visit x list)) h rest) are.lists)));
     }
 
 -- the next of the halves of a box stands where they begin
-pub half-stands : (laws : Lawful) (view : Window) (b h : Indices) (i : ℕ) (halves : List Indices) (half : OldBox) → halves ≡ halves_of 8 b → i < length halves → h ≡ get_or halves i h
-    → AreOldHalves view b (drop i halves) half → IsOldBox view h half
-half-stands laws view b h i halves half each within read are =
-    first-stands laws view b h (drop (i + 1) halves) half (half-part laws b h halves i are.visit_is.box each within read) (halves-next view b h i halves half within read are)
+pub half-stands : (laws : Lawful) (view : Window) (b h : Indices) (i : ℕ) (halves : List Indices) (lists : List (Option (List Step))) (half : OldBox) → halves ≡ halves_of 8 b → i < length halves
+    → h ≡ get_or halves i h → AreOldHalves view b (drop i halves) lists half → IsOldBox view h lists half
+half-stands laws view b h i halves lists half each within read are =
+    first-stands laws view b h (drop (i + 1) halves) lists half (half-part laws b h halves i are.visit_is.box each within read) (halves-next view b h i halves lists half within read are)
 
 -- and the others behind it
-pub half-next : (laws : Lawful) (view : Window) (b h : Indices) (i : ℕ) (halves : List Indices) (half next : OldBox) → halves ≡ halves_of 8 b → i < length halves → h ≡ get_or halves i h
-    → AreOldHalves view b (drop i halves) half → IsNextHalf half next → next.list.now ≡ half.list.now → AreOldHalves view b (drop (i + 1) halves) next
-half-next laws view b h i halves half next each within read are behind same =
-    others-stand laws view b h (drop (i + 1) halves) half next (half-part laws b h halves i are.visit_is.box each within read) (halves-next view b h i halves half within read are) behind same
+pub half-next : (laws : Lawful) (view : Window) (b h : Indices) (i : ℕ) (halves : List Indices) (lists : List (Option (List Step))) (half next : OldBox) → halves ≡ halves_of 8 b → i < length halves
+    → h ≡ get_or halves i h → AreOldHalves view b (drop i halves) lists half → next.nodes.now ≡ drop (count_before half) half.nodes.now → next.list.now ≡ half.list.now
+    → AreOldHalves view b (drop (i + 1) halves) (drop (count_before half) lists) next
+half-next laws view b h i halves lists half next each within read are behind same =
+    others-stand laws view b h (drop (i + 1) halves) lists half next (half-part laws b h halves i are.visit_is.box each within read) (halves-next view b h i halves lists half within read are) behind same
+
+-- what is left behind halves is left behind the first and then behind the others
+pub left-next : (laws : Lawful) (view : Window) (b h : Indices) (i : ℕ) (halves : List Indices) (lists : List (Option (List Step))) (half : OldBox) → halves ≡ halves_of 8 b → i < length halves
+    → h ≡ get_or halves i h → AreOldHalves view b (drop i halves) lists half
+    → behind_halves (raster view) (Some half.list.now) (drop (i + 1) halves) (drop (count_before half) lists) ≡ behind_halves (raster view) (Some half.list.now) (drop i halves) lists
+left-next laws view b h i halves lists half each within read are =
+    let d = raster view in
+    let list = half.list.now in
+    let rest = drop (i + 1) halves in
+    let own = lists_of d (visit h list) in
+    let is = half-stands laws view b h i halves lists half each within read are in
+    let whole : length (halves_lists d list (h ∷ rest)) ≡ length own + length (halves_lists d list rest) =
+    ap length (flat_map-cons (λ x. lists_of d (visit x list)) h rest) ∙ length-append own (halves_lists d list rest) in
+    drop-drop (length (halves_lists d list rest)) (count_before half) lists
+    ∙ ap (λ n. drop (n + length (halves_lists d list rest)) lists) (lists-count laws view h lists half is)
+    ∙ ap (λ n. drop n lists) (sym whole) ∙ ap (λ hs. drop (length (halves_lists d list hs)) lists) (sym (next-of halves i h within read))
+
+-- what is left behind a box is left behind its first list and then behind the halves that received it
+pub left-split : (laws : Lawful) (view : Window) (b : Indices) (lists : List (Option (List Step))) (old : OldBox) → IsOldBox view b lists old
+    → behind_halves (raster view) (handed_by (Some old) lists) (halves_of 8 b) (drop 1 lists) ≡ drop (count_before old) lists
+left-split laws view b lists old is = by (handed_by (Some old) lists) refl
+  where
+    by : (handed : Option (List Step)) → handed_by (Some old) lists ≡ handed → behind_halves (raster view) handed (halves_of 8 b) (drop 1 lists) ≡ drop (count_before old) lists
+    by None none =
+        let parts = lists-parts laws (raster view) (visit b old.list.now) (omega arith) is.visit_is.box in
+        let one : lists_of (raster view) (visit b old.list.now) ≡ None ∷ [] = rw (handed-none laws view b lists old is none) at parts in
+        ap (λ n. drop n lists) (sym (lists-count laws view b lists old is ∙ ap length one))
+    by (Some list) some =
+        let told = handed-some laws view b lists old list is some in
+        let below = λ (l : List Step). halves_lists (raster view) l (halves_of 8 b) in
+        let all = lists-split laws (raster view) (visit b old.list.now) (omega arith) is.visit_is.box told.0 in
+        let many : count_before old ≡ 1 + length (below list) = omega (arith, lists-count laws view b lists old is, ap length all, ap (λ l. length (below l)) told.1) in
+        drop-drop (length (below list)) 1 lists ∙ ap (λ n. drop n lists) (sym many)
 
 -- the box of all samples stands first
-pub root-stands : (view : Window) (old : OldBox) → old.at ≡ 0 → old.tree.now.view ≡ view → old.list.now ≡ old.tree.now.list
-    → IsVisit (raster view) (raster_root view old.tree.now.list) → IsOldBox view (root_box_of view Raster) old
-root-stands view old first same_view same_list is =
-    record {
-      view_is = same_view;
-      visit_is = subst (λ l. IsVisit (raster view) (raster_root view l)) (sym same_list) is;
-      nodes = whole tree_nodes (nodes_of (raster view) (raster_root view old.list.now)) (ap (λ w. nodes_of (raster w) (raster_root w old.tree.now.list)) same_view ∙ ap (λ l. nodes_of (raster view) (raster_root view l)) (sym same_list));
-      lists = whole tree_lists (lists_of (raster view) (raster_root view old.list.now)) (ap (λ w. lists_of (raster w) (raster_root w old.tree.now.list)) same_view ∙ ap (λ l. lists_of (raster view) (raster_root view l)) (sym same_list));
-    }
-  where
-    whole : {K : Type 0} (all : Drawing → List K) (part : List K) → all old.tree.now ≡ part → StandsAt (all old.tree.now) part old.at
-    whole all part same = record { front = []; rest = []; place = first; is = same ∙ sym (append-nil part) }
+pub root-stands : (view : Window) (lists : List (Option (List Step))) (old : OldBox) → old.nodes.now ≡ nodes_of (raster view) (raster_root view old.list.now)
+    → lists ≡ lists_of (raster view) (raster_root view old.list.now) → IsVisit (raster view) (raster_root view old.list.now) → IsOldBox view (root_box_of view Raster) lists old
+root-stands view lists old nodes_are lists_are is = record {
+  visit_is = is;
+  nodes = record { rest = []; is = nodes_are ∙ sym (append-nil (nodes_of (raster view) (raster_root view old.list.now))) };
+  lists = record { rest = []; is = lists_are ∙ sym (append-nil (lists_of (raster view) (raster_root view old.list.now))) };
+}

@@ -3,10 +3,10 @@ use Rattle.std.proofs.Common.{◌≡◌, ℕ, zero, suc, ◌+◌, ◌-◌, ◌*�
 use Rattle.std.specs.Prelude.{nat_lt, ◌||◌, Option, Some, None, count_by}
 use Rattle.std.specs.List.{flat_map, list_any, range_with_len}
 use Rattle.std.proofs.Math.Bool.{or_comm}
-use Rattle.std.proofs.Math.Nat.{mod-lt}
+use Rattle.std.proofs.Math.Nat.{mod-lt, mul-div_cancel_left}
 use Rattle.std.proofs.lemmas.Grind.{flat_map-append}
 use Rattle.std.proofs.lemmas.Bool.{ltb-false, ltb-true, or_parts}
-use Rattle.std.proofs.lemmas.List.{drop_more, length-drop, length-take-le, map-append, take_more}
+use Rattle.std.proofs.lemmas.List.{drop_more, map-append, take_more}
 use Rattle.std.proofs.lemmas.List.Concat.{flat_map-cons}
 use Rattle.std.proofs.lemmas.List.Folds.{list_any-append}
 use Rattle.std.proofs.lemmas.List.FromFn.{fill_by_all}
@@ -17,6 +17,7 @@ use Rattle.box_chains.specs.Sums.{LiesIn, Sample}
 use Rattle.box_chains.specs.Laws.{Lawful}
 use Rattle.fixed_ops.specs.Raw.{is_inside}
 use Rattle.live_clauses.specs.Steps.{tape_value}
+use Rattle.raster_pgm.specs.Image.{Image}
 use Rattle.live_clauses.specs.declared.step.Step.{Step}
 use Rattle.view_places.specs.Boxes.{Indices, IsBox, halves_of}
 use Rattle.view_places.specs.Places.{point_of}
@@ -27,7 +28,7 @@ use Rattle.quad_descent.specs.Drawn.{AreDrawnAt, HasValues, IsDrawnAt, StandsAt,
 use Rattle.quad_descent.proofs.NodeLaws.{nodes-are}
 use Rattle.quad_descent.specs.Nodes.{bits_of, box_nodes, halves_nodes, insides, nodes_of, rows_of}
 use Rattle.quad_descent.specs.Painting.{Paints, byte_at, covers}
-use Rattle.quad_descent.specs.Pixels.{pixel_at, row_at, rows_from}
+use Rattle.quad_descent.specs.Pixels.{pixel_at, pixels_of, row_at, rows_from}
 use Rattle.quad_descent.specs.Raster.{raster, raster_root}
 use Rattle.quad_descent.specs.declared.node.Node.{Node}
 use Rattle.quad_descent.specs.declared.node.Node.TheVariants.{Outside, Inside, Leaf, Split}
@@ -317,8 +318,16 @@ band-painted laws view list row rows b xs ys is count within some painted =
       z = (omega arith, omega arith);
     }
 
--- what stands behind a start is as long as what was put there
-pub tail-length : (xs : List ℕ) (start count : ℕ) → length xs ≡ start + count → length (take (length xs - start) (drop start xs)) ≡ count
-tail-length xs start count is =
-    let rest = length-drop start xs in
-    length-take-le (length xs - start) (drop start xs) (omega (arith, rest)) ∙ omega (arith, is)
+-- all rows are the pixels of the image
+pub all-rows : (view : Window) (list : List Step) (len : ℕ) (pixels : List ℕ) → 0 < view.w → len ≡ view.w * view.h
+    → pixels ≡ rows_from view list 0 (len / view.w) → pixels ≡ pixels_of view list
+all-rows view list len pixels some count painted =
+    painted ∙ ap (λ n. rows_from view list 0 (n / view.w)) count ∙ ap (rows_from view list 0) (mul-div_cancel_left view.h some)
+
+-- an image of these sides and pixels
+abbrev pub image_of : ℕ → ℕ → List ℕ → Image
+image_of w h pixels = record { w = w; h = h; pixels = pixels }
+
+-- images of equal sides and pixels are equal
+pub same-image : (a b w h : ℕ) (xs ys : List ℕ) → a ≡ w → b ≡ h → xs ≡ ys → image_of a b xs ≡ image_of w h ys
+same-image a b w h xs ys wide high each = ap (λ n. image_of n b xs) wide ∙ ap (λ n. image_of w n xs) high ∙ ap (image_of w h) each

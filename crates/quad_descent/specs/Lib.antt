@@ -8,4 +8,5 @@ pub mod Opened
 pub mod Painting
 pub mod Pixels
 pub mod Raster
+pub mod Rows
 pub mod Scans

@@ -1,9 +1,10 @@
 // Boxes that are drawn, one after another.
-ghost use Rattle.std.specs.Prelude.{◌≡◌, ◌<◌, ◌∷◌, ◌++◌, [], None, Some, length, IfOk, OnOk};
+ghost use Rattle.std.specs.Prelude.{◌≡◌, ◌<◌, ◌∷◌, ◌++◌, [], None, Some, length, IfOk, IfSome, OnOk};
 ghost use Rattle.live_clauses.specs.Blocks.{list_at};
 
 use crate::node::Node;
 use crate::old_box::OldBox;
+use crate::old_lists::OldLists;
 use live_clauses::{Lists, Tape};
 use std::alloc::{AllocError, Global};
 
@@ -19,20 +20,30 @@ pub struct Boxes {
     /// The list that the boxes receive which are drawn next, where lists are kept: one that hands on an
     /// equal list shares it.
     pub received: Option<Tape>,
+    /// What is left of the lists of the tree before.
+    pub before: OldLists,
 }
 
 impl Boxes {
+    ghost use Rattle.std.specs.Prelude.{◌≤◌, take};
     ghost use Rattle.live_clauses.specs.Blocks.{list_at};
     ghost use Rattle.quad_descent.specs.Adding.{Adds};
-    ghost use Rattle.quad_descent.specs.OldBoxes.{IsPlaced, lists_before, nodes_before, part_before};
+    ghost use Rattle.quad_descent.specs.OldBoxes.{IsThere, behind, count_before};
     ghost use Rattle.quad_descent.specs.declared.node.Node.TheVariants.{Split};
 
-    /// No boxes, with memory for so many. The first of them receives a list. AllocError: there is no
-    /// memory for them, or to share the list.
-    pub fn new(alloc: Global, list: &Tape, keeps: bool, room: usize) -> Result<Boxes, AllocError>
+    /// No boxes, with memory for so many, after a tree with these lists. The first of them receives a
+    /// list. AllocError: there is no memory for them, or to share the list.
+    pub fn new(
+        alloc: Global,
+        list: &Tape,
+        keeps: bool,
+        room: usize,
+        before: Vec<Option<Tape>>,
+    ) -> Result<Boxes, AllocError>
         ensures nodes { IfOk result (λ boxes. boxes.nodes.items ≡ []) }
         ensures lists { IfOk result (λ boxes. boxes.lists.items ≡ []) }
         ensures keeps { IfOk result (λ boxes. boxes.keeps ≡ keeps) }
+        ensures before { IfOk result (λ boxes. boxes.before ≡ before.items) }
     {
         let received = if keeps { Some(list.share()?) } else { None };
         let kept = if keeps { room } else { 0 };
@@ -41,14 +52,21 @@ impl Boxes {
             lists: Vec::with_capacity(alloc, kept)?,
             keeps,
             received,
+            before: OldLists::new(before),
         })
     }
 
-    /// Adds a box that hands no list on. AllocError: there is no memory for it.
+    /// Adds a box that hands no list on. What the tree before had of it is given up. AllocError: there
+    /// is no memory for it.
     #[inline]
-    pub fn push(&mut self, node: Node) -> Result<(), AllocError>
-        ensures { OnOk result (Adds self.old self.new (node ∷ []) (None ∷ [])) }
+    pub fn push(&mut self, node: Node, old: Option<OldBox<'_>>) -> Result<(), AllocError>
+        requires { IfSome old IsThere }
+        ensures adds { OnOk result (Adds self.old self.new (node ∷ []) (None ∷ [])) }
+        ensures left { OnOk result (self.new.before ≡ behind old.entry self.old.before) }
     {
+        if let Some(old) = old {
+            self.before.give_up(old.count());
+        }
         if self.keeps {
             self.lists.push(None)?;
         }
@@ -59,8 +77,9 @@ impl Boxes {
     /// halves are drawn next. Gives what the box received. AllocError: there is no memory for it.
     pub fn push_split(&mut self, lists: &Lists, live: usize) -> Result<Option<Tape>, AllocError>
         requires { live < length lists.now }
-        ensures { OnOk result (Adds self.old self.new (Split 0 ∷ [])
+        ensures adds { OnOk result (Adds self.old self.new (Split 0 ∷ [])
             (Some (list_at lists.now live) ∷ [])) }
+        ensures left { self.new.before ≡ self.old.before }
     {
         self.nodes.push(Node::Split(0))?;
         if !self.keeps {
@@ -72,22 +91,19 @@ impl Boxes {
         Ok(above)
     }
 
-    /// Adds a box as the tree before had it, with all boxes below it. AllocError: there is no memory
-    /// for them.
+    /// Adds a box as the tree before had it, with all boxes below it: their lists are moved.
+    /// AllocError: there is no memory for them.
     pub fn push_old(&mut self, old: OldBox<'_>) -> Result<(), AllocError>
-        requires { IsPlaced old }
-        ensures { OnOk result (Adds self.old self.new (part_before (nodes_before old.entry) old.entry)
-            (part_before (lists_before old.entry) old.entry)) }
+        requires there { IsThere old }
+        requires lists { count_before old ≤ length self.old.before }
+        ensures adds { OnOk result (Adds self.old self.new
+            (take (count_before old.entry) old.entry.nodes.now)
+            (take (count_before old.entry) self.old.before)) }
+        ensures left { OnOk result (self.new.before ≡ behind (Some old.entry) self.old.before) }
     {
-        let tree = old.tree;
-        let picture = tree.picture();
-        let nodes = &picture.nodes;
-        let end = old.at + nodes[old.at].count();
-        self.nodes.extend_from_slice(&nodes[old.at..end])?;
-        if self.keeps {
-            share_all(&tree.lists[old.at..end], &mut self.lists)?;
-        }
-        Ok(())
+        let (nodes, count) = (old.nodes, old.count());
+        self.nodes.extend_from_slice(&nodes[..count])?;
+        self.before.move_to(count, &mut self.lists)
     }
 }
 
@@ -101,18 +117,4 @@ fn keep(lists: &Lists, at: usize, equal: &Option<Tape>) -> Result<Tape, AllocErr
         Some(tape) if tape.steps().same(&lists.list(at)) => tape.share(),
         _ => lists.keep(at),
     }
-}
-
-// Puts lists behind others. Their steps are not copied.
-fn share_all(lists: &[Option<Tape>], kept: &mut Vec<Option<Tape>>) -> Result<(), AllocError>
-    ensures { OnOk result (kept.new.items ≡ kept.old.items ++ lists.now) }
-{
-    for list in lists {
-        let shared = match list {
-            None => None,
-            Some(list) => Some(list.share()?),
-        };
-        kept.push(shared)?;
-    }
-    Ok(())
 }

@@ -41,6 +41,7 @@ impl Picture {
     }
 
     // Paints the samples of row j of a leaf, which are the digits of a number.
+    #[inline]
     fn paint_row(&self, bits: u8, b: IndexBox, j: u32, band: Band, pixels: &mut [u8])
         requires within { IsInRoot self.now.view Lattice.Raster b }
         requires band { IsBand self.now.view band (length pixels.old) }
@@ -51,9 +52,29 @@ impl Picture {
             ((j - band.row) * self.now.view.w + b.x1))
             (byte_at self.now.view self.now.list band.row) pixels.old pixels.new }
     {
+        // A row of eight samples is written at once, since its loop has no turn to count.
+        match b.x1 - b.x0 {
+            8 => self.paint_digits(bits, 8, b, j, band, pixels),
+            width => self.paint_digits(bits, width, b, j, band, pixels),
+        }
+    }
+
+    // The same of a row of so many samples.
+    #[inline(always)]
+    fn paint_digits(&self, bits: u8, width: u32, b: IndexBox, j: u32, band: Band, pixels: &mut [u8])
+        requires within { IsInRoot self.now.view Lattice.Raster b }
+        requires band { IsBand self.now.view band (length pixels.old) }
+        requires above { band.row ≤ j }
+        requires below { j < band.row + band.rows }
+        requires width { width ≡ b.x1 - b.x0 }
+        requires bits { bits ≡ bits_of (insides self.now.view Lattice.Raster self.now.list b j) }
+        ensures { Paints (among ((j - band.row) * self.now.view.w + b.x0)
+            ((j - band.row) * self.now.view.w + b.x1))
+            (byte_at self.now.view self.now.list band.row) pixels.old pixels.new }
+    {
         let start = (j - band.row) as usize * self.view.w as usize;
         let mut rest = bits;
-        for n in 0..b.x1 - b.x0 {
+        for n in 0..width {
             let i = (b.x1 - 1 - n) as usize;
             pixels[start + i] = pixel(rest % 2 == 1);
             rest /= 2;

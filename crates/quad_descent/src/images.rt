@@ -1,5 +1,5 @@
 // Images that are drawn.
-ghost use Rattle.std.specs.Prelude.{◌≡◌, ◌≢◌, [], Some, None, IfOk, IfSome, IsTrue, OnOk, OnErr};
+ghost use Rattle.std.specs.Prelude.{◌≡◌, ◌≢◌, [], ◌∷◌, length, Some, None, IfOk, IfSome, IsTrue, OnOk, OnErr};
 ghost use Rattle.box_chains.specs.Redrawn.{IsNew};
 ghost use Rattle.box_chains.specs.Tallied.{CountsAtMost, CountsExactly};
 ghost use Rattle.box_chains.specs.Visits.{IsVisit};
@@ -39,7 +39,7 @@ pub fn draw_picture(
         tally.new) }
 {
     layers_hold();
-    let boxes = draw_boxes(alloc, list, view, None, false, tally)?;
+    let (boxes, _) = draw_fresh(alloc, list, view, false, tally)?;
     picture_of(boxes.nodes, list, view)
 }
 
@@ -60,8 +60,8 @@ pub fn draw(
         tally.new) }
 {
     layers_hold();
-    let boxes = draw_boxes(alloc, list, view, None, true, tally)?;
-    tree_of(boxes, list, view)
+    let (boxes, desk) = draw_fresh(alloc, list, view, true, tally)?;
+    tree_of(boxes, desk, list, view)
 }
 
 /// Draws an image anew, of another list of steps. What is counted is the work of those boxes alone that
@@ -77,50 +77,92 @@ pub fn redraw(old: QuadTree, list: &Tape, tally: &mut Tally) -> Result<QuadTree,
         (frame_spans old.view (Some old.list) list.now) tally.old tally.new) }
 {
     layers_hold();
+    image_holds(old.view(), list);
     if same(old.list(), list) {
         Ok(old)
     } else {
-        draw_after(&old, list, tally)
+        draw_after(old, list, tally)
     }
 }
 
-// The image of another list over the view of an image, after that. AllocError: there is no memory for
-// it.
-fn draw_after(old: &QuadTree, list: &Tape, tally: &mut Tally) -> Result<QuadTree, AllocError>
-    requires { old.now.list ≢ list.now }
-    ensures tree { IfOk result (λ tree. tree ≡ record { view = old.now.view; list = list.now }) }
-    ensures counted { OnOk result
-        (CountsExactly (frame_points old.now.view (Some old.now.list) list.now)
-        (frame_spans old.now.view (Some old.now.list) list.now) tally.old tally.new) }
-    ensures at_most { OnErr result
-        (CountsAtMost (frame_points old.now.view (Some old.now.list) list.now)
-        (frame_spans old.now.view (Some old.now.list) list.now) tally.old tally.new) }
-{
-    layers_hold();
-    let alloc = *old.lists.allocator();
-    let picture = old.picture();
-    let root = OldBox {
-        tree: old,
-        at: 0,
-        list: &picture.list,
-    };
-    let boxes = draw_boxes(alloc, list, &picture.view, Some(root), true, tally)?;
-    tree_of(boxes, list, &picture.view)
-}
-
-// The boxes of an image of a list over a view, after one of another list, where there was one.
-fn draw_boxes(
+// The boxes of a fresh image of a list over a view, with the desk that they were drawn at. AllocError:
+// there is no memory for them.
+fn draw_fresh(
     alloc: Global,
     list: &Tape,
     view: &View,
+    keeps: bool,
+    tally: &mut Tally,
+) -> Result<(Boxes, Desk), AllocError>
+    ensures drawn { IfOk result (λ made. IsDrawn view.now list.now made.0) }
+    ensures keeps { IfOk result (λ made. made.0.keeps ≡ keeps) }
+    ensures view { IfOk result (λ made. made.1.view ≡ view.now) }
+    ensures lattice { IfOk result (λ made. made.1.lattice ≡ Lattice.Raster) }
+    ensures counted { OnOk result
+        (CountsExactly (frame_points view.now None list.now) (frame_spans view.now None list.now)
+        tally.old tally.new) }
+    ensures at_most { OnErr result
+        (CountsAtMost (frame_points view.now None list.now) (frame_spans view.now None list.now)
+        tally.old tally.new) }
+{
+    layers_hold();
+    let mut desk = Desk::new(alloc, view, Lattice::Raster, list)?;
+    let boxes = draw_boxes(&mut desk, list, view, None, Vec::new(alloc), keeps, tally)?;
+    Ok((boxes, desk))
+}
+
+// The image of another list over the view of an image, after that. Its lists are given up as they are
+// read. AllocError: there is no memory for it.
+fn draw_after(old: QuadTree, list: &Tape, tally: &mut Tally) -> Result<QuadTree, AllocError>
+    requires { old.list ≢ list.now }
+    ensures tree { IfOk result (λ tree. tree ≡ record { view = old.view; list = list.now }) }
+    ensures counted { OnOk result
+        (CountsExactly (frame_points old.view (Some old.list) list.now)
+        (frame_spans old.view (Some old.list) list.now) tally.old tally.new) }
+    ensures at_most { OnErr result
+        (CountsAtMost (frame_points old.view (Some old.list) list.now)
+        (frame_spans old.view (Some old.list) list.now) tally.old tally.new) }
+{
+    layers_hold();
+    let QuadTree {
+        picture,
+        lists,
+        desk,
+    } = old;
+    let mut desk = desk.restart(list)?;
+    let root = OldBox {
+        nodes: &picture.nodes,
+        list: &picture.list,
+    };
+    let view = &picture.view;
+    let boxes = draw_boxes(&mut desk, list, view, Some(root), lists, true, tally)?;
+    tree_of(boxes, desk, list, view)
+}
+
+// The boxes of an image of a list over a view, after one of another list with these lists, where there
+// was one. The desk was made for the list.
+fn draw_boxes(
+    desk: &mut Desk,
+    list: &Tape,
+    view: &View,
     before: Option<OldBox<'_>>,
+    lists: Vec<Option<Tape>>,
     keeps: bool,
     tally: &mut Tally,
 ) -> Result<Boxes, AllocError>
-    requires old { IfSome before (IsOldBox view.now (root_box_of view.now Lattice.Raster)) }
+    requires desk { desk.old ≡ record {
+      view = view.now;
+      lattice = Lattice.Raster;
+      room = length list.now;
+      lists = list.now ∷ [];
+    } }
+    requires old { IfSome before (IsOldBox view.now (root_box_of view.now Lattice.Raster)
+        lists.items) }
     requires new { IsNew (visit_before before (root_box_of view.now Lattice.Raster))
         (raster_root view.now list.now) }
     ensures drawn { IfOk result (IsDrawn view.now list.now) }
+    ensures view { desk.new.view ≡ view.now }
+    ensures lattice { desk.new.lattice ≡ Lattice.Raster }
     ensures keeps { IfOk result (λ boxes. boxes.keeps ≡ keeps) }
     ensures counted { OnOk result
         (CountsExactly (frame_points view.now (received_by before.entry) list.now)
@@ -130,21 +172,23 @@ fn draw_boxes(
         (frame_spans view.now (received_by before.entry) list.now) tally.old tally.new) }
 {
     layers_hold();
-    let mut desk = Desk::new(alloc, view, Lattice::Raster, list)?;
+    let alloc = *lists.allocator();
     let root = desk.root();
     // An image has about as many boxes as the one before it.
     let room = match before {
-        Some(root) => root.tree_len(),
+        Some(root) => root.nodes.len(),
         None => 0,
     };
-    let mut boxes = Boxes::new(alloc, list, keeps, room)?;
+    let mut boxes = Boxes::new(alloc, list, keeps, room, lists)?;
     // The list that the desk was made with has the number 0.
-    draw_box(&mut desk, root, before, 0, &mut boxes, tally)?;
+    draw_box(desk, root, before, 0, &mut boxes, tally)?;
     Ok(boxes)
 }
 
 // The tree of boxes that were drawn, with their lists. AllocError: there is no memory to share the list.
-fn tree_of(boxes: Boxes, list: &Tape, view: &View) -> Result<QuadTree, AllocError>
+fn tree_of(boxes: Boxes, desk: Desk, list: &Tape, view: &View) -> Result<QuadTree, AllocError>
+    requires view { desk.view ≡ view.now }
+    requires lattice { desk.lattice ≡ Lattice.Raster }
     requires drawn { IsDrawn view.now list.now boxes }
     requires keeps { IsTrue boxes.keeps }
     ensures { IfOk result (λ tree. tree ≡ record { view = view.now; list = list.now }) }
@@ -153,6 +197,7 @@ fn tree_of(boxes: Boxes, list: &Tape, view: &View) -> Result<QuadTree, AllocErro
     Ok(QuadTree {
         picture,
         lists: boxes.lists,
+        desk,
     })
 }
 

@@ -1,76 +1,56 @@
 // A box of the tree before.
 
-use crate::QuadTree;
-use live_clauses::{Steps, Tape};
+use crate::node::Node;
+use live_clauses::Tape;
 
 /// A box of the tree that an image is drawn after.
 #[derive(Clone, Copy, Debug)]
 pub struct OldBox<'a> {
-    /// The tree.
-    pub tree: &'a QuadTree,
-    /// The place of its node.
-    pub at: usize,
+    /// The nodes of the tree from its own on, those of its halves next.
+    pub nodes: &'a [Node],
     /// The list that it received.
     pub list: &'a Tape,
 }
 
 impl<'a> OldBox<'a> {
-    ghost use Rattle.std.specs.Prelude.{◌≡◌, ◌↔◌, IfNone, IfSome, IsTrue, None, Some};
-    ghost use Rattle.quad_descent.specs.OldBoxes.{IsFirstHalf, IsNextHalf, IsPlaced, list_handed};
+    ghost use Rattle.std.specs.Prelude.{◌≡◌, drop};
+    ghost use Rattle.quad_descent.specs.OldBoxes.{IsThere, count_before};
 
-    /// How many boxes its tree has.
+    /// How many nodes stand for it: its own and those of the boxes below it.
     #[inline]
-    pub fn tree_len(self) -> usize {
-        let tree = self.tree;
-        let picture = tree.picture();
-        picture.nodes.len()
+    pub fn count(self) -> usize
+        requires { IsThere self }
+        ensures { result ≡ count_before self.entry }
+    {
+        let nodes = self.nodes;
+        nodes[0].count()
     }
 
-    /// The first of its halves, where it had some. They received the list that it handed on.
+    /// The first of its halves, which received this list.
     #[inline]
-    pub fn first_half(self) -> Option<OldBox<'a>>
-        requires { IsPlaced self }
-        ensures some { IfSome result (λ half. list_handed self.entry ≡ Some half.list.now) }
-        ensures first { IfSome result (IsFirstHalf self.entry) }
-        ensures none { IfNone result (list_handed self.entry ≡ None) }
+    pub fn first_half(self, handed: &'a Tape) -> OldBox<'a>
+        requires { IsThere self }
+        ensures nodes { result.nodes.now ≡ drop 1 self.entry.nodes.now }
+        ensures list { result.list.now ≡ handed.now }
     {
-        let tree = self.tree;
-        match &tree.lists[self.at] {
-            None => None,
-            Some(list) => Some(OldBox {
-                tree,
-                at: self.at + 1,
-                list,
-            }),
+        let nodes = self.nodes;
+        OldBox {
+            nodes: &nodes[1..],
+            list: handed,
         }
     }
 
     /// The half behind this one, which received the same list.
     #[inline]
     pub fn next_half(self) -> OldBox<'a>
-        requires { IsPlaced self }
-        ensures next { IsNextHalf self.entry result }
+        requires { IsThere self }
+        ensures nodes { result.nodes.now ≡ drop (count_before self.entry) self.entry.nodes.now }
         ensures list { result.list.now ≡ self.entry.list.now }
     {
-        let tree = self.tree;
-        let picture = &tree.picture;
+        let nodes = self.nodes;
         OldBox {
-            tree,
-            at: self.at + picture.nodes[self.at].count(),
+            nodes: &nodes[self.count()..],
             list: self.list,
-        }
-    }
-
-    /// Whether it handed on these steps to its halves.
-    #[inline]
-    pub fn hands_on(self, list: &Steps<'_>) -> bool
-        requires { IsPlaced self }
-        ensures { IsTrue result ↔ (list_handed self.entry ≡ Some list.now) }
-    {
-        let tree = self.tree;
-        match &tree.lists[self.at] {
-            None => false,
-            Some(old) => old.steps().same(list),
         }
     }
 }

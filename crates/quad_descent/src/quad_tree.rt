@@ -2,6 +2,7 @@
 ghost use Rattle.std.specs.Prelude.{◌≡◌};
 
 use crate::Picture;
+use box_chains::Desk;
 use live_clauses::Tape;
 use std::marker::Model;
 use view_places::View;
@@ -13,10 +14,13 @@ pub struct QuadTree {
     pub(crate) picture: Picture,
     // For each node the list that its box hands on to its halves, and none where it has no halves.
     pub(crate) lists: Vec<Option<Tape>>,
+    // What looking into its boxes took, whose memory serves the next drawing.
+    pub(crate) desk: Desk,
 }
 
 impl Model for QuadTree {
     ghost use Rattle.std.specs.Prelude.{◌≡◌};
+    ghost use Rattle.view_places.specs.declared.lattice.Lattice.TheVariants.{Raster};
     ghost use Rattle.quad_descent.specs.KeptLists.{lists_of};
     ghost use Rattle.quad_descent.specs.Raster.{Drawing, raster, raster_root};
 
@@ -24,8 +28,9 @@ impl Model for QuadTree {
 
     ghost view = { λ t. t.picture };
 
-    ghost invariant = { λ t. t.lists.items
-        ≡ lists_of (raster t.picture.view) (raster_root t.picture.view t.picture.list) };
+    ghost invariant = { λ t. (t.lists.items
+        ≡ lists_of (raster t.picture.view) (raster_root t.picture.view t.picture.list))
+        × (t.desk.view ≡ t.picture.view) × (t.desk.lattice ≡ Raster) };
 }
 
 impl QuadTree {

@@ -1,5 +1,6 @@
 // Images with their bytes written out by hand.
 use super::*;
+use arrayvec::ArrayVec;
 use std::test::Fail;
 
 #[test]
@@ -20,10 +21,34 @@ fn image_has_width_before_height(rt: HostRuntime) -> Result<(), Fail> {
 }
 
 #[test]
-fn header_leaves_room_for_the_pixels(rt: HostRuntime) -> Result<(), Fail> {
-    let text = pgm_header(rt.alloc(), 4096, 1)?;
-    assert_eq!(rt; text.as_slice(), b"P5\n4096 1\n255\n".as_slice());
-    assert!(rt; text.capacity() >= 14 + 4096);
+fn heads_have_as_many_digits_as_their_counts(rt: HostRuntime) -> Result<(), Fail> {
+    let cases: [(u32, u32, u32, &[u8]); 5] = [
+        (1, 9, 255, b"P5\n1 9\n255\n"),
+        (10, 99, 1, b"P5\n10 99\n1\n"),
+        (100, 999, 10, b"P5\n100 999\n10\n"),
+        (1000, 4096, 255, b"P5\n1000 4096\n255\n"),
+        (4096, 4096, 1024, b"P5\n4096 4096\n1024\n"),
+    ];
+    for (w, h, most, bytes) in cases {
+        let mut head = ArrayVec::new();
+        pgm_head(w, h, most, &mut head);
+        assert_eq!(rt; head.as_slice(), bytes);
+    }
+    Ok(())
+}
+
+#[test]
+fn lengths_count_the_head_and_the_pixels(rt: HostRuntime) -> Result<(), Fail> {
+    // Eleven bytes of the head of one pixel, and one more for each digit more.
+    let cases = [
+        (1, 1, 12),
+        (9, 10, 102),
+        (999, 1000, 999_016),
+        (4096, 4096, 16_777_233),
+    ];
+    for (w, h, bytes) in cases {
+        assert_eq!(rt; raster_length(w, h), bytes);
+    }
     Ok(())
 }
 

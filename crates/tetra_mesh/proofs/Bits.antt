@@ -3,7 +3,7 @@ use Rattle.std.proofs.Common.{◌≡◌, ℕ, zero, suc, ◌+◌, ◌-◌, ◌*�
 use Rattle.std.specs.Prelude.{◌==◌, ◌&&◌, filter, get_or, length, ℤ, pos, if◌then◌else◌}
 use Rattle.std.specs.Int.RustNames.{count_ones}
 use Rattle.std.specs.List.{range_with_len}
-use Rattle.std.proofs.lemmas.Bool.{agree_below, agree_below_at, and_parts, eqb-true}
+use Rattle.std.proofs.lemmas.Bool.{agree_below, agree_below_at, and_parts, eqb-false, eqb-true}
 use lib.Bits.{bit_and}
 use lib.Count.{ones_step}
 use Rattle.std.proofs.lemmas.Nat.{and_mask}
@@ -97,6 +97,21 @@ small_ones n few =
     let end : n / 2 / 2 / 2 / 2 / 2 / 2 / 2 / 2 ≡ 0 = omega (arith, few) in
     let none = ap count_ones end ∙ no_ones in
     omega (arith, h, h1, h2, h3, h4, h5, h6, h7, none)
+
+-- a byte without its lowest digit has seven digits at most
+few_digits : (n : ℕ) → n % 2 ≡ 0 → digit_sum n ≤ 7
+unfolding digit_sum
+few_digits n even = omega (arith, even)
+
+even_mask : (signs : ℕ) (odd : Bool) → (signs % 2 == 1) ≡ odd → (if odd then 255 - signs else signs) % 2 ≡ 0
+even_mask signs true h = let one = eqb-true (signs % 2) 1 h in omega (arith, one)
+even_mask signs false h = let none = eqb-false (signs % 2) 1 h in omega (arith, none)
+
+-- a cell has at most seven corners on the other side
+pub seven_ones : (signs mask : ℕ) → mask ≡ mask_by signs → mask < 256 → count_ones mask ≤ 7
+seven_ones signs mask is few =
+    let even = even_mask signs (signs % 2 == 1) refl in
+    omega (arith, small_ones mask few, few_digits mask (ap (λ n. n % 2) is ∙ even))
 
 ranks : Bool → Bool → Bool → Bool → Bool → Bool → Bool → Bool
 ranks b c d e f g h =

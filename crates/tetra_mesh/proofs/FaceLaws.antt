@@ -1,8 +1,7 @@
 -- The faces of one cell after another.
 use Rattle.std.proofs.Common.{◌≡◌, ℕ, ◌+◌, ◌<◌, List, [], ◌∷◌, ◌++◌, refl, ap, sym, ◌∙◌, subst, arith}
-use Rattle.std.specs.Prelude.{map, flat_map, take, get_or, length, All, Contains}
-use Rattle.std.proofs.lemmas.List.{append-nil, append_assoc, get_or_default, map-append, take_more}
-use Rattle.std.proofs.lemmas.List.Concat.{flat_map-append}
+use Rattle.std.specs.Prelude.{map, flat_map, drop, take, get_or, length, All, Contains}
+use Rattle.std.proofs.lemmas.List.{append_assoc, drop_more, get_or_default, map-append}
 use Rattle.std.proofs.lemmas.List.Elements.{All-contains, All-head, All-tail, All-weaker}
 use Rattle.kuhn_cells.specs.declared.cell_list.CellValues.{CellValues}
 use Rattle.kuhn_cells.specs.declared.edge_key.EdgeKey.{EdgeKey}
@@ -82,18 +81,17 @@ faces_here cells n s i c are is below reached within here =
 
 -- ---- one cell after another
 
-pub faces_more : (cells : List CellValues) (i : ℕ) (c : CellValues) (base now new here : List Face) → i < length cells → c ≡ get_or cells i c → new ≡ now ++ here → now ≡ base ++ all_faces cells (take i cells) → here ≡ map (face_among (flat_map edges_of cells)) (triangles_of_cell c) → new ≡ base ++ all_faces cells (take (i + 1) cells)
-faces_more cells i c base now new here within is grown stood own =
+-- what is left after one cell more
+pub faces_next : (cells : List CellValues) (i : ℕ) (c : CellValues) (all now new here : List Face) → i < length cells → c ≡ get_or cells i c → new ≡ now ++ here → all ≡ now ++ all_faces cells (drop i cells) → here ≡ map (face_among (flat_map edges_of cells)) (triangles_of_cell c) → all ≡ new ++ all_faces cells (drop (i + 1) cells)
+faces_next cells i c all now new here within is grown stood own =
     let f = face_among (flat_map edges_of cells) in
-    let before = flat_map triangles_of_cell (take i cells) in
-    let taken : take (i + 1) cells ≡ take i cells ++ c ∷ [] = take_more cells i c within ∙ ap (λ x. take i cells ++ x ∷ []) (sym is) in
-    let whole : flat_map triangles_of_cell (take (i + 1) cells) ≡ before ++ triangles_of_cell c =
-    ap (flat_map triangles_of_cell) taken ∙ flat_map-append triangles_of_cell (take i cells) (c ∷ []) ∙ ap (λ l. before ++ l) (append-nil (triangles_of_cell c)) in
-    grown
-    ∙ ap (λ l. l ++ here) stood
-    ∙ append_assoc base (map f before) here
-    ∙ ap (λ l. base ++ (map f before ++ l)) own
-    ∙ ap (λ l. base ++ l) (sym (map-append f before (triangles_of_cell c)) ∙ ap (map f) (sym whole))
+    let later = drop (i + 1) cells in
+    let split : drop i cells ≡ c ∷ later = drop_more cells i c within ∙ ap (λ x. x ∷ later) (sym is) in
+    stood
+    ∙ ap (λ l. now ++ all_faces cells l) split
+    ∙ ap (λ l. now ++ l) (map-append f (triangles_of_cell c) (flat_map triangles_of_cell later) ∙ ap (λ l. l ++ all_faces cells later) (sym own))
+    ∙ sym (append_assoc now here (all_faces cells later))
+    ∙ ap (λ l. l ++ all_faces cells later) (sym grown)
 
 pub below_at : (cells : List CellValues) (ahead i : ℕ) (c : CellValues) → HasReached cells ahead i → i < length cells → c ≡ get_or cells i c → LiesBelow cells ahead c.z
 below_at cells ahead i c reached within here k d less =

@@ -11,13 +11,14 @@ use Rattle.kuhn_cells.specs.declared.grid_size.GridSize.{GridSize}
 use Rattle.kuhn_cells.specs.Arrangement.{differ}
 use Rattle.kuhn_cells.specs.Cells.{IsBordered, IsCellOf, cell_at, directions_of, edges_of, has_inside, mixed_cells, lowest_corner}
 use Rattle.kuhn_cells.specs.Faces.{Face, all_triangles, face_among, faces}
-use Rattle.kuhn_cells.specs.Grids.{Grid, value_at, vertices}
+use Rattle.kuhn_cells.specs.Grids.{Grid, grid_size, value_at, vertices}
 use Rattle.kuhn_cells.specs.Laws.{CellsAreFew, CellsAreOfTheGrid, CellsHaveTriangles, CellsHaveVertices, CellsRise, EdgesHaveCells}
 use Rattle.kuhn_cells.specs.Lists.{ListsCells}
 use Rattle.kuhn_cells.specs.Sizes.{IsBounded}
 use Rattle.kuhn_cells.specs.Triangles.{GridPoint, edge_from, further}
 use Rattle.tetra_mesh.specs.declared.sided_cell.SidedCell.{SidedCell}
 use Rattle.tetra_mesh.specs.declared.vertex.Vertex.{Vertex}
+use Rattle.tetra_mesh.specs.CellLaws.{CellsMakeMeshes, MixedCellsAreCells}
 use Rattle.tetra_mesh.specs.Cuts.{mesh_of, vertex_of}
 use Rattle.mesh_laws.specs.Places.{way_up}
 use Rattle.tetra_mesh.specs.Meshes.{Triangulation}
@@ -123,3 +124,18 @@ mesh_is of_grid have triangles n g v sided f is made =
     let make : List Vertex → List Face → Triangulation = λ v f. record { vertices = v; faces = f } in
     ap (λ l. make l f) (is.on_edges ∙ all_vertices of_grid have g is.border)
     ∙ ap (make (map (vertex_of g) (vertices g))) (made ∙ faces_of_cells have triangles g is.border)
+
+-- ---- the same of the grid's own parts
+
+-- the mixed cells of a grid have their vertices, and their places and sides
+own_parts : (g : Grid) → IsBordered g → HasParts (grid_size g) g (flat_map vertices_on (mixed_cells g)) (map sided_of (mixed_cells g))
+own_parts g border = record { x = refl; y = refl; z = refl; border = border; on_edges = refl; sides = refl }
+
+pub mesh_of_cells : CellsAreOfTheGrid → CellsHaveVertices → CellsHaveTriangles → CellsMakeMeshes
+mesh_of_cells of_grid have triangles g border =
+    let cells = mixed_cells g in
+    sym (mesh_is of_grid have triangles (grid_size g) g (flat_map vertices_on cells) (map sided_of cells) (all_faces cells cells) (own_parts g border) refl)
+
+pub cells_of_grid : CellsAreOfTheGrid → CellsRise → CellsAreFew → EdgesHaveCells → MixedCellsAreCells
+cells_of_grid of_grid rise few edges g bounded border =
+    are_cells of_grid rise few edges (grid_size g) g (flat_map vertices_on (mixed_cells g)) (map sided_of (mixed_cells g)) bounded (own_parts g border)

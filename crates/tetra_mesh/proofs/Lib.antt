@@ -1,5 +1,6 @@
 mod Examples
 pub mod Bits
+pub mod EdgeLaws
 pub mod FaceLaws
 pub mod GridExamples
 pub mod GridLaws

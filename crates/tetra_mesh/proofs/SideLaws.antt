@@ -1,8 +1,9 @@
 -- The cells behind places and sides.
-use Rattle.std.proofs.Common.{◌≡◌, ℕ, ◌<◌, List, [], sym, ap, ◌∙◌, subst, arith}
-use Rattle.std.specs.Prelude.{get_or, length, map, set, ◌+◌}
+use Rattle.std.proofs.Common.{◌≡◌, ℕ, ◌<◌, List, [], ◌∷◌, ◌++◌, sym, ap, ◌∙◌, subst, arith}
+use Rattle.std.specs.Prelude.{flat_map, get_or, length, map, set, take, ◌+◌}
 use Rattle.std.specs.Int.RustNames.{count_ones}
-use Rattle.std.proofs.lemmas.List.{get_or-map, get_or_default, length-map}
+use Rattle.std.proofs.lemmas.List.{append-nil, get_or-map, get_or_default, length-append, length-map, take_more}
+use Rattle.std.proofs.lemmas.List.Concat.{flat_map-append}
 use Rattle.kuhn_cells.specs.declared.cell_list.CellValues.{CellValues}
 use Rattle.kuhn_cells.specs.declared.grid_size.GridSize.{GridSize}
 use Rattle.kuhn_cells.specs.Cells.{directions_of, edges_of, lowest_corner}
@@ -10,8 +11,8 @@ use Rattle.kuhn_cells.specs.Triangles.{edge_from}
 use Rattle.tetra_mesh.specs.declared.entry.Entry.{Entry}
 use Rattle.tetra_mesh.specs.declared.numbering.Numbering.{Numbering}
 use Rattle.tetra_mesh.specs.declared.sided_cell.SidedCell.{SidedCell}
-use Rattle.tetra_mesh.specs.Numbering.{LiesBelow, ReachesAbove, mask_of, slot_of}
-use Rattle.tetra_mesh.specs.Sides.{AreSidesOf, Numbers, sided_of}
+use Rattle.tetra_mesh.specs.Numbering.{LiesBelow, ReachesAbove, mask_of, slot_of, vertex_on, vertices_on}
+use Rattle.tetra_mesh.specs.Sides.{AreSidesOf, Numbers, mask_by, sided_of}
 use Rattle.tetra_mesh.proofs.Bits.{mask_is, ones}
 
 -- the cell of a list that has a place and sides
@@ -68,3 +69,19 @@ numbers_cell c s old new same numbers =
       vertices = step.vertices ∙ ap (λ n. old.vertices + n) (ap count_ones (mask_is c) ∙ ones c ∙ sym (length-map (directions_of c) (edge_from (lowest_corner c))));
       slots = step.slots ∙ ap (λ m. set old.slots.items (slot_of old.n c.x c.y c.z) (make m)) (mask_is c);
     }
+
+-- ---- counts
+
+-- a cell has as many vertices as directions to the other side, which are seven at most
+pub vertices_counted : (s : SidedCell) (c : CellValues) → s ≡ sided_of c → count_ones (mask_by s.signs) ≡ length (vertices_on c)
+vertices_counted s c same =
+    ap (λ (x : SidedCell). count_ones (mask_by x.signs)) same ∙ ap count_ones (mask_is c) ∙ ones c ∙ sym (length-map (directions_of c) (vertex_on c))
+
+-- a count of something at each cell goes on with one more
+pub count_more : {A : Type 0} (f : CellValues → List A) (cells : List CellValues) (i count own : ℕ) (c : CellValues) → i < length cells → c ≡ get_or cells i c → own ≡ length (f c) → count ≡ length (flat_map f (take i cells)) → count + own ≡ length (flat_map f (take (i + 1) cells))
+count_more f cells i count own c within here is stood =
+    let before = flat_map f (take i cells) in
+    let taken : take (i + 1) cells ≡ take i cells ++ c ∷ [] = take_more cells i c within ∙ ap (λ x. take i cells ++ x ∷ []) (sym here) in
+    let whole : flat_map f (take (i + 1) cells) ≡ before ++ f c =
+    ap (flat_map f) taken ∙ flat_map-append f (take i cells) (c ∷ []) ∙ ap (λ l. before ++ l) (append-nil (f c)) in
+    omega (arith, is, stood, ap length whole, length-append before (f c))

@@ -1,10 +1,9 @@
 -- The triangles of a cell by its signs.
-use Rattle.std.proofs.Common.{◌≡◌, ℕ, zero, suc, ◌+◌, ◌*◌, ◌<◌, ◌≤◌, Bool, true, false, List, [], ◌∷◌, ◌++◌, refl, ap, sym, ◌∙◌, inl, inr, zero-add, arith, length-append}
-use Rattle.std.specs.Prelude.{◌⊎◌, ◌==◌, nat_lt, min, map, flat_map, get_or, length, All, Vec, if◌then◌else◌}
+use Rattle.std.proofs.Common.{◌≡◌, ℕ, zero, suc, ◌+◌, ◌*◌, ◌<◌, ◌≤◌, Bool, true, false, List, [], ◌∷◌, ◌++◌, refl, ap, subst, sym, ◌∙◌, inl, inr, zero-add, arith, length-append}
+use Rattle.std.specs.Prelude.{◌⊎◌, ◌==◌, nat_lt, min, map, flat_map, get_or, length, All, if◌then◌else◌}
 use Rattle.std.specs.List.{range_with_len}
-use Rattle.std.specs.declared.alloc.Global.{Global}
 use Rattle.std.proofs.lemmas.Bool.{agree_below, agree_below_at, cases_lt, ltb-true}
-use Rattle.std.proofs.lemmas.List.{append-nil, get_or_append_left, get_or_push, map-append}
+use Rattle.std.proofs.lemmas.List.{append-nil, get_or_append_left, get_or_push, length-map, map-append}
 use Rattle.std.proofs.lemmas.List.Concat.{flat_map-append}
 use Rattle.std.proofs.lemmas.List.Elements.{All-cons, All-head, All-nil, All-same, All-tail}
 use Rattle.kuhn_cells.specs.declared.cell_list.CellValues.{CellValues}
@@ -15,6 +14,8 @@ use Rattle.kuhn_cells.specs.Cells.{has_inside, lowest_corner, triangles_of_cell}
 use Rattle.kuhn_cells.specs.Corners.{along_x, along_y, along_z, corner}
 use Rattle.kuhn_cells.specs.Triangles.{edge_between, has_sign, point, triangles_among, triangles_by, triangles_in, triangles_of}
 use Rattle.tetra_mesh.specs.declared.sided_cell.SidedCell.{SidedCell}
+use Rattle.tetra_mesh.specs.declared.shape.Shape.{Shape}
+use Rattle.tetra_mesh.specs.Edges.{HasTriangles}
 use Rattle.tetra_mesh.specs.Numbering.{signs_of}
 use Rattle.tetra_mesh.specs.Shapes.{moved, moved_triple, shape_front, shape_of, sided_triangles}
 use Rattle.tetra_mesh.specs.Sides.{sided_of}
@@ -80,6 +81,11 @@ shape_moved c =
     map_flat (moved_triple (sided_of c)) (λ tetra. triangles_of 0 0 0 tetra (signs_of c)) (range_with_len 0 6)
     ∙ flat_same (λ tetra. map (moved_triple (sided_of c)) (triangles_of 0 0 0 tetra (signs_of c))) (λ tetra. triangles_in (lowest_corner c) tetra (has_inside c)) 0 6 (λ tetra few. tetra_moved c tetra (signs_of c) ∙ by_signs c tetra (omega (arith, few)))
 
+-- there are as many of them
+pub shape_long : (s : SidedCell) (c : CellValues) → s ≡ sided_of c → length (shape_of s.signs) ≡ length (triangles_of_cell c)
+shape_long s c same =
+    ap (λ (x : SidedCell). length (shape_of x.signs)) same ∙ sym (length-map (shape_of (signs_of c)) (moved_triple (sided_of c))) ∙ ap length (shape_moved c)
+
 map_map : {X A B : Type 0} (f : A → B) (h : X → A) (xs : List X) → map (λ x. f (h x)) xs ≡ map f (map h xs)
 map_map f h [] = refl
 map_map f h (x ∷ xs) = ap (λ l. f (h x) ∷ l) (map_map f h xs)
@@ -137,12 +143,12 @@ pub shape_whole : (signs tetra : ℕ) → tetra ≡ 6 → shape_front signs tetr
 unfolding shape_of
 shape_whole signs tetra six = ap (shape_front signs) six
 
-pub shapes_more : (signs : ℕ) (now new : List (Vec Triple Global)) (v : Vec Triple Global) → length now ≡ signs → ((k : ℕ) (d : Vec Triple Global) → k < signs → (get_or now k d).items ≡ shape_of k) → new ≡ now ++ v ∷ [] → v.items ≡ shape_of signs → (k : ℕ) (d : Vec Triple Global) → k < signs + 1 → (get_or new k d).items ≡ shape_of k
+pub shapes_more : (signs : ℕ) (now new : List Shape) (v : Shape) → length now ≡ signs → ((k : ℕ) (d : Shape) → k < signs → HasTriangles (shape_of k) (get_or now k d)) → new ≡ now ++ v ∷ [] → HasTriangles (shape_of signs) v → (k : ℕ) (d : Shape) → k < signs + 1 → HasTriangles (shape_of k) (get_or new k d)
 shapes_more signs now new v room each grown is k d less = by (cases_lt k signs)
   where
-    by : (k < signs) ⊎ (signs ≤ k) → (get_or new k d).items ≡ shape_of k
+    by : (k < signs) ⊎ (signs ≤ k) → HasTriangles (shape_of k) (get_or new k d)
     by (inl earlier) =
-        ap (λ (w : Vec Triple Global). w.items) (ap (λ l. get_or l k d) grown ∙ get_or_append_left now (v ∷ []) d k (omega (arith, earlier, room))) ∙ each k d earlier
+        subst (HasTriangles (shape_of k)) (sym (ap (λ l. get_or l k d) grown ∙ get_or_append_left now (v ∷ []) d k (omega (arith, earlier, room)))) (each k d earlier)
     by (inr late) =
         let same : k ≡ signs = omega (arith, late, less) in
-        ap (λ (w : Vec Triple Global). w.items) (ap (λ l. get_or l k d) grown ∙ get_or_push now v d k (room ∙ sym same)) ∙ is ∙ sym (ap shape_of same)
+        subst (HasTriangles (shape_of k)) (sym (ap (λ l. get_or l k d) grown ∙ get_or_push now v d k (room ∙ sym same))) (subst (λ n. HasTriangles (shape_of n) v) (sym same) is)

@@ -1,4 +1,6 @@
+pub mod CellLaws
 pub mod Cuts
+pub mod Edges
 pub mod Meshes
 pub mod Numbering
 pub mod Places
@@ -10,3 +12,4 @@ pub mod Sound
 pub mod SoundLaws
 pub mod Tables
 pub mod Ways
+pub mod Walks

@@ -1,11 +1,12 @@
 -- The triangles of a cell by those of the cell at the origin.
-use Rattle.std.specs.Prelude.{◌≡◌, ℕ, ◌+◌, ◌<◌, List, Vec, flat_map, get_or, length, map}
+use Rattle.std.specs.Prelude.{◌≡◌, ℕ, ◌+◌, ◌<◌, List, flat_map, get_or, length, map}
 use Rattle.std.specs.List.{range_with_len}
-use Rattle.std.specs.declared.alloc.Global.{Global}
 use Rattle.kuhn_cells.specs.declared.edge_key.EdgeKey.{EdgeKey}
 use Rattle.kuhn_cells.specs.declared.triple.Triple.{Triple}
 use Rattle.kuhn_cells.specs.Triangles.{triangles_of}
+use Rattle.tetra_mesh.specs.Edges.{HasTriangles}
 use Rattle.tetra_mesh.specs.Ranks.{AreRanks}
+use Rattle.tetra_mesh.specs.declared.shape.Shape.{Shape}
 use Rattle.tetra_mesh.specs.declared.shapes.Shapes.{Shapes as Kept}
 use Rattle.tetra_mesh.specs.declared.sided_cell.SidedCell.{SidedCell}
 
@@ -31,6 +32,5 @@ sided_triangles c = map (moved_triple c) (shape_of c.signs)
 -- the triangles for all signs
 pub record AreShapes (s : Kept) : Type 0 where
   pub room : length s.shapes.items ≡ 256
-  pub each : (signs : ℕ) (d : Vec Triple Global) → signs < 256
-      → (get_or s.shapes.items signs d).items ≡ shape_of signs
+  pub each : (signs : ℕ) (d : Shape) → signs < 256 → HasTriangles (shape_of signs) (get_or s.shapes.items signs d)
   pub ranks : AreRanks s.ranks.items

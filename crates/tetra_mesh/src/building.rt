@@ -1,23 +1,22 @@
 // Whole meshes.
-ghost use Rattle.std.specs.Prelude.{◌≡◌, ◌*◌, ◌≤◌, [], ◌++◌, IfOk, OnOk, flat_map, length, map};
+ghost use Rattle.std.specs.Prelude.{◌≡◌, ◌≤◌, ◌++◌, IfOk, OnOk, flat_map, length, map};
 ghost use Rattle.kuhn_cells.specs.Grids.{Grid};
 ghost use Rattle.kuhn_cells.specs.Lists.{ListsCells};
 ghost use Rattle.tetra_mesh.specs.Cuts.{mesh_of};
-ghost use Rattle.tetra_mesh.specs.Numbering.{IsNumbered, all_faces, vertices_on};
-ghost use Rattle.tetra_mesh.specs.Shapes.{AreShapes};
+ghost use Rattle.tetra_mesh.specs.Numbering.{all_faces, vertices_on};
 ghost use Rattle.tetra_mesh.specs.Sides.{HasParts, HaveCells, OfCells, sided_of};
 ghost use Rattle.tetra_mesh.specs.Sizes.{size_of};
 ghost use Rattle.tetra_mesh.specs.Sound.{IsSound, LieApart};
 ghost use Rattle.view_places.specs.Window.{FitsMesh};
 
-use crate::faces::push_faces;
+use crate::counts::count_vertices;
+use crate::face_walk::FaceWalk;
 use crate::laws::meshes_are_sound;
 use crate::mesh_size::mesh_size;
-use crate::numbering::Numbering;
-use crate::shapes::Shapes;
 use crate::sided_cell::SidedCell;
 use crate::vertices::vertices_of;
 use crate::{Face, Mesh, Vertex};
+use arrayvec::ArrayVec;
 use kuhn_cells::{CellList, CellValues, GridSize, mixed_cells_suffice};
 use std::alloc::{AllocError, Global};
 use view_places::View;
@@ -35,7 +34,7 @@ pub fn build(alloc: Global, cells: &CellList, view: &View) -> Result<Mesh, Alloc
 {
     cells_are_few(cells, view);
     let (vertices, sided) = parts(alloc, &cells.cells)?;
-    mesh_of_parts(alloc, vertices, &sided, view)
+    mesh_of_parts(alloc, vertices, sided, view)
 }
 
 /// The mesh that `build` gives. The list of cells is given up before the faces are made.
@@ -48,7 +47,7 @@ pub fn build_from(alloc: Global, cells: CellList, view: &View) -> Result<Mesh, A
 {
     cells_are_few(&cells, view);
     let (vertices, sided) = parts_of(alloc, cells)?;
-    mesh_of_parts(alloc, vertices, &sided, view)
+    mesh_of_parts(alloc, vertices, sided, view)
 }
 
 // Lets a proof know how many cells of a grid of the view's size are mixed at most.
@@ -80,7 +79,7 @@ fn parts(alloc: Global, cells: &[CellValues]) -> Result<(Vec<Vertex>, Vec<SidedC
     ensures sides { IfOk result (λ parts. parts.1.items ≡ map sided_of cells.now) }
 {
     let sided = sided_cells(alloc, cells)?;
-    let vertices = vertices_of(alloc, cells, vertex_count(&sided))?;
+    let vertices = vertices_of(alloc, cells, count_vertices(&sided))?;
     Ok((vertices, sided))
 }
 
@@ -100,14 +99,14 @@ fn sided_cells(alloc: Global, cells: &[CellValues]) -> Result<Vec<SidedCell>, Al
 fn mesh_of_parts(
     alloc: Global,
     vertices: Vec<Vertex>,
-    sided: &[SidedCell],
+    sided: Vec<SidedCell>,
     view: &View,
 ) -> Result<Mesh, AllocError>
-    requires { (g : Grid) × HasParts (size_of view.now) g vertices.items sided.now }
-    ensures mesh { (g : Grid) → HasParts (size_of view.now) g vertices.items sided.now → IfOk result
-        (λ mesh. mesh ≡ mesh_of g) }
-    ensures sound { (g : Grid) → HasParts (size_of view.now) g vertices.items sided.now → IfOk result
-        (IsSound g) }
+    requires { (g : Grid) × HasParts (size_of view.now) g vertices.items sided.items }
+    ensures mesh { (g : Grid) → HasParts (size_of view.now) g vertices.items sided.items
+        → IfOk result (λ mesh. mesh ≡ mesh_of g) }
+    ensures sound { (g : Grid) → HasParts (size_of view.now) g vertices.items sided.items
+        → IfOk result (IsSound g) }
     ensures apart { FitsMesh view.now → IfOk result (λ mesh. LieApart view.now mesh.vertices) }
 {
     meshes_are_sound();
@@ -118,60 +117,27 @@ fn mesh_of_parts(
 
 // The faces of mixed cells of a grid of so many cells along each axis, by their places and sides
 // alone. AllocError: there is no memory for them.
-fn faces_of(alloc: Global, sided: &[SidedCell], n: GridSize) -> Result<Vec<Face>, AllocError>
-    requires { HaveCells n sided.now }
-    ensures { OfCells n sided.now
+fn faces_of(alloc: Global, sided: Vec<SidedCell>, n: GridSize) -> Result<Vec<Face>, AllocError>
+    requires { HaveCells n sided.items }
+    ensures { OfCells n sided.items
         (λ cells. IfOk result (λ faces. faces.items ≡ all_faces cells cells)) }
 {
-    let mut numbering = Numbering::new(alloc, n)?;
-    let shapes = Shapes::new(alloc)?;
-    let mut faces = Vec::with_capacity(alloc, total_face_count(sided, &shapes))?;
-    push_all_faces(sided, &shapes, &mut numbering, &mut faces)?;
+    let mut walk = FaceWalk::new(alloc, n, sided)?;
+    let mut faces = Vec::with_capacity(alloc, walk.face_count())?;
+    push_all_faces(&mut walk, &mut faces)?;
     Ok(faces)
 }
 
-// The faces of all cells, and with them the numbers of their vertices. AllocError: there is no
-// memory for them.
-fn push_all_faces(
-    sided: &[SidedCell],
-    shapes: &Shapes,
-    numbering: &mut Numbering,
-    faces: &mut Vec<Face>,
-) -> Result<(), AllocError>
-    requires cells { HaveCells numbering.old.n sided.now }
-    requires none { IsNumbered [] numbering.old.n numbering.old }
-    requires shapes { AreShapes shapes.now }
-    ensures { OfCells numbering.old.n sided.now
+// The faces of all cells. AllocError: there is no memory for them.
+fn push_all_faces(walk: &mut FaceWalk, faces: &mut Vec<Face>) -> Result<(), AllocError>
+    requires { walk.old.made ≡ 0 }
+    ensures { OfCells walk.old.n walk.old.sided
         (λ cells. OnOk result (faces.new.items ≡ faces.old.items ++ all_faces cells cells)) }
 {
-    for cell in sided {
-        numbering.reach(sided, cell.z);
-        push_faces(numbering.n, &numbering.slots, shapes, cell, faces)?;
+    while walk.made() < walk.cells().len() {
+        let mut batch = ArrayVec::new();
+        walk.fill(&mut batch);
+        faces.extend_from_slice(batch.as_slice())?;
     }
     Ok(())
-}
-
-// How many vertices cells have.
-fn vertex_count(cells: &[SidedCell]) -> usize
-    requires { length cells.now ≤ 16777216 }
-    ensures { result ≤ 8 * length cells.now }
-{
-    let mut count = 0;
-    for cell in cells {
-        count += cell.mask().count_ones() as usize;
-    }
-    count
-}
-
-// How many faces cells have.
-fn total_face_count(cells: &[SidedCell], shapes: &Shapes) -> usize
-    requires few { length cells.now ≤ 16777216 }
-    requires shapes { AreShapes shapes.now }
-    ensures { result ≤ 12 * length cells.now }
-{
-    let mut count = 0;
-    for cell in cells {
-        count += shapes.triangles(cell.signs).len();
-    }
-    count
 }

@@ -2,7 +2,7 @@
 use std::marker::Model;
 
 /// A face of a mesh: a triangle, by the numbers of its three vertices.
-#[derive(Clone, Copy, Debug, PartialEq, Eq)]
+#[derive(Clone, Copy, Debug, Default, PartialEq, Eq)]
 pub struct Face {
     /// The number of the first vertex.
     pub a: u32,

@@ -3,8 +3,10 @@
 #![tactic(auto)]
 
 mod building;
+mod counts;
 mod entry;
 mod face;
+mod face_walk;
 mod faces;
 mod grid_places;
 mod laws;
@@ -13,6 +15,7 @@ mod mesh_size;
 mod numbering;
 mod place;
 mod ranks;
+mod shape;
 mod shapes;
 mod sided_cell;
 mod sides;
@@ -21,11 +24,15 @@ mod vertices;
 
 pub use building::{build, build_from};
 pub use face::Face;
+pub use face_walk::FaceWalk;
+pub use faces::FACES;
 pub use grid_places::GridPlaces;
-pub use laws::meshes_are_sound;
+pub use laws::{cells_make_meshes, meshes_are_sound};
 pub use mesh::Mesh;
 pub use place::vertex_raw;
+pub use sided_cell::SidedCell;
 pub use vertex::Vertex;
+pub use vertices::cell_vertices;
 
 #[cfg(test)]
 mod building_tests;

@@ -1,8 +1,10 @@
 // The triangles of a cell by which of its corners are inside.
 ghost use Rattle.std.specs.Prelude.{◌≡◌, ◌≤◌, IfOk, length};
+ghost use Rattle.tetra_mesh.specs.Edges.{HasTriangles};
 ghost use Rattle.tetra_mesh.specs.Shapes.{AreShapes, shape_of};
 
 use crate::ranks::ranks;
+use crate::shape::Shape;
 use kuhn_cells::{Triple, triangles};
 use std::alloc::{AllocError, Global};
 
@@ -10,7 +12,7 @@ use std::alloc::{AllocError, Global};
 // of their vertices are looked up by.
 #[derive(Debug, Drop)]
 pub(crate) struct Shapes {
-    pub(crate) shapes: Vec<Vec<Triple>>,
+    pub(crate) shapes: Vec<Shape>,
     pub(crate) ranks: Vec<u8>,
 }
 
@@ -21,7 +23,7 @@ impl Shapes {
     {
         let mut shapes = Vec::with_capacity(alloc, 256)?;
         for signs in 0..256u16 {
-            shapes.push(shape(alloc, signs as u8)?)?;
+            shapes.push(shape_by(alloc, signs as u8)?)?;
         }
         let ranks = ranks(alloc)?;
         Ok(Shapes { shapes, ranks })
@@ -29,13 +31,21 @@ impl Shapes {
 
     // The triangles of the cell at the origin with these signs.
     #[inline]
-    pub(crate) fn triangles(&self, signs: u8) -> &[Triple]
+    pub(crate) fn shape(&self, signs: u8) -> &Shape
         requires { AreShapes self.now }
-        ensures triangles { result.now ≡ shape_of signs }
-        ensures few { length result.now ≤ 12 }
+        ensures triangles { HasTriangles (shape_of signs) result.now }
+        ensures few { length (shape_of signs) ≤ 12 }
     {
         &self.shapes[usize::from(signs)]
     }
+}
+
+// The triangles of the cell at the origin with these signs, by their edges. AllocError: there is no
+// memory for them.
+fn shape_by(alloc: Global, signs: u8) -> Result<Shape, AllocError>
+    ensures { IfOk result (HasTriangles (shape_of signs)) }
+{
+    Shape::new(alloc, &shape(alloc, signs)?)
 }
 
 // The triangles of the cell at the origin with these signs. AllocError: there is no memory for them.

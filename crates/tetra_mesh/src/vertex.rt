@@ -2,7 +2,7 @@
 use kuhn_cells::EdgeKey;
 
 /// A vertex of a mesh, by the edge on which it lies.
-#[derive(Clone, Copy, Debug, PartialEq, Eq)]
+#[derive(Clone, Copy, Debug, Default, PartialEq, Eq)]
 pub struct Vertex {
     /// The edge.
     pub key: EdgeKey,

@@ -1,9 +1,11 @@
 // The vertices of mixed cells.
-ghost use Rattle.std.specs.Prelude.{◌≡◌, ◌++◌, IfOk, OnOk, flat_map};
+ghost use Rattle.std.specs.Prelude.{◌≡◌, ◌+◌, ◌≤◌, ◌++◌, IfOk, OnOk, flat_map};
+ghost use Rattle.arrayvec.specs.ArrayVec.{array_vec_len};
 ghost use Rattle.tetra_mesh.specs.Numbering.{vertices_on};
 
 use crate::Vertex;
 use crate::sides::way_up;
+use arrayvec::ArrayVec;
 use fixed_ops::is_inside;
 use kuhn_cells::{CellValues, EdgeKey};
 use std::alloc::{AllocError, Global};
@@ -18,16 +20,17 @@ pub(crate) fn vertices_of(
 {
     let mut vertices = Vec::with_capacity(alloc, count)?;
     for cell in cells {
-        push_vertices(cell, &mut vertices)?;
+        vertices.extend_from_slice(cell_vertices(cell).as_slice())?;
     }
     Ok(vertices)
 }
 
-// The vertices on the edges from the lowest corner of a cell. AllocError: there is no memory.
+/// The vertices on the edges from the lowest corner of a cell.
 #[inline]
-fn push_vertices(cell: &CellValues, vertices: &mut Vec<Vertex>) -> Result<(), AllocError>
-    ensures { OnOk result (vertices.new.items ≡ vertices.old.items ++ vertices_on cell.now) }
+pub fn cell_vertices(cell: &CellValues) -> ArrayVec<Vertex, 7>
+    ensures { result.items ≡ vertices_on cell.now }
 {
+    let mut vertices = ArrayVec::new();
     let low = cell.values[0];
     for dir in 1..8u8 {
         let high = cell.values[usize::from(dir)];
@@ -40,8 +43,8 @@ fn push_vertices(cell: &CellValues, vertices: &mut Vec<Vertex>) -> Result<(), Al
                     dir,
                 },
                 t: way_up(low, high),
-            })?;
+            });
         }
     }
-    Ok(())
+    vertices
 }

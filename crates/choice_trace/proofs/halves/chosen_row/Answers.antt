@@ -1,9 +1,8 @@
-use Rattle.std.proofs.Common.{◌≡◌, ◌||◌, Bool, arith, ap, false, get_or-set_other, length-set, ◌∙◌}
+use Rattle.std.proofs.Common.{◌≡◌, ◌≢◌, ◌||◌, Bool, arith, ap, below_more, false, get_or-set_other, length-set, ◌∙◌}
 use Rattle.interval_ops.specs.Choices.{choice_of}
 use Rattle.interval_ops.specs.Hulls.{hull_of}
 use Rattle.interval_ops.specs.Spans.{Interval, all_numbers}
-use Rattle.interval_ops.specs.declared.choice.Choice.{Choice}
-use Rattle.interval_ops.specs.declared.choice.Choice.TheVariants.{Both}
+use Rattle.live_clauses.specs.Choices.{choice_in}
 use Rattle.choice_trace.specs.Halves.{flag_in, is_made}
 use Rattle.choice_trace.specs.Hulls.{hull_in}
 use Rattle.choice_trace.proofs.HalfRows.{lane_more, lane_read}
@@ -21,11 +20,12 @@ loop-l-preserved g c =
     let chosen = c.choose-choice.ensures ∙ lane_read (choice_of op) a b l c.index-a-l.result c.index-b-l.result (omega arith) (omega arith) in
     record {
       hulls_len = length-set c.loop-l.hulls l c.span_apply.result ∙ kept.hulls_len;
-      choices_len = length-set c.loop-l.choices l c.choose-choice.result ∙ kept.choices_len;
       chosen_len = length-set flags l flag ∙ kept.chosen_len;
       hulls = lane_more (λ k (h : Interval). h ≡ hull_of op (hull_in a k) (hull_in b k)) c.loop-l.hulls l c.span_apply.result all_numbers (omega arith) kept.hulls
           (c.span_apply.ensures.value ∙ lane_read (hull_of op) a b l c.index-a-l.result c.index-b-l.result (omega arith) (omega arith));
-      choices = lane_more (λ k (h : Choice). h ≡ choice_of op (hull_in a k) (hull_in b k)) c.loop-l.choices l c.choose-choice.result Both (omega arith) kept.choices chosen;
+      choices = below_more (λ k. choice_in c.with-row.result k ≡ choice_of op (hull_in a k) (hull_in b k)) l
+          (λ k h. let other : k ≢ l = omega (arith, h) in c.with-row.ensures.others k other ∙ kept.choices k h) (c.with-row.ensures.here ∙ chosen);
+      none = λ k h. let other : k ≢ l = omega (arith, h) in c.with-row.ensures.others k other ∙ kept.none k (omega (arith, h));
       chosen = lane_more (λ k (h : Bool). h ≡ (flag_in c.args.chosen.now k || is_made (choice_of op (hull_in a k) (hull_in b k)))) flags l flag false (omega arith) kept.chosen
           (ap (λ (h : Bool). h || c.made.result) (kept.rest l (omega arith)) ∙ ap (λ (h : Bool). flag_in c.args.chosen.now l || h) (c.made.ensures ∙ ap is_made chosen));
       rest = λ k h. get_or-set_other flags l k flag false (λ e. omega (arith, e, h)) ∙ kept.rest k (omega (arith, h));

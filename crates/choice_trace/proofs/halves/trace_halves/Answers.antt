@@ -4,11 +4,10 @@ use Rattle.std.proofs.lemmas.List.{drop-set-lt}
 use Rattle.fixed_ops.specs.Counts.{no_counts}
 use Rattle.interval_ops.specs.HullCounts.{CountsHulls}
 use Rattle.interval_ops.specs.Spans.{Interval}
-use Rattle.interval_ops.specs.declared.choice.Choice.{Choice}
-use Rattle.live_clauses.specs.Choices.{choice_at, lane}
+use Rattle.live_clauses.specs.Choices.{choice_at, choice_in, lane}
 use Rattle.choice_trace.specs.Halves.{flag_in, region_in, row_in}
 use Rattle.choice_trace.specs.Hulls.{choices_over, hull_at, hull_in, step_hull}
-use Rattle.choice_trace.proofs.HalfRows.{choice_made, flag_more, hull_made, lane_more, lane_traced, row_written}
+use Rattle.choice_trace.proofs.HalfRows.{choice_made, flag_more, hull_made, lane_more, lane_traced, lane_written, row_written}
 use Rattle.choice_trace.proofs.Traces.{are_choices, are_right, length-choices}
 use Rattle.choice_trace.proofs.halves.trace_halves.Goals as goal
 
@@ -28,8 +27,8 @@ loop-at-preserved g c =
     let stand = c.len-len.ensures.tape.each in
     let written : earlier ++ set later 0 row ≡ set regs at row =
     row_written regs earlier later at row c.split_at_mut-earlier.ensures.value c.split_at_mut-earlier.ensures.front_len in
-    let choice : (l : ℕ) → l < g.row.L → choice_at chosen l ≡ choice_at (choices_over (region l) steps) at =
-    λ l h. choice_made (region l) steps at l step regs earlier (choice_at chosen l) stand c.step-step.ensures.step c.split_at_mut-earlier.ensures.front
+    let choice : (l : ℕ) → l < g.row.L → choice_in chosen l ≡ choice_at (choices_over (region l) steps) at =
+    λ l h. choice_made (region l) steps at l step regs earlier (choice_in chosen l) stand c.step-step.ensures.step c.split_at_mut-earlier.ensures.front
     (λ place below. c.loop-at.invariant.hulls place below l h) (c.trace_step.ensures.choices l h) in
     record {
       hulls = subst (λ (rows : List (List Interval)). (place : ℕ) → place < at + 1 → (l : ℕ) → l < g.row.L → hull_in (row_in rows place) l ≡ hull_at (region l) steps place) (sym written)
@@ -39,9 +38,8 @@ loop-at-preserved g c =
           (λ place below. c.loop-at.invariant.hulls place below l h)
           (c.trace_step.ensures.hulls l h
           ∙ ap (λ of. step_hull step.op of step.value (hull_in (row_in earlier step.a) l) (hull_in (row_in earlier step.b) l)) (c.ranges-inputs.ensures l h))));
-      choices = lane_more (λ place (new : List Choice). (l : ℕ) → l < g.row.L → choice_at new l ≡ choice_at (choices_over (region l) steps) place) choices at chosen []
-          (omega (arith, same_length)) c.loop-at.invariant.choices choice;
-      chosen = λ l h. flag_more (flag_in c.loop-at.chosen l) (flag_in c.trace_step.new.chosen l) (choices_over (region l) steps) at (choice_at chosen l)
+      choices = λ place below l h. lane_written choices (choices_over (region l) steps) at l chosen (omega (arith, same_length)) (λ k earlier. c.loop-at.invariant.choices k earlier l h) (choice l h) place below;
+      chosen = λ l h. flag_more (flag_in c.loop-at.chosen l) (flag_in c.trace_step.new.chosen l) (choices_over (region l) steps) at (choice_in chosen l)
           (c.trace_step.ensures.chosen l h) (choice l h) (c.loop-at.invariant.chosen l h);
       regs_rest = ap (drop (length steps)) written ∙ drop-set-lt (length steps) regs at row (omega arith) ∙ c.loop-at.invariant.regs_rest;
       choices_rest = drop-set-lt (length steps) choices at chosen (omega arith) ∙ c.loop-at.invariant.choices_rest;
@@ -56,7 +54,7 @@ returns-clause-choices g c = λ l h.
     let tape = c.args.list.now in
     lane_traced c.loop-at.choices (choices_over region tape) (length tape) l (omega arith) (length-choices region tape)
     (λ place below.
-    subst (λ steps. choice_at (row_in c.loop-at.choices place) l ≡ choice_at (choices_over region steps) place) same
+    subst (λ steps. choice_at (lane l c.loop-at.choices) place ≡ choice_at (choices_over region steps) place) same
     (c.loop-at.invariant.choices place (omega (arith, below, ap length same)) l h))
 
 pub returns-clause-only : goal.returns-clause-only

@@ -1,13 +1,13 @@
-use Rattle.std.proofs.Common.{◌*◌, ◌≤◌, length, map}
-use Rattle.live_clauses.specs.Marks.{IsMarked}
-use Rattle.live_clauses.specs.Packed.{unpacked}
+use Rattle.std.proofs.Common.{◌≡◌, ◌-◌, ◌≤◌, ◌<◌, ℕ, true, length}
+use Rattle.live_clauses.specs.Choices.{has_bit}
+use Rattle.live_clauses.specs.Marks.{AreMarksAfter}
 use Rattle.live_clauses.proofs.marking.mark.Given as goal
 
-abbrev pub invariant-loop-word : goal.invariant-loop-word
-invariant-loop-word g l = record {
-  within : l.word ≤ length l.marks;
-  marked : IsMarked (64 * l.word) (map (unpacked l.constants) l.steps) (g.C.Choices.list l.choices) l.marks l.live;
+abbrev pub invariant-loop-at : goal.invariant-loop-at
+invariant-loop-at g l = record {
+  within : l.at ≤ length l.list;
+  marked : (lane : ℕ) → lane < 4 → has_bit l.lanes lane ≡ true → AreMarksAfter lane (length l.list - l.at) l.list (g.R.ChoiceRows.lanes l.rows lane) l.marks;
 }
 
-abbrev pub decreases-loop-word : goal.decreases-loop-word
-decreases-loop-word g l = l.word
+abbrev pub decreases-loop-at : goal.decreases-loop-at
+decreases-loop-at g l = l.at

@@ -7,6 +7,8 @@ use Rattle.live_clauses.specs.declared.step.Step.{Step}
 use Rattle.live_clauses.specs.Live.{kept_below, live_of}
 use Rattle.live_clauses.specs.Packed.{unpacked}
 use Rattle.live_clauses.specs.Steps.{IsTape, tape_value}
+use Rattle.std.proofs.lemmas.List.{length-map}
+use Rattle.live_clauses.proofs.Kept.{length-live_below}
 use Rattle.live_clauses.proofs.Keeping.{live_of-tape, live_of-value}
 use Rattle.live_clauses.proofs.Whole.{live_of-whole}
 use Rattle.live_clauses.proofs.shortening.prune.Goals as goal
@@ -18,24 +20,25 @@ module _ (tape : List Step) (choices : List Choice) (kept live new : List Packed
   copied-live =
       ap (λ t. map (unpacked t) new) (shared_is ∙ sym read_is) ∙ ap (map (unpacked read)) new_is ∙ copied ∙ ap (λ t. live_of (map (unpacked t) kept) choices) read_is ∙ ap (λ s. live_of s choices) is
 
-pub returns-then-live-steps-clause-live : goal.returns-then-live-steps-clause-live
-returns-then-live-steps-clause-live c =
+pub returns-then-len-steps-clause-live : goal.returns-then-len-steps-clause-live
+returns-then-len-steps-clause-live c =
     let tape = c.args.tape.now in
     let choices = c.args.choices.now in
-    let list : map (unpacked c.as_slice.result.now) c.packed.result.0.now ≡ tape = ap (λ t. map (unpacked t) c.packed.result.0.now) c.as_slice.ensures.value ∙ c.packed.ensures.steps in
+    let kept = c.packed.result.0.now in
+    let list : map (unpacked c.as_slice.result.now) kept ≡ tape = ap (λ t. map (unpacked t) kept) c.as_slice.ensures.value ∙ c.packed.ensures.steps in
+    let live : map (unpacked c.as_slice.result.now) c.shorten.new.live.items ≡ live_of tape choices = c.in_ok-shorten.ensures ∙ ap (λ s. live_of s choices) list in
     let all : kept_below tape choices (length tape) ≡ length tape =
-    ap (λ s. kept_below s choices (length tape)) (sym list) ∙ ap (kept_below (map (unpacked c.as_slice.result.now) c.packed.result.0.now) choices) (sym c.packed.ensures.len)
-    ∙ sym c.mark-live.ensures.live ∙ c.if-live-steps.true ∙ c.packed.ensures.len in
+    sym (length-live_below tape choices (length tape)) ∙ ap length (sym live) ∙ length-map c.shorten.new.live.items (unpacked c.as_slice.result.now) ∙ sym c.shorten.new.live.ok.0 ∙ sym c.len.ensures ∙ c.if-len-steps.true ∙ c.packed.ensures.len in
     rw (live_of-whole tape choices c.packed.ensures.tape c.requires.choices all) c.share.ensures
 
 pub from_packed-requires : goal.from_packed-requires
 from_packed-requires c =
-    subst IsTape (sym (copied-live c.args.tape.now c.args.choices.now c.packed.result.0.now c.in_ok-steps.steps.items (rc_slice_items c.in_ok-from_vec.field-0) (rc_slice_items c.packed.result.1.now) c.as_slice-2.result.now
-    (rc_slice_items c.in_ok-clone.field-0) c.packed.ensures.steps c.as_slice-2.ensures.value c.in_ok-clone.ensures.cases c.in_ok-from_vec.ensures c.in_ok-steps.ensures))
+    subst IsTape (sym (copied-live c.args.tape.now c.args.choices.now c.packed.result.0.now c.shorten.new.live.items (rc_slice_items c.in_ok-from_vec.field-0) (rc_slice_items c.packed.result.1.now) c.as_slice.result.now
+    (rc_slice_items c.in_ok-clone.field-0) c.packed.ensures.steps c.as_slice.ensures.value c.in_ok-clone.ensures.cases c.in_ok-from_vec.ensures c.in_ok-shorten.ensures))
     (live_of-tape c.args.tape.now c.args.choices.now c.packed.ensures.tape c.requires.choices)
 
 pub returns-clause-value : goal.returns-clause-value
 returns-clause-value c = λ p right.
-    ap (tape_value p) (c.from_packed.ensures ∙ copied-live c.args.tape.now c.args.choices.now c.packed.result.0.now c.in_ok-steps.steps.items (rc_slice_items c.in_ok-from_vec.field-0) (rc_slice_items c.packed.result.1.now) c.as_slice-2.result.now
-    (rc_slice_items c.in_ok-clone.field-0) c.packed.ensures.steps c.as_slice-2.ensures.value c.in_ok-clone.ensures.cases c.in_ok-from_vec.ensures c.in_ok-steps.ensures)
+    ap (tape_value p) (c.from_packed.ensures ∙ copied-live c.args.tape.now c.args.choices.now c.packed.result.0.now c.shorten.new.live.items (rc_slice_items c.in_ok-from_vec.field-0) (rc_slice_items c.packed.result.1.now) c.as_slice.result.now
+    (rc_slice_items c.in_ok-clone.field-0) c.packed.ensures.steps c.as_slice.ensures.value c.in_ok-clone.ensures.cases c.in_ok-from_vec.ensures c.in_ok-shorten.ensures)
     ∙ live_of-value c.args.tape.now c.args.choices.now c.packed.ensures.tape c.requires.choices p right

@@ -3,11 +3,15 @@ use Rattle.live_clauses.specs.Steps.{IsTape}
 use Rattle.model_frames.specs.Images.{plain_points}
 use Rattle.model_frames.specs.Work.{frame_work}
 use Rattle.model_frames.proofs.WorkLaws.{within-none}
-use Rattle.model_frames.proofs.Frames.{drawn_counted, drawn_few, drawn_fits, drawn_within, on_ok, plain-within}
+use Rattle.model_frames.proofs.Frames.{drawn_counted, drawn_few, drawn_fits, drawn_within, on_ok, plain-within, text-drawn}
 use Rattle.model_frames.proofs.render.draw_image.Goals as goal
 
 pub returns-in_err-list-clause-at_most : goal.returns-in_err-list-clause-at_most
 returns-in_err-list-clause-at_most c = within-none c.tallies_add_up.ensures c.args.tally.now (frame_work c.args.view.now c.args.model.now)
+
+pub returns-clause-text : goal.returns-clause-text
+returns-clause-text c =
+    text-drawn c.draw_picture.result c.args.view.now c.args.model.now c.in_ok-list.list (λ picture. picture) c.in_ok-list.ensures.value c.draw_picture.ensures.picture
 
 pub returns-clause-counted : goal.returns-clause-counted
 returns-clause-counted c =

@@ -6,13 +6,13 @@ use Rattle.modeller_cmd.proofs.command.execute.Goals as goal
 
 pub returns-in-Render : goal.returns-in-Render
 returns-in-Render g c =
-    executed-at-once g.K.Sink.held g.K.Sink.faults c.args.out.now c.draw.new.out c.args.tally.now c.draw.new.tally c.args.job.now (jobs.Render c.in-Render.view) c.args.input.now c.draw.result
-    c.in-Render.is (λ is. cc) c.draw.ensures
+    executed-at-once g.K.Sink.held g.K.Sink.faults c.args.out.now c.render.new.out c.args.tally.now c.render.new.tally c.args.job.now (jobs.Render c.in-Render.view) c.args.input.now c.render.result
+    c.in-Render.is (λ is. cc) c.render.ensures
 
 pub returns-in-Height : goal.returns-in-Height
 returns-in-Height g c =
-    executed-at-once g.K.Sink.held g.K.Sink.faults c.args.out.now c.draw-in-Height.new.out c.args.tally.now c.draw-in-Height.new.tally c.args.job.now (jobs.Height c.in-Height.view) c.args.input.now c.draw-in-Height.result
-    c.in-Height.is (λ is. cc) c.draw-in-Height.ensures
+    executed-at-once g.K.Sink.held g.K.Sink.faults c.args.out.now c.draw.new.out c.args.tally.now c.draw.new.tally c.args.job.now (jobs.Height c.in-Height.view) c.args.input.now c.draw.result
+    c.in-Height.is (λ is. cc) c.draw.ensures
 
 pub returns-in-Mesh : goal.returns-in-Mesh
 returns-in-Mesh g c =

@@ -26,33 +26,33 @@ returns-in-Stray-clause-written g c =
 
 pub returns-in-Render-clause-written : goal.returns-in-Render-clause-written
 returns-in-Render-clause-written g c =
-    at-command (λ parts. OnOk c.show.result (Written g.K.Sink.held g.K.Sink.faults c.args.out.now c.show.new.out c.args.tally.now c.show.new.tally parts))
-    c.args.session.now c.args.command (Command.Render c.in-Render.view) c.in-Render.is c.show.ensures.written
+    at-command (λ parts. OnOk c.show_image.result (Written g.K.Sink.held g.K.Sink.faults c.args.out.now c.show_image.new.out c.args.tally.now c.show_image.new.tally parts))
+    c.args.session.now c.args.command (Command.Render c.in-Render.view) c.in-Render.is c.show_image.ensures.written
 
 pub returns-in-Render-clause-halted : goal.returns-in-Render-clause-halted
 returns-in-Render-clause-halted g c =
-    at-command (λ parts. IfErr c.show.result (Halted g.K.Sink.held g.K.Sink.faults c.args.out.now c.show.new.out c.args.tally.now c.show.new.tally parts))
-    c.args.session.now c.args.command (Command.Render c.in-Render.view) c.in-Render.is c.show.ensures.halted
+    at-command (λ parts. IfErr c.show_image.result (Halted g.K.Sink.held g.K.Sink.faults c.args.out.now c.show_image.new.out c.args.tally.now c.show_image.new.tally parts))
+    c.args.session.now c.args.command (Command.Render c.in-Render.view) c.in-Render.is c.show_image.ensures.halted
 
 pub returns-in-Render-clause-counted : goal.returns-in-Render-clause-counted
 returns-in-Render-clause-counted g c =
-    at-command (λ parts. c.show.result ≡ Err WriteFault → CountsWork c.args.tally.now c.show.new.tally (work_of_parts parts))
-    c.args.session.now c.args.command (Command.Render c.in-Render.view) c.in-Render.is c.show.ensures.counted
+    at-command (λ parts. c.show_image.result ≡ Err WriteFault → CountsWork c.args.tally.now c.show_image.new.tally (work_of_parts parts))
+    c.args.session.now c.args.command (Command.Render c.in-Render.view) c.in-Render.is c.show_image.ensures.counted
 
 pub returns-in-Height-clause-written : goal.returns-in-Height-clause-written
 returns-in-Height-clause-written g c =
-    at-command (λ parts. OnOk c.show-in-Height.result (Written g.K.Sink.held g.K.Sink.faults c.args.out.now c.show-in-Height.new.out c.args.tally.now c.show-in-Height.new.tally parts))
-    c.args.session.now c.args.command (Command.Height c.in-Height.view) c.in-Height.is c.show-in-Height.ensures.written
+    at-command (λ parts. OnOk c.show.result (Written g.K.Sink.held g.K.Sink.faults c.args.out.now c.show.new.out c.args.tally.now c.show.new.tally parts))
+    c.args.session.now c.args.command (Command.Height c.in-Height.view) c.in-Height.is c.show.ensures.written
 
 pub returns-in-Height-clause-halted : goal.returns-in-Height-clause-halted
 returns-in-Height-clause-halted g c =
-    at-command (λ parts. IfErr c.show-in-Height.result (Halted g.K.Sink.held g.K.Sink.faults c.args.out.now c.show-in-Height.new.out c.args.tally.now c.show-in-Height.new.tally parts))
-    c.args.session.now c.args.command (Command.Height c.in-Height.view) c.in-Height.is c.show-in-Height.ensures.halted
+    at-command (λ parts. IfErr c.show.result (Halted g.K.Sink.held g.K.Sink.faults c.args.out.now c.show.new.out c.args.tally.now c.show.new.tally parts))
+    c.args.session.now c.args.command (Command.Height c.in-Height.view) c.in-Height.is c.show.ensures.halted
 
 pub returns-in-Height-clause-counted : goal.returns-in-Height-clause-counted
 returns-in-Height-clause-counted g c =
-    at-command (λ parts. c.show-in-Height.result ≡ Err WriteFault → CountsWork c.args.tally.now c.show-in-Height.new.tally (work_of_parts parts))
-    c.args.session.now c.args.command (Command.Height c.in-Height.view) c.in-Height.is c.show-in-Height.ensures.counted
+    at-command (λ parts. c.show.result ≡ Err WriteFault → CountsWork c.args.tally.now c.show.new.tally (work_of_parts parts))
+    c.args.session.now c.args.command (Command.Height c.in-Height.view) c.in-Height.is c.show.ensures.counted
 
 pub returns-in-Mesh-clause-written : goal.returns-in-Mesh-clause-written
 returns-in-Mesh-clause-written g c =

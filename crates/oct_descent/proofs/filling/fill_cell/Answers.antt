@@ -17,38 +17,38 @@ returns-in_err-make_rows-clause-counted c = λ f enough. charges-none c.layers_h
 pub returns-in_err-make_rows-clause-paid : goal.returns-in_err-make_rows-clause-paid
 returns-in_err-make_rows-clause-paid c = λ f due. pays-none c.layers_hold.ensures f c.args.values.now c.args.tally.now
 
-pub returns-in_err-gaps-clause-counted : goal.returns-in_err-gaps-clause-counted
-returns-in_err-gaps-clause-counted c = λ f enough. same-charges c.layers_hold.ensures f c.args.values.now c.gaps_of.new.values c.args.tally.now c.in_err-gaps.ensures.same
+pub returns-in_err-find_gaps-clause-counted : goal.returns-in_err-find_gaps-clause-counted
+returns-in_err-find_gaps-clause-counted c = λ f enough. same-charges c.layers_hold.ensures f c.args.values.now c.find_gaps.new.values c.args.tally.now c.in_err-find_gaps.ensures.same
 
-pub returns-in_err-gaps-clause-paid : goal.returns-in_err-gaps-clause-paid
-returns-in_err-gaps-clause-paid c = λ f due. same-pays c.layers_hold.ensures f c.args.values.now c.gaps_of.new.values c.args.tally.now c.in_err-gaps.ensures.same
+pub returns-in_err-find_gaps-clause-paid : goal.returns-in_err-find_gaps-clause-paid
+returns-in_err-find_gaps-clause-paid c = λ f due. same-pays c.layers_hold.ensures f c.args.values.now c.find_gaps.new.values c.args.tally.now c.in_err-find_gaps.ensures.same
 
-pub returns-in_err-gaps-clause-grows : goal.returns-in_err-gaps-clause-grows
-returns-in_err-gaps-clause-grows c = same-grows (list_grid_value c.args.desk.now.view (list_of c.args.desk.now c.args.received)) c.args.b c.args.values.now c.gaps_of.new.values c.in_err-gaps.ensures.same
+pub returns-in_err-find_gaps-clause-grows : goal.returns-in_err-find_gaps-clause-grows
+returns-in_err-find_gaps-clause-grows c = same-grows (list_grid_value c.args.desk.now.view (list_of c.args.desk.now c.args.received)) c.args.b c.args.values.now c.find_gaps.new.values c.in_err-find_gaps.ensures.same
 
 pub fill_gaps-requires-clause-stand : goal.fill_gaps-requires-clause-stand
-fill_gaps-requires-clause-stand c = subst (All (StandsIn c.gaps_of.new.values)) (sym c.as_slice.ensures.value) c.in_ok-gaps.ensures.gaps.stand
+fill_gaps-requires-clause-stand c = subst (All (StandsIn c.find_gaps.new.values)) (sym c.as_slice.ensures.value) c.in_ok-find_gaps.ensures.gaps.stand
 
 pub returns-clause-known : goal.returns-clause-known
 returns-clause-known c =
-    gaps-known_then (list_grid_value c.args.desk.now.view (list_of c.args.desk.now c.args.received)) c.args.b c.as_slice.result.now c.args.values.now c.gaps_of.new.values c.fill_gaps.new.values (are-filled c.args.desk.now.view c.desk.inside.places.view (list_of c.args.desk.now c.args.received) c.args.b (point c.b.inside.x0 c.b.inside.y0 c.b.inside.z0) c.as_slice.result.now c.in_ok-gaps.gaps.items c.args.values.now c.gaps_of.new.values c.fill_gaps.new.values
-    (short-one c.args.b c.requires.may.visit_is.box c.requires.one) (ap (λ d. d.view) c.desk.view_is) (ap (λ a. point a.x0 a.y0 a.z0) c.b.view_is) c.as_slice.ensures.value c.in_ok-gaps.ensures.same c.in_ok-gaps.ensures.gaps (subst (λ (l : List Step). Fills (list_grid_value c.desk.inside.places.view l) c.as_slice.result.now c.gaps_of.new.values c.fill_gaps.new.values) (c.list-list.ensures.list ∙ ap (λ (d : Tracing). list_of d c.args.received) c.desk.view_is) c.fill_gaps.ensures.fills))
+    gaps-known_then (list_grid_value c.args.desk.now.view (list_of c.args.desk.now c.args.received)) c.args.b c.as_slice.result.now c.args.values.now c.find_gaps.new.values c.fill_gaps.new.values (are-filled c.args.desk.now.view c.desk.inside.places.view (list_of c.args.desk.now c.args.received) c.args.b (point c.b.inside.x0 c.b.inside.y0 c.b.inside.z0) c.as_slice.result.now c.find_gaps.new.gaps.items c.args.values.now c.find_gaps.new.values c.fill_gaps.new.values
+    (short-one c.args.b c.requires.may.visit_is.box c.requires.one) (ap (λ d. d.view) c.desk.view_is) (ap (λ a. point a.x0 a.y0 a.z0) c.b.view_is) c.as_slice.ensures.value c.in_ok-find_gaps.ensures.same c.in_ok-find_gaps.ensures.gaps (subst (λ (l : List Step). Fills (list_grid_value c.desk.inside.places.view l) c.as_slice.result.now c.find_gaps.new.values c.fill_gaps.new.values) (c.list-list.ensures.list ∙ ap (λ (d : Tracing). list_of d c.args.received) c.desk.view_is) c.fill_gaps.ensures.fills))
 
 pub returns-clause-grows : goal.returns-clause-grows
 returns-clause-grows c =
-    gaps-grow (list_grid_value c.args.desk.now.view (list_of c.args.desk.now c.args.received)) c.args.b c.as_slice.result.now c.args.values.now c.gaps_of.new.values c.fill_gaps.new.values (are-filled c.args.desk.now.view c.desk.inside.places.view (list_of c.args.desk.now c.args.received) c.args.b (point c.b.inside.x0 c.b.inside.y0 c.b.inside.z0) c.as_slice.result.now c.in_ok-gaps.gaps.items c.args.values.now c.gaps_of.new.values c.fill_gaps.new.values
-    (short-one c.args.b c.requires.may.visit_is.box c.requires.one) (ap (λ d. d.view) c.desk.view_is) (ap (λ a. point a.x0 a.y0 a.z0) c.b.view_is) c.as_slice.ensures.value c.in_ok-gaps.ensures.same c.in_ok-gaps.ensures.gaps (subst (λ (l : List Step). Fills (list_grid_value c.desk.inside.places.view l) c.as_slice.result.now c.gaps_of.new.values c.fill_gaps.new.values) (c.list-list.ensures.list ∙ ap (λ (d : Tracing). list_of d c.args.received) c.desk.view_is) c.fill_gaps.ensures.fills))
+    gaps-grow (list_grid_value c.args.desk.now.view (list_of c.args.desk.now c.args.received)) c.args.b c.as_slice.result.now c.args.values.now c.find_gaps.new.values c.fill_gaps.new.values (are-filled c.args.desk.now.view c.desk.inside.places.view (list_of c.args.desk.now c.args.received) c.args.b (point c.b.inside.x0 c.b.inside.y0 c.b.inside.z0) c.as_slice.result.now c.find_gaps.new.gaps.items c.args.values.now c.find_gaps.new.values c.fill_gaps.new.values
+    (short-one c.args.b c.requires.may.visit_is.box c.requires.one) (ap (λ d. d.view) c.desk.view_is) (ap (λ a. point a.x0 a.y0 a.z0) c.b.view_is) c.as_slice.ensures.value c.in_ok-find_gaps.ensures.same c.in_ok-find_gaps.ensures.gaps (subst (λ (l : List Step). Fills (list_grid_value c.desk.inside.places.view l) c.as_slice.result.now c.find_gaps.new.values c.fill_gaps.new.values) (c.list-list.ensures.list ∙ ap (λ (d : Tracing). list_of d c.args.received) c.desk.view_is) c.fill_gaps.ensures.fills))
 
 pub returns-clause-counted : goal.returns-clause-counted
 returns-clause-counted c =
     λ f enough.
-    gaps-charged c.layers_hold.ensures f (list_grid_value c.args.desk.now.view (list_of c.args.desk.now c.args.received)) c.args.b (length (list_of c.args.desk.now c.args.received)) c.as_slice.result.now c.args.values.now c.gaps_of.new.values c.fill_gaps.new.values c.args.tally.now c.fill_gaps.new.tally
-    (are-filled c.args.desk.now.view c.desk.inside.places.view (list_of c.args.desk.now c.args.received) c.args.b (point c.b.inside.x0 c.b.inside.y0 c.b.inside.z0) c.as_slice.result.now c.in_ok-gaps.gaps.items c.args.values.now c.gaps_of.new.values c.fill_gaps.new.values
-    (short-one c.args.b c.requires.may.visit_is.box c.requires.one) (ap (λ d. d.view) c.desk.view_is) (ap (λ a. point a.x0 a.y0 a.z0) c.b.view_is) c.as_slice.ensures.value c.in_ok-gaps.ensures.same c.in_ok-gaps.ensures.gaps (subst (λ (l : List Step). Fills (list_grid_value c.desk.inside.places.view l) c.as_slice.result.now c.gaps_of.new.values c.fill_gaps.new.values) (c.list-list.ensures.list ∙ ap (λ (d : Tracing). list_of d c.args.received) c.desk.view_is) c.fill_gaps.ensures.fills)) enough (subst (λ (l : List Step). RisesBy c.args.tally.now c.fill_gaps.new.tally (points_of (length c.as_slice.result.now * length l))) (c.list-list.ensures.list ∙ ap (λ (d : Tracing). list_of d c.args.received) c.desk.view_is) c.fill_gaps.ensures.counted)
+    gaps-charged c.layers_hold.ensures f (list_grid_value c.args.desk.now.view (list_of c.args.desk.now c.args.received)) c.args.b (length (list_of c.args.desk.now c.args.received)) c.as_slice.result.now c.args.values.now c.find_gaps.new.values c.fill_gaps.new.values c.args.tally.now c.fill_gaps.new.tally
+    (are-filled c.args.desk.now.view c.desk.inside.places.view (list_of c.args.desk.now c.args.received) c.args.b (point c.b.inside.x0 c.b.inside.y0 c.b.inside.z0) c.as_slice.result.now c.find_gaps.new.gaps.items c.args.values.now c.find_gaps.new.values c.fill_gaps.new.values
+    (short-one c.args.b c.requires.may.visit_is.box c.requires.one) (ap (λ d. d.view) c.desk.view_is) (ap (λ a. point a.x0 a.y0 a.z0) c.b.view_is) c.as_slice.ensures.value c.in_ok-find_gaps.ensures.same c.in_ok-find_gaps.ensures.gaps (subst (λ (l : List Step). Fills (list_grid_value c.desk.inside.places.view l) c.as_slice.result.now c.find_gaps.new.values c.fill_gaps.new.values) (c.list-list.ensures.list ∙ ap (λ (d : Tracing). list_of d c.args.received) c.desk.view_is) c.fill_gaps.ensures.fills)) enough (subst (λ (l : List Step). RisesBy c.args.tally.now c.fill_gaps.new.tally (points_of (length c.as_slice.result.now * length l))) (c.list-list.ensures.list ∙ ap (λ (d : Tracing). list_of d c.args.received) c.desk.view_is) c.fill_gaps.ensures.counted)
 
 pub returns-clause-paid : goal.returns-clause-paid
 returns-clause-paid c =
     λ f due.
-    gaps-paid c.layers_hold.ensures f (list_grid_value c.args.desk.now.view (list_of c.args.desk.now c.args.received)) c.args.b (length (list_of c.args.desk.now c.args.received)) c.as_slice.result.now c.args.values.now c.gaps_of.new.values c.fill_gaps.new.values c.args.tally.now c.fill_gaps.new.tally
-    (are-filled c.args.desk.now.view c.desk.inside.places.view (list_of c.args.desk.now c.args.received) c.args.b (point c.b.inside.x0 c.b.inside.y0 c.b.inside.z0) c.as_slice.result.now c.in_ok-gaps.gaps.items c.args.values.now c.gaps_of.new.values c.fill_gaps.new.values
-    (short-one c.args.b c.requires.may.visit_is.box c.requires.one) (ap (λ d. d.view) c.desk.view_is) (ap (λ a. point a.x0 a.y0 a.z0) c.b.view_is) c.as_slice.ensures.value c.in_ok-gaps.ensures.same c.in_ok-gaps.ensures.gaps (subst (λ (l : List Step). Fills (list_grid_value c.desk.inside.places.view l) c.as_slice.result.now c.gaps_of.new.values c.fill_gaps.new.values) (c.list-list.ensures.list ∙ ap (λ (d : Tracing). list_of d c.args.received) c.desk.view_is) c.fill_gaps.ensures.fills)) due (subst (λ (l : List Step). RisesBy c.args.tally.now c.fill_gaps.new.tally (points_of (length c.as_slice.result.now * length l))) (c.list-list.ensures.list ∙ ap (λ (d : Tracing). list_of d c.args.received) c.desk.view_is) c.fill_gaps.ensures.counted)
+    gaps-paid c.layers_hold.ensures f (list_grid_value c.args.desk.now.view (list_of c.args.desk.now c.args.received)) c.args.b (length (list_of c.args.desk.now c.args.received)) c.as_slice.result.now c.args.values.now c.find_gaps.new.values c.fill_gaps.new.values c.args.tally.now c.fill_gaps.new.tally
+    (are-filled c.args.desk.now.view c.desk.inside.places.view (list_of c.args.desk.now c.args.received) c.args.b (point c.b.inside.x0 c.b.inside.y0 c.b.inside.z0) c.as_slice.result.now c.find_gaps.new.gaps.items c.args.values.now c.find_gaps.new.values c.fill_gaps.new.values
+    (short-one c.args.b c.requires.may.visit_is.box c.requires.one) (ap (λ d. d.view) c.desk.view_is) (ap (λ a. point a.x0 a.y0 a.z0) c.b.view_is) c.as_slice.ensures.value c.in_ok-find_gaps.ensures.same c.in_ok-find_gaps.ensures.gaps (subst (λ (l : List Step). Fills (list_grid_value c.desk.inside.places.view l) c.as_slice.result.now c.find_gaps.new.values c.fill_gaps.new.values) (c.list-list.ensures.list ∙ ap (λ (d : Tracing). list_of d c.args.received) c.desk.view_is) c.fill_gaps.ensures.fills)) due (subst (λ (l : List Step). RisesBy c.args.tally.now c.fill_gaps.new.tally (points_of (length c.as_slice.result.now * length l))) (c.list-list.ensures.list ∙ ap (λ (d : Tracing). list_of d c.args.received) c.desk.view_is) c.fill_gaps.ensures.counted)

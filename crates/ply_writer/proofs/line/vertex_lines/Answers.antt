@@ -5,8 +5,9 @@ use Rattle.ply_writer.proofs.line.vertex_lines.Goals as goal
 
 pub loop-i-init : goal.loop-i-init
 loop-i-init c = record {
-  room = omega arith;
-  within = omega arith;
-  full = omega arith;
-  lines = rw (drop_all 65481 c.args.block.now (omega arith), drop_all (length c.args.vertices.now) c.args.vertices.now (omega arith)) refl;
+  room = omega (arith, c.requires.room);
+  few = omega arith;
+  before = omega arith;
+  full = refl;
+  lines = rw (drop_all (length c.args.vertices.now) c.args.vertices.now (omega arith)) refl;
 }

@@ -8,7 +8,7 @@ use Rattle.quad_descent.proofs.Drawn.{CountsDrawn}
 use Rattle.quad_descent.specs.Adding.{Adds}
 use Rattle.quad_descent.specs.KeptLists.{halves_lists}
 use Rattle.quad_descent.specs.Nodes.{halves_nodes}
-use Rattle.quad_descent.specs.OldBoxes.{AreOldHalves, handed_by, received_by, visit_before}
+use Rattle.quad_descent.specs.OldBoxes.{AreOldHalves, behind_halves, received_by}
 use Rattle.quad_descent.specs.Raster.{raster}
 use Rattle.quad_descent.proofs.drawing.+drawing.Given as goal
 
@@ -36,8 +36,9 @@ invariant-draw_each_half-loop-at l = let list = list_of l.fn.desk l.live in let 
   more : HasMore l.fn.desk l.desk;
   told : all_seen l.desk.lists l.outcomes ≡ outcomes_of (samples l.fn.desk) list l.halves;
   hand : All (HandsOn (length list) l.desk.lists) l.outcomes;
-  received : received_by l.half_before ≡ handed_by l.before;
-  stands : IfSome l.half_before (AreOldHalves l.fn.desk.view l.fn.b (drop l.at l.halves));
+  received : received_by l.before ≡ received_by l.first;
+  stands : IfSome l.before (AreOldHalves l.fn.desk.view l.fn.b (drop l.at l.halves) l.boxes.before);
+  left : behind_halves d (received_by l.first) (drop l.at l.halves) l.boxes.before ≡ behind_halves d (received_by l.first) l.halves l.fn.boxes.before;
   adds : Adds l.fn.boxes l.boxes (halves_nodes d list (take l.at l.halves)) (halves_lists d list (take l.at l.halves));
-  counted : CountsDrawn d (visit_before l.before l.fn.b) list l.halves l.at l.fn.tally l.tally;
+  counted : CountsDrawn d (received_by l.first) list l.halves l.at l.fn.tally l.tally;
 }

@@ -7,11 +7,12 @@ use Rattle.box_chains.specs.Outcomes.{seen}
 use Rattle.quad_descent.specs.Adding.{Adds}
 use Rattle.quad_descent.specs.KeptLists.{lists_of, outcome_lists}
 use Rattle.quad_descent.specs.Nodes.{nodes_of}
-use Rattle.quad_descent.specs.OldBoxes.{outcome_points_after, outcome_spans_after, visit_before}
+use Rattle.quad_descent.specs.OldBoxes.{handed_by, outcome_points_after, outcome_spans_after, visit_before}
 use Rattle.quad_descent.specs.Opened.{outcome_nodes}
 use Rattle.quad_descent.specs.Raster.{raster}
 use Rattle.quad_descent.proofs.Drawn.{adds-same, bounded-box, bounded-trace, counted-box, nodes-outcome, on_err, on_err-then, on_ok-then, told-one}
 use Rattle.quad_descent.proofs.OldLaws.{lists-outcome}
+use Rattle.quad_descent.proofs.Redrawn.{handed-before}
 use Rattle.quad_descent.proofs.drawing.draw_box.Goals as goal
 
 pub returns-in_err-outcome-clause-at_most : goal.returns-in_err-outcome-clause-at_most
@@ -41,8 +42,10 @@ returns-clause-counted c =
     let told = told-one (samples c.args.desk.now) list c.args.b o c.requires.may.lattice c.in_ok-outcome.ensures.outcome in
     on_ok-then c.draw_outcome.result _ _
     (counted-box c.layers_hold.ensures d was c.args.b list o c.args.tally.now c.trace_box.new.tally c.draw_outcome.new.tally (omega arith) c.requires.may.box c.requires.new told c.in_ok-outcome.ensures.counted)
-    (subst (λ w. OnOk c.draw_outcome.result (CountsExactly (outcome_points_after (raster w) was c.args.b o) (outcome_spans_after (raster w) was c.args.b o) c.trace_box.new.tally c.draw_outcome.new.tally))
-    c.in_ok-outcome.ensures.more.view c.draw_outcome.ensures.counted)
+    (subst (λ w. OnOk c.draw_outcome.result (CountsExactly (outcome_points_after d w c.args.b o) (outcome_spans_after d w c.args.b o) c.trace_box.new.tally c.draw_outcome.new.tally))
+    (handed-before c.layers_hold.ensures c.args.desk.now.view c.args.b c.args.boxes.now.before c.args.before c.requires.old)
+    (subst (λ w. OnOk c.draw_outcome.result (CountsExactly (outcome_points_after (raster w) (handed_by c.args.before c.args.boxes.now.before) c.args.b o) (outcome_spans_after (raster w) (handed_by c.args.before c.args.boxes.now.before) c.args.b o) c.trace_box.new.tally c.draw_outcome.new.tally))
+    c.in_ok-outcome.ensures.more.view c.draw_outcome.ensures.counted))
 
 pub returns-clause-at_most : goal.returns-clause-at_most
 returns-clause-at_most c =
@@ -53,5 +56,7 @@ returns-clause-at_most c =
     let told = told-one (samples c.args.desk.now) list c.args.b o c.requires.may.lattice c.in_ok-outcome.ensures.outcome in
     on_err-then c.draw_outcome.result _ _
     (bounded-box c.layers_hold.ensures d was c.args.b list o c.args.tally.now c.trace_box.new.tally c.draw_outcome.new.tally (omega arith) c.requires.may.box c.requires.new told c.in_ok-outcome.ensures.counted)
-    (subst (λ w. OnErr c.draw_outcome.result (CountsAtMost (outcome_points_after (raster w) was c.args.b o) (outcome_spans_after (raster w) was c.args.b o) c.trace_box.new.tally c.draw_outcome.new.tally))
-    c.in_ok-outcome.ensures.more.view c.draw_outcome.ensures.at_most)
+    (subst (λ w. OnErr c.draw_outcome.result (CountsAtMost (outcome_points_after d w c.args.b o) (outcome_spans_after d w c.args.b o) c.trace_box.new.tally c.draw_outcome.new.tally))
+    (handed-before c.layers_hold.ensures c.args.desk.now.view c.args.b c.args.boxes.now.before c.args.before c.requires.old)
+    (subst (λ w. OnErr c.draw_outcome.result (CountsAtMost (outcome_points_after (raster w) (handed_by c.args.before c.args.boxes.now.before) c.args.b o) (outcome_spans_after (raster w) (handed_by c.args.before c.args.boxes.now.before) c.args.b o) c.trace_box.new.tally c.draw_outcome.new.tally))
+    c.in_ok-outcome.ensures.more.view c.draw_outcome.ensures.at_most))

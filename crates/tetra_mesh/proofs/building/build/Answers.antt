@@ -1,5 +1,5 @@
 -- The parts of the cells are those of the grid's mixed cells.
-use Rattle.std.proofs.Common.{ap, arith, length, ◌∙◌}
+use Rattle.std.proofs.Common.{ap, arith, length}
 use Rattle.tetra_mesh.specs.Sizes.{size_of}
 use Rattle.tetra_mesh.proofs.GridLaws.{parts_of_grid}
 use Rattle.tetra_mesh.proofs.building.build.Goals as goal
@@ -13,14 +13,14 @@ parts-requires c =
 pub mesh_of_parts-requires : goal.mesh_of_parts-requires
 mesh_of_parts-requires c =
     let have = c.in_ok-vertices.ensures in
-    (c.requires.0, parts_of_grid (size_of c.args.view.now) c.args.cells.now _ c.requires.0 _ _ c.requires.1 c.deref.ensures.value have.vertices (c.deref-2.ensures.value ∙ have.sides))
+    (c.requires.0, parts_of_grid (size_of c.args.view.now) c.args.cells.now _ c.requires.0 _ _ c.requires.1 c.deref.ensures.value have.vertices have.sides)
 
 pub returns-clause-mesh : goal.returns-clause-mesh
 returns-clause-mesh c g is =
     let have = c.in_ok-vertices.ensures in
-    c.mesh_of_parts.ensures.mesh g (parts_of_grid (size_of c.args.view.now) c.args.cells.now _ g _ _ is c.deref.ensures.value have.vertices (c.deref-2.ensures.value ∙ have.sides))
+    c.mesh_of_parts.ensures.mesh g (parts_of_grid (size_of c.args.view.now) c.args.cells.now _ g _ _ is c.deref.ensures.value have.vertices have.sides)
 
 pub returns-clause-sound : goal.returns-clause-sound
 returns-clause-sound c g is =
     let have = c.in_ok-vertices.ensures in
-    c.mesh_of_parts.ensures.sound g (parts_of_grid (size_of c.args.view.now) c.args.cells.now _ g _ _ is c.deref.ensures.value have.vertices (c.deref-2.ensures.value ∙ have.sides))
+    c.mesh_of_parts.ensures.sound g (parts_of_grid (size_of c.args.view.now) c.args.cells.now _ g _ _ is c.deref.ensures.value have.vertices have.sides)

@@ -1,5 +1,5 @@
 -- The parts of the cells are those of the grid's mixed cells.
-use Rattle.std.proofs.Common.{refl, ◌∙◌}
+use Rattle.std.proofs.Common.{refl}
 use Rattle.tetra_mesh.specs.Sizes.{size_of}
 use Rattle.tetra_mesh.proofs.GridLaws.{parts_of_grid}
 use Rattle.tetra_mesh.proofs.building.build_from.Goals as goal
@@ -7,14 +7,14 @@ use Rattle.tetra_mesh.proofs.building.build_from.Goals as goal
 pub mesh_of_parts-requires : goal.mesh_of_parts-requires
 mesh_of_parts-requires c =
     let have = c.in_ok-vertices.ensures in
-    (c.requires.0, parts_of_grid (size_of c.args.view.now) c.args.cells _ c.requires.0 _ _ c.requires.1 refl have.vertices (c.deref.ensures.value ∙ have.sides))
+    (c.requires.0, parts_of_grid (size_of c.args.view.now) c.args.cells _ c.requires.0 _ _ c.requires.1 refl have.vertices have.sides)
 
 pub returns-clause-mesh : goal.returns-clause-mesh
 returns-clause-mesh c g is =
     let have = c.in_ok-vertices.ensures in
-    c.mesh_of_parts.ensures.mesh g (parts_of_grid (size_of c.args.view.now) c.args.cells _ g _ _ is refl have.vertices (c.deref.ensures.value ∙ have.sides))
+    c.mesh_of_parts.ensures.mesh g (parts_of_grid (size_of c.args.view.now) c.args.cells _ g _ _ is refl have.vertices have.sides)
 
 pub returns-clause-sound : goal.returns-clause-sound
 returns-clause-sound c g is =
     let have = c.in_ok-vertices.ensures in
-    c.mesh_of_parts.ensures.sound g (parts_of_grid (size_of c.args.view.now) c.args.cells _ g _ _ is refl have.vertices (c.deref.ensures.value ∙ have.sides))
+    c.mesh_of_parts.ensures.sound g (parts_of_grid (size_of c.args.view.now) c.args.cells _ g _ _ is refl have.vertices have.sides)

@@ -16,8 +16,8 @@ faces_of-requires c =
     let is = c.requires.1 in
     let size = c.mesh_size.ensures.size in
     let bounded = subst IsBounded size c.mesh_size.ensures.bounded in
-    let cells = are_cells laws.cells laws.order laws.few laws.edges n g c.args.vertices.items c.args.sided.now bounded is in
-    (mixed_cells g, sides_as (mixed_cells g) c.args.sided.now n c.mesh_size.result (sym size) (record { mixed = cells; sides = is.sides }))
+    let cells = are_cells laws.cells laws.order laws.few laws.edges n g c.args.vertices.items c.args.sided.items bounded is in
+    (mixed_cells g, sides_as (mixed_cells g) c.args.sided.items n c.mesh_size.result (sym size) (record { mixed = cells; sides = is.sides }))
 
 pub returns-clause-mesh : goal.returns-clause-mesh
 returns-clause-mesh c g is =
@@ -25,9 +25,9 @@ returns-clause-mesh c g is =
     let n = size_of c.args.view.now in
     let size = c.mesh_size.ensures.size in
     let bounded = subst IsBounded size c.mesh_size.ensures.bounded in
-    let cells = are_cells laws.cells laws.order laws.few laws.edges n g c.args.vertices.items c.args.sided.now bounded is in
-    let are = sides_as (mixed_cells g) c.args.sided.now n c.mesh_size.result (sym size) (record { mixed = cells; sides = is.sides }) in
-    mesh_is laws.cells laws.vertices laws.triangles n g c.args.vertices.items c.args.sided.now c.in_ok-faces.faces.items is (c.in_ok-faces.ensures (mixed_cells g) are)
+    let cells = are_cells laws.cells laws.order laws.few laws.edges n g c.args.vertices.items c.args.sided.items bounded is in
+    let are = sides_as (mixed_cells g) c.args.sided.items n c.mesh_size.result (sym size) (record { mixed = cells; sides = is.sides }) in
+    mesh_is laws.cells laws.vertices laws.triangles n g c.args.vertices.items c.args.sided.items c.in_ok-faces.faces.items is (c.in_ok-faces.ensures (mixed_cells g) are)
 
 pub returns-clause-sound : goal.returns-clause-sound
 returns-clause-sound c g is =

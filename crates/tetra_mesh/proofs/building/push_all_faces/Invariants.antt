@@ -1,13 +1,15 @@
-use Rattle.std.proofs.Common.{◌≡◌, ◌++◌}
-use Rattle.std.specs.Prelude.{take}
-use Rattle.tetra_mesh.specs.Numbering.{HasReached, IsNumbered, all_faces}
+use Rattle.std.proofs.Common.{◌≡◌, ◌++◌, ◌-◌, length}
+use Rattle.std.specs.Prelude.{drop}
+use Rattle.tetra_mesh.specs.Numbering.{all_faces}
 use Rattle.tetra_mesh.specs.Sides.{OfCells}
 use Rattle.tetra_mesh.proofs.building.push_all_faces.Given as goal
 
-abbrev pub invariant-loop-cell : goal.invariant-loop-cell
-invariant-loop-cell l = record {
-  width : l.numbering.n ≡ l.fn.numbering.n;
-  numbered : OfCells l.fn.numbering.n l.sided (λ cells. IsNumbered cells l.fn.numbering.n l.numbering);
-  reached : OfCells l.fn.numbering.n l.sided (λ cells. HasReached cells l.numbering.ahead l.cell-index);
-  faces : OfCells l.fn.numbering.n l.sided (λ cells. l.faces.items ≡ l.fn.faces.items ++ all_faces cells (take l.cell-index cells));
+abbrev pub invariant-loop-batch : goal.invariant-loop-batch
+invariant-loop-batch l = record {
+  n : l.walk.n ≡ l.fn.walk.n;
+  sided : l.walk.sided ≡ l.fn.walk.sided;
+  faces : OfCells l.fn.walk.n l.fn.walk.sided (λ cells. l.fn.faces.items ++ all_faces cells cells ≡ l.faces.items ++ all_faces cells (drop l.walk.made cells));
 }
+
+abbrev pub decreases-loop-batch : goal.decreases-loop-batch
+decreases-loop-batch l = length l.walk.sided - l.walk.made

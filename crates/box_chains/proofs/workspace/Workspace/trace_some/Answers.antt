@@ -1,4 +1,5 @@
-use Rattle.std.proofs.Common.{◌++◌, length, sym, subst, arith}
+use Rattle.std.proofs.Common.{◌++◌, length, sym, subst, zero-mul, arith}
+use Rattle.interval_ops.specs.HullCounts.{CountsHulls}
 use Rattle.live_clauses.specs.Blocks.{list_at}
 use Rattle.box_chains.specs.Outcomes.{AreSeen, asked_outcome, asked_outcomes}
 use Rattle.box_chains.proofs.Lanes.{take-one}
@@ -18,8 +19,8 @@ pub returns-in_err-trace_asked_box-clause-at_most : goal.returns-in_err-trace_as
 returns-in_err-trace_asked_box-clause-at_most c =
     on_err _ _ (hulls-among c.args.tally.now c.trace_asked_box.new.tally 1 (length c.args.asked.now) (length (list_at c.args.lists.now c.args.at)) c.requires.some (hulls-one c.args.tally.now c.trace_asked_box.new.tally (length (list_at c.args.lists.now c.args.at)) c.in_err-trace_asked_box.ensures.counted))
 
-pub returns-in_ok-trace_asked_box-clause-outcomes : goal.returns-in_ok-trace_asked_box-clause-outcomes
-returns-in_ok-trace_asked_box-clause-outcomes c = λ told seen.
+pub returns-then-len-gt-LONGEST-clause-outcomes : goal.returns-then-len-gt-LONGEST-clause-outcomes
+returns-then-len-gt-LONGEST-clause-outcomes c = λ told seen.
     let lists = c.args.lists.now in
     let list = list_at lists c.args.at in
     let after = c.trace_asked_box.new.lists in
@@ -28,3 +29,7 @@ returns-in_ok-trace_asked_box-clause-outcomes c = λ told seen.
     subst (λ boxes. AreSeen (length list) after c.push.new.self.items (told ++ asked_outcomes c.args.places.now list boxes)) (sym one)
     (are-pushed (length list) lists after c.args.outcomes.now.items c.push.new.self.items told c.in_ok-trace_asked_box.field-0 (asked_outcome c.args.places.now list box)
     c.in_ok-trace_asked_box.ensures.first seen c.push.ensures.items c.in_ok-trace_asked_box.ensures.outcome c.in_ok-trace_asked_box.ensures.shorter)
+
+pub returns-in_err-make_room-clause-at_most : goal.returns-in_err-make_room-clause-at_most
+returns-in_err-make_room-clause-at_most c =
+    on_err _ _ (hulls-among c.args.tally.now c.args.tally.now 0 (length c.args.asked.now) (length (list_at c.args.lists.now c.args.at)) (omega arith) (subst (λ n. CountsHulls n c.args.tally.now c.args.tally.now) (sym (zero-mul (length (list_at c.args.lists.now c.args.at)))) (c.hull_counts.ensures.none c.args.tally.now)))

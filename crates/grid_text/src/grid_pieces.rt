@@ -1,0 +1,96 @@
+// The text of the mesh of a grid, made piece by piece.
+ghost use Rattle.std.specs.Prelude.{◌≡◌, ◌<◌, ◌≤◌, ◌^◌, ◌↔◌, ◌++◌, [], IfOk, IsFalse, IsTrue, length};
+ghost use Rattle.grid_text.specs.Texts.{text_of};
+
+use crate::face_lines::put_faces;
+use crate::sided_cells::sided_cells;
+use crate::vertex_lines::put_vertices;
+use kuhn_cells::mixed_cells_suffice;
+use oct_descent::{OctTree, grids_are_bordered};
+use ply_writer::{PlyBlock, room_for};
+use std::alloc::{AllocError, Global};
+use std::marker::Model;
+use tetra_mesh::{FaceWalk, cells_make_meshes};
+
+/// The text of the mesh of a grid, made piece by piece in one block. Of a cell its place and sides
+/// stand in memory, and no list of vertices or faces. Contracts see the piece that was made last and
+/// what comes after it.
+#[derive(Debug, Drop)]
+pub struct GridPieces<'a> {
+    tree: &'a OctTree,
+    walk: FaceWalk,
+    // Of how many cells the lines of the vertices are made.
+    lined: usize,
+    block: PlyBlock,
+}
+
+impl<'a> Model for GridPieces<'a> {
+    ghost use Rattle.ply_writer.specs.Pieces.{Stage};
+    ghost use Rattle.grid_text.specs.Texts.{IsWriting, lines_left};
+
+    ghost Value = { Stage };
+
+    ghost view = { λ p. record {
+      piece = p.block.bytes;
+      rest = lines_left p.tree.now.view p.tree.now.list p.lined p.walk.made;
+    } };
+
+    ghost invariant = { λ p. IsWriting p.tree.now.view p.tree.now.list p.walk p.lined p.block };
+}
+
+impl<'a> GridPieces<'a> {
+    /// The pieces of the text of the mesh of a grid. The first one, the header, is made. AllocError:
+    /// there is no memory for the places and sides of the mixed cells, for the numbers of the
+    /// vertices of two layers, or for the block.
+    pub fn new(alloc: Global, tree: &'a OctTree) -> Result<GridPieces<'a>, AllocError>
+        ensures { IfOk result (λ p. p.piece ++ p.rest ≡ text_of tree.now.view tree.now.list) }
+    {
+        grids_are_bordered();
+        mixed_cells_suffice();
+        cells_make_meshes();
+        let sided = sided_cells(alloc, tree)?;
+        let walk = FaceWalk::new(alloc, tree.n(), sided)?;
+        let mut block = PlyBlock::new(alloc, tree.view())?;
+        block.put_header(walk.vertex_count() as u32, walk.face_count() as u32);
+        Ok(GridPieces {
+            tree,
+            walk,
+            lined: 0,
+            block,
+        })
+    }
+
+    // A bound on the bytes of the whole text, near to them.
+    pub(crate) fn room(&self) -> usize {
+        room_for(
+            self.walk.vertex_count(),
+            self.walk.face_count(),
+            self.tree.view(),
+        )
+    }
+
+    /// The piece that was made last.
+    #[inline]
+    pub fn piece(&self) -> &[u8]
+        ensures piece { result.now ≡ self.now.piece }
+        ensures few { length result.now ≤ 2 ^ 16 }
+    {
+        self.block.piece()
+    }
+
+    /// Makes the next piece, of whole lines and at most 64 KiB, and says whether there is one. It
+    /// takes no memory.
+    pub fn advance(&mut self) -> bool
+        ensures more { IsTrue result → self.old.rest ≡ self.new.piece ++ self.new.rest }
+        ensures shorter { IsTrue result → length self.new.rest < length self.old.rest }
+        ensures done { IsFalse result ↔ self.old.rest ≡ [] }
+    {
+        self.block.clear();
+        self.lined = put_vertices(self.tree, self.walk.cells(), self.lined, &mut self.block);
+        if !self.block.piece().is_empty() {
+            return true;
+        }
+        put_faces(&mut self.walk, &mut self.block);
+        !self.block.piece().is_empty()
+    }
+}

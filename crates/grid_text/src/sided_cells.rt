@@ -1,0 +1,55 @@
+// The places and sides of the mixed cells of a grid.
+ghost use Rattle.std.specs.Prelude.{◌≡◌, ◌<◌, ◌++◌, IfOk, OnOk, map};
+ghost use Rattle.oct_descent.specs.Rows.{cells_in_layer, cells_in_row};
+ghost use Rattle.oct_descent.specs.Sizes.{size_of};
+ghost use Rattle.tetra_mesh.specs.Sides.{sided_of};
+ghost use Rattle.grid_text.specs.Texts.{cells_of};
+
+use kuhn_cells::CellValues;
+use oct_descent::{OctTree, layers_have_the_cells};
+use std::alloc::{AllocError, Global};
+use tetra_mesh::SidedCell;
+
+/// The places and sides of the mixed cells of a grid, by z, then by y, then by x. AllocError: there
+/// is no memory for them.
+pub fn sided_cells(alloc: Global, tree: &OctTree) -> Result<Vec<SidedCell>, AllocError>
+    ensures { IfOk result (λ sided. sided.items
+        ≡ map sided_of (cells_of tree.now.view tree.now.list)) }
+{
+    layers_have_the_cells();
+    let mut row = Vec::new(alloc);
+    let mut sided = Vec::new(alloc);
+    for z in 0..tree.n().z {
+        push_layer(tree, z, &mut row, &mut sided)?;
+    }
+    Ok(sided)
+}
+
+// Adds those of layer z. The cells of one row at a time stand in `row`.
+fn push_layer(
+    tree: &OctTree,
+    z: u32,
+    row: &mut Vec<CellValues>,
+    sided: &mut Vec<SidedCell>,
+) -> Result<(), AllocError>
+    requires { z < (size_of tree.now.view).z }
+    ensures { OnOk result (sided.new.items ≡ sided.old.items
+        ++ map sided_of (cells_in_layer tree.now.view tree.now.list z)) }
+{
+    for y in 0..tree.n().y {
+        row.clear();
+        tree.push_row(y, z, row)?;
+        push_sides(row, sided)?;
+    }
+    Ok(())
+}
+
+// Adds those of some cells.
+fn push_sides(cells: &[CellValues], sided: &mut Vec<SidedCell>) -> Result<(), AllocError>
+    ensures { OnOk result (sided.new.items ≡ sided.old.items ++ map sided_of cells.now) }
+{
+    for cell in cells {
+        sided.push(SidedCell::new(cell))?;
+    }
+    Ok(())
+}

@@ -1,0 +1,13 @@
+-- Each line has a byte at least.
+use Rattle.std.proofs.Common.{◌≡◌, length, length-append, drop, arith}
+use Rattle.std.specs.List.{flat_map}
+use Rattle.std.proofs.lemmas.List.{take_at}
+use Rattle.ply_writer.specs.Ply.{face_line}
+use Rattle.ply_writer.proofs.PieceLaws.{face_lines_long}
+use Rattle.ply_writer.proofs.ply_block.PlyBlock.put_faces.Goals as goal
+
+pub returns-clause-more : goal.returns-clause-more
+returns-clause-more c =
+    let kept : length c.face_lines-self-inside.new.block ≡ c.self.inside.block.len = grind arith in
+    rw (take_at c.face_lines-self-inside.new.block _ c.self.inside.block.len kept, c.face_lines-self-inside.ensures.lines, c.deref_mut.ensures.value, ← c.self.view_is)
+    (omega (arith, length-append (flat_map face_line c.args.faces.now) (drop c.self.inside.start c.self.inside.block.items), face_lines_long c.args.faces.now))

@@ -1,0 +1,12 @@
+use Rattle.std.proofs.Common.{◌≡◌, ◌*◌, ◌≤◌, List, length}
+use Rattle.std.specs.Prelude.{flat_map, map, take}
+use Rattle.kuhn_cells.specs.Cells.{triangles_of_cell}
+use Rattle.kuhn_cells.specs.declared.cell_list.CellValues.{CellValues}
+use Rattle.tetra_mesh.specs.Sides.{sided_of}
+use Rattle.tetra_mesh.proofs.counts.count_faces.Given as goal
+
+abbrev pub invariant-loop-cell : goal.invariant-loop-cell
+invariant-loop-cell l = record {
+  exact : (cells : List CellValues) → l.sided ≡ map sided_of cells → l.count ≡ length (flat_map triangles_of_cell (take l.cell-index cells));
+  few : l.count ≤ 12 * l.cell-index;
+}

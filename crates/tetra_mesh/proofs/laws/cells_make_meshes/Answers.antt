@@ -1,0 +1,9 @@
+-- The mixed cells of a grid suffice.
+use Rattle.tetra_mesh.proofs.GridLaws.{cells_of_grid, mesh_of_cells}
+use Rattle.tetra_mesh.proofs.laws.cells_make_meshes.Goals as goal
+
+pub returns-clause-meshes : goal.returns-clause-meshes
+returns-clause-meshes c = let laws = c.mixed_cells_suffice.ensures in mesh_of_cells laws.cells laws.vertices laws.triangles
+
+pub returns-clause-cells : goal.returns-clause-cells
+returns-clause-cells c = let laws = c.mixed_cells_suffice.ensures in cells_of_grid laws.cells laws.order laws.few laws.edges
