@@ -367,3 +367,49 @@ fn rows_are_those_of_the_model_that_was_drawn(rt: HostRuntime) -> Result<(), Fai
     let mut session = Session::start(rt.alloc(), read_model(rt.alloc(), b"f var-y\n")?);
     assert_old(&rt, rt.alloc(), &mut session, &view(3, 3))
 }
+
+// The bars in one row, and where the second one is moved by an eighth.
+const TWO_BARS: [u8; 32] = [
+    0, 0, 0, 0, 255, 255, 255, 255, 255, 255, 255, 255, 0, 0, 0, 0, 0, 0, 0, 0, 255, 255, 255, 255,
+    255, 255, 255, 255, 0, 0, 0, 0,
+];
+
+const MOVED_BARS: [u8; 32] = [
+    0, 0, 0, 0, 255, 255, 255, 255, 255, 255, 255, 255, 0, 0, 0, 0, 0, 0, 0, 0, 0, 0, 255, 255,
+    255, 255, 255, 255, 255, 255, 0, 0,
+];
+
+// Draws an image without its bytes, which takes this, and paints its rows.
+#[tactic(auto, using(crate::proofs::Asked::over_drawn))]
+fn assert_drawn(
+    rt: &impl Abort,
+    alloc: Global,
+    session: &mut Session,
+    view: &View,
+    cost: (u64, u64),
+    pixels: &[u8],
+) -> Result<(), Fail> {
+    let mut tally = Tally::new();
+    session.draw_raster(view, &mut tally)?;
+    assert!(rt; session.cost() == cost);
+    assert_painted(rt, alloc, session, view, pixels)?;
+    Ok(())
+}
+
+// Moves the second bar.
+fn move_bar(alloc: Global, session: &mut Session) -> Result<(), Fail> {
+    let moved = Edit::Set(Name::new(alloc, b"q")?, read_form(alloc, b"const 0.625")?);
+    session.edit(moved)?;
+    Ok(())
+}
+
+#[test]
+fn rows_are_those_of_the_image_that_was_drawn_last(rt: HostRuntime) -> Result<(), Fail> {
+    let alloc = rt.alloc();
+    let mut session = Session::start(alloc, read_model(alloc, BARS)?);
+    let view = view(32, 1);
+    assert_drawn(&rt, alloc, &mut session, &view, (192, 54), &TWO_BARS)?;
+    assert_drawn(&rt, alloc, &mut session, &view, (0, 0), &TWO_BARS)?;
+    move_bar(alloc, &mut session)?;
+    assert_drawn(&rt, alloc, &mut session, &view, (128, 50), &MOVED_BARS)
+}
