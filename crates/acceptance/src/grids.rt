@@ -3,7 +3,7 @@ use clause_reader::read_model;
 use fixed_ops::{Fx, Tally};
 use kuhn_cells::CellList;
 use live_clauses::{Tape, root_tape};
-use oct_descent::{cell_list, cells};
+use oct_descent::{cell_grid, cell_list};
 use std::alloc::Global;
 use std::test::Fail;
 use view_places::View;
@@ -11,7 +11,7 @@ use view_places::View;
 const HALF: i64 = 1 << 31;
 
 // The ball of radius 0.5.
-const BALL: &[u8] =
+pub(crate) const BALL: &[u8] =
     b"x var-x\ny var-y\nz var-z\na square x\nb square y\nc square z\nd add a b\ne add d c\n\
     r const 0.25\nf sub e r";
 
@@ -24,7 +24,7 @@ const SHELL: &[u8] =
     r const 0.5\nf sub e r\ng abs f\nt const 0.0625\nh sub g t";
 
 // A grid of n cells along each axis, from -1 to 1.
-fn view(n: u32) -> Result<View, Fail> {
+pub(crate) fn view(n: u32) -> Result<View, Fail> {
     if n == 0 || n > 256 {
         return Err(Fail::new("a number of cells that is out of range"));
     }
@@ -45,7 +45,7 @@ fn view(n: u32) -> Result<View, Fail> {
 }
 
 // The root list of a model's text.
-fn root(alloc: Global, text: &[u8]) -> Result<Tape, Fail> {
+pub(crate) fn root(alloc: Global, text: &[u8]) -> Result<Tape, Fail> {
     if text.len() > 200 {
         return Err(Fail::new("a text that is too long"));
     }
@@ -61,8 +61,8 @@ fn found(alloc: Global, text: &[u8], n: u32) -> Result<(CellList, Tally), Fail> 
         return Err(Fail::new("a view without room"));
     }
     let mut tally = Tally::new();
-    let tree = cells(alloc, &list, &view, &mut tally)?;
-    Ok((cell_list(alloc, &tree)?, tally))
+    let grid = cell_grid(alloc, &list, &view, &mut tally)?;
+    Ok((cell_list(alloc, &grid)?, tally))
 }
 
 #[test]

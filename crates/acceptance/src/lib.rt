@@ -4,6 +4,8 @@
 #[cfg(test)]
 mod counts;
 #[cfg(test)]
+mod edited_meshes;
+#[cfg(test)]
 mod faults;
 #[cfg(test)]
 mod forges;
@@ -19,6 +21,8 @@ mod meshes;
 mod pictures;
 #[cfg(test)]
 mod refusals;
+#[cfg(test)]
+mod regrids;
 #[cfg(test)]
 mod replays;
 #[cfg(test)]

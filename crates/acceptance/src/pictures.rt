@@ -6,7 +6,7 @@ use std::test::Fail;
 // Words, a model, and the image.
 type Case = (&'static [&'static str], &'static str, &'static [u8]);
 
-const CASES: [Case; 15] = [
+const CASES: [Case; 17] = [
     // The value 0 is outside.
     (
         &["render", "w=3", "h=1"],
@@ -101,6 +101,21 @@ const CASES: [Case; 15] = [
         d sub r one\nb abs x\nh const 0.25\nbar sub b h\nn neg bar\ncut max d n\ne min cut bar",
         b"P5\n5 5\n255\n\
         \x00\x00\xff\x00\x00\x00\xff\xff\xff\x00\x00\xff\xff\xff\x00\x00\xff\xff\xff\x00\x00\x00\xff\x00\x00",
+    ),
+    // What is out of range is clamped: b is the greatest number, c and e are the least, and d is 1.
+    (
+        &["render", "w=1", "h=1"],
+        "a const -99999999999\nb square a\nc mul a b\nd div c a\ne sub c d",
+        b"P5\n1 1\n255\n\xff",
+    ),
+    // Inside is where one of these differs from that.
+    (
+        &["render", "w=1", "h=1"],
+        "a const -99999999999\nb square a\nc mul a b\nd div c a\ne sub c d\n\
+        most const 1073741823.9999999997\nleast neg most\none const 1\n\
+        f sub b most\ng abs f\nh sub c least\ni abs h\nj sub d one\nk abs j\nl sub e least\nm abs l\n\
+        n max g i\no max k m\np max n o\nq neg p",
+        b"P5\n1 1\n255\n\x00",
     ),
 ];
 

@@ -1,5 +1,5 @@
 // Texts that are no model, each with the line and the reason of its first defect.
-use crate::trial::Trial;
+use crate::trial::{DISC, DISC_PICTURE, THREE_BY_THREE, Trial};
 use modeller_cmd::Status;
 use std::test::Fail;
 
@@ -53,6 +53,68 @@ fn the_line_and_the_reason_of_the_first_defect_are_noted(rt: HostRuntime) -> Res
         let note = format!(in rt.alloc(); "modeller: line {line}: {reason}\n")?;
         trial.assert_holds(&rt, b"", note.as_bytes());
         assert_eq!(rt; trial.tally.points(), 0);
+    }
+    Ok(())
+}
+
+// Rows of nine samples.
+const NONE: &[u8] = b"P5\n3 3\n255\n\x00\x00\x00\x00\x00\x00\x00\x00\x00";
+
+const LEFT: &[u8] = b"P5\n3 3\n255\n\xff\x00\x00\xff\x00\x00\xff\x00\x00";
+
+const BELOW: &[u8] = b"P5\n3 3\n255\n\x00\x00\x00\x00\x00\x00\xff\xff\xff";
+
+// The text of the disc, cut behind so many bytes: the last count that ends so, the picture, the line and
+// the reason. A text that is drawn has no reason.
+const CUTS: [(u8, &[u8], u32, &str); 27] = [
+    (0, b"", 0, "Empty"),
+    (2, b"", 1, "NoOperation"),
+    (6, b"", 1, "UnknownOperation"),
+    (8, LEFT, 0, ""),
+    (10, b"", 2, "NoOperation"),
+    (14, b"", 2, "UnknownOperation"),
+    (16, BELOW, 0, ""),
+    // `c`, `c m`, `c mul`, and `c mul a a`.
+    (18, b"", 3, "NoOperation"),
+    (20, b"", 3, "UnknownOperation"),
+    (24, b"", 3, "WrongArity"),
+    (26, NONE, 0, ""),
+    (28, b"", 4, "NoOperation"),
+    (30, b"", 4, "UnknownOperation"),
+    (34, b"", 4, "WrongArity"),
+    (36, NONE, 0, ""),
+    (38, b"", 5, "NoOperation"),
+    (40, b"", 5, "UnknownOperation"),
+    (44, b"", 5, "WrongArity"),
+    (46, NONE, 0, ""),
+    (48, b"", 6, "NoOperation"),
+    (52, b"", 6, "UnknownOperation"),
+    (54, b"", 6, "WrongArity"),
+    // `0`, `0.` and `0.5` are numerals.
+    (58, NONE, 0, ""),
+    (60, b"", 7, "NoOperation"),
+    (62, b"", 7, "UnknownOperation"),
+    (66, b"", 7, "WrongArity"),
+    (68, DISC_PICTURE, 0, ""),
+];
+
+#[test]
+fn a_text_that_is_cut_is_another_text(rt: HostRuntime) -> Result<(), Fail> {
+    let mut count = 0;
+    for (last, picture, line, reason) in CUTS {
+        for length in count..=usize::from(last) {
+            let mut trial = Trial::new(rt.alloc(), &DISC[..length.min(DISC.len())])?;
+            let status = trial.run(rt.alloc(), THREE_BY_THREE)?;
+            if reason.is_empty() {
+                assert_eq!(rt; status, Status::Done, "{length}");
+                trial.assert_holds(&rt, picture, b"");
+            } else {
+                assert_eq!(rt; status, Status::BadModel, "{length}");
+                let note = format!(in rt.alloc(); "modeller: line {line}: {reason}\n")?;
+                trial.assert_holds(&rt, b"", note.as_bytes());
+            }
+        }
+        count = usize::from(last) + 1;
     }
     Ok(())
 }

@@ -135,3 +135,126 @@ fn a_script_that_is_refused_writes_nothing(rt: HostRuntime) -> Result<(), Fail> 
     }
     Ok(())
 }
+
+// A script whose mark begins behind eight bytes.
+const SCRIPT: &[u8] = b"x var-x\n%%\nadd f neg x\nset f const 1.5e1\ncut f\nput x g var-y\n\
+    render w=1 h=1\ntext\ncost\n";
+
+// The script, cut behind so many bytes: the last count that ends so, the status, and the note.
+const CUTS: [(u8, Status, &str); 32] = [
+    (8, Status::BadScript, "modeller: script line 0: NoMark\n"),
+    // What is left of the mark is a clause without an operation.
+    (9, Status::BadModel, "modeller: line 2: NoOperation\n"),
+    // The mark, with and without its line feed.
+    (11, Status::Done, ""),
+    (
+        13,
+        Status::BadScript,
+        "modeller: script line 3: UnknownCommand\n",
+    ),
+    // `add`, `add f`, `add f n`, `add f neg` and `add f neg x`.
+    (17, Status::BadScript, "modeller: script line 3: TooShort\n"),
+    (
+        19,
+        Status::BadScript,
+        "modeller: script line 3: UnknownOperation\n",
+    ),
+    (
+        21,
+        Status::BadScript,
+        "modeller: script line 3: WrongArity\n",
+    ),
+    (23, Status::Done, ""),
+    (
+        25,
+        Status::BadScript,
+        "modeller: script line 4: UnknownCommand\n",
+    ),
+    (29, Status::BadScript, "modeller: script line 4: TooShort\n"),
+    (
+        33,
+        Status::BadScript,
+        "modeller: script line 4: UnknownOperation\n",
+    ),
+    (
+        35,
+        Status::BadScript,
+        "modeller: script line 4: WrongArity\n",
+    ),
+    // `1`, `1.`, `1.5`, `1.5e` and `1.5e1`.
+    (38, Status::Done, ""),
+    (
+        39,
+        Status::BadScript,
+        "modeller: script line 4: BadNumeral\n",
+    ),
+    (41, Status::Done, ""),
+    (
+        43,
+        Status::BadScript,
+        "modeller: script line 5: UnknownCommand\n",
+    ),
+    (45, Status::BadScript, "modeller: script line 5: TooShort\n"),
+    (47, Status::Done, ""),
+    (
+        49,
+        Status::BadScript,
+        "modeller: script line 6: UnknownCommand\n",
+    ),
+    // `put x g` has three words, and an operation is wanted behind them.
+    (55, Status::BadScript, "modeller: script line 6: TooShort\n"),
+    (
+        59,
+        Status::BadScript,
+        "modeller: script line 6: UnknownOperation\n",
+    ),
+    (61, Status::Done, ""),
+    (
+        66,
+        Status::BadScript,
+        "modeller: script line 7: UnknownCommand\n",
+    ),
+    // `render`, `render w`, `render w=`, `render w=1`, and so on with h.
+    (68, Status::Done, ""),
+    (
+        70,
+        Status::BadScript,
+        "modeller: script line 7: BadSetting\n",
+    ),
+    (72, Status::Done, ""),
+    (
+        74,
+        Status::BadScript,
+        "modeller: script line 7: BadSetting\n",
+    ),
+    (76, Status::Done, ""),
+    (
+        79,
+        Status::BadScript,
+        "modeller: script line 8: UnknownCommand\n",
+    ),
+    (81, Status::Done, ""),
+    (
+        84,
+        Status::BadScript,
+        "modeller: script line 9: UnknownCommand\n",
+    ),
+    (86, Status::Done, ""),
+];
+
+#[test]
+fn a_script_that_is_cut_is_another_script(rt: HostRuntime) -> Result<(), Fail> {
+    let mut count = 8;
+    for (last, status, note) in CUTS {
+        for length in count..=usize::from(last) {
+            let mut trial = Trial::new(rt.alloc(), &SCRIPT[..length.min(SCRIPT.len())])?;
+            assert_eq!(rt; trial.run(rt.alloc(), &["replay"])?, status, "{length}");
+            assert_eq!(rt; trial.notes.held(), Some(note.as_bytes()), "{length}");
+            if !note.is_empty() {
+                assert_eq!(rt; trial.out.held(), Some(b"".as_slice()));
+            }
+        }
+        count = usize::from(last) + 1;
+    }
+    Ok(())
+}

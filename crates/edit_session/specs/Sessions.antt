@@ -3,9 +3,10 @@ use Rattle.std.specs.Prelude.{ℕ, List, Option, Some, None}
 use Rattle.live_clauses.specs.Live.{root_of}
 use Rattle.model_frames.specs.Frames.{Part, frame_part}
 use Rattle.model_frames.specs.Images.{list_before}
-use Rattle.model_frames.specs.Work.{image_work}
+use Rattle.model_frames.specs.Work.{image_work, mesh_work_after}
 use Rattle.model_frames.specs.declared.frame.Frame.{Frame}
 use Rattle.model_frames.specs.declared.frame.Frame.TheVariants.{Render, Height, Mesh, Text}
+use Rattle.oct_descent.specs.Trees.{Gridding}
 use Rattle.quad_descent.specs.Raster.{Drawing, frame_points, frame_spans}
 use Rattle.solid_model.specs.declared.clause.Clause.{Clause}
 use Rattle.view_places.specs.Window.{Window}
@@ -20,7 +21,7 @@ pub record Cost : Type 0 where
 pub record State : Type 0 where
   pub clauses : List Clause
   pub image : Option Drawing
-  pub mesh : Option Drawing
+  pub mesh : Option Gridding
   pub cost : Cost
 
 -- a session that begins
@@ -37,14 +38,17 @@ abbrev pub with_clauses : State → List Clause → State
 with_clauses state clauses = record state { clauses = clauses }
 
 -- A frame of a session: its bytes hang on the clauses alone. An image takes the work of what changed
--- since the last one.
+-- since the last one, and so does a mesh.
 abbrev pub session_part : State → Frame → Part
 session_part state (Render view) = record {
   bytes = (frame_part (Render view) state.clauses).bytes;
   work = image_work state.image view state.clauses;
 }
 session_part state (Height view) = frame_part (Height view) state.clauses
-session_part state (Mesh view) = frame_part (Mesh view) state.clauses
+session_part state (Mesh view) = record {
+  bytes = (frame_part (Mesh view) state.clauses).bytes;
+  work = mesh_work_after state.mesh view state.clauses;
+}
 session_part state Text = frame_part Text state.clauses
 
 -- the cost of an image of this view that comes next
@@ -55,19 +59,22 @@ image_cost state view =
       spans = frame_spans view list (root_of state.clauses);
     }
 
--- the session after a frame: an image stands as the last one, with its cost
+-- the session after a frame: an image stands as the last one, with its cost, and a mesh as the last one
 abbrev pub after_frame : State → Frame → State
 after_frame state (Render view) = record state {
   image = Some (record { view = view; list = root_of state.clauses });
   cost = image_cost state view;
 }
 after_frame state (Height view) = state
-after_frame state (Mesh view) = state
+after_frame state (Mesh view) = record state {
+  mesh = Some (record { view = view; list = root_of state.clauses });
+}
 after_frame state Text = state
 
--- the session after a frame that was refused: no image stands where it was one
+-- the session after a frame that was refused: no image stands where it was one, and no mesh where it
+-- was a mesh
 abbrev pub after_refusal : State → Frame → State
 after_refusal state (Render view) = record state { image = None }
 after_refusal state (Height view) = state
-after_refusal state (Mesh view) = state
+after_refusal state (Mesh view) = record state { mesh = None }
 after_refusal state Text = state

@@ -1,8 +1,10 @@
 //! Sessions: models that are edited and drawn, frame after frame.
 #![tactic(auto)]
 
+mod laws;
 mod session;
 
+pub use laws::refusals_begin_anew;
 pub use session::Session;
 
 #[cfg(test)]

@@ -7,23 +7,24 @@ ghost use Rattle.view_places.specs.Window.{FitsHeight, FitsMesh};
 ghost use Rattle.model_frames.specs.Frames.{CanDraw};
 ghost use Rattle.model_frames.specs.Heights.{heights_of, plain_depths};
 ghost use Rattle.model_frames.specs.Images.{drawn_text, image_of, plain_points};
-ghost use Rattle.model_frames.specs.Meshes.{mesh_text, plain_grid};
-ghost use Rattle.model_frames.specs.Work.{CountsWithin, CountsWork, PointsRiseAtMost, height_work, image_work, mesh_work};
+ghost use Rattle.model_frames.specs.Meshes.{mesh_text, meshed_text, plain_grid};
+ghost use Rattle.model_frames.specs.Work.{CountsWithin, CountsWork, PointsRiseAtMost, height_work, image_work, mesh_work_after};
 ghost use Rattle.quad_descent.specs.Rows.{AreRows, rows_at};
 ghost use Rattle.edit_session.specs.Sessions.{after_frame, after_refusal, session_part, started, with_clauses};
 
 use clause_reader::write_model;
 use fixed_ops::Tally;
 use live_clauses::RootRoom;
-use model_frames::{Frame, frames_add_up, image_text, redraw_image};
+use model_frames::{Frame, frames_add_up, image_text, mesh_text_in, redraw_image, redraw_mesh};
+use oct_descent::OctTree;
 use quad_descent::{QuadTree, RowSource, rows};
 use solid_model::{Edit, EditFault, Model};
 use std::alloc::{AllocError, Global};
 use view_places::View;
 
 /// A model that is edited and drawn. Each frame shows the model then standing, whatever was drawn
-/// before. Contracts see the clauses of that model, the view and the root list of the last image where
-/// one stands, and its cost.
+/// before. Contracts see the clauses of that model, the view and the root list of the last image and of
+/// the last mesh, where one stands, and the cost of that image.
 #[derive(Debug, Drop)]
 pub struct Session {
     alloc: Global,
@@ -32,12 +33,13 @@ pub struct Session {
     image: Option<QuadTree>,
     points: u64,
     spans: u64,
+    // The last mesh by its boxes, where none was refused since.
+    mesh: Option<OctTree>,
     // Memory for root lists.
     room: RootRoom,
 }
 
 impl std::marker::Model for Session {
-    ghost use Rattle.std.specs.Prelude.{None};
     ghost use Rattle.edit_session.specs.Sessions.{State};
 
     ghost Value = { State };
@@ -45,7 +47,7 @@ impl std::marker::Model for Session {
     ghost view = { λ s. record {
       clauses = s.model;
       image = s.image;
-      mesh = None;
+      mesh = s.mesh;
       cost = record { points = s.points; spans = s.spans };
     } };
 }
@@ -62,12 +64,13 @@ impl Session {
             image: None,
             points: 0,
             spans: 0,
+            mesh: None,
             room: RootRoom::new(alloc),
         }
     }
 
-    /// Applies a change to the model. The last image and its cost stand. After an `Err` the session is
-    /// as it was, and the change is dropped.
+    /// Applies a change to the model. The last image with its cost and the last mesh stand. After an
+    /// `Err` the session is as it was, and the change is dropped.
     ///
     /// The first of these that holds is answered. `UnknownName`: an argument, or a name that should
     /// stand already, names no clause. `DoubleName`: the new name stands already. `NotEarlier`: an
@@ -195,24 +198,79 @@ impl Session {
         Frame::Height(*view).bytes(self.alloc, &self.model, tally)
     }
 
-    /// The mesh of the model over a view, as PLY text. The work of the boxes that are looked into and
-    /// of the corners of working cells is counted. The session stays. AllocError: memory was refused,
-    /// after some of that work perhaps.
+    /// The mesh of the model over a view, as PLY text. It is drawn as `draw_mesh` does. AllocError:
+    /// memory was refused, after some of its work perhaps. No last mesh stands then, and all else stands.
     pub fn mesh(&mut self, view: &View, tally: &mut Tally) -> Result<Vec<u8>, AllocError>
         requires { FitsMesh view.now }
         ensures mesh { IfOk result (λ text. text.items ≡ mesh_text view.now self.old.clauses) }
-        ensures stands { self.new ≡ self.old }
-        ensures counted { OnOk result
-            (CountsWork tally.old tally.new (mesh_work view.now self.old.clauses)) }
-        ensures at_most { CountsWithin tally.old tally.new (mesh_work view.now self.old.clauses) }
+        ensures drawn { OnOk result (self.new ≡ after_frame self.old (Frame.Mesh view.now)) }
+        ensures refused { OnErr result (self.new ≡ after_refusal self.old (Frame.Mesh view.now)) }
+        ensures counted { OnOk result (CountsWork tally.old tally.new
+            (mesh_work_after self.old.mesh view.now self.old.clauses)) }
+        ensures at_most { CountsWithin tally.old tally.new
+            (mesh_work_after self.old.mesh view.now self.old.clauses) }
         ensures plain { PointsRiseAtMost tally.old tally.new
             (plain_grid view.now (length self.old.clauses)) }
     {
-        Frame::Mesh(*view).bytes(self.alloc, &self.model, tally)
+        self.draw_mesh(view, tally)?;
+        let text = self.last_mesh();
+        if text.is_err() {
+            self.mesh = None;
+        }
+        text
+    }
+
+    /// Looks into the boxes of the mesh of the model over a view, without its text: `mesh_text_in` makes
+    /// that. What is counted is the work of those boxes and working cells alone that the last mesh did
+    /// not have with an equal list, where one of this very view stands, and else the work of a fresh
+    /// mesh. It stands as the last mesh then. AllocError: memory was refused, after some of that work
+    /// perhaps. No last mesh stands then, and all else stands.
+    pub fn draw_mesh(&mut self, view: &View, tally: &mut Tally) -> Result<(), AllocError>
+        requires { FitsMesh view.now }
+        ensures text { OnOk result
+            (meshed_text self.new.mesh ≡ mesh_text view.now self.old.clauses) }
+        ensures drawn { OnOk result (self.new ≡ after_frame self.old (Frame.Mesh view.now)) }
+        ensures refused { OnErr result (self.new ≡ after_refusal self.old (Frame.Mesh view.now)) }
+        ensures counted { OnOk result (CountsWork tally.old tally.new
+            (mesh_work_after self.old.mesh view.now self.old.clauses)) }
+        ensures at_most { CountsWithin tally.old tally.new
+            (mesh_work_after self.old.mesh view.now self.old.clauses) }
+        ensures plain { PointsRiseAtMost tally.old tally.new
+            (plain_grid view.now (length self.old.clauses)) }
+    {
+        let before = self.mesh.take();
+        let tree = redraw_mesh(self.alloc, &mut self.room, &self.model, view, before, tally)?;
+        self.mesh = Some(tree);
+        Ok(())
+    }
+
+    /// Makes the text of the last mesh in a buffer, in place of what stood there, and nothing where no
+    /// mesh stands. It is that of the model that stood when the mesh was drawn, whatever was edited
+    /// since. AllocError: memory was refused, and what stands in the buffer is of no use.
+    pub fn mesh_text_in(&self, buffer: &mut Vec<u8>) -> Result<(), AllocError>
+        ensures { OnOk result (buffer.new.items ≡ meshed_text self.now.mesh) }
+    {
+        match &self.mesh {
+            Some(tree) => mesh_text_in(self.alloc, tree, buffer),
+            None => {
+                buffer.clear();
+                Ok(())
+            }
+        }
+    }
+
+    // The text of the last mesh, and none where none stands. AllocError: memory was refused.
+    fn last_mesh(&self) -> Result<Vec<u8>, AllocError>
+        ensures { IfOk result (λ text. text.items ≡ meshed_text self.now.mesh) }
+    {
+        let mut text = Vec::new(self.alloc);
+        self.mesh_text_in(&mut text)?;
+        Ok(text)
     }
 
     /// A frame of the model, as bytes, as the call of its kind gives it. AllocError: memory was
-    /// refused, after some of its work perhaps; where it was an image, no last image stands then.
+    /// refused, after some of its work perhaps; where it was an image, no last image stands then, and
+    /// where it was a mesh, no last mesh.
     pub fn frame(&mut self, frame: &Frame, tally: &mut Tally) -> Result<Vec<u8>, AllocError>
         requires { CanDraw frame.now }
         ensures bytes { IfOk result (λ bytes.
@@ -227,9 +285,8 @@ impl Session {
     {
         match frame {
             Frame::Render(view) => self.render(view, tally),
-            Frame::Height(_) | Frame::Mesh(_) | Frame::Text => {
-                frame.bytes(self.alloc, &self.model, tally)
-            }
+            Frame::Mesh(view) => self.mesh(view, tally),
+            Frame::Height(_) | Frame::Text => frame.bytes(self.alloc, &self.model, tally),
         }
     }
 

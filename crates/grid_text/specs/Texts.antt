@@ -22,7 +22,8 @@ abbrev pub cells_of : Window → List Step → List CellValues
 cells_of view list = mixed_cells (list_grid view list)
 
 -- some mixed cells of that grid have these places and sides
-pub record AreCellsOf (view : Window) (list : List Step) (cells : List CellValues) (sided : List SidedCell) : Type 0 where
+pub record AreCellsOf (view : Window) (list : List Step) (cells : List CellValues)
+    (sided : List SidedCell) : Type 0 where
   pub sides : sided ≡ map sided_of cells
   pub each : All (IsCellOf (list_grid view list)) cells
 
@@ -34,7 +35,8 @@ lines_left view list lined made =
     ++ flat_map face_line (all_faces cells (drop made cells))
 
 -- what the next piece needs: a block over the view, and the places and sides of all mixed cells
-pub record IsWriting (view : Window) (list : List Step) (walk : Walk) (lined : ℕ) (block : Piece) : Type 0 where
+pub record IsWriting (view : Window) (list : List Step) (walk : Walk) (lined : ℕ)
+    (block : Piece) : Type 0 where
   pub over : block.view ≡ view
   pub cells : AreCellsOf view list (cells_of view list) walk.sided
   pub sides : AreSidesOf walk.n (cells_of view list) walk.sided

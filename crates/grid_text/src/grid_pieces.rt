@@ -6,7 +6,7 @@ use crate::face_lines::put_faces;
 use crate::sided_cells::sided_cells;
 use crate::vertex_lines::put_vertices;
 use kuhn_cells::mixed_cells_suffice;
-use oct_descent::{OctTree, grids_are_bordered};
+use oct_descent::{CellGrid, grids_are_bordered};
 use ply_writer::{PlyBlock, room_for};
 use std::alloc::{AllocError, Global};
 use std::marker::Model;
@@ -17,7 +17,7 @@ use tetra_mesh::{FaceWalk, cells_make_meshes};
 /// what comes after it.
 #[derive(Debug, Drop)]
 pub struct GridPieces<'a> {
-    tree: &'a OctTree,
+    grid: &'a CellGrid,
     walk: FaceWalk,
     // Of how many cells the lines of the vertices are made.
     lined: usize,
@@ -32,28 +32,28 @@ impl<'a> Model for GridPieces<'a> {
 
     ghost view = { λ p. record {
       piece = p.block.bytes;
-      rest = lines_left p.tree.now.view p.tree.now.list p.lined p.walk.made;
+      rest = lines_left p.grid.now.view p.grid.now.list p.lined p.walk.made;
     } };
 
-    ghost invariant = { λ p. IsWriting p.tree.now.view p.tree.now.list p.walk p.lined p.block };
+    ghost invariant = { λ p. IsWriting p.grid.now.view p.grid.now.list p.walk p.lined p.block };
 }
 
 impl<'a> GridPieces<'a> {
     /// The pieces of the text of the mesh of a grid. The first one, the header, is made. AllocError:
     /// there is no memory for the places and sides of the mixed cells, for the numbers of the
     /// vertices of two layers, or for the block.
-    pub fn new(alloc: Global, tree: &'a OctTree) -> Result<GridPieces<'a>, AllocError>
-        ensures { IfOk result (λ p. p.piece ++ p.rest ≡ text_of tree.now.view tree.now.list) }
+    pub fn new(alloc: Global, grid: &'a CellGrid) -> Result<GridPieces<'a>, AllocError>
+        ensures { IfOk result (λ p. p.piece ++ p.rest ≡ text_of grid.now.view grid.now.list) }
     {
         grids_are_bordered();
         mixed_cells_suffice();
         cells_make_meshes();
-        let sided = sided_cells(alloc, tree)?;
-        let walk = FaceWalk::new(alloc, tree.n(), sided)?;
-        let mut block = PlyBlock::new(alloc, tree.view())?;
+        let sided = sided_cells(alloc, grid)?;
+        let walk = FaceWalk::new(alloc, grid.n(), sided)?;
+        let mut block = PlyBlock::new(alloc, grid.view())?;
         block.put_header(walk.vertex_count() as u32, walk.face_count() as u32);
         Ok(GridPieces {
-            tree,
+            grid,
             walk,
             lined: 0,
             block,
@@ -65,7 +65,7 @@ impl<'a> GridPieces<'a> {
         room_for(
             self.walk.vertex_count(),
             self.walk.face_count(),
-            self.tree.view(),
+            self.grid.view(),
         )
     }
 
@@ -86,7 +86,7 @@ impl<'a> GridPieces<'a> {
         ensures done { IsFalse result ↔ self.old.rest ≡ [] }
     {
         self.block.clear();
-        self.lined = put_vertices(self.tree, self.walk.cells(), self.lined, &mut self.block);
+        self.lined = put_vertices(self.grid, self.walk.cells(), self.lined, &mut self.block);
         if !self.block.piece().is_empty() {
             return true;
         }

@@ -8,4 +8,4 @@ mod text;
 mod vertex_lines;
 
 pub use grid_pieces::GridPieces;
-pub use text::grid_text;
+pub use text::{grid_text, grid_text_in};

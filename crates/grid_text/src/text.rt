@@ -1,21 +1,33 @@
 // The text of the mesh of a grid.
-ghost use Rattle.std.specs.Prelude.{◌≡◌, IfOk};
+ghost use Rattle.std.specs.Prelude.{◌≡◌, IfOk, OnOk};
 ghost use Rattle.grid_text.specs.Texts.{text_of};
 
 use crate::GridPieces;
-use oct_descent::OctTree;
+use oct_descent::CellGrid;
 use std::alloc::{AllocError, Global};
 
 /// The text of the mesh of a grid: the header, a line for each vertex and a line for each face.
 /// AllocError: there is no memory for it.
-pub fn grid_text(alloc: Global, tree: &OctTree) -> Result<Vec<u8>, AllocError>
-    ensures { IfOk result (λ text. text.items ≡ text_of tree.now.view tree.now.list) }
+pub fn grid_text(alloc: Global, grid: &CellGrid) -> Result<Vec<u8>, AllocError>
+    ensures { IfOk result (λ text. text.items ≡ text_of grid.now.view grid.now.list) }
 {
-    let mut pieces = GridPieces::new(alloc, tree)?;
-    let mut text = Vec::with_capacity(alloc, pieces.room())?;
-    text.extend_from_slice(pieces.piece())?;
-    while pieces.advance() {
-        text.extend_from_slice(pieces.piece())?;
-    }
+    let mut text = Vec::new(alloc);
+    grid_text_in(alloc, grid, &mut text)?;
     Ok(text)
+}
+
+/// Makes the text of the mesh of a grid in a buffer, in place of what stood there: a buffer that had
+/// room for it takes no memory of its own. AllocError: there is no memory for the text, and what stands
+/// in the buffer is of no use.
+pub fn grid_text_in(alloc: Global, grid: &CellGrid, buffer: &mut Vec<u8>) -> Result<(), AllocError>
+    ensures { OnOk result (buffer.new.items ≡ text_of grid.now.view grid.now.list) }
+{
+    let mut pieces = GridPieces::new(alloc, grid)?;
+    buffer.clear();
+    buffer.reserve(pieces.room())?;
+    buffer.extend_from_slice(pieces.piece())?;
+    while pieces.advance() {
+        buffer.extend_from_slice(pieces.piece())?;
+    }
+    Ok(())
 }

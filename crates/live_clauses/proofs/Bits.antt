@@ -11,7 +11,7 @@ use Rattle.live_clauses.specs.Choices.{has_bit}
 use Rattle.live_clauses.specs.Live.{chosen, is_both}
 use Rattle.live_clauses.specs.Marks.{Marks, is_marked}
 
-zero_or_one : (n : ℕ) → n < 2 → (n ≡ 0) ⊎ (n ≡ 1)
+pub zero_or_one : (n : ℕ) → n < 2 → (n ≡ 0) ⊎ (n ≡ 1)
 zero_or_one n less = elim (cases_lt 0 n) [
   | inl some ↦ inr (omega (arith, some, less))
   | inr none ↦ inl (omega (arith, none))

@@ -8,6 +8,7 @@ pub mod Kept
 pub mod MarkTurns
 pub mod MeaningLaws
 pub mod Needs
+pub mod NextMarks
 pub mod Numbering
 pub mod Parts
 pub mod Representatives

@@ -1,5 +1,5 @@
 -- One step up a list: its number is that of what stands for it, and a live step is copied with new numbers.
-use Rattle.std.proofs.Common.{ℤ, ◌≡◌, ◌≢◌, ℕ, suc, ◌+◌, ◌<◌, Bool, true, false, cond, ◌&&◌, ltb, ◌⊎◌, List, [], ◌∷◌, ◌++◌, length, map, take, get_or, set, slice_index, inl, inr, refl, ap, sym, ◌∙◌, arith}
+use Rattle.std.proofs.Common.{ℤ, ◌≡◌, ◌≢◌, ℕ, zero, suc, ◌+◌, ◌<◌, ◌≤◌, Bool, true, false, cond, ◌&&◌, ltb, ◌⊎◌, List, [], ◌∷◌, ◌++◌, length, map, take, get_or, set, slice_index, inl, inr, refl, ap, sym, subst, ◌∙◌, arith}
 use Rattle.std.proofs.lemmas.List.{length-map, get_or-set_same, get_or-set_other}
 use Rattle.std.proofs.lemmas.Bool.{false≢true, cases_lt}
 use Rattle.std.proofs.lemmas.Bool.Decides.{Decides-ltb}
@@ -96,6 +96,18 @@ module _ (steps : List Step) (choices : List Choice) (tape : IsTape steps) (choo
         counted = so.counted ∙ sym (kept_below-dropped steps choices at dropped);
         copied = so.copied ∙ sym (live_below-dropped steps choices at dropped);
       }
+
+  -- and many of them
+  pub copied-idle : (constants : List ℤ) (at turns : ℕ) (numbers : List ℕ) (new : List PackedStep) (count : ℕ)
+      → ((place : ℕ) → at ≤ place → place < at + turns → is_needed steps choices place ≡ false)
+      → IsCopied constants at steps choices numbers new count → IsCopied constants (at + turns) steps choices numbers new count
+  copied-idle constants at zero numbers new count idle so =
+      let same : at ≡ at + 0 = omega arith in subst (λ p. IsCopied constants p steps choices numbers new count) same so
+  copied-idle constants at (suc turns) numbers new count idle so =
+      let next : suc (at + turns) ≡ at + suc turns = omega arith in
+      subst (λ p. IsCopied constants p steps choices numbers new count) next
+      (copied-passed constants (at + turns) numbers new count (idle (at + turns) (omega arith) (omega arith))
+      (copied-idle constants at turns numbers new count (λ place from to. idle place from (omega (arith, to))) so))
 
 -- the same of steps as they are kept
 module _ (constants : List ℤ) (kept : List PackedStep) (choices : List Choice) (tape : IsTape (map (unpacked constants) kept)) (choose : AreChoices (map (unpacked constants) kept) choices) where

@@ -1,6 +1,6 @@
 -- Scratch memory of walks over a list: a byte for each step with a bit for each lane in which it is
 -- needed, and the new numbers.
-use Rattle.std.specs.Prelude.{◌≡◌, ℕ, ◌<◌, Bool, true, ◌||◌, ℤ, List, length, map, take, slice_index}
+use Rattle.std.specs.Prelude.{◌≡◌, ℕ, ◌<◌, ◌≤◌, Bool, true, false, ◌||◌, ℤ, List, length, map, take, slice_index}
 use Rattle.interval_ops.specs.declared.choice.Choice.{Choice}
 use Rattle.live_clauses.specs.declared.packed_step.PackedStep.{PackedStep}
 use Rattle.live_clauses.specs.declared.step.Step.{Step}
@@ -25,6 +25,17 @@ AreMarksAfter l turns steps choices marks = (place : ℕ) → place < length ste
 abbrev pub AreMarks : ℕ → List Step → List Choice → List ℕ → Type 0
 AreMarks l steps choices marks = (place : ℕ) → place < length steps
     → is_marked l marks place ≡ is_needed steps choices place
+
+-- no place from one on before another is marked in a lane
+abbrev pub AreIdle : ℕ → List ℕ → ℕ → ℕ → Type 0
+AreIdle l marks from to = (place : ℕ) → from ≤ place → place < to → is_marked l marks place ≡ false
+
+-- the first place from another on that is marked in a lane, or the end where none before it is
+pub record IsNextMarked (l : ℕ) (marks : List ℕ) (from end place : ℕ) : Type 0 where
+  pub onward : from ≤ place
+  pub within : place ≤ end
+  pub idle : AreIdle l marks from place
+  pub there : place < end → is_marked l marks place ≡ true
 
 -- the needed steps before a place have their new numbers
 abbrev pub AreNumbers : ℕ → List Step → List Choice → List ℕ → Type 0

@@ -66,7 +66,8 @@ impl ChoiceRow {
         requires lane { lane < 8 }
         requires none { choice_in self lane ≡ Both }
         ensures here { choice_in result lane ≡ choice }
-        ensures others { (other : ℕ) → other ≢ lane → choice_in result other ≡ choice_in self other }
+        ensures others { (other : ℕ) → other ≢ lane
+            → choice_in result other ≡ choice_in self other }
     {
         let (left, right) = match choice {
             Choice::Left => (true, false),

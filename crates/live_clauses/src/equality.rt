@@ -24,7 +24,7 @@ pub(crate) fn same_steps(
         return false;
     }
     for at in 0..a.len() {
-        if !same_step(a[at], a_constants, b[at], b_constants) {
+        if !same_step(&a[at], a_constants, &b[at], b_constants) {
             return false;
         }
     }
@@ -33,10 +33,10 @@ pub(crate) fn same_steps(
 
 // Whether two steps are the same: the numbers of constants are compared by their values.
 #[inline(always)]
-fn same_step(a: PackedStep, a_constants: &[Fx], b: PackedStep, b_constants: &[Fx]) -> bool
-    requires a { is_constant a.op ≡ true → a.a < length a_constants.now }
-    requires b { is_constant b.op ≡ true → b.a < length b_constants.now }
-    ensures { IsTrue result ↔ (unpacked a_constants.now a ≡ unpacked b_constants.now b) }
+fn same_step(a: &PackedStep, a_constants: &[Fx], b: &PackedStep, b_constants: &[Fx]) -> bool
+    requires a { is_constant a.now.op ≡ true → a.now.a < length a_constants.now }
+    requires b { is_constant b.now.op ≡ true → b.now.a < length b_constants.now }
+    ensures { IsTrue result ↔ (unpacked a_constants.now a.now ≡ unpacked b_constants.now b.now) }
 {
     if a.op != b.op || a.b != b.b {
         return false;

@@ -8,6 +8,7 @@ mod copying;
 mod equality;
 mod laws;
 mod lists;
+mod marked;
 mod marking;
 mod owned;
 mod packed_step;

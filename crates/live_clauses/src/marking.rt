@@ -16,8 +16,7 @@ use fixed_ops::arity;
 pub(crate) const ONE_LANE: u8 = 1;
 
 /// Marks the steps of a list that are needed, in each lane that `lanes` has a bit for: in the byte of a
-/// step the bit of each lane in which the last step needs it. What stands behind the bytes of the
-/// steps stays.
+/// step the bit of each lane in which the last step needs it.
 pub fn mark_lanes(list: &Steps<'_>, rows: &[ChoiceRow], lanes: u8, marks: &mut [u8])
     requires enough { length list.now ≤ length rows.now }
     requires choices { (l : ℕ) → l < 4 → has_bit lanes l ≡ true
@@ -46,7 +45,7 @@ pub(crate) fn mark<R: ChoiceRows>(list: &Steps<'_>, rows: R, lanes: u8, marks: &
         at -= 1;
         let asked = marks[at];
         if asked != 0 {
-            visit(steps[at], rows.row(at), asked, marks);
+            visit(&steps[at], rows.row(at), asked, marks);
         }
     }
 }
@@ -65,12 +64,12 @@ fn mark_last(marks: &mut [u8], places: usize, lanes: u8)
 
 // Marks what a step needs in the lanes in which it is needed itself.
 #[inline(always)]
-fn visit(step: PackedStep, row: ChoiceRow, asked: u8, marks: &mut [u8])
-    requires a { first_of step < length marks.old }
-    requires b { step.b < length marks.old }
-    requires none { arity_of step.op ≡ 0 → first_of step ≡ 0 }
+fn visit(step: &PackedStep, row: ChoiceRow, asked: u8, marks: &mut [u8])
+    requires a { first_of step.now < length marks.old }
+    requires b { step.now.b < length marks.old }
+    requires none { arity_of step.now.op ≡ 0 → first_of step.now ≡ 0 }
     ensures { (constants : List ℤ) (l : ℕ) → l < 4 → Marks l marks.old marks.new
-        (λ place. has_bit asked l && hands_on (unpacked constants step) (choice_in row l) place) }
+        (λ place. has_bit asked l && hands_on (unpacked constants step.now) (choice_in row l) place) }
 {
     let operands = arity(step.op);
     // What a constant has there is no place in the list.
@@ -83,7 +82,8 @@ fn visit(step: PackedStep, row: ChoiceRow, asked: u8, marks: &mut [u8])
 #[inline(always)]
 fn mark_in(marks: &mut [u8], place: usize, lanes: u8)
     requires { place < length marks.old }
-    ensures { (l : ℕ) → l < 4 → Marks l marks.old marks.new (λ other. has_bit lanes l && other == place) }
+    ensures { (l : ℕ) → l < 4
+        → Marks l marks.old marks.new (λ other. has_bit lanes l && other == place) }
 {
     marks[place] |= lanes;
 }

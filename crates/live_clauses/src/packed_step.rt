@@ -71,24 +71,22 @@ impl PackedStep {
         }
     }
 
-    // The step with the new numbers of its operands. A constant keeps the place of its number.
+    // Writes the step with the new numbers of its operands. A constant keeps the place of its number.
     #[inline(always)]
-    pub(crate) fn renumber(self, numbers: &[u16]) -> PackedStep
-        requires a { self.a < length numbers.now }
-        requires b { self.b < length numbers.now }
-        requires none { arity_of self.op ≡ 0 → first_of self ≡ 0 }
-        ensures { (constants : List ℤ) → unpacked constants result
-            ≡ renumbered (λ place. slice_index numbers.now place) (unpacked constants self) }
+    pub(crate) fn renumber_to(&self, numbers: &[u16], new: &mut PackedStep)
+        requires a { self.now.a < length numbers.now }
+        requires b { self.now.b < length numbers.now }
+        requires none { arity_of self.now.op ≡ 0 → first_of self.now ≡ 0 }
+        ensures { (constants : List ℤ) → unpacked constants new.new
+            ≡ renumbered (λ place. slice_index numbers.now place) (unpacked constants self.now) }
     {
         // Both numbers are read, so that no branch goes by the operation.
         let operands = arity(self.op);
         let first = numbers[self.a as usize];
         let second = numbers[self.b as usize];
-        PackedStep {
-            op: self.op,
-            a: if operands > 0 { first } else { self.a },
-            b: kept_if(operands > 1, second),
-        }
+        new.op = self.op;
+        new.a = if operands > 0 { first } else { self.a };
+        new.b = kept_if(operands > 1, second);
     }
 }
 

@@ -1,8 +1,8 @@
 -- What looking into the boxes of a grid takes.
 use Rattle.std.proofs.Common.{◌≡◌, ℕ, ◌+◌, ◌*◌, ◌≤◌, List, length, max, Ok, Err, ap, refl, subst, sym, ◌∙◌, arith, mul-le-mul_left}
-use Rattle.std.specs.Prelude.{IfOk, OnOk, Result}
+use Rattle.std.specs.Prelude.{IfOk, OnOk, Option, Some, None, Result}
 use Rattle.box_chains.specs.Tallied.{CountsAtMost, work_of}
-use Rattle.fixed_ops.specs.Counts.{Counts, risen}
+use Rattle.fixed_ops.specs.Counts.{Counts, RisesWithin, risen}
 use Rattle.fixed_ops.specs.Points.{Point}
 use Rattle.grid_text.specs.Texts.{text_of}
 use Rattle.kuhn_cells.specs.declared.cell_list.CellList.{CellList}
@@ -22,7 +22,7 @@ use Rattle.tetra_mesh.specs.Cuts.{mesh_of}
 use Rattle.tetra_mesh.specs.Sizes.{size_of}
 use Rattle.view_places.specs.Window.{IsWindow, Window}
 use Rattle.model_frames.specs.Meshes.{grid_of, mesh_text, plain_grid}
-use Rattle.model_frames.specs.Work.{CountsWithin, CountsWork, PointsRiseAtMost, mesh_work}
+use Rattle.model_frames.specs.Work.{CountsWithin, CountsWork, PointsRiseAtMost, grid_work, mesh_work}
 use Rattle.model_frames.proofs.Frames.{on_ok, plain-within, root-few}
 use Rattle.model_frames.proofs.MeshLaws.{grid_same, solid_text}
 use Rattle.model_frames.proofs.LeastWork.{least-most, long-all}
@@ -48,47 +48,54 @@ counts-same : (counts : Counts) (points spans corners : ℕ) → counts.points �
     → counts ≡ work_of points spans corners
 counts-same counts points spans corners p s c = λ k. record { points = p k; spans = s k; corners = c k }
 
--- what is counted of a mesh that is made lies between its least and its most
-mesh-done : (before after : Counts) (view : Window) (clauses : List Clause)
-    → CountsAtMost (mesh_points view (root_of clauses)) (mesh_spans view (root_of clauses)) before after
-    → CountsAtLeast (mesh_least view (root_of clauses)) before after → CountsHullsAtLeast (mesh_long_spans view (root_of clauses)) before after
-    → CountsWork before after (mesh_work view clauses)
+-- what is counted at most and at least lies between these
+pub between : (before after : Counts) (points spans low long : ℕ) → low ≤ points → long ≤ spans → CountsAtMost points spans before after
+    → CountsAtLeast low before after → CountsHullsAtLeast long before after → RisesWithin before after (work_of low long 0) (work_of points spans (4 * spans))
+between before after points spans low long p s h few hulls = record {
+  by = work_of (max h.by.points low) (max h.by.spans long) h.by.corners;
+  enough = record { points = omega arith; spans = omega arith; corners = omega arith };
+  within = record {
+    points = omega (arith, h.few.points, p);
+    spans = omega (arith, h.few.spans, s);
+    corners = h.few.corners;
+  };
+  rises = counts-same after (risen before.points (max h.by.points low)) (risen before.spans (max h.by.spans long)) (risen before.corners h.by.corners)
+      (risen-between before.points after.points h.by.points few.by.points low (ap (λ c. c.points) h.rises) (ap (λ c. c.points) few.rises) few.many)
+      (risen-between before.spans after.spans h.by.spans hulls.by.spans long (ap (λ c. c.spans) h.rises) (ap (λ c. c.spans) hulls.rises) hulls.many)
+      (ap (λ c. c.corners) h.rises);
+}
+
+-- so it is of a mesh that is made
+pub mesh-done : (before after : Counts) (view : Window) (list : List Step) (plain : ℕ) → CountsAtMost (mesh_points view list) (mesh_spans view list) before after
+    → CountsAtLeast (mesh_least view list) before after → CountsHullsAtLeast (mesh_long_spans view list) before after
+    → CountsWork before after (grid_work None view list plain)
 unfolding CountsWork
-mesh-done before after view clauses h points spans =
-    let p = mesh_least view (root_of clauses) in
-    let s = mesh_long_spans view (root_of clauses) in
-    record {
-      by = work_of (max h.by.points p) (max h.by.spans s) h.by.corners;
-      enough = record { points = omega arith; spans = omega arith; corners = omega arith };
-      within = record {
-        points = omega (arith, h.few.points, least-most view (root_of clauses));
-        spans = omega (arith, h.few.spans, long-all view (root_of clauses));
-        corners = h.few.corners;
-      };
-      rises = counts-same after (risen before.points (max h.by.points p)) (risen before.spans (max h.by.spans s)) (risen before.corners h.by.corners)
-          (risen-between before.points after.points h.by.points points.by.points p (ap (λ c. c.points) h.rises) (ap (λ c. c.points) points.rises) points.many)
-          (risen-between before.spans after.spans h.by.spans spans.by.spans s (ap (λ c. c.spans) h.rises) (ap (λ c. c.spans) spans.rises) spans.many)
-          (ap (λ c. c.corners) h.rises);
-    }
+mesh-done before after view list plain h points spans =
+    between before after (mesh_points view list) (mesh_spans view list) (mesh_least view list) (mesh_long_spans view list) (least-most view list) (long-all view list) h points spans
 
 pub mesh_counted : {T E : Type 0} (r : Result T E) (before after : Counts) (view : Window) (clauses : List Clause) (list : List Step) → list ≡ root_of clauses
     → CountsAtMost (mesh_points view list) (mesh_spans view list) before after → CountsAtLeast (mesh_least view list) before after
     → CountsHullsAtLeast (mesh_long_spans view list) before after → OnOk r (CountsWork before after (mesh_work view clauses))
 mesh_counted r before after view clauses list is h points spans =
-    on_ok r _ (mesh-done before after view clauses
+    on_ok r _ (mesh-done before after view (root_of clauses) (plain_grid view (length clauses))
     (subst (λ l. CountsAtMost (mesh_points view l) (mesh_spans view l) before after) is h)
     (subst (λ l. CountsAtLeast (mesh_least view l) before after) is points)
     (subst (λ l. CountsHullsAtLeast (mesh_long_spans view l) before after) is spans))
 
 -- a mesh takes no more evaluations than evaluating each clause at each point of the grid
-pub mesh_plain : (before after : Counts) (view : Window) (clauses : List Clause) (list : List Step) → list ≡ root_of clauses → IsWindow view → IsTape list
-    → MeshPointsAreBounded → CountsWithin before after (mesh_work view clauses) → PointsRiseAtMost before after (plain_grid view (length clauses))
-mesh_plain before after view clauses list is window tape points h =
+pub mesh-few : (view : Window) (clauses : List Clause) (list : List Step) → list ≡ root_of clauses → IsWindow view → IsTape list
+    → MeshPointsAreBounded → mesh_points view (root_of clauses) ≤ plain_grid view (length clauses)
+mesh-few view clauses list is window tape points =
     let n = view.n + 1 in
     let most = points view (root_of clauses) window (subst IsTape is tape) in
     let less : n * (n * (n * length (root_of clauses))) ≤ plain_grid view (length clauses) = mul-le-mul_left n (mul-le-mul_left n (mul-le-mul_left n (root-few clauses))) in
     let same : n * (n * n) * length (root_of clauses) ≡ n * (n * (n * length (root_of clauses))) = grind arith in
-    plain-within before after (mesh_work view clauses) (plain_grid view (length clauses)) (omega (arith, most, same, less)) h
+    omega (arith, most, same, less)
+
+pub mesh_plain : (before after : Counts) (view : Window) (clauses : List Clause) (list : List Step) → list ≡ root_of clauses → IsWindow view → IsTape list
+    → MeshPointsAreBounded → CountsWithin before after (mesh_work view clauses) → PointsRiseAtMost before after (plain_grid view (length clauses))
+mesh_plain before after view clauses list is window tape points h =
+    plain-within before after (mesh_work view clauses) (plain_grid view (length clauses)) (mesh-few view clauses list is window tape points) h
 
 -- the same, where no grid is known yet
 pub mesh_counted_then : {T E : Type 0} (r : Result T E) (before after : Counts) (view : Window) (clauses : List Clause) (list : List Step) → list ≡ root_of clauses

@@ -1,14 +1,16 @@
 -- The least work of a mesh is no more than its most.
 use Rattle.std.proofs.Common.{◌≡◌, ℕ, ◌-◌, ◌≤◌, Bool, true, false, List, [], ◌∷◌, ◌++◌, length, max, if◌then◌else◌, arith}
-use Rattle.std.specs.Prelude.{◌&&◌}
+use Rattle.std.specs.Prelude.{◌&&◌, Option}
 use Rattle.std.specs.List.{flat_map, range_with_len, sum_by}
 use Rattle.std.proofs.lemmas.List.Sums.{sum_by-le-sum_by}
 use Rattle.box_chains.specs.Chains.{is_long}
 use Rattle.box_chains.specs.Counts.{first_lengths, is_first}
+use Rattle.box_chains.specs.Redrawn.{is_old, new_lengths}
 use Rattle.box_chains.specs.Sums.{Sample, sum_in}
 use Rattle.kuhn_cells.specs.Grids.{over_block}
 use Rattle.kuhn_cells.specs.Triangles.{GridPoint, point}
 use Rattle.live_clauses.specs.declared.step.Step.{Step}
+use Rattle.oct_descent.specs.After.{cell_spans_after, long_spans_after, mesh_before, mesh_long_spans_after, mesh_spans_after, new_long_lengths, ways_before}
 use Rattle.oct_descent.specs.Bound.{has_point, least, lengths_at, long_lengths, long_spans_in, mesh_least, mesh_long_spans, mesh_points, mesh_spans, points_of_grid, sample_of, cell_spans_in, working_lengths}
 use Rattle.box_chains.specs.Sums.{maximum}
 use Rattle.oct_descent.specs.Sizes.{size_of}
@@ -94,3 +96,19 @@ long-all view list =
     (λ s. sum_by-le-sum_by (λ w. if is_long d.boxes.leaf w.box && is_first w.box s then length w.list else 0)
     (λ w. if is_first w.box s then length w.list else 0) (way d v s)
     (λ w. long-less (is_long d.boxes.leaf w.box) (is_first w.box s) (length w.list)))
+
+-- a new box of more than one cell is a new box, so after another mesh, too, the least is no more
+new-long-less : (old long first : Bool) (n : ℕ) → (if old then 0 else if long && first then n else 0) ≤ (if old then 0 else if first then n else 0)
+new-long-less true long first n = omega arith
+new-long-less false long first n = long-less long first n
+
+pub after-long : (view : Window) (before : Option (List Step)) (list : List Step) → mesh_long_spans_after view before list ≤ mesh_spans_after view before list
+unfolding long_spans_after cell_spans_after
+after-long view before list =
+    let d = gridded view in
+    let v = grid_root view list in
+    let old = ways_before d (mesh_before view before) in
+    sum-less v.box (λ s. new_long_lengths d (old s) s (way d v s)) (λ s. new_lengths (old s) s (way d v s))
+    (λ s. sum_by-le-sum_by (λ w. if is_old (old s) w then 0 else if is_long d.boxes.leaf w.box && is_first w.box s then length w.list else 0)
+    (λ w. if is_old (old s) w then 0 else if is_first w.box s then length w.list else 0) (way d v s)
+    (λ w. new-long-less (is_old (old s) w) (is_long d.boxes.leaf w.box) (is_first w.box s) (length w.list)))

@@ -5,6 +5,7 @@ mod GridLaws
 mod GridWork
 mod LeastWork
 mod MeshLaws
+mod MeshesAfter
 mod SoundTexts
 pub mod Views
 pub mod WorkLaws

@@ -7,4 +7,4 @@ use Rattle.model_frames.specs.declared.drawn.Drawn.TheVariants.{Bytes, Mesh}
 -- the bytes: those that are there, or the text of the mesh of a grid
 abbrev pub drawn_bytes : Drawn → List ℕ
 drawn_bytes (Bytes bytes) = bytes.items
-drawn_bytes (Mesh tree) = text_of tree.view tree.list
+drawn_bytes (Mesh grid) = text_of grid.view grid.list

@@ -1,16 +1,19 @@
 -- The work that frames take, and how it is counted.
-use Rattle.std.specs.Prelude.{◌≡◌, ℕ, ◌+◌, ◌*◌, ◌^◌, ◌<◌, ◌≤◌, List, length, Option}
+use Rattle.std.specs.Prelude.{◌≡◌, ℕ, ◌+◌, ◌*◌, ◌^◌, ◌<◌, ◌≤◌, List, length, Option, Some, None}
 use Rattle.fixed_ops.specs.Counts.{Counts, RisesAtMost, RisesWithin, no_counts, plus, risen}
 use Rattle.height_map.specs.Bound.{height_points, height_spans, near_spans}
 use Rattle.live_clauses.specs.Live.{root_of}
+use Rattle.live_clauses.specs.declared.step.Step.{Step}
 use Rattle.box_chains.specs.Tallied.{work_of}
+use Rattle.oct_descent.specs.After.{mesh_long_spans_after, mesh_points_after, mesh_spans_after}
 use Rattle.oct_descent.specs.Bound.{mesh_least, mesh_long_spans, mesh_points, mesh_spans}
+use Rattle.oct_descent.specs.Trees.{Gridding}
 use Rattle.quad_descent.specs.Raster.{Drawing, frame_points, frame_spans, fresh_points, fresh_spans}
 use Rattle.solid_model.specs.declared.clause.Clause.{Clause}
 use Rattle.view_places.specs.Window.{Window}
 use Rattle.model_frames.specs.Heights.{plain_depths}
 use Rattle.model_frames.specs.Images.{list_before, plain_points}
-use Rattle.model_frames.specs.Meshes.{plain_grid}
+use Rattle.model_frames.specs.Meshes.{grid_before, plain_grid}
 
 -- What a frame takes: where it is drawn, at least and at most so many evaluations, traced steps and
 -- corners of hulls, and no more than so many whatever stops it; and the evaluations that evaluating
@@ -73,18 +76,39 @@ height_work view clauses =
       plain = plain_depths view (length clauses);
     }
 
--- the work of a mesh of a solid over a view: at each corner of a working cell an evaluation of the
--- shortest list at least, and of the longest at most, that a working cell there receives; and at
--- least the steps traced over the boxes of more than one cell, at most those over all boxes
-abbrev pub mesh_work : Window → List Clause → Work
-mesh_work view clauses =
-    let spans = mesh_spans view (root_of clauses) in
+-- The work of a mesh of a list over a view, and beside it what all clauses would take. Of a fresh one it
+-- is at each corner of a working cell an evaluation of the shortest list at least, and of the longest at
+-- most, that a working cell there receives; and at least the steps traced over the boxes of more than
+-- one cell, at most those over all boxes. After the mesh of another list over the same view, only those
+-- boxes and working cells take work that this other mesh did not have with an equal list.
+abbrev pub grid_work : Option (List Step) → Window → List Step → ℕ → Work
+grid_work None view list plain =
+    let spans = mesh_spans view list in
     record {
-      least = work_of (mesh_least view (root_of clauses)) (mesh_long_spans view (root_of clauses)) 0;
-      most = work_of (mesh_points view (root_of clauses)) spans (4 * spans);
-      bound = work_of (mesh_points view (root_of clauses)) spans (4 * spans);
-      plain = plain_grid view (length clauses);
+      least = work_of (mesh_least view list) (mesh_long_spans view list) 0;
+      most = work_of (mesh_points view list) spans (4 * spans);
+      bound = work_of (mesh_points view list) spans (4 * spans);
+      plain = plain;
     }
+grid_work (Some before) view list plain =
+    let points = mesh_points_after view (Some before) list in
+    let spans = mesh_spans_after view (Some before) list in
+    record {
+      least = work_of 0 (mesh_long_spans_after view (Some before) list) 0;
+      most = work_of points spans (4 * spans);
+      bound = work_of points spans (4 * spans);
+      plain = plain;
+    }
+
+-- the work of a fresh mesh of a solid over a view: that of its root list
+abbrev pub mesh_work : Window → List Clause → Work
+mesh_work view clauses = grid_work None view (root_of clauses) (plain_grid view (length clauses))
+
+-- the work of a mesh of a solid over a view after another one: after the list of that one where it had
+-- this very view, and else that of a fresh mesh
+abbrev pub mesh_work_after : Option Gridding → Window → List Clause → Work
+mesh_work_after before view clauses =
+    grid_work (grid_before before view) view (root_of clauses) (plain_grid view (length clauses))
 
 -- its evaluations and its traced steps fit a count
 pub record FitsCounts (work : Work) : Type 0 where

@@ -1,7 +1,7 @@
 // What is drawn of a model.
 
 use crate::pieces::Pieces;
-use oct_descent::OctTree;
+use oct_descent::CellGrid;
 use std::alloc::{AllocError, Global};
 
 /// What is drawn of a model.
@@ -10,7 +10,7 @@ pub enum Drawn {
     /// All of its bytes.
     Bytes(Vec<u8>),
     /// The grid of its root list, the text of whose mesh is still to be made.
-    Mesh(OctTree),
+    Mesh(CellGrid),
 }
 
 impl Drawn {
@@ -24,7 +24,7 @@ impl Drawn {
     {
         match self {
             Drawn::Bytes(bytes) => Ok(Pieces::of(bytes, b"")),
-            Drawn::Mesh(tree) => Pieces::of_grid(alloc, tree),
+            Drawn::Mesh(grid) => Pieces::of_grid(alloc, grid),
         }
     }
 }

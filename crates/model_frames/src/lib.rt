@@ -8,6 +8,7 @@ mod laws;
 mod mesh;
 mod pieces;
 mod redrawn;
+mod remeshed;
 mod render;
 
 pub use drawn::Drawn;
@@ -16,6 +17,7 @@ pub use laws::frames_add_up;
 pub use mesh::{mesh_texts_are_sound, solid_mesh};
 pub use pieces::Pieces;
 pub use redrawn::redraw_image;
+pub use remeshed::{mesh_text_in, redraw_mesh};
 pub use render::{draw_image, image_text};
 
 #[cfg(test)]

@@ -20,7 +20,7 @@ use fixed_ops::{Tally, tallies_add_up};
 use grid_text::grid_text;
 use kuhn_cells::{CellList, vertices_are_mixed_edges};
 use live_clauses::{Tape, root_tape};
-use oct_descent::{OctTree, cell_list, cells, grid_work_is_bounded};
+use oct_descent::{CellGrid, cell_grid, cell_list, grid_work_is_bounded};
 use solid_model::Model;
 use std::alloc::{AllocError, Global};
 use tetra_mesh::{Mesh, build_from, meshes_are_sound};
@@ -41,8 +41,8 @@ pub(crate) fn mesh(
     ensures at_most { CountsWithin tally.old tally.new (mesh_work view.now model.now) }
     ensures plain { PointsRiseAtMost tally.old tally.new (plain_grid view.now (length model.now)) }
 {
-    let tree = solid_grid(alloc, model, view, tally)?;
-    grid_text(alloc, &tree)
+    let grid = solid_grid(alloc, model, view, tally)?;
+    grid_text(alloc, &grid)
 }
 
 // The grid of a model's root list over a view, the text of whose mesh is the model's. The work of the
@@ -53,9 +53,9 @@ pub(crate) fn solid_grid(
     model: &Model,
     view: &View,
     tally: &mut Tally,
-) -> Result<OctTree, AllocError>
+) -> Result<CellGrid, AllocError>
     requires { FitsMesh view.now }
-    ensures text { IfOk result (λ tree. text_of tree.view tree.list ≡ mesh_text view.now model.now) }
+    ensures text { IfOk result (λ grid. text_of grid.view grid.list ≡ mesh_text view.now model.now) }
     ensures counted { OnOk result
         (CountsWork tally.old tally.new (mesh_work view.now model.now)) }
     ensures at_most { CountsWithin tally.old tally.new (mesh_work view.now model.now) }
@@ -65,7 +65,7 @@ pub(crate) fn solid_grid(
     grid_work_is_bounded();
     window_holds(view);
     let list = root_tape(alloc, model)?;
-    cells(alloc, &list, view, tally)
+    cell_grid(alloc, &list, view, tally)
 }
 
 /// The mesh of a model over a view, whose text is the one that a session gives. The work of the boxes
@@ -118,8 +118,8 @@ fn mixed_cells(
     ensures traced { OnOk result
         (CountsHullsAtLeast (mesh_long_spans view.now list.now) tally.old tally.new) }
 {
-    let tree = cells(alloc, list, view, tally)?;
-    cell_list(alloc, &tree)
+    let grid = cell_grid(alloc, list, view, tally)?;
+    cell_list(alloc, &grid)
 }
 
 /// The text of the mesh of each solid is that of a sound mesh, over each view whose cells have

@@ -3,7 +3,7 @@ ghost use Rattle.std.specs.Prelude.{◌≡◌, ◌<◌, ◌^◌, ◌↔◌, ◌+
 ghost use Rattle.grid_text.specs.Texts.{text_of};
 
 use grid_text::GridPieces;
-use oct_descent::OctTree;
+use oct_descent::CellGrid;
 use std::alloc::{AllocError, Global};
 use std::marker::Model;
 
@@ -44,11 +44,11 @@ impl<'a> Pieces<'a> {
     }
 
     /// The text of the mesh of a grid. AllocError: there is no memory to make it in.
-    pub fn of_grid(alloc: Global, tree: &'a OctTree) -> Result<Pieces<'a>, AllocError>
-        ensures { IfOk result (λ p. p.piece ++ p.rest ≡ text_of tree.now.view tree.now.list) }
+    pub fn of_grid(alloc: Global, grid: &'a CellGrid) -> Result<Pieces<'a>, AllocError>
+        ensures { IfOk result (λ p. p.piece ++ p.rest ≡ text_of grid.now.view grid.now.list) }
     {
         Ok(Pieces {
-            form: Form::Mesh(GridPieces::new(alloc, tree)?),
+            form: Form::Mesh(GridPieces::new(alloc, grid)?),
         })
     }
 

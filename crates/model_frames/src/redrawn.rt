@@ -96,7 +96,7 @@ fn draw_after(
 }
 
 // Whether two views are one.
-fn is_same(a: &View, b: &View) -> bool
+pub(crate) fn is_same(a: &View, b: &View) -> bool
     ensures test { result ≡ same_view a.now b.now }
     ensures same { IsTrue result → a.now ≡ b.now }
 {

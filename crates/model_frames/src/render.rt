@@ -33,8 +33,8 @@ pub(crate) fn render(
     image_text(alloc, &picture)
 }
 
-/// The boxes of an image of a model over a view, without its bytes. Its rows are those of the model. The work of a fresh image is
-/// counted. AllocError: memory was refused, after some of that work perhaps.
+/// The boxes of an image of a model over a view, without its bytes. Its rows are those of the model.
+/// The work of a fresh image is counted. AllocError: memory was refused, after some of that work perhaps.
 pub fn draw_image(
     alloc: Global,
     model: &Model,

@@ -10,9 +10,8 @@ ghost use Rattle.modeller_cmd.specs.Frames.{fault_name, frame_header, frame_of, 
 
 use crate::image::write_image;
 use crate::line::Line;
-use crate::send::write_pieces;
-use model_frames::Pieces;
-use modeller_io::{Failed, Sink};
+use crate::send::write_texts;
+use modeller_io::{Failed, Sink, write_all};
 use quad_descent::RowSource;
 use raster_pgm::raster_length;
 use solid_model::EditFault;
@@ -28,7 +27,7 @@ pub fn write_frame<K: Sink>(out: &mut K, name: &[u8], bytes: &[u8]) -> Result<()
     ensures cause { OnErr result (RoseBy K.faults out.old out.new 1) }
 {
     let line = header(name, bytes.len() as u64);
-    write_pieces(out, Pieces::of(line.bytes(), bytes))
+    write_texts(out, line.bytes(), bytes)
 }
 
 /// Writes the frame of an image over a view, from a buffer. After `Failed` some of it was taken, from
@@ -61,7 +60,7 @@ pub fn write_refused<K: Sink>(out: &mut K, line: u32, fault: EditFault) -> Resul
     ensures cause { OnErr result (RoseBy K.faults out.old out.new 1) }
 {
     let line = refused(line, fault);
-    write_pieces(out, Pieces::of(line.bytes(), b""))
+    write_all(out, line.bytes())
 }
 
 /// The line that tells what an image took: its evaluations, and its traced steps.

@@ -14,6 +14,7 @@ ghost use Rattle.modeller_cmd.specs.Parts.{work_of_parts};
 ghost use Rattle.model_frames.specs.Frames.{CanDraw};
 ghost use Rattle.model_frames.specs.Work.{CountsWork};
 ghost use Rattle.solid_model.specs.Edits.{MakesClause, edited};
+ghost use Rattle.view_places.specs.Window.{FitsMesh};
 
 use crate::frame::{cost_line, write_frame, write_image_frame, write_refused};
 use crate::image::make_room;
@@ -69,7 +70,7 @@ fn model_text(input: &[u8]) -> &[u8]
     }
 }
 
-// Replays commands one after the other. The images are written from one buffer.
+// Replays commands one after the other. The images and meshes are written from one buffer.
 fn replay_commands<K: Sink>(
     mut session: Session,
     commands: Vec<Command>,
@@ -120,7 +121,7 @@ fn step<K: Sink>(
         Command::Stray(line) => refuse(out, line, EditFault::UnknownName),
         Command::Render(view) => show_image(session, &view, buffer, out, tally),
         Command::Height(view) => show(session, &Frame::Height(view), out, tally),
-        Command::Mesh(view) => show(session, &Frame::Mesh(view), out, tally),
+        Command::Mesh(view) => show_mesh(session, &view, buffer, out, tally),
         Command::Text => show(session, &Frame::Text, out, tally),
         Command::Cost => tell_cost(session, out),
     }
@@ -171,6 +172,30 @@ fn show_image<K: Sink>(
     session.draw_raster(view, tally)?;
     make_room(view, buffer)?;
     Ok(write_image_frame(out, session, view, buffer)?)
+}
+
+// Draws a mesh and writes it. Its text is made whole, in the buffer, before its first byte is written.
+fn show_mesh<K: Sink>(
+    session: &mut Session,
+    view: &View,
+    buffer: &mut Vec<u8>,
+    out: &mut K,
+    tally: &mut Tally,
+) -> Result<(), Stop>
+    requires { FitsMesh view.now }
+    ensures stop { IfErr result IsHalt }
+    ensures stands { OnOk result (session.new ≡ after_frame session.old (Frame.Mesh view.now)) }
+    ensures written { OnOk result (Written K.held K.faults out.old out.new tally.old tally.new
+        (framed (Frame.Mesh view.now) session.old ∷ [])) }
+    ensures halted { IfErr result (Halted K.held K.faults out.old out.new tally.old tally.new
+        (framed (Frame.Mesh view.now) session.old ∷ [])) }
+    ensures unwritten { result ≡ Err Stop.NoMemory → out.new ≡ out.old }
+    ensures counted { result ≡ Err Stop.WriteFault → CountsWork tally.old tally.new
+        (work_of_parts (framed (Frame.Mesh view.now) session.old ∷ [])) }
+{
+    session.draw_mesh(view, tally)?;
+    session.mesh_text_in(buffer)?;
+    Ok(write_frame(out, b"mesh", buffer)?)
 }
 
 // Writes what the last image took. Nothing is counted.

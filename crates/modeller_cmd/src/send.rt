@@ -32,3 +32,14 @@ pub fn write_pieces<K: Sink>(out: &mut K, mut text: Pieces) -> Result<(), Failed
     }
     Ok(())
 }
+
+/// Writes a text, and another one after it. After `Failed` some of both was taken, from their front.
+pub fn write_texts<K: Sink>(out: &mut K, first: &[u8], next: &[u8]) -> Result<(), Failed>
+    ensures ok { OnOk result (Gains K.held out.old out.new (first.now ++ next.now)) }
+    ensures err { OnErr result (GainsPrefix K.held out.old out.new (first.now ++ next.now)) }
+    ensures no_fault { OnOk result (Stands K.faults out.old out.new) }
+    ensures cause { OnErr result (RoseBy K.faults out.old out.new 1) }
+{
+    write_all(out, first)?;
+    write_all(out, next)
+}

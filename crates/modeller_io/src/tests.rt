@@ -134,17 +134,44 @@ impl Write for Flaky {
     }
 }
 
-// A writer that takes each byte, and fails to flush it.
+// A reader that gives at most three bytes a call.
 #[derive(Drop)]
-struct Stuck;
+struct Sips {
+    rest: &'static [u8],
+}
 
-impl Write for Stuck {
+impl Read for Sips {
+    fn read(&mut self, buf: &mut [u8]) -> io::Result<usize> {
+        let most = buf.len().min(3);
+        self.rest.read(&mut buf[..most])
+    }
+}
+
+// A writer that takes at most so many bytes a call, and fails to flush at one call, counted from 1. It
+// counts what is asked of it.
+#[derive(Drop)]
+struct Bites {
+    most: usize,
+    failing: u8,
+    taken: usize,
+    writes: u8,
+    flushes: u8,
+}
+
+impl Write for Bites {
     fn write(&mut self, buf: &[u8]) -> io::Result<usize> {
-        Ok(buf.len())
+        let count = buf.len().min(self.most);
+        self.taken = self.taken.saturating_add(count);
+        self.writes = self.writes.saturating_add(1);
+        Ok(count)
     }
 
     fn flush(&mut self) -> io::Result<()> {
-        Err(io::Error::from(ErrorKind::Other))
+        self.flushes = self.flushes.saturating_add(1);
+        if self.flushes == self.failing {
+            return Err(io::Error::from(ErrorKind::Other));
+        }
+        Ok(())
     }
 }
 
@@ -157,6 +184,11 @@ fn a_reader_is_a_source(rt: HostRuntime) -> Result<(), Fail> {
     for want in [Ok(1), Err(Failed), Ok(0)] {
         assert_eq!(rt; source.read(&mut [0; 4]), want);
     }
+
+    let bytes = read_all(rt.alloc(), &mut ReadSource::new(Sips { rest: TEXT }), 20)?;
+    assert_eq!(rt; bytes.as_slice(), TEXT);
+    let end = read_all(rt.alloc(), &mut ReadSource::new(Sips { rest: TEXT }), 19).err();
+    assert_eq!(rt; end, Some(ReadEnd::TooLong));
     Ok(())
 }
 
@@ -171,6 +203,36 @@ fn a_writer_is_a_sink(rt: HostRuntime) -> Result<(), Fail> {
         assert_eq!(rt; sink.write(TEXT), want);
     }
     assert_eq!(rt; sink.write(&[]), Ok(0));
-    assert_eq!(rt; write_all(&mut WriteSink::new(Stuck), TEXT), Err(Failed));
+    Ok(())
+}
+
+// How many bytes a writer takes a call, its flush that fails, how writing 20 bytes ends, and the bytes, the
+// writes and the flushes that were asked of it. Nothing is asked behind what failed.
+const BITES: [(usize, u8, Result<(), Failed>, usize, u8, u8); 5] = [
+    (20, 0, Ok(()), 20, 1, 1),
+    (7, 0, Ok(()), 20, 3, 3),
+    (7, 1, Err(Failed), 7, 1, 1),
+    (7, 3, Err(Failed), 20, 3, 3),
+    (0, 0, Err(Failed), 0, 1, 0),
+];
+
+#[test]
+fn each_write_is_flushed_once(rt: HostRuntime) -> Result<(), Fail> {
+    for (most, failing, want, taken, writes, flushes) in BITES {
+        let mut writer = Bites {
+            most,
+            failing,
+            taken: 0,
+            writes: 0,
+            flushes: 0,
+        };
+        assert_eq!(rt;
+            write_all(&mut WriteSink::new(&mut writer), TEXT),
+            want,
+            "{most} a call"
+        );
+        assert_eq!(rt; writer.taken, taken);
+        assert_eq!(rt; (writer.writes, writer.flushes), (writes, flushes));
+    }
     Ok(())
 }

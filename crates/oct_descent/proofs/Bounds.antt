@@ -23,7 +23,7 @@ use Rattle.oct_descent.proofs.Blocks.{greatest-block, greatest-block_most}
 use Rattle.oct_descent.proofs.WayLaws.{end-below, spans-below}
 
 -- a cell has a point as a corner
-abbrev has_corner : GridPoint → GridPoint → Bool
+abbrev pub has_corner : GridPoint → GridPoint → Bool
 has_corner cell p = has_point (cell_box (sample_of cell)) p
 
 -- the length of the list that a working cell of the grid of a mesh receives
@@ -110,7 +110,7 @@ has_corner-covers cell p e =
       z = (leb-true cell.z p.z f.0, leb-true p.z (cell.z + 1) f.1);
     }
 
-covers-has_corner : (s : Sample) (p : GridPoint) → Covers (cell_box s) p → has_corner (point s.i s.j s.k) p ≡ true
+pub covers-has_corner : (s : Sample) (p : GridPoint) → Covers (cell_box s) p → has_corner (point s.i s.j s.k) p ≡ true
 covers-has_corner s p covers =
     and_from (nat_le s.i p.x) _ (le-leb s.i p.x covers.x.0) (and_from (nat_le p.x (s.i + 1)) _ (le-leb p.x (s.i + 1) covers.x.1)
     (and_from (nat_le s.j p.y) _ (le-leb s.j p.y covers.y.0) (and_from (nat_le p.y (s.j + 1)) _ (le-leb p.y (s.j + 1) covers.y.1)

@@ -19,7 +19,7 @@ use Rattle.oct_descent.specs.Tables.{brick_of, is_within, same_point, slot, stan
 use Rattle.oct_descent.specs.Ways.{is_open_by, meets_border, way_within}
 
 -- from -1 to 1
-abbrev window : ℕ → Window
+abbrev pub window : ℕ → Window
 window n = record {
   x0 = negsuc 4294967295;
   x1 = pos 4294967296;
@@ -38,11 +38,11 @@ window n = record {
 abbrev cells : ℕ → GridSize
 cells n = record { x = n; y = n; z = n }
 
-abbrev step : Op → ℕ → ℕ → Step
+abbrev pub step : Op → ℕ → ℕ → Step
 step op a b = record { op = op; a = a; b = b; value = pos 0 }
 
 -- what is inside everywhere: all eight cells have points of the outermost layer
-abbrev full : List Step
+abbrev pub full : List Step
 full = record { op = Const; a = 0; b = 0; value = negsuc 4294967295 } ∷ []
 
 full_points : mesh_points (window 2) full ≡ 27
@@ -58,7 +58,7 @@ unfolding cell_spans_in way_within
 full_spans = refl
 
 -- and what is outside everywhere
-abbrev empty : List Step
+abbrev pub empty : List Step
 empty = record { op = Const; a = 0; b = 0; value = pos 0 } ∷ []
 
 empty_points : mesh_points (window 2) empty ≡ 0

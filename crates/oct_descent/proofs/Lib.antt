@@ -1,3 +1,10 @@
+pub mod Added
+pub mod AfterBounds
+mod AfterExamples
+pub mod AfterLooks
+pub mod AfterOld
+pub mod AfterWork
+pub mod Before
 pub mod Blocks
 pub mod Bounds
 pub mod Bricks
@@ -6,13 +13,15 @@ pub mod Covered
 mod Examples
 pub mod GapLaws
 pub mod Joined
+pub mod Kept
 pub mod Listed
 pub mod Looks
 pub mod Members
 pub mod Reached
 pub mod Sizes
 pub mod TableLaws
-pub mod WayLaws
+pub mod Takes
 pub mod Together
+pub mod WayLaws
 pub mod WayProofs
 pub mod Whole

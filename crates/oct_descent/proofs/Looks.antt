@@ -537,10 +537,10 @@ all-settled laws d g b t each s lies =
 
 -- ---- what is traced at least
 
-hulls-least : (told now : Counts) (n : ℕ) → CountsHulls n told now → CountsHullsAtLeast n told now
+pub hulls-least : (told now : Counts) (n : ℕ) → CountsHulls n told now → CountsHullsAtLeast n told now
 hulls-least told now n h = record { by = hulls_of n h.corners; many = omega arith; rises = h.rises }
 
-hulls-then : (laws : Lawful) (told since now : Counts) (m n k : ℕ) → k ≤ m + n → CountsHullsAtLeast m told since → CountsHullsAtLeast n since now → CountsHullsAtLeast k told now
+pub hulls-then : (laws : Lawful) (told since now : Counts) (m n k : ℕ) → k ≤ m + n → CountsHullsAtLeast m told since → CountsHullsAtLeast n since now → CountsHullsAtLeast k told now
 hulls-then laws told since now m n k enough first second = record {
   by = plus first.by second.by;
   many = omega (arith, enough, first.many, second.many);
@@ -548,7 +548,7 @@ hulls-then laws told since now m n k enough first second = record {
 }
 
 -- before any half is looked into
-traced-none : (laws : Lawful) (counts : Counts) → CountsHullsAtLeast 0 counts counts
+pub traced-none : (laws : Lawful) (counts : Counts) → CountsHullsAtLeast 0 counts counts
 traced-none laws counts = record { by = no_counts; many = omega arith; rises = laws.tallies.none counts }
 
 pub first-traced : (d : CellDescent) (list : List Step) (halves : List Indices) (n : GridSize) (told now : Counts) → CountsHulls (length (longer n halves) * length list) told now

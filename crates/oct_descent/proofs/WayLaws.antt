@@ -110,7 +110,7 @@ end-of_half laws d v half s some is e among lies =
     end-goes_on laws d v s some is (half-lies laws d v half s some is among lies) e ∙ ap (λ next. way_end d next s) (next-is_half laws d v half s among lies)
 
 -- sums over the samples of a box, from those over its halves, where the sums of the halves are equal to it at their samples
-sum-over_halves : (laws : Lawful) (d : CellDescent) (v : Visit) (f : Sample → ℕ) (g : Indices → Sample → ℕ) → ((half : Indices) (s : Sample) → Contains (halves_of d.boxes.leaf v.box) half → LiesIn half s → f s ≡ g half s)
+pub sum-over_halves : (laws : Lawful) (d : CellDescent) (v : Visit) (f : Sample → ℕ) (g : Indices → Sample → ℕ) → ((half : Indices) (s : Sample) → Contains (halves_of d.boxes.leaf v.box) half → LiesIn half s → f s ≡ g half s)
     → sum_in v.box f ≡ sum_by (λ half. sum_in half (g half)) (halves_of d.boxes.leaf v.box)
 sum-over_halves laws d v f g same =
     sym (laws.sums.halves d.boxes.leaf v.box f)
@@ -123,7 +123,7 @@ sum-over_halves laws d v f g same =
 abbrev own_length : Visit → Sample → ℕ
 own_length v s = cond (is_first v.box s) (length v.list) 0
 
-own-once : (laws : Lawful) (v : Visit) → IsBox v.box → sum_in v.box (own_length v) ≡ length v.list
+pub own-once : (laws : Lawful) (v : Visit) → IsBox v.box → sum_in v.box (own_length v) ≡ length v.list
 own-once laws v is = laws.sums.first v.box (length v.list) is
 
 -- The steps traced over a box that is split are its own list's and those of its halves.
@@ -149,7 +149,7 @@ spans-end laws d v is e =
 
 -- ---- of these, the steps that are traced over boxes of more than one cell
 
-own_long-once : (laws : Lawful) (t : Bool) (v : Visit) → IsBox v.box → sum_in v.box (λ s. cond (t && is_first v.box s) (length v.list) 0) ≡ cond t (length v.list) 0
+pub own_long-once : (laws : Lawful) (t : Bool) (v : Visit) → IsBox v.box → sum_in v.box (λ s. cond (t && is_first v.box s) (length v.list) 0) ≡ cond t (length v.list) 0
 own_long-once laws true v is = own-once laws v is
 own_long-once laws false v is = laws.sums.const v.box 0 ∙ omega arith
 

@@ -25,7 +25,7 @@ use Rattle.oct_descent.specs.Ways.{gridded, grid_root}
 use Rattle.oct_descent.proofs.Bounds.{none_due, points_due, points_suffice}
 
 -- while nothing is known, all points are left
-left-all : (laws : Lawful) (f : GridPoint → ℕ) (t : PointValues) → ((p : GridPoint) → known_at t p ≡ None) → left f t ≡ sum_in (points_of_grid t.n) (λ s. f (point s.i s.j s.k))
+pub left-all : (laws : Lawful) (f : GridPoint → ℕ) (t : PointValues) → ((p : GridPoint) → known_at t p ≡ None) → left f t ≡ sum_in (points_of_grid t.n) (λ s. f (point s.i s.j s.k))
 left-all laws f t none =
     laws.sums.same (points_of_grid t.n) (λ s. cond (is_known (known_at t (point s.i s.j s.k))) 0 (f (point s.i s.j s.k))) (λ s. f (point s.i s.j s.k))
     (λ s lies. ap (λ o. cond (is_known o) 0 (f (point s.i s.j s.k))) (none (point s.i s.j s.k)))

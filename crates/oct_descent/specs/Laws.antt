@@ -73,4 +73,5 @@ ReachedBoxesAreCountedOnce = (d : CellDescent) (v : Visit) → 0 < d.boxes.leaf 
 -- the mixed cells of a list's grid are those of its layers, one after the other
 abbrev pub LayersHaveTheCells : Type 0
 LayersHaveTheCells = (view : Window) (list : List Step)
-    → flat_map (cells_in_layer view list) (range_with_len 0 (size_of view).z) ≡ mixed_cells (list_grid view list)
+    → flat_map (cells_in_layer view list) (range_with_len 0 (size_of view).z)
+    ≡ mixed_cells (list_grid view list)

@@ -1,5 +1,5 @@
 // Boxes of cells that are looked into.
-ghost use Rattle.std.specs.Prelude.{◌≡◌, ◌*◌, ◌+◌, ◌<◌, ◌≤◌, ℕ, IfOk, OnErr, OnOk, IsTrue, false, length, true};
+ghost use Rattle.std.specs.Prelude.{◌≡◌, ◌≢◌, ◌*◌, ◌+◌, ◌<◌, ◌≤◌, ℕ, IfNone, IfOk, IfSome, None, OnErr, OnOk, IsTrue, Some, drop, false, is_some, length, take, true, if◌then◌else◌};
 ghost use Rattle.std.specs.List.{All};
 ghost use Rattle.box_chains.specs.Chains.{is_long as is_long_for, visit};
 ghost use Rattle.box_chains.specs.Desks.{HasMore, list_of, samples};
@@ -11,53 +11,73 @@ ghost use Rattle.kuhn_cells.specs.Sizes.{SameSize};
 ghost use Rattle.live_clauses.specs.Live.{IsWhole};
 ghost use Rattle.view_places.specs.Boxes.{halves_of};
 ghost use Rattle.view_places.specs.Spans.{IsInRoot};
-ghost use Rattle.oct_descent.specs.Bound.{CountsHullsAtLeast, CountsNoHull, long_spans_in};
+ghost use Rattle.box_chains.specs.Redrawn.{IsNew};
+ghost use Rattle.oct_descent.specs.Adding.{Adds};
+ghost use Rattle.oct_descent.specs.After.{long_spans_after};
+ghost use Rattle.oct_descent.specs.AfterDesks.{ChargesBelowAfter, ChargesBoxAfter, ChargesHalvesAfter, halves_long_spans_after, long_spans_below_after};
+ghost use Rattle.oct_descent.specs.Bound.{CountsHullsAtLeast, CountsNoHull};
 ghost use Rattle.oct_descent.specs.Corners.{IsSeen, IsShown};
-ghost use Rattle.oct_descent.specs.Desks.{ChargesBelow, ChargesHalves, IsToldAt, MayLook, PaysHalves, asked_of, halves_long_spans, long_spans_below, longer};
+ghost use Rattle.oct_descent.specs.Desks.{IsToldAt, MayLook, PaysHalves, asked_of, longer};
 ghost use Rattle.oct_descent.specs.GridValues.{list_grid_value};
+ghost use Rattle.oct_descent.specs.KeptBoxes.{halves_places, places_of, split_places};
+ghost use Rattle.oct_descent.specs.OldBoxes.{AreOldHalves, IsOldBox, behind, behind_halves, first_count, handed_by, received_by, visit_before};
 ghost use Rattle.oct_descent.specs.Sizes.{size_of};
 ghost use Rattle.oct_descent.specs.Tables.{AreSettled, AreWorked, ChargesBox, Grows, PaysBox, PointValues};
+ghost use Rattle.oct_descent.specs.Taking.{TakesOver, TakesPart};
 ghost use Rattle.oct_descent.specs.Ways.{gridded, is_open as is_open_for, is_open_by, meets_border as meets_border_of};
 
+use crate::boxes::Boxes;
 use crate::corner_values::seen;
 use crate::filling::fill_cell;
 use crate::grid_values::GridValues;
+use crate::old_box::OldBox;
+use crate::old_boxes::OldBoxes;
 use crate::seen::Seen;
 use arrayvec::ArrayVec;
 use box_chains::{AskedBox, Desk, Outcome, is_long, layers_hold};
 use fixed_ops::Tally;
 use kuhn_cells::GridSize;
+use live_clauses::{Steps, Tape};
 use std::alloc::AllocError;
 use view_places::{IndexBox, split};
 
 /// The longest side of a box that is not split.
 const LEAF: u32 = 1;
 
-/// Looks into a box, which receives a list: evaluates the corners of its working cells that are not
-/// known.
+/// Looks into a box, which receives a list, after a grid that may have had it with another one: evaluates
+/// the corners of its working cells that are not known, and adds what is kept of the box. What is known
+/// of boxes that receive the same list as before is taken over.
 pub fn look_into(
     desk: &mut Desk,
     b: IndexBox,
+    before: Option<OldBox<'_>>,
     received: usize,
+    boxes: &mut Boxes,
     values: &mut GridValues,
     tally: &mut Tally,
 ) -> Result<(), AllocError>
-    requires { MayLook desk.old b received values.old }
+    requires may { MayLook desk.old b received values.old }
+    requires old { IfSome before (IsOldBox desk.old.view b boxes.old.before) }
+    requires new { IsNew (visit_before before b) (visit b (list_of desk.old received)) }
+    ensures adds { OnOk result (Adds boxes.old boxes.new
+        (places_of (gridded desk.old.view) (visit b (list_of desk.old received)))) }
+    ensures left { OnOk result (boxes.new.before
+        ≡ behind (gridded desk.old.view) (visit_before before.entry b) boxes.old.before) }
     ensures settled { OnOk result
         (AreSettled (gridded desk.old.view) (list_grid_value desk.old.view (list_of desk.old received)) b
         values.new) }
-    ensures worked { OnOk result
+    ensures worked { before.entry ≡ None → OnOk result
         (AreWorked (gridded desk.old.view) (visit b (list_of desk.old received)) values.new) }
     ensures grows { Grows (list_grid_value desk.old.view (list_of desk.old received)) b values.old
         values.new }
-    ensures counted { ChargesBox (gridded desk.old.view) (visit b (list_of desk.old received))
-        values.old values.new tally.old tally.new }
-    ensures paid { PaysBox (gridded desk.old.view) (visit b (list_of desk.old received)) values.old
-        values.new tally.old tally.new }
+    ensures counted { ChargesBoxAfter (gridded desk.old.view) (visit_before before.entry b)
+        (visit b (list_of desk.old received)) values.old values.new tally.old tally.new }
+    ensures paid { before.entry ≡ None → PaysBox (gridded desk.old.view)
+        (visit b (list_of desk.old received)) values.old values.new tally.old tally.new }
     ensures traced { OnOk result
         (CountsHullsAtLeast
-        (long_spans_in (gridded desk.old.view) (visit b (list_of desk.old received)))
-        tally.old tally.new) }
+        (long_spans_after (gridded desk.old.view) (visit_before before.entry b)
+        (visit b (list_of desk.old received))) tally.old tally.new) }
     ensures more { HasMore desk.old desk.new }
 {
     layers_hold();
@@ -66,7 +86,7 @@ pub fn look_into(
     }
     let asked = asked_box(values.n(), b);
     let told = desk.trace_asked_box(received, asked, tally)?;
-    look_into_told(desk, b, received, &[told], 0, values, tally)
+    look_into_told(desk, b, before, received, &[told], 0, boxes, values, tally)
 }
 
 // Looks into a box. What tracing the list over it told, where it is longer than a cell, stands at a
@@ -75,28 +95,37 @@ pub fn look_into(
 fn look_into_told(
     desk: &mut Desk,
     b: IndexBox,
+    before: Option<OldBox<'_>>,
     received: usize,
     outcomes: &[Outcome<usize>],
     at: usize,
+    boxes: &mut Boxes,
     values: &mut GridValues,
     tally: &mut Tally,
 ) -> Result<(), AllocError>
     requires may { MayLook desk.old b received values.old }
     requires told { IsToldAt (samples desk.old) (list_of desk.old received) b desk.old.lists
         outcomes.now at }
+    requires old { IfSome before (IsOldBox desk.old.view b boxes.old.before) }
+    requires new { IsNew (visit_before before b) (visit b (list_of desk.old received)) }
+    ensures adds { OnOk result (Adds boxes.old boxes.new
+        (places_of (gridded desk.old.view) (visit b (list_of desk.old received)))) }
+    ensures left { OnOk result (boxes.new.before
+        ≡ behind (gridded desk.old.view) (visit_before before.entry b) boxes.old.before) }
     ensures settled { OnOk result
         (AreSettled (gridded desk.old.view) (list_grid_value desk.old.view (list_of desk.old received)) b
         values.new) }
-    ensures worked { OnOk result
+    ensures worked { before.entry ≡ None → OnOk result
         (AreWorked (gridded desk.old.view) (visit b (list_of desk.old received)) values.new) }
     ensures grows { Grows (list_grid_value desk.old.view (list_of desk.old received)) b values.old
         values.new }
-    ensures counted { ChargesBelow (gridded desk.old.view) (visit b (list_of desk.old received))
-        values.old values.new tally.old tally.new }
-    ensures paid { PaysBox (gridded desk.old.view) (visit b (list_of desk.old received)) values.old
-        values.new tally.old tally.new }
+    ensures counted { ChargesBelowAfter (gridded desk.old.view) (visit_before before.entry b)
+        (visit b (list_of desk.old received)) values.old values.new tally.old tally.new }
+    ensures paid { before.entry ≡ None → PaysBox (gridded desk.old.view)
+        (visit b (list_of desk.old received)) values.old values.new tally.old tally.new }
     ensures traced { OnOk result
-        (CountsHullsAtLeast (long_spans_below (gridded desk.old.view)
+        (CountsHullsAtLeast
+        (long_spans_below_after (gridded desk.old.view) (visit_before before.entry b)
         (visit b (list_of desk.old received))) tally.old tally.new) }
     ensures kept { desk.new ≡ desk.old }
 {
@@ -105,42 +134,212 @@ fn look_into_told(
         return look_into_cell(desk, b, received, values, tally);
     }
     match &outcomes[at] {
-        Outcome::Open(live) => look_into_halves(desk, b, *live, values, tally),
-        Outcome::Inside | Outcome::Outside => Ok(()),
+        Outcome::Open(live) => look_into_split(desk, b, before, *live, boxes, values, tally),
+        Outcome::Inside | Outcome::Outside => boxes.push_shut(before.is_some()),
     }
 }
 
-// Looks into the halves of a box that is split. The lists that they hand on are given up then.
+// Looks into a box that is split and hands on a list: takes over what is known of it, where it handed
+// on the same list before.
 #[cycle(looking)]
-fn look_into_halves(
+fn look_into_split(
     desk: &mut Desk,
     b: IndexBox,
+    before: Option<OldBox<'_>>,
     live: usize,
+    boxes: &mut Boxes,
     values: &mut GridValues,
     tally: &mut Tally,
 ) -> Result<(), AllocError>
     requires may { MayLook desk.old b live values.old }
     requires whole { IsWhole (list_of desk.old live) }
     requires long { IsTrue (is_long_for 1 b) }
+    requires old { IfSome before (IsOldBox desk.old.view b boxes.old.before) }
+    ensures adds { OnOk result (Adds boxes.old boxes.new
+        (split_places (gridded desk.old.view) b (list_of desk.old live))) }
+    ensures left { OnOk result (boxes.new.before
+        ≡ behind (gridded desk.old.view) (visit_before before.entry b) boxes.old.before) }
     ensures settled { OnOk result
         (AreSettled (gridded desk.old.view) (list_grid_value desk.old.view (list_of desk.old live)) b
         values.new) }
-    ensures worked { OnOk result
+    ensures worked { before.entry ≡ None → OnOk result
         (All (λ half. AreWorked (gridded desk.old.view) (visit half (list_of desk.old live))
         values.new) (halves_of 1 b)) }
     ensures grows { Grows (list_grid_value desk.old.view (list_of desk.old live)) b values.old
         values.new }
-    ensures counted { ChargesHalves (gridded desk.old.view) (list_of desk.old live) (halves_of 1 b)
-        values.old values.new tally.old tally.new }
-    ensures paid { PaysHalves (gridded desk.old.view) (list_of desk.old live) (halves_of 1 b)
-        values.old values.new tally.old tally.new }
+    ensures counted { ChargesHalvesAfter (gridded desk.old.view)
+        (handed_by before.entry boxes.old.before) (list_of desk.old live) (halves_of 1 b) values.old
+        values.new tally.old tally.new }
+    ensures paid { before.entry ≡ None → PaysHalves (gridded desk.old.view) (list_of desk.old live)
+        (halves_of 1 b) values.old values.new tally.old tally.new }
     ensures traced { OnOk result
-        (CountsHullsAtLeast (halves_long_spans (gridded desk.old.view) (list_of desk.old live)
-        (halves_of 1 b)) tally.old tally.new) }
+        (CountsHullsAtLeast (halves_long_spans_after (gridded desk.old.view)
+        (handed_by before.entry boxes.old.before) (list_of desk.old live) (halves_of 1 b)) tally.old
+        tally.new) }
+    ensures kept { desk.new ≡ desk.old }
+{
+    layers_hold();
+    match unchanged(before, &boxes.before, &desk.lists.list(live)) {
+        Some(old) => take_old(old, b, boxes, values),
+        None => look_into_anew(desk, b, before, live, boxes, values, tally),
+    }
+}
+
+// The box before, where it handed on these steps to its halves.
+#[inline]
+fn unchanged<'a>(
+    before: Option<OldBox<'a>>,
+    left: &OldBoxes,
+    list: &Steps<'_>,
+) -> Option<OldBox<'a>>
+    ensures same { IfSome result (λ old. handed_by (Some old) left.now ≡ Some list.now) }
+    ensures one { IfSome result (λ old. before.entry ≡ Some old) }
+    ensures other { IfNone result (handed_by before.entry left.now ≢ Some list.now) }
+{
+    match before {
+        Some(old) if left.next_is(list) => Some(old),
+        _ => None,
+    }
+}
+
+// Takes over what the grid before had below a box, and what it knew of the points of the box.
+// AllocError: there is no memory for it, and some of that may be taken over.
+fn take_old(
+    old: OldBox<'_>,
+    b: IndexBox,
+    boxes: &mut Boxes,
+    values: &mut GridValues,
+) -> Result<(), AllocError>
+    requires count { first_count boxes.old.before ≤ length boxes.old.before }
+    requires n { SameSize old.values.now.n values.old.n }
+    requires x { b.x1 ≤ values.old.n.x }
+    requires y { b.y1 ≤ values.old.n.y }
+    requires z { b.z1 ≤ values.old.n.z }
+    ensures adds { OnOk result (Adds boxes.old boxes.new
+        (take (first_count boxes.old.before) boxes.old.before)) }
+    ensures left { OnOk result (boxes.new.before
+        ≡ drop (first_count boxes.old.before) boxes.old.before) }
+    ensures part { TakesPart b old.entry.values.now values.old values.new }
+    ensures all { OnOk result (TakesOver b old.entry.values.now values.old values.new) }
+{
+    boxes.push_old()?;
+    values.take_over(old.values, b)
+}
+
+// Looks into a box that is split and hands on another list than before.
+#[cycle(looking)]
+fn look_into_anew(
+    desk: &mut Desk,
+    b: IndexBox,
+    before: Option<OldBox<'_>>,
+    live: usize,
+    boxes: &mut Boxes,
+    values: &mut GridValues,
+    tally: &mut Tally,
+) -> Result<(), AllocError>
+    requires may { MayLook desk.old b live values.old }
+    requires whole { IsWhole (list_of desk.old live) }
+    requires long { IsTrue (is_long_for 1 b) }
+    requires old { IfSome before (IsOldBox desk.old.view b boxes.old.before) }
+    requires new { handed_by before boxes.old.before ≢ Some (list_of desk.old live) }
+    ensures adds { OnOk result (Adds boxes.old boxes.new
+        (split_places (gridded desk.old.view) b (list_of desk.old live))) }
+    ensures left { OnOk result (boxes.new.before
+        ≡ behind (gridded desk.old.view) (visit_before before.entry b) boxes.old.before) }
+    ensures settled { OnOk result
+        (AreSettled (gridded desk.old.view) (list_grid_value desk.old.view (list_of desk.old live)) b
+        values.new) }
+    ensures worked { before.entry ≡ None → OnOk result
+        (All (λ half. AreWorked (gridded desk.old.view) (visit half (list_of desk.old live))
+        values.new) (halves_of 1 b)) }
+    ensures grows { Grows (list_grid_value desk.old.view (list_of desk.old live)) b values.old
+        values.new }
+    ensures counted { ChargesHalvesAfter (gridded desk.old.view)
+        (handed_by before.entry boxes.old.before) (list_of desk.old live) (halves_of 1 b) values.old
+        values.new tally.old tally.new }
+    ensures paid { before.entry ≡ None → PaysHalves (gridded desk.old.view) (list_of desk.old live)
+        (halves_of 1 b) values.old values.new tally.old tally.new }
+    ensures traced { OnOk result
+        (CountsHullsAtLeast (halves_long_spans_after (gridded desk.old.view)
+        (handed_by before.entry boxes.old.before) (list_of desk.old live) (halves_of 1 b)) tally.old
+        tally.new) }
+    ensures kept { desk.new ≡ desk.old }
+{
+    layers_hold();
+    let handed = take_handed(before, &mut boxes.before);
+    let begun = boxes.begin_split(&desk.lists, live)?;
+    let half = half_before(before, &handed);
+    look_into_halves(desk, b, half, live, boxes, values, tally)?;
+    boxes.end_split(begun);
+    Ok(())
+}
+
+// Takes the list that a box before handed on to its halves, where there was one and it had some.
+#[inline]
+fn take_handed(before: Option<OldBox<'_>>, left: &mut OldBoxes) -> Option<Tape>
+    ensures list { result ≡ handed_by before.entry left.old }
+    ensures left { left.new ≡ (if is_some before.entry then drop 1 left.old else left.old) }
+{
+    match before {
+        Some(_) => left.take_next(),
+        None => None,
+    }
+}
+
+// A half of a box before, which handed on this list, where it had some.
+#[inline]
+fn half_before<'a>(before: Option<OldBox<'a>>, handed: &'a Option<Tape>) -> Option<OldBox<'a>>
+    requires { IfNone before (handed.now ≡ None) }
+    ensures received { received_by result ≡ handed.now }
+    ensures values { IfSome result (λ half. IfSome before.entry (λ old. half.values.now
+        ≡ old.values.now)) }
+{
+    match (before, handed) {
+        (Some(old), Some(list)) => Some(old.half(list)),
+        _ => None,
+    }
+}
+
+// Looks into the halves of a box that is split, after those of the grid before. The lists that they
+// hand on are given up then.
+#[cycle(looking)]
+fn look_into_halves(
+    desk: &mut Desk,
+    b: IndexBox,
+    half: Option<OldBox<'_>>,
+    live: usize,
+    boxes: &mut Boxes,
+    values: &mut GridValues,
+    tally: &mut Tally,
+) -> Result<(), AllocError>
+    requires may { MayLook desk.old b live values.old }
+    requires whole { IsWhole (list_of desk.old live) }
+    requires long { IsTrue (is_long_for 1 b) }
+    requires old { IfSome half (AreOldHalves desk.old.view b (halves_of 1 b) boxes.old.before) }
+    requires new { received_by half ≢ Some (list_of desk.old live) }
+    ensures adds { OnOk result (Adds boxes.old boxes.new
+        (halves_places (gridded desk.old.view) (list_of desk.old live) (halves_of 1 b))) }
+    ensures left { OnOk result (boxes.new.before ≡ behind_halves (gridded desk.old.view)
+        (received_by half.entry) (halves_of 1 b) boxes.old.before) }
+    ensures settled { OnOk result
+        (AreSettled (gridded desk.old.view) (list_grid_value desk.old.view (list_of desk.old live)) b
+        values.new) }
+    ensures worked { half.entry ≡ None → OnOk result
+        (All (λ half. AreWorked (gridded desk.old.view) (visit half (list_of desk.old live))
+        values.new) (halves_of 1 b)) }
+    ensures grows { Grows (list_grid_value desk.old.view (list_of desk.old live)) b values.old
+        values.new }
+    ensures counted { ChargesHalvesAfter (gridded desk.old.view) (received_by half.entry)
+        (list_of desk.old live) (halves_of 1 b) values.old values.new tally.old tally.new }
+    ensures paid { half.entry ≡ None → PaysHalves (gridded desk.old.view) (list_of desk.old live)
+        (halves_of 1 b) values.old values.new tally.old tally.new }
+    ensures traced { OnOk result
+        (CountsHullsAtLeast (halves_long_spans_after (gridded desk.old.view)
+        (received_by half.entry) (list_of desk.old live) (halves_of 1 b)) tally.old tally.new) }
     ensures kept { desk.new ≡ desk.old }
 {
     let count = desk.lists.len();
-    let looked = look_into_each_half(desk, b, live, values, tally);
+    let looked = look_into_each_half(desk, b, half, live, boxes, values, tally);
     desk.cut(count);
     looked
 }
@@ -151,28 +350,36 @@ fn look_into_halves(
 fn look_into_each_half(
     desk: &mut Desk,
     b: IndexBox,
+    before: Option<OldBox<'_>>,
     live: usize,
+    boxes: &mut Boxes,
     values: &mut GridValues,
     tally: &mut Tally,
 ) -> Result<(), AllocError>
     requires may { MayLook desk.old b live values.old }
     requires whole { IsWhole (list_of desk.old live) }
     requires long { IsTrue (is_long_for 1 b) }
+    requires old { IfSome before (AreOldHalves desk.old.view b (halves_of 1 b) boxes.old.before) }
+    requires new { received_by before ≢ Some (list_of desk.old live) }
+    ensures adds { OnOk result (Adds boxes.old boxes.new
+        (halves_places (gridded desk.old.view) (list_of desk.old live) (halves_of 1 b))) }
+    ensures left { OnOk result (boxes.new.before ≡ behind_halves (gridded desk.old.view)
+        (received_by before.entry) (halves_of 1 b) boxes.old.before) }
     ensures settled { OnOk result
         (AreSettled (gridded desk.old.view) (list_grid_value desk.old.view (list_of desk.old live)) b
         values.new) }
-    ensures worked { OnOk result
+    ensures worked { before.entry ≡ None → OnOk result
         (All (λ half. AreWorked (gridded desk.old.view) (visit half (list_of desk.old live))
         values.new) (halves_of 1 b)) }
     ensures grows { Grows (list_grid_value desk.old.view (list_of desk.old live)) b values.old
         values.new }
-    ensures counted { ChargesHalves (gridded desk.old.view) (list_of desk.old live) (halves_of 1 b)
-        values.old values.new tally.old tally.new }
-    ensures paid { PaysHalves (gridded desk.old.view) (list_of desk.old live) (halves_of 1 b)
-        values.old values.new tally.old tally.new }
+    ensures counted { ChargesHalvesAfter (gridded desk.old.view) (received_by before.entry)
+        (list_of desk.old live) (halves_of 1 b) values.old values.new tally.old tally.new }
+    ensures paid { before.entry ≡ None → PaysHalves (gridded desk.old.view) (list_of desk.old live)
+        (halves_of 1 b) values.old values.new tally.old tally.new }
     ensures traced { OnOk result
-        (CountsHullsAtLeast (halves_long_spans (gridded desk.old.view) (list_of desk.old live)
-        (halves_of 1 b)) tally.old tally.new) }
+        (CountsHullsAtLeast (halves_long_spans_after (gridded desk.old.view)
+        (received_by before.entry) (list_of desk.old live) (halves_of 1 b)) tally.old tally.new) }
     ensures more { HasMore desk.old desk.new }
 {
     layers_hold();
@@ -181,7 +388,9 @@ fn look_into_each_half(
     let outcomes = outcomes.as_slice();
     let mut at = 0;
     for half in halves.as_slice() {
-        look_into_told(desk, *half, live, outcomes, at, values, tally)?;
+        look_into_told(
+            desk, *half, before, live, outcomes, at, boxes, values, tally,
+        )?;
         at += usize::from(is_long(*half, LEAF));
     }
     Ok(())

@@ -3,6 +3,7 @@ ghost use Rattle.std.specs.Prelude.{◌≡◌, ◌+◌, ◌*◌, ◌/◌, ◌%�
 ghost use Rattle.kuhn_cells.specs.Triangles.{GridPoint, further, point};
 ghost use Rattle.kuhn_cells.specs.Sizes.{IsBounded};
 ghost use Rattle.oct_descent.specs.Corners.{AreTogether, IsRow};
+ghost use Rattle.oct_descent.specs.Taking.{TakesValue};
 ghost use Rattle.oct_descent.specs.Tables.{AreKept, IsSame, KeepsPlaces, Sets, brick_of as brick_of_point, is_known as is_known_of, is_within, known_at, read as read_of, slot as slot_of, stand as stand_of};
 
 use fixed_ops::Fx;
@@ -27,6 +28,7 @@ pub struct GridValues {
 impl Model for GridValues {
     ghost use Rattle.std.specs.Prelude.{◌≡◌, ◌+◌, ◌*◌, ◌/◌, ◌≤◌, length};
     ghost use Rattle.kuhn_cells.specs.Sizes.{IsBounded};
+    ghost use Rattle.oct_descent.specs.Taking.{TakesValue};
     ghost use Rattle.oct_descent.specs.Tables.{AreKept, PointValues};
 
     ghost Value = { PointValues };
@@ -59,10 +61,10 @@ impl GridValues {
         })
     }
 
-    // Lets a proof know what the values of a grid always keep: no grid has more than 512 cells along an
-    // axis, and each brick that is kept has a place of its own, with room for all its points.
+    /// Lets a proof know what the values of a grid always keep: no grid has more than 512 cells along an
+    /// axis, and each brick that is kept has a place of its own, with room for all its points.
     #[inline]
-    fn holds(&self)
+    pub fn holds(&self)
         ensures bounded { IsBounded self.now.n }
         ensures kept { AreKept self.now.places (length self.now.kept.known)
             (length self.now.kept.values) }
@@ -206,10 +208,10 @@ impl GridValues {
         }
     }
 
-    // Keeps the brick of a point, and gives where the point's value stands. AllocError: there is no
-    // memory for the brick.
+    /// Keeps the brick of a point, and gives where the point's value stands. AllocError: there is no
+    /// memory for the brick.
     #[inline]
-    fn make_room(&mut self, x: u32, y: u32, z: u32) -> Result<usize, AllocError>
+    pub fn make_room(&mut self, x: u32, y: u32, z: u32) -> Result<usize, AllocError>
         requires x { x ≤ self.old.n.x }
         requires y { y ≤ self.old.n.y }
         requires z { z ≤ self.old.n.z }
@@ -253,6 +255,24 @@ impl GridValues {
     {
         self.known[at] = true;
         self.values[at] = value;
+    }
+
+    /// Keeps a value that stands somewhere in another grid, if it is known there, where the value of a
+    /// point stands that is not known.
+    #[inline]
+    pub fn take_place(&mut self, other: &GridValues, from: usize, to: usize)
+        requires from { from < length other.now.kept.known }
+        requires to { to < length self.old.kept.known }
+        ensures takes { (p : GridPoint) → IsTrue (is_within self.old.n p) → stand_of self.old p ≡ Some to
+            → TakesValue p (read_of other.now.kept from) self.old self.new }
+        ensures keeps { KeepsPlaces self.old self.new }
+    {
+        if self.read(to).is_some() {
+            return;
+        }
+        if let Some(value) = other.read(from) {
+            self.set(to, value);
+        }
     }
 }
 

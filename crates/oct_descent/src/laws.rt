@@ -1,4 +1,5 @@
 // What always holds of grids of lists and of the work that their cells take.
+ghost use Rattle.oct_descent.specs.AfterLaws.{BoxesAfterAddUp, MeshesAfterAddUp};
 ghost use Rattle.oct_descent.specs.Laws.{GridsAreBordered, LayersHaveTheCells, LongMeshSpansAddUp, MeshPointsAreBounded, MeshSpansAddUp, MeshSpansAreBounded, ReachedBoxesAreCountedOnce, WaysGoOn};
 
 use box_chains::layers_hold;
@@ -47,3 +48,13 @@ pub fn reached_boxes_are_counted_once()
 pub fn layers_have_the_cells()
     ensures { LayersHaveTheCells }
 {}
+
+/// How the work of a mesh adds up that comes after another mesh of the same cells: nothing is taken
+/// where a box received an equal list in that mesh, and the work of any other box is its own and that
+/// of its halves.
+pub fn meshes_after_add_up()
+    ensures boxes { BoxesAfterAddUp }
+    ensures meshes { MeshesAfterAddUp }
+{
+    layers_hold();
+}

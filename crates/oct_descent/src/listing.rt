@@ -9,7 +9,7 @@ ghost use Rattle.oct_descent.specs.GridValues.{list_grid};
 ghost use Rattle.oct_descent.specs.Rows.{cells_at, cells_between, cells_in_layer, cells_in_row};
 ghost use Rattle.oct_descent.specs.Sizes.{size_of};
 
-use crate::OctTree;
+use crate::CellGrid;
 use crate::corner_values::{corners, is_mixed};
 use crate::mesh_size::mesh_size;
 use fixed_ops::Fx;
@@ -19,21 +19,21 @@ use view_places::View;
 
 /// The cells of a grid that have both an inside and an outside corner, with the values of their
 /// corners, by z, then by y, then by x. AllocError: there is no memory for them.
-pub fn cell_list(alloc: Global, tree: &OctTree) -> Result<CellList, AllocError>
-    ensures { IfOk result (λ list. ListsCells (size_of tree.now.view) list
-        (list_grid tree.now.view tree.now.list)) }
+pub fn cell_list(alloc: Global, grid: &CellGrid) -> Result<CellList, AllocError>
+    ensures { IfOk result (λ list. ListsCells (size_of grid.now.view) list
+        (list_grid grid.now.view grid.now.list)) }
 {
     let mut cells = Vec::new(alloc);
-    for z in 0..mesh_size(&tree.view).z {
-        tree.push_layer(z, &mut cells)?;
+    for z in 0..mesh_size(&grid.view).z {
+        grid.push_layer(z, &mut cells)?;
     }
     Ok(CellList {
-        n: tree.view.n,
+        n: grid.view.n,
         cells,
     })
 }
 
-impl OctTree {
+impl CellGrid {
     /// How many cells the grid has along each axis.
     #[inline]
     pub fn n(&self) -> GridSize

@@ -13,8 +13,10 @@ pub record Piece : Type 0 where
   pub room : ℕ
   pub bytes : List ℕ
 
--- a block of its length, in which the piece starts, with the texts of the places of points and of three digits
-pub record IsBlock (w : Window) (texts : PointTexts) (triples : Triples) (block : List ℕ) (start : ℕ) : Type 0 where
+-- a block of its length, in which the piece starts, with the texts of the places of points and of three
+-- digits
+pub record IsBlock (w : Window) (texts : PointTexts) (triples : Triples) (block : List ℕ)
+    (start : ℕ) : Type 0 where
   pub full : length block ≡ BLOCK
   pub within : start ≤ BLOCK
   pub points : ArePointTexts w texts

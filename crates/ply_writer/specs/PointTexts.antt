@@ -17,7 +17,8 @@ pub record IsTextOf (text : List ℕ) (t : PointText) : Type 0 where
 -- the texts of the places of all points along an axis
 pub record AreTextsAlong (w : Window) (axis : Axis) (texts : List PointText) : Type 0 where
   pub room : steps_of w Grid axis < length texts
-  pub each : (i : ℕ) (d : PointText) → i ≤ steps_of w Grid axis → IsTextOf (number_text (sample_place w Grid axis i)) (get_or texts i d)
+  pub each : (i : ℕ) (d : PointText) → i ≤ steps_of w Grid axis
+      → IsTextOf (number_text (sample_place w Grid axis i)) (get_or texts i d)
 
 -- and so along each axis
 pub record ArePointTexts (w : Window) (t : PointTexts) : Type 0 where

@@ -13,4 +13,5 @@ zeros_before n = 3 - length (decimal n)
 -- both of each number below a thousand
 pub record AreTriples (t : Triples) : Type 0 where
   pub room : length t.texts.items ≡ 1000
-  pub each : (number : ℕ) (d : List ℕ) → number < 1000 → get_or t.texts.items number d ≡ zeros_before number ∷ triple_text number
+  pub each : (number : ℕ) (d : List ℕ) → number < 1000
+      → get_or t.texts.items number d ≡ zeros_before number ∷ triple_text number

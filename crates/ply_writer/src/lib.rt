@@ -4,7 +4,6 @@
 mod digits;
 mod header;
 mod line;
-mod pieces;
 mod ply;
 mod ply_block;
 mod point_texts;
@@ -13,7 +12,6 @@ mod triples;
 
 pub use header::HEADER;
 pub use line::{FACE_LINE, VERTEX_LINE};
-pub use pieces::PlyPieces;
 pub use ply::ply_text;
 pub use ply_block::{BLOCK, PlyBlock};
 pub use room::room_for;

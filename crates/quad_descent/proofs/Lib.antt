@@ -1,5 +1,6 @@
 pub mod Bounds
 pub mod Drawn
+pub mod Eights
 mod Examples
 pub mod Leaves
 pub mod NodeLaws

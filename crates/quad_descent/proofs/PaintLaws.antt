@@ -276,6 +276,19 @@ digit-read f x0 x1 n rest less is =
     let last = digit-last (bits_of (map f (range_with_len x0 k))) (f (x1 - 1 - n)) in
     (ap (λ m. m / 2) more ∙ last.0, ap (λ m. m % 2 == 1) more ∙ last.1)
 
+-- the byte of a sample, where it stands in a band
+pub byte-there : (view : Window) (list : List Step) (row j i : ℕ) (b : Indices) → i < view.w → row ≤ j → b.z0 ≡ 0
+    → cond (is_inside (tape_value (point_of view Raster i j b.z0) list)) 255 0 ≡ byte_at view list row ((j - row) * view.w + i)
+byte-there view list row j i b narrow above layer =
+    let r = j - row in
+    let w = view.w in
+    let cell = place-of w r i narrow in
+    let here : row + r ≡ j = omega (arith, above) in
+    ap (λ k. cond (is_inside (tape_value (point_of view Raster i j k) list)) 255 0) layer
+    ∙ ap (λ m. pixel_at view list i m) (sym here)
+    ∙ ap (λ m. pixel_at view list i (row + m)) (sym cell.0)
+    ∙ ap (λ m. pixel_at view list m (row + (r * w + i) / w)) (sym cell.1)
+
 -- and painted
 pub digit-painted : (view : Window) (list : List Step) (band : Band) (len j n byte start at : ℕ) (b : Indices) (xs ys : List ℕ)
     → IsBand view band len → length xs ≡ len → IsBox b → IsInRoot view Raster b → band.row ≤ j → j < band.row + band.rows → n < b.x1 - b.x0
@@ -290,16 +303,8 @@ digit-painted view list band len j n byte start at b xs ys is_band same is withi
     let f = byte_at view list band.row in
     let narrow : i < w = omega (arith, less, within.x) in
     let there : at ≡ r * w + i = place ∙ ap (λ m. m + i) begin in
-    let cell = place-of w r i narrow in
-    let row : band.row + r ≡ j = omega (arith, above) in
     let layer : b.z0 ≡ 0 = omega (arith, is.z, within.z) in
-    let right : byte ≡ f at =
-    is_byte
-    ∙ ap (λ k. cond (is_inside (tape_value (point_of view Raster i j k) list)) 255 0) layer
-    ∙ ap (λ m. pixel_at view list i m) (sym row)
-    ∙ ap (λ m. pixel_at view list i (band.row + m)) (sym cell.0)
-    ∙ ap (λ m. pixel_at view list m (band.row + (r * w + i) / w)) (sym cell.1)
-    ∙ ap f (sym there) in
+    let right : byte ≡ f at = is_byte ∙ byte-there view list band.row j i b narrow above layer ∙ ap f (sym there) in
     let rows : (r + 1) * w ≤ band.rows * w = mul-le-mul_right w (omega (arith, above, below)) in
     let once : (r + 1) * w ≡ r * w + w = grind arith in
     let room : at < length ys = omega (arith, there, painted.same, same, is_band.whole, rows, once, narrow) in

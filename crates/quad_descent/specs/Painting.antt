@@ -1,5 +1,5 @@
 -- Rows of pixels that are painted box by box.
-use Rattle.std.specs.Prelude.{◌≡◌, ℕ, ◌+◌, ◌*◌, ◌/◌, ◌%◌, ◌<◌, ◌≤◌, nat_le, nat_lt, Bool, ◌&&◌, List, length, slice_index_or, if◌then◌else◌}
+use Rattle.std.specs.Prelude.{◌≡◌, ℕ, ◌+◌, ◌*◌, ◌/◌, ◌%◌, ◌^◌, ◌<◌, ◌≤◌, ◌==◌, nat_le, nat_lt, Bool, ◌&&◌, List, length, slice_index_or, if◌then◌else◌}
 use Rattle.live_clauses.specs.declared.step.Step.{Step}
 use Rattle.view_places.specs.Boxes.{Indices, has_sample}
 use Rattle.view_places.specs.Window.{Window}
@@ -29,6 +29,10 @@ covers w row b p = has_sample (p % w) (row + p / w) 0 b
 -- what the byte at a place of a band is to be
 abbrev pub byte_at : Window → List Step → ℕ → ℕ → ℕ
 byte_at view list row p = pixel_at view list (p % view.w) (row + p / view.w)
+
+-- the byte of a pixel that a binary digit of a number tells, where digits are counted from the lowest on
+abbrev pub digit_byte : ℕ → ℕ → ℕ
+digit_byte bits digit = if bits / 2 ^ digit % 2 == 1 then 255 else 0
 
 -- the places from low on up to high
 abbrev pub among : ℕ → ℕ → ℕ → Bool

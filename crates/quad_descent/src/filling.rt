@@ -2,10 +2,11 @@
 ghost use Rattle.std.specs.Prelude.{◌≡◌, ◌+◌, ◌-◌, ◌*◌, ◌<◌, ◌≤◌, ℕ, true, length, if◌then◌else◌, IsTrue};
 ghost use Rattle.view_places.specs.Spans.{IsInRoot};
 ghost use Rattle.quad_descent.specs.Nodes.{bits_of, insides, rows_of};
-ghost use Rattle.quad_descent.specs.Painting.{IsBand, Paints, among, byte_at, covers, meets};
+ghost use Rattle.quad_descent.specs.Painting.{IsBand, Paints, among, byte_at, covers, digit_byte, meets};
 
 use crate::Picture;
 use crate::band::Band;
+use std::simd::prelude::*;
 use view_places::{IndexBox, Lattice};
 
 impl Picture {
@@ -52,9 +53,12 @@ impl Picture {
             ((j - band.row) * self.now.view.w + b.x1))
             (byte_at self.now.view self.now.list band.row) pixels.old pixels.new }
     {
-        // A row of eight samples is written at once, since its loop has no turn to count.
+        // A row of eight samples is written at once.
         match b.x1 - b.x0 {
-            8 => self.paint_digits(bits, 8, b, j, band, pixels),
+            8 => {
+                let start = (j - band.row) as usize * self.view.w as usize;
+                paint_eight(bits, start + b.x0 as usize, pixels);
+            }
             width => self.paint_digits(bits, width, b, j, band, pixels),
         }
     }
@@ -92,6 +96,21 @@ fn fill(pixels: &mut [u8], from: usize, to: usize, byte: u8)
     for p in from..to {
         pixels[p] = byte;
     }
+}
+
+// Sets the eight bytes from a place on, each by a digit of a number, the highest first: 255 for 1 and 0
+// for 0.
+#[inline(always)]
+fn paint_eight(bits: u8, from: usize, pixels: &mut [u8])
+    requires { from + 8 ≤ length pixels.old }
+    ensures { Paints (among from (from + 8)) (λ p. digit_byte bits (from + 7 - p))
+        pixels.old pixels.new }
+{
+    let digits = u8x8::splat(bits) & u8x8::from_array([128, 64, 32, 16, 8, 4, 2, 1]);
+    let bytes = digits.simd_ne(u8x8::splat(0));
+    bytes
+        .select(u8x8::splat(255), u8x8::splat(0))
+        .copy_to_slice(&mut pixels[from..]);
 }
 
 // The byte of a pixel: 255 inside and 0 outside.

@@ -3,6 +3,7 @@ mod ChangeLemmas
 pub mod Departures
 pub mod Examples
 pub mod Growth
+pub mod InverseLemmas
 pub mod KeptLemmas
 pub mod ListLemmas
 pub mod Lookups
@@ -14,6 +15,7 @@ pub mod OperandPlaces
 pub mod Places
 pub mod PushLemmas
 pub mod Readers
+pub mod ReversalLemmas
 pub mod Rewrites
 pub mod SurgeryLemmas
 pub mod SurgeryModels

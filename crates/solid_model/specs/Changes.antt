@@ -55,3 +55,11 @@ abbrev pub TellsUser : List Clause → Refusal → Type 0
 TellsUser clauses (Plain fault) = ⊤
 TellsUser clauses (InUse at user) =
     (at < length clauses) × (position (reads at) clauses ≡ Some user)
+
+-- a change is what an edit says, by places
+abbrev pub DoesEdit : List Clause → Edit → Change → Type 0
+DoesEdit clauses (Set name form) (Write at clause) = place_of clauses name ≡ Some at
+DoesEdit clauses (Add name form) (Insert at clause) = clause.name.now ≡ name
+DoesEdit clauses (Put next name form) (Insert at clause) = clause.name.now ≡ name
+DoesEdit clauses (Cut name) (Remove at) = place_of clauses name ≡ Some at
+DoesEdit clauses edit change = ⊥

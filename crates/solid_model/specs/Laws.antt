@@ -6,6 +6,7 @@ use Rattle.solid_model.specs.declared.clause.Clause.{Clause}
 use Rattle.solid_model.specs.declared.edit.Edit.{Edit}
 use Rattle.solid_model.specs.Clauses.{AreInOrder, AreClauses, IsModel}
 use Rattle.solid_model.specs.Edits.{edited, IsEdit}
+use Rattle.solid_model.specs.Inverses.{inverse_of}
 use Rattle.solid_model.specs.Named.{named_of, placed}
 use Rattle.solid_model.specs.Values.{clause_value, values, solid_value}
 
@@ -40,3 +41,12 @@ NamesGivePlaces = (clauses : List Clause) → AreClauses clauses → placed (nam
 abbrev pub EditsGiveModels : Type 0
 EditsGiveModels = (clauses : List Clause) (edit : Edit) (new : List Clause)
     → AreClauses clauses → IsEdit edit → edited clauses edit ≡ Ok new → IsModel new
+
+-- After an edit that a model accepts, its inverse is an edit that is accepted, and gives the model again.
+pub record IsTakenBack (clauses : List Clause) (edit : Edit) (new : List Clause) : Type 0 where
+  pub edit_is : IsEdit (inverse_of clauses edit)
+  pub back : edited new (inverse_of clauses edit) ≡ Ok clauses
+
+abbrev pub EditsAreTakenBack : Type 0
+EditsAreTakenBack = (clauses : List Clause) (edit : Edit) (new : List Clause)
+    → IsModel clauses → IsEdit edit → edited clauses edit ≡ Ok new → IsTakenBack clauses edit new

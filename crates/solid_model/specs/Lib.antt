@@ -1,8 +1,11 @@
 pub mod Adding
 pub mod Changes
 pub mod Clauses
+pub mod Edited
 pub mod Edits
+pub mod Inverses
 pub mod Keys
+pub mod Labels
 pub mod Laws
 pub mod Moves
 pub mod Named
@@ -10,6 +13,7 @@ pub mod Names
 pub mod Parts
 pub mod Pushing
 pub mod Refusals
+pub mod Reversals
 pub mod Seen
 pub mod Surgery
 pub mod Tables

@@ -1,9 +1,10 @@
 // A clause as a model shows it.
 ghost use Rattle.std.specs.Prelude.{◌≡◌};
-ghost use Rattle.solid_model.specs.Seen.{clause_seen};
+ghost use Rattle.solid_model.specs.Seen.{clause_seen, placed_form};
 ghost use Rattle.solid_model.specs.Surgery.{reads_before};
 
-use fixed_ops::{Fx, Op, arity};
+use crate::placed_form::PlacedForm;
+use fixed_ops::{Fx, Op};
 
 /// A clause of a model, whose name is lent: an operation, the places of its operands, and the
 /// number of a constant.
@@ -22,11 +23,24 @@ pub struct ClauseRef<'m> {
 }
 
 impl ClauseRef<'_> {
+    // What it says beside its name.
+    #[inline]
+    pub(crate) fn form(&self) -> PlacedForm
+        ensures { result ≡ placed_form (clause_seen self.now) }
+    {
+        PlacedForm {
+            op: self.op,
+            a: self.a,
+            b: self.b,
+            value: self.value,
+        }
+    }
+
     // Whether each operand stands before a place.
+    #[inline]
     pub(crate) fn reads_before(&self, place: u32) -> bool
         ensures { result ≡ reads_before place (clause_seen self.now) }
     {
-        let operands = arity(self.op);
-        (operands < 1 || self.a < place) && (operands < 2 || self.b < place)
+        self.form().reads_before(place)
     }
 }

@@ -1,4 +1,5 @@
 // A change to a model, and why one is refused.
+ghost use Rattle.solid_model.specs.Edits.{IsEdit};
 
 use crate::{Form, Name};
 use thiserror::Error;
@@ -15,6 +16,24 @@ pub enum Edit {
     Put(Name, Name, Form),
     /// The clause of this name is taken out. Where it was the output, the clause before it is.
     Cut(Name),
+}
+
+impl Edit {
+    // Lets a proof know that its name is a name, and that its form is one.
+    #[inline]
+    pub(crate) fn holds(&self)
+        ensures { IsEdit self.now }
+    {
+        match self {
+            Edit::Set(name, form) | Edit::Add(name, form) | Edit::Put(_, name, form) => {
+                let _name = name.bytes();
+                let _form = form.op;
+            }
+            Edit::Cut(name) => {
+                let _name = name.bytes();
+            }
+        }
+    }
 }
 
 /// Why an edit was refused.

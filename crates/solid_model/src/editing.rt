@@ -2,7 +2,8 @@
 ghost use Rattle.std.specs.Prelude.{◌≡◌, ◌≢◌, IfErr, IfOk, MatchResult};
 ghost use Rattle.std.specs.Option.{option_map};
 ghost use Rattle.solid_model.specs.Adding.{added, clause_after, operand};
-ghost use Rattle.solid_model.specs.Changes.{done, fault_of, surgery, Allows, PutsIn, TellsUser};
+ghost use Rattle.solid_model.specs.Changes.{done, fault_of, surgery, Allows, DoesEdit, PutsIn, TellsUser};
+ghost use Rattle.solid_model.specs.declared.edit.Edit.TheVariants.{Add, Cut, Put, Set};
 ghost use Rattle.solid_model.specs.Clauses.{AreInOrder};
 ghost use Rattle.solid_model.specs.Edits.{IsEdit, MakesClause};
 ghost use Rattle.solid_model.specs.Names.{IsName};
@@ -28,6 +29,7 @@ impl Table {
         ensures user { IfErr result (TellsUser (clauses_in self.now)) }
         ensures allowed { IfOk result (λ change. Allows (clauses_in self.now) change) }
         ensures puts { IfOk result (λ change. PutsIn change → MakesClause edit.now) }
+        ensures does { IfOk result (λ change. DoesEdit (clauses_in self.now) edit.now change) }
         ensures edit { IsEdit edit.now }
     {
         match edit {
@@ -48,6 +50,8 @@ impl Table {
         ensures user { IfErr result (TellsUser (clauses_in self.now)) }
         ensures allowed { IfOk result (λ change. Allows (clauses_in self.now) change) }
         ensures puts { IfOk result (λ change. ¬ PutsIn change) }
+        ensures does { IfOk result (λ change. DoesEdit (clauses_in self.now)
+            (Set name.now form.now) change) }
         ensures name { IsName name.now }
         ensures form { IsForm form.now }
     {
@@ -74,6 +78,8 @@ impl Table {
         ensures memory { IfErr result (λ refusal. fault_of refusal ≢ EditFault.NoMemory) }
         ensures user { IfErr result (TellsUser (clauses_in self.now)) }
         ensures allowed { IfOk result (λ change. Allows (clauses_in self.now) change) }
+        ensures does { IfOk result (λ change. DoesEdit (clauses_in self.now)
+            (Add name.now form.now) change) }
         ensures name { IsName name.now }
         ensures form { IsForm form.now }
     {
@@ -100,6 +106,8 @@ impl Table {
         ensures memory { IfErr result (λ refusal. fault_of refusal ≢ EditFault.NoMemory) }
         ensures user { IfErr result (TellsUser (clauses_in self.now)) }
         ensures allowed { IfOk result (λ change. Allows (clauses_in self.now) change) }
+        ensures does { IfOk result (λ change. DoesEdit (clauses_in self.now)
+            (Put next.now name.now form.now) change) }
         ensures name { IsName name.now }
         ensures form { IsForm form.now }
     {
@@ -133,6 +141,8 @@ impl Table {
         ensures user { IfErr result (TellsUser (clauses_in self.now)) }
         ensures allowed { IfOk result (λ change. Allows (clauses_in self.now) change) }
         ensures puts { IfOk result (λ change. ¬ PutsIn change) }
+        ensures does { IfOk result (λ change. DoesEdit (clauses_in self.now)
+            (Cut name.now) change) }
         ensures name { IsName name.now }
     {
         let at = self

@@ -8,14 +8,11 @@ ghost use Rattle.std.specs.Cmp.{partial_equiv_from_equiv};
 ghost use Rattle.std.specs.Cmp.Rules.{hashing};
 ghost use Rattle.std.proofs.Common.{rules};
 
-use arrayvec::ArrayVec;
+use crate::label::Label;
 use indexmap::IndexSet;
 use std::alloc::{AllocError, Global};
 use std::hash::{Hash, Hasher};
 use std::marker::Model;
-
-// The most bytes of a name that take no memory of their own.
-const INLINE: usize = 16;
 
 // The most bytes of a name that are hashed as one number.
 const WORD: usize = 8;
@@ -27,11 +24,9 @@ pub(crate) struct Key<'n> {
     bytes: KeyBytes<'n>,
 }
 
-// A short name takes no memory of its own.
 #[derive(Debug, Drop)]
 enum KeyBytes<'n> {
-    Short(ArrayVec<u8, INLINE>),
-    Long(Vec<u8>),
+    Kept(Label),
     Lent(&'n [u8]),
 }
 
@@ -50,11 +45,9 @@ impl<'n> Key<'n> {
     pub(crate) fn copied(alloc: Global, bytes: &[u8]) -> Result<Key<'n>, AllocError>
         ensures { IfOk result (λ key. key ≡ bytes.now) }
     {
-        let bytes = match ArrayVec::try_from(bytes) {
-            Ok(short) => KeyBytes::Short(short),
-            Err(_) => KeyBytes::Long(Vec::from_slice(alloc, bytes)?),
-        };
-        Ok(Key { bytes })
+        Ok(Key {
+            bytes: KeyBytes::Kept(Label::copied(alloc, bytes)?),
+        })
     }
 
     // These bytes, which are lent.
@@ -67,14 +60,23 @@ impl<'n> Key<'n> {
         }
     }
 
+    // The same bytes as they are kept once more. Those that were lent are copied.
+    pub(crate) fn share(&self, alloc: Global) -> Result<Label, AllocError>
+        ensures { IfOk result (λ label. label ≡ self.now) }
+    {
+        match &self.bytes {
+            KeyBytes::Kept(label) => label.share(),
+            KeyBytes::Lent(bytes) => Label::copied(alloc, bytes),
+        }
+    }
+
     // The bytes.
     #[inline]
     pub(crate) fn bytes(&self) -> &[u8]
         ensures { result.now ≡ self.now }
     {
         match &self.bytes {
-            KeyBytes::Short(bytes) => bytes.as_slice(),
-            KeyBytes::Long(bytes) => bytes.as_slice(),
+            KeyBytes::Kept(label) => label.bytes(),
             KeyBytes::Lent(bytes) => bytes,
         }
     }

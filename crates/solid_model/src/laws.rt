@@ -1,5 +1,5 @@
 // What always holds of the definitions that the contracts cite.
-ghost use Rattle.solid_model.specs.Laws.{PlainValuesHold, OnlyPlainValuesHold, PlainValuesAreRaw, NamesGivePlaces, EditsGiveModels};
+ghost use Rattle.solid_model.specs.Laws.{PlainValuesHold, OnlyPlainValuesHold, PlainValuesAreRaw, NamesGivePlaces, EditsAreTakenBack, EditsGiveModels};
 
 use fixed_ops::steps_read_their_operands;
 
@@ -19,4 +19,10 @@ pub fn plain_values()
 pub fn edits_give_models()
     ensures places { NamesGivePlaces }
     ensures models { EditsGiveModels }
+{}
+
+/// After an edit that a model accepts, the edit that takes it back is accepted, and gives the model
+/// again.
+pub fn edits_are_taken_back()
+    ensures { EditsAreTakenBack }
 {}

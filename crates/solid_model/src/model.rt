@@ -1,15 +1,19 @@
 // A solid as a list of clauses.
-ghost use Rattle.std.specs.Prelude.{◌≡◌, ◌≢◌, ◌<◌, [], length, slice_get, IfErr, IfOk, OnErr, OnOk};
+ghost use Rattle.std.specs.Prelude.{◌≡◌, ◌≢◌, ◌<◌, List, [], length, slice_get, IfErr, IfOk, IsOk, Ok, OnErr, OnOk};
 ghost use Rattle.solid_model.specs.Clauses.{place_of, IsClauseAt, IsModel};
 ghost use Rattle.solid_model.specs.Edits.{edited, MakesClause};
+ghost use Rattle.solid_model.specs.declared.clause.Clause.{Clause};
 ghost use Rattle.solid_model.specs.declared.edit.Edit.TheVariants.{Add};
+ghost use Rattle.solid_model.specs.Inverses.{inverse_of};
 ghost use Rattle.solid_model.specs.Refusals.{RefusesAs, WantsMemoryFor};
+ghost use Rattle.solid_model.specs.Reversals.{edit_back, reverted, AllowsBack, IsKeptBack};
 ghost use Rattle.solid_model.specs.Seen.{clause_seen};
 ghost use Rattle.solid_model.specs.Tables.{clauses_in};
 
+use crate::reversal::Reversal;
 use crate::table::Table;
 use crate::{ClauseRef, Edit, EditFault, Form, Name};
-use std::alloc::Global;
+use std::alloc::{AllocError, Global};
 
 /// A solid: from 1 to 65,535 clauses of distinct names, each of whose operands stands before it.
 /// The last one is the output.
@@ -66,6 +70,59 @@ impl Model {
         ensures err { OnErr result (self.new ≡ self.old) }
     {
         self.table.apply(&edit)
+    }
+
+    /// Whether the model accepts a change. Where it does not, the fault is the one that `apply` answers.
+    /// No memory is asked for.
+    pub fn check(&self, edit: &Edit) -> Result<(), EditFault>
+        ensures ok { OnOk result (IsOk (edited self.now edit.now)) }
+        ensures fault { IfErr result (λ fault. edited self.now edit.now ≡ Err fault) }
+        ensures memory { IfErr result (λ fault. fault ≢ EditFault.NoMemory) }
+    {
+        match self.table.change(edit) {
+            Ok(_) => Ok(()),
+            Err(refusal) => Err(refusal.fault()),
+        }
+    }
+
+    /// The edit that takes back a change which the model accepts: once both are applied, the model is as
+    /// it was. AllocError: memory was refused.
+    pub fn invert(&self, edit: &Edit) -> Result<Edit, AllocError>
+        requires { IsOk (edited self.now edit.now) }
+        ensures inverse { IfOk result (λ inverse. inverse ≡ inverse_of self.now edit.now) }
+        ensures back { IfOk result (λ inverse. (new : List Clause) → edited self.now edit.now ≡ Ok new
+            → edited new inverse ≡ Ok self.now) }
+    {
+        edit.holds();
+        self.table.inverse(edit)
+    }
+
+    // Applies a change, and puts what takes it back behind others. After an `Err` the model and those are as
+    // they were. It answers as `apply` does, but wants memory for each change that is accepted.
+    pub(crate) fn apply_and_keep(
+        &mut self,
+        edit: &Edit,
+        backs: &mut Vec<Reversal>,
+    ) -> Result<(), EditFault>
+        ensures ok { OnOk result (edited self.old edit.now ≡ Ok self.new) }
+        ensures kept { OnOk result
+            (IsKeptBack self.old self.new edit.now backs.old.items backs.new.items) }
+        ensures fault { RefusesAs (edited self.old edit.now) EditFault.NoMemory result }
+        ensures no_memory { WantsMemoryFor (edited self.old edit.now) EditFault.NoMemory result }
+        ensures err { OnErr result (self.new ≡ self.old) }
+        ensures others { OnErr result (backs.new.items ≡ backs.old.items) }
+    {
+        self.table.apply_and_keep(edit, backs)
+    }
+
+    // Takes a change back. AllocError: memory was refused, and the model is as it was.
+    pub(crate) fn revert(&mut self, back: &Reversal) -> Result<(), AllocError>
+        requires { AllowsBack self.old back.now }
+        ensures ok { OnOk result (self.new ≡ reverted self.old back.now) }
+        ensures edit { edited self.old (edit_back self.old back.now) ≡ Ok (reverted self.old back.now) }
+        ensures err { OnErr result (self.new ≡ self.old) }
+    {
+        self.table.revert(back)
     }
 
     // The model of a table, whose clauses are one.

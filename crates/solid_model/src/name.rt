@@ -3,18 +3,15 @@ ghost use Rattle.std.specs.Prelude.{◌≡◌, ◌↔◌, IfOk, OnOk, IsErrOf};
 ghost use Rattle.std.specs.List.{list_all};
 ghost use Rattle.solid_model.specs.Names.{is_token_byte, is_name, IsName};
 
-use smallvec::SmallVec;
+use crate::label::Label;
 use std::alloc::{AllocError, Global};
 use std::marker::Model;
 use thiserror::Error;
 
-// The longest name that takes no memory of its own.
-const INLINE: usize = 16;
-
 /// The name of a clause, which contracts see as its bytes: a token that does not begin with `#`.
 #[derive(Debug, Drop)]
 pub struct Name {
-    bytes: SmallVec<u8, INLINE>,
+    label: Label,
 }
 
 impl Model for Name {
@@ -23,9 +20,9 @@ impl Model for Name {
 
     ghost Value = { List ℕ };
 
-    ghost view = { λ n. n.bytes.items };
+    ghost view = { λ n. n.label };
 
-    ghost invariant = { λ n. IsName n.bytes.items };
+    ghost invariant = { λ n. IsName n.label };
 }
 
 /// Why bytes are no name.
@@ -62,8 +59,36 @@ impl Name {
         requires { IsName bytes.now }
         ensures { IfOk result (λ name. name ≡ bytes.now) }
     {
-        let bytes = SmallVec::from_slice(alloc, bytes)?;
-        Ok(Name { bytes })
+        Ok(Name {
+            label: Label::copied(alloc, bytes)?,
+        })
+    }
+
+    /// An equal name, which shares the memory of a long one. AllocError: memory was refused.
+    pub fn copy(&self) -> Result<Name, AllocError>
+        ensures { IfOk result (λ name. name ≡ self.now) }
+    {
+        Ok(Name {
+            label: self.label.share()?,
+        })
+    }
+
+    // The name that these bytes are known to be.
+    #[inline]
+    pub(crate) fn of(label: Label) -> Name
+        requires { IsName label }
+        ensures { result ≡ label }
+    {
+        Name { label }
+    }
+
+    // How its bytes are kept.
+    #[inline]
+    pub(crate) fn label(&self) -> &Label
+        ensures label { result.now ≡ self.now }
+        ensures name { IsName result.now }
+    {
+        &self.label
     }
 
     /// The bytes of the name.
@@ -72,7 +97,7 @@ impl Name {
         ensures bytes { result.now ≡ self.now }
         ensures name { IsName result.now }
     {
-        self.bytes.as_slice()
+        self.label.bytes()
     }
 }
 

@@ -1,25 +1,30 @@
 // A list of clauses in which a name is found at once, and whose clauses move without their
 // operands.
-ghost use Rattle.std.specs.Prelude.{◌≡◌, ◌≢◌, ◌<◌, ◌≤◌, [], ◌∷◌, ◌++◌, length, map, set, slice_get, slice_index_or, if◌then◌else◌, true, false, is_some, Some, None, IfErr, IfOk, IfSome, OnErr, OnOk};
+ghost use Rattle.std.specs.Prelude.{◌≡◌, ◌≢◌, ℕ, ◌<◌, ◌≤◌, List, [], ◌∷◌, ◌++◌, length, map, set, slice_get, slice_index_or, if◌then◌else◌, true, false, is_some, Some, None, IfErr, IfOk, IfSome, OnErr, OnOk};
 ghost use Rattle.std.specs.List.{insert, position, remove};
 ghost use Rattle.std.specs.Option.{unwrap_or};
 ghost use Rattle.solid_model.specs.Changes.{done, surgery, Allows, PutsIn, TellsUser};
-ghost use Rattle.solid_model.specs.Clauses.{place_of, AreInOrder};
+ghost use Rattle.solid_model.specs.Clauses.{place_of, AreClauses, AreInOrder};
 ghost use Rattle.solid_model.specs.Edits.{IsEdit, MakesClause};
+ghost use Rattle.solid_model.specs.Named.{by_name, name_at};
 ghost use Rattle.solid_model.specs.Pushing.{push_fault};
 ghost use Rattle.solid_model.specs.Refusals.{RefusesAs, WantsMemoryFor};
-ghost use Rattle.solid_model.specs.Seen.{clause_seen};
+ghost use Rattle.solid_model.specs.Reversals.{reversal_of, reverted, AllowsBack, IsMadeAndKept};
+ghost use Rattle.solid_model.specs.Seen.{clause_seen, named_clause};
+ghost use Rattle.solid_model.specs.declared.clause.Clause.{Clause};
 ghost use Rattle.solid_model.specs.Surgery.{down, moved, reads, up};
 ghost use Rattle.solid_model.specs.Tables.{clauses_in, label_of, standing_place, HasName, HasOperandsBefore, IsNumbered};
 
 use crate::change::Change;
 use crate::key::{Key, number_in};
 use crate::numbers::{grow, move_number};
+use crate::placed_form::PlacedForm;
 use crate::refusal::Refusal;
+use crate::reversal::Reversal;
 use crate::row::Row;
 use crate::users::{first_reader, keep_user, kept_user};
 use crate::uses::{count_operands, uncount_operands};
-use crate::{ClauseRef, Edit, EditFault, PushFault};
+use crate::{ClauseRef, Edit, EditFault, Form, Name, PushFault};
 use fixed_ops::arity;
 use indexmap::IndexSet;
 use std::alloc::{AllocError, Global};
@@ -123,6 +128,36 @@ impl Table {
         }
     }
 
+    // The name of the clause at a place.
+    pub(crate) fn name(&self, at: usize) -> Result<Name, AllocError>
+        requires in_order { AreInOrder (clauses_in self.now) }
+        requires within { at < length (clauses_in self.now) }
+        ensures { IfOk result (λ name. name ≡ name_at (clauses_in self.now) at) }
+    {
+        let number = self.numbers[at] as usize;
+        let label = self.names.as_slice()[number].share(self.alloc)?;
+        Ok(Name::of(label))
+    }
+
+    // The form of the clause at a place.
+    pub(crate) fn form(&self, at: usize) -> Result<Form, AllocError>
+        requires in_order { AreInOrder (clauses_in self.now) }
+        requires within { at < length (clauses_in self.now) }
+        ensures { IfOk result (λ form. (clause : Clause) → slice_get (clauses_in self.now) at ≡ Some clause
+            → form ≡ (by_name (clauses_in self.now) clause).form) }
+    {
+        let clause = self.clause(at);
+        let operands = arity(clause.op);
+        let mut args = Vec::new(self.alloc);
+        if operands >= 1 {
+            args.push(self.name(clause.a as usize)?)?;
+        }
+        if operands >= 2 {
+            args.push(self.name(clause.b as usize)?)?;
+        }
+        Ok(Form::new(clause.op, args, clause.value))
+    }
+
     // The place of the clause of this name. The set knows the names of clauses that were taken out
     // too; these stand behind the others.
     #[inline]
@@ -173,7 +208,7 @@ impl Table {
     {
         match change {
             Change::Write(at, clause) => {
-                self.write(*at as usize, clause);
+                self.write(*at as usize, &clause.form());
                 Ok(())
             }
             Change::Insert(at, clause) => match self.insert(*at as usize, clause) {
@@ -181,6 +216,104 @@ impl Table {
                 Err(_) => Err(EditFault::NoMemory),
             },
             Change::Remove(at) => {
+                self.remove(*at);
+                Ok(())
+            }
+        }
+    }
+
+    // What takes back a change that the clauses allow. AllocError: memory was refused.
+    pub(crate) fn reversal(&self, change: &Change<'_>) -> Result<Reversal, AllocError>
+        requires in_order { AreInOrder (clauses_in self.now) }
+        requires allowed { Allows (clauses_in self.now) change.now }
+        ensures { IfOk result (λ back. back ≡ reversal_of (clauses_in self.now) change.now) }
+    {
+        match change {
+            Change::Write(at, _) => Ok(Reversal::Write(*at, self.clause(*at as usize).form())),
+            Change::Insert(at, _) => Ok(Reversal::Remove(*at)),
+            Change::Remove(at) => {
+                let name = self.name(*at as usize)?;
+                Ok(Reversal::Insert(*at, name, self.clause(*at as usize).form()))
+            }
+        }
+    }
+
+    // Makes an edit, and puts what takes it back behind others, or leaves both as they are.
+    pub(crate) fn apply_and_keep(
+        &mut self,
+        edit: &Edit,
+        backs: &mut Vec<Reversal>,
+    ) -> Result<(), EditFault>
+        requires in_order { AreInOrder (clauses_in self.old) }
+        ensures ok { OnOk result (surgery (clauses_in self.old) edit.now
+            ≡ Ok (clauses_in self.new)) }
+        ensures kept { OnOk result (IsMadeAndKept (clauses_in self.old) (clauses_in self.new)
+            edit.now backs.old.items backs.new.items) }
+        ensures fault { RefusesAs (surgery (clauses_in self.old) edit.now) EditFault.NoMemory
+            result }
+        ensures no_memory { WantsMemoryFor (surgery (clauses_in self.old) edit.now)
+            EditFault.NoMemory result }
+        ensures err { OnErr result (clauses_in self.new ≡ clauses_in self.old) }
+        ensures others { OnErr result (backs.new.items ≡ backs.old.items) }
+        ensures edit { IsEdit edit.now }
+    {
+        match self.change(edit) {
+            Ok(change) => match self.make_and_keep(&change, backs) {
+                Ok(()) => Ok(()),
+                Err(_) => Err(EditFault::NoMemory),
+            },
+            Err(refusal) => {
+                self.keep(&refusal);
+                Err(refusal.fault())
+            }
+        }
+    }
+
+    // Makes a change that the clauses allow, and puts what takes it back behind others. All memory is taken
+    // before anything changes. AllocError: memory was refused, and all is as it was.
+    fn make_and_keep(
+        &mut self,
+        change: &Change<'_>,
+        backs: &mut Vec<Reversal>,
+    ) -> Result<(), AllocError>
+        requires in_order { AreInOrder (clauses_in self.old) }
+        requires allowed { Allows (clauses_in self.old) change.now }
+        ensures ok { OnOk result (clauses_in self.new ≡ done (clauses_in self.old) change.now) }
+        ensures kept { OnOk result (backs.new.items
+            ≡ backs.old.items ++ reversal_of (clauses_in self.old) change.now ∷ []) }
+        ensures err { OnErr result (clauses_in self.new ≡ clauses_in self.old) }
+        ensures others { OnErr result (backs.new.items ≡ backs.old.items) }
+    {
+        let back = self.reversal(change)?;
+        backs.reserve(1)?;
+        if self.make(change).is_err() {
+            return Err(AllocError);
+        }
+        backs.push_reserved(back);
+        Ok(())
+    }
+
+    // Takes a change back. AllocError: memory was refused for a clause that comes back, and the clauses
+    // are as they were.
+    pub(crate) fn revert(&mut self, back: &Reversal) -> Result<(), AllocError>
+        requires clauses { AreClauses (clauses_in self.old) }
+        requires allowed { AllowsBack (clauses_in self.old) back.now }
+        ensures ok { OnOk result (clauses_in self.new ≡ reverted (clauses_in self.old) back.now) }
+        ensures err { OnErr result (clauses_in self.new ≡ clauses_in self.old) }
+    {
+        match back {
+            Reversal::Write(at, form) => {
+                self.write(*at as usize, form);
+                Ok(())
+            }
+            Reversal::Insert(at, name, form) => {
+                let clause = form.named(name.bytes());
+                match self.insert(*at as usize, &clause) {
+                    Ok(()) => Ok(()),
+                    Err(_) => Err(AllocError),
+                }
+            }
+            Reversal::Remove(at) => {
                 self.remove(*at);
                 Ok(())
             }
@@ -315,7 +448,7 @@ impl Table {
         ensures { clauses_in self.new
             ≡ insert (map (moved (up at)) (clauses_in self.old)) at (clause_seen clause.now) }
     {
-        let row = numbered(&self.numbers, clause);
+        let row = numbered(&self.numbers, &clause.form());
         count_operands(&mut self.uses, &row);
         self.rows[number] = row;
         let from = self.places[number] as usize;
@@ -325,13 +458,15 @@ impl Table {
     }
 
     // Gives the clause at a place, whose name stays, another form.
-    fn write(&mut self, at: usize, clause: &ClauseRef<'_>)
-        requires named { place_of (clauses_in self.old) clause.now.name.now ≡ Some at }
-        requires operands { HasOperandsBefore at (clause_seen clause.now) }
-        ensures { clauses_in self.new ≡ set (clauses_in self.old) at (clause_seen clause.now) }
+    fn write(&mut self, at: usize, form: &PlacedForm)
+        requires named { place_of (clauses_in self.old) (name_at (clauses_in self.old) at) ≡ Some at }
+        requires operands { HasOperandsBefore at
+            (named_clause (name_at (clauses_in self.old) at) form.now) }
+        ensures { clauses_in self.new ≡ set (clauses_in self.old) at
+            (named_clause (name_at (clauses_in self.old) at) form.now) }
     {
         let number = self.numbers[at] as usize;
-        let row = numbered(&self.numbers, clause);
+        let row = numbered(&self.numbers, form);
         uncount_operands(&mut self.uses, &self.rows[number]);
         count_operands(&mut self.uses, &row);
         self.rows[number] = row;
@@ -401,23 +536,24 @@ fn operand_place(places: &Vec<u16>, number: u16, there: bool) -> u32
 }
 
 // What a clause says, its operands by their numbers.
-fn numbered(numbers: &Vec<u16>, clause: &ClauseRef<'_>) -> Row
-    requires { HasOperandsBefore (length numbers.now.items) (clause_seen clause.now) }
-    ensures { IsNumbered numbers.now.items (clause_seen clause.now) result }
+fn numbered(numbers: &Vec<u16>, form: &PlacedForm) -> Row
+    requires { (name : List ℕ)
+        × HasOperandsBefore (length numbers.now.items) (named_clause name form.now) }
+    ensures { (name : List ℕ) → IsNumbered numbers.now.items (named_clause name form.now) result }
 {
-    let operands = arity(clause.op);
+    let operands = arity(form.op);
     Row {
-        op: clause.op,
+        op: form.op,
         a: if operands >= 1 {
-            numbers[clause.a as usize]
+            numbers[form.a as usize]
         } else {
             0
         },
         b: if operands >= 2 {
-            numbers[clause.b as usize]
+            numbers[form.b as usize]
         } else {
             0
         },
-        value: clause.value,
+        value: form.value,
     }
 }

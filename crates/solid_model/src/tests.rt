@@ -1,6 +1,6 @@
 ghost use Rattle.std.specs.Prelude.{◌≡◌, ◌≢◌, ◌<◌, pos};
 
-use crate::{Edit, EditFault, Form, Model, ModelBuilder, Name, NameFault, PushFault};
+use crate::{Edit, EditFault, EditedModel, Form, Model, ModelBuilder, Name, NameFault, PushFault};
 use fixed_ops::{Fx, Op, arity};
 use std::alloc::Global;
 use std::test::Fail;
@@ -79,8 +79,22 @@ fn word(letters: &[u8; 4], k: usize) -> &[u8]
     }
 }
 
-// What an edit gives whose names are letters: that of the clause, that before which it is put, and
-// those of its operands. A blank stands for a name that the edit does not need.
+// The edit whose names are letters: that of the clause, that before which it is put, and those of its
+// operands. A blank stands for a name that the edit does not need.
+fn edit_of(alloc: Global, verb: Verb, letters: &[u8; 4], op: Op) -> Result<Edit, Fail> {
+    let name = Name::new(alloc, word(letters, 0))?;
+    if let Verb::Cut = verb {
+        return Ok(Edit::Cut(name));
+    }
+    let form = form(alloc, op, word(letters, 2), word(letters, 3))?;
+    Ok(match verb {
+        Verb::Set => Edit::Set(name, form),
+        Verb::Put => Edit::Put(Name::new(alloc, word(letters, 1))?, name, form),
+        Verb::Add | Verb::Cut => Edit::Add(name, form),
+    })
+}
+
+// What such an edit gives, which `check` tells before it is made.
 fn apply(
     alloc: Global,
     model: &mut Model,
@@ -88,21 +102,13 @@ fn apply(
     letters: &[u8; 4],
     op: Op,
 ) -> Result<Result<(), EditFault>, Fail> {
-    let name = Name::new(alloc, word(letters, 0))?;
-    let edit = match verb {
-        Verb::Cut => Edit::Cut(name),
-        Verb::Set => Edit::Set(name, form(alloc, op, word(letters, 2), word(letters, 3))?),
-        Verb::Add => Edit::Add(name, form(alloc, op, word(letters, 2), word(letters, 3))?),
-        Verb::Put => {
-            let next = Name::new(alloc, word(letters, 1))?;
-            Edit::Put(
-                next,
-                name,
-                form(alloc, op, word(letters, 2), word(letters, 3))?,
-            )
-        }
-    };
-    Ok(model.apply(edit))
+    let edit = edit_of(alloc, verb, letters, op)?;
+    let told = model.check(&edit);
+    let given = model.apply(edit);
+    if told != given {
+        return Err(Fail::new("told otherwise"));
+    }
+    Ok(given)
 }
 
 // x * x + y * y - 0.5, whose inside is a disc.
@@ -246,6 +252,88 @@ fn edits_move_the_operands(rt: HostRuntime) -> Result<(), Fail> {
         assert!(rt; found && has_operands(&model, operands), "at {letters:?}");
     }
     assert!(rt; is_clause(&model, 5, b"r", Op::Const, (0, 0), value_of(Op::Const)));
+    Ok(())
+}
+
+// Edits, and the operands of the clauses after each of them.
+const EDITS: [(Verb, &[u8; 4], Op, &[u8]); 6] = [
+    (Verb::Put, b"gcab", Op::Min, b"0000010011340056"),
+    (Verb::Set, b"f re", Op::Sub, b"0000010011340065"),
+    (Verb::Add, b"h ff", Op::Mul, b"000001001134006577"),
+    (Verb::Cut, b"h   ", Op::X, b"0000010011340065"),
+    (Verb::Cut, b"g   ", Op::X, b"00000011230054"),
+    (Verb::Cut, b"f   ", Op::X, b"000000112300"),
+];
+
+// The operands of the clauses before all of them.
+const DISC: &[u8] = b"00000011230045";
+
+// Makes an edit, and says whether the clauses are those that it gives.
+fn is_made(
+    alloc: Global,
+    model: &mut EditedModel,
+    edit: (Verb, &[u8; 4], Op, &[u8]),
+) -> Result<bool, Fail> {
+    let (verb, letters, op, operands) = edit;
+    model.edit(&edit_of(alloc, verb, letters, op)?)?;
+    Ok(has_operands(model.model(), operands))
+}
+
+// Makes all edits, and behind each a refused one, which leaves nothing to take back.
+fn are_made(alloc: Global, model: &mut EditedModel) -> Result<bool, Fail> {
+    let refused = edit_of(alloc, Verb::Cut, b"a   ", Op::X)?;
+    for edit in EDITS {
+        if !is_made(alloc, model, edit)? || model.edit(&refused).is_ok() {
+            return Ok(false);
+        }
+    }
+    Ok(true)
+}
+
+// Takes all edits back, and says whether each time the clauses were those from before it.
+fn are_taken_back(model: &mut EditedModel) -> Result<bool, Fail> {
+    for behind in 1..6usize {
+        if !model.undo()? || !has_operands(model.model(), EDITS[5 - behind].3) {
+            return Ok(false);
+        }
+    }
+    Ok(model.undo()? && has_operands(model.model(), DISC))
+}
+
+#[test]
+fn edits_are_taken_back_in_turn(rt: HostRuntime) -> Result<(), Fail> {
+    let mut model = EditedModel::start(rt.alloc(), disc(rt.alloc())?);
+    assert!(rt; are_made(rt.alloc(), &mut model)?);
+    assert!(rt; are_taken_back(&mut model)?);
+    assert!(rt; !model.undo()? && has_operands(model.model(), DISC));
+    Ok(())
+}
+
+// Whether the clauses are those from before once an edit and its inverse are made.
+fn is_taken_back(alloc: Global, verb: Verb, letters: &[u8; 4], op: Op) -> Result<bool, Fail> {
+    let mut model = disc(alloc)?;
+    let edit = edit_of(alloc, verb, letters, op)?;
+    model.check(&edit)?;
+    let inverse = model.invert(&edit)?;
+    model.apply(edit)?;
+    model.apply(inverse)?;
+    Ok(has_operands(&model, DISC))
+}
+
+#[test]
+fn an_inverse_takes_its_edit_back(rt: HostRuntime) -> Result<(), Fail> {
+    let cases = [
+        (Verb::Set, b"f re", Op::Sub),
+        (Verb::Add, b"h ff", Op::Mul),
+        (Verb::Put, b"gcab", Op::Min),
+        (Verb::Cut, b"f   ", Op::X),
+    ];
+    for (verb, letters, op) in cases {
+        assert!(rt;
+            is_taken_back(rt.alloc(), verb, letters, op)?,
+            "at {letters:?}"
+        );
+    }
     Ok(())
 }
 

@@ -9,8 +9,12 @@ use Rattle.tetra_mesh.specs.Numbering.{AreCells, all_faces, vertices_on}
 -- the mesh of a grid whose outermost layer is outside has the vertices and the faces of the mixed cells
 abbrev pub CellsMakeMeshes : Type 0
 CellsMakeMeshes = (g : Grid) → IsBordered g
-    → mesh_of g ≡ record { vertices = flat_map vertices_on (mixed_cells g); faces = all_faces (mixed_cells g) (mixed_cells g) }
+    → mesh_of g ≡ record {
+      vertices = flat_map vertices_on (mixed_cells g);
+      faces = all_faces (mixed_cells g) (mixed_cells g);
+    }
 
 -- the mixed cells of such a grid, which is bounded, have what their faces need
 abbrev pub MixedCellsAreCells : Type 0
-MixedCellsAreCells = (g : Grid) → IsBounded (grid_size g) → IsBordered g → AreCells (grid_size g) (mixed_cells g)
+MixedCellsAreCells = (g : Grid) → IsBounded (grid_size g) → IsBordered g
+    → AreCells (grid_size g) (mixed_cells g)

@@ -32,5 +32,6 @@ sided_triangles c = map (moved_triple c) (shape_of c.signs)
 -- the triangles for all signs
 pub record AreShapes (s : Kept) : Type 0 where
   pub room : length s.shapes.items ≡ 256
-  pub each : (signs : ℕ) (d : Shape) → signs < 256 → HasTriangles (shape_of signs) (get_or s.shapes.items signs d)
+  pub each : (signs : ℕ) (d : Shape) → signs < 256
+      → HasTriangles (shape_of signs) (get_or s.shapes.items signs d)
   pub ranks : AreRanks s.ranks.items

@@ -15,7 +15,11 @@ use Rattle.tetra_mesh.specs.Places.{lattice_place_along, vertex_place}
 -- the lattice place of a vertex, and its raw place over a view
 abbrev pub lattice_of : Vertex → Vector
 lattice_of v =
-    record { x = pos (lattice_place_along v X); y = pos (lattice_place_along v Y); z = pos (lattice_place_along v Z) }
+    record {
+      x = pos (lattice_place_along v X);
+      y = pos (lattice_place_along v Y);
+      z = pos (lattice_place_along v Z);
+    }
 
 abbrev pub raw_of : Window → Vertex → Vector
 raw_of w v = record { x = vertex_place w v X; y = vertex_place w v Y; z = vertex_place w v Z }

@@ -15,7 +15,8 @@ pub record Walk : Type 0 where
   pub made : ℕ
 
 -- what the faces of the next cells need: the cells that lie near to those are numbered
-pub record CanGoOn (numbering : Numbering) (shapes : Shapes) (sided : List SidedCell) (made : ℕ) : Type 0 where
+pub record CanGoOn (numbering : Numbering) (shapes : Shapes) (sided : List SidedCell)
+    (made : ℕ) : Type 0 where
   pub cells : HaveCells numbering.n sided
   pub within : made ≤ length sided
   pub numbered : OfCells numbering.n sided (λ cells. IsNumbered cells numbering.n numbering)

@@ -10,7 +10,7 @@ ghost use Rattle.tetra_mesh.specs.Shapes.{AreShapes, moved, sided_triangles};
 use crate::Face;
 use crate::entry::Entry;
 use crate::numbering::slot;
-use crate::shape::Corners;
+use crate::shape::{Corners, EDGES};
 use crate::shapes::Shapes;
 use crate::sided_cell::SidedCell;
 use arrayvec::ArrayVec;
@@ -18,9 +18,6 @@ use kuhn_cells::{EdgeKey, GridSize};
 
 /// How many faces are made at once, at most.
 pub const FACES: usize = 1870;
-
-// The most edges that twelve triangles have.
-const EDGES: usize = 36;
 
 // The faces of a cell.
 #[inline]
@@ -40,8 +37,15 @@ pub(crate) fn push_faces(
 {
     let shape = shapes.shape(cell.signs);
     let mut numbers = [0; EDGES];
-    find_numbers(n, slots, &shapes.ranks, cell, &shape.edges, &mut numbers);
-    push_triangles(&numbers, &shape.triangles, faces);
+    find_numbers(
+        n,
+        slots,
+        &shapes.ranks,
+        cell,
+        shape.edges.as_slice(),
+        &mut numbers,
+    );
+    push_triangles(&numbers, shape.triangles.as_slice(), faces);
 }
 
 // Finds the numbers of the vertices on edges of the cell at the origin, in another cell.

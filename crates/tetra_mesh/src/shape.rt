@@ -1,13 +1,20 @@
 // The triangles of a cell by their edges, each edge once.
-ghost use Rattle.std.specs.Prelude.{◌≡◌, ◌≤◌, ◌<◌, IfOk, IfSome, OnOk, get_or, length};
+ghost use Rattle.std.specs.Prelude.{◌≡◌, ◌+◌, ◌≤◌, ◌<◌, IfSome, get_or, length};
+ghost use Rattle.arrayvec.specs.ArrayVec.{array_vec_len};
 ghost use Rattle.kuhn_cells.specs.declared.edge_key.EdgeKey.{EdgeKey as Key};
 ghost use Rattle.tetra_mesh.specs.Edges.{AddsEdge, AddsTriangle, HasTriangles};
 
+use arrayvec::ArrayVec;
 use kuhn_cells::{EdgeKey, Triple};
-use std::alloc::{AllocError, Global};
+
+// The most triangles that a cell has.
+const TRIANGLES: usize = 12;
+
+// The most edges that twelve triangles have.
+pub(crate) const EDGES: usize = 3 * TRIANGLES;
 
 // A triangle by the places of its edges in a list.
-#[derive(Clone, Copy, Debug)]
+#[derive(Clone, Copy, Debug, Default)]
 pub(crate) struct Corners {
     pub(crate) a: u8,
     pub(crate) b: u8,
@@ -17,52 +24,54 @@ pub(crate) struct Corners {
 // The edges of some triangles, and the triangles by these.
 #[derive(Debug, Drop)]
 pub(crate) struct Shape {
-    pub(crate) edges: Vec<EdgeKey>,
-    pub(crate) triangles: Vec<Corners>,
+    pub(crate) edges: ArrayVec<EdgeKey, EDGES>,
+    pub(crate) triangles: ArrayVec<Corners, TRIANGLES>,
 }
 
 impl Shape {
-    // Of at most twelve triangles. AllocError: there is no memory for them.
-    pub(crate) fn new(alloc: Global, triples: &[Triple]) -> Result<Shape, AllocError>
-        requires { length triples.now ≤ 12 }
-        ensures { IfOk result (HasTriangles triples.now) }
+    // Of at most twelve triangles.
+    pub(crate) fn new(triples: &[Triple]) -> Shape
+        requires { length triples.now ≤ TRIANGLES }
+        ensures { HasTriangles triples.now result }
     {
-        let mut edges = Vec::new(alloc);
-        let mut triangles = Vec::new(alloc);
+        let mut edges = ArrayVec::new();
+        let mut triangles = ArrayVec::new();
         for triple in triples {
-            push_triangle(triple, &mut edges, &mut triangles)?;
+            push_triangle(triple, &mut edges, &mut triangles);
         }
-        Ok(Shape { edges, triangles })
+        Shape { edges, triangles }
     }
 }
 
-// Adds a triangle, and those of its edges that are not there. AllocError: there is no memory for them.
+// Adds a triangle, and those of its edges that are not there.
 fn push_triangle(
     triple: &Triple,
-    edges: &mut Vec<EdgeKey>,
-    triangles: &mut Vec<Corners>,
-) -> Result<(), AllocError>
-    requires { length edges.old.items ≤ 33 }
-    ensures { OnOk result (AddsTriangle triple.now edges.old.items edges.new.items
-        triangles.old.items triangles.new.items) }
+    edges: &mut ArrayVec<EdgeKey, EDGES>,
+    triangles: &mut ArrayVec<Corners, TRIANGLES>,
+)
+    requires edges { length edges.old.items ≤ 33 }
+    requires triangles { array_vec_len triangles.old < TRIANGLES }
+    ensures adds { AddsTriangle triple.now edges.old.items edges.new.items
+        triangles.old.items triangles.new.items }
+    ensures one { array_vec_len triangles.new ≡ array_vec_len triangles.old + 1 }
 {
-    let a = place_of(triple.a, edges)?;
-    let b = place_of(triple.b, edges)?;
-    let c = place_of(triple.c, edges)?;
-    Ok(triangles.push(Corners { a, b, c })?)
+    let a = place_of(triple.a, edges);
+    let b = place_of(triple.b, edges);
+    let c = place_of(triple.c, edges);
+    triangles.push(Corners { a, b, c });
 }
 
-// The place of an edge, which is added where it is not there. AllocError: there is no memory for it.
-fn place_of(edge: EdgeKey, edges: &mut Vec<EdgeKey>) -> Result<u8, AllocError>
+// The place of an edge, which is added where it is not there.
+fn place_of(edge: EdgeKey, edges: &mut ArrayVec<EdgeKey, EDGES>) -> u8
     requires { length edges.old.items ≤ 35 }
-    ensures { IfOk result (AddsEdge edge edges.old.items edges.new.items) }
+    ensures { AddsEdge edge edges.old.items edges.new.items result }
 {
-    if let Some(at) = position(edge, edges) {
-        return Ok(at as u8);
+    if let Some(at) = position(edge, edges.as_slice()) {
+        return at as u8;
     }
     let at = edges.len();
-    edges.push(edge)?;
-    Ok(at as u8)
+    edges.push(edge);
+    at as u8
 }
 
 // Where an edge stands.

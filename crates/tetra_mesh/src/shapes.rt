@@ -1,5 +1,5 @@
 // The triangles of a cell by which of its corners are inside.
-ghost use Rattle.std.specs.Prelude.{◌≡◌, ◌≤◌, IfOk, length};
+ghost use Rattle.std.specs.Prelude.{◌≡◌, ◌≤◌, IfOk, OnOk, length};
 ghost use Rattle.tetra_mesh.specs.Edges.{HasTriangles};
 ghost use Rattle.tetra_mesh.specs.Shapes.{AreShapes, shape_of};
 
@@ -22,8 +22,10 @@ impl Shapes {
         ensures { IfOk result AreShapes }
     {
         let mut shapes = Vec::with_capacity(alloc, 256)?;
+        let mut triples = Vec::new(alloc);
         for signs in 0..256u16 {
-            shapes.push(shape_by(alloc, signs as u8)?)?;
+            put_triples(signs as u8, &mut triples)?;
+            shapes.push(Shape::new(&triples))?;
         }
         let ranks = ranks(alloc)?;
         Ok(Shapes { shapes, ranks })
@@ -40,21 +42,14 @@ impl Shapes {
     }
 }
 
-// The triangles of the cell at the origin with these signs, by their edges. AllocError: there is no
-// memory for them.
-fn shape_by(alloc: Global, signs: u8) -> Result<Shape, AllocError>
-    ensures { IfOk result (HasTriangles (shape_of signs)) }
+// Puts the triangles of the cell at the origin with these signs in place of what stands there.
+// AllocError: there is no memory for them.
+fn put_triples(signs: u8, triples: &mut Vec<Triple>) -> Result<(), AllocError>
+    ensures { OnOk result (triples.new.items ≡ shape_of signs) }
 {
-    Shape::new(alloc, &shape(alloc, signs)?)
-}
-
-// The triangles of the cell at the origin with these signs. AllocError: there is no memory for them.
-fn shape(alloc: Global, signs: u8) -> Result<Vec<Triple>, AllocError>
-    ensures { IfOk result (λ shape. shape.items ≡ shape_of signs) }
-{
-    let mut shape = Vec::new(alloc);
+    triples.clear();
     for tetra in 0..6 {
-        shape.extend_from_slice(triangles(0, 0, 0, tetra, signs).as_slice())?;
+        triples.extend_from_slice(triangles(0, 0, 0, tetra, signs).as_slice())?;
     }
-    Ok(shape)
+    Ok(())
 }

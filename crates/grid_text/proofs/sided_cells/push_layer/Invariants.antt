@@ -6,4 +6,4 @@ use Rattle.tetra_mesh.specs.Sides.{sided_of}
 use Rattle.grid_text.proofs.sided_cells.push_layer.Given as goal
 
 abbrev pub invariant-loop-y : goal.invariant-loop-y
-invariant-loop-y l = l.sided.items ≡ l.fn.sided.items ++ map sided_of (flat_map (λ y. cells_in_row l.tree.view l.tree.list y l.z) (range_with_len 0 l.y))
+invariant-loop-y l = l.sided.items ≡ l.fn.sided.items ++ map sided_of (flat_map (λ y. cells_in_row l.grid.view l.grid.list y l.z) (range_with_len 0 l.y))

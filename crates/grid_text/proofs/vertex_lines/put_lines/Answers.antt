@@ -17,7 +17,7 @@ none = record { x = 0; y = 0; z = 0; signs = 0 }
 pub loop-i-init : goal.loop-i-init
 loop-i-init c =
     let sided = c.args.sided.now in
-    let all : (cells : List CellValues) → AreCellsOf c.args.tree.now.view c.args.tree.now.list cells sided → length cells ≤ length sided = λ cells are. omega (arith, ap length are.sides ∙ length-map cells sided_of) in
+    let all : (cells : List CellValues) → AreCellsOf c.args.grid.now.view c.args.grid.now.list cells sided → length cells ≤ length sided = λ cells are. omega (arith, ap length are.sides ∙ length-map cells sided_of) in
     record {
       view = refl;
       room = λ cells are. rw (take_all (length sided) cells (all cells are)) (c.requires.room cells are);
@@ -27,36 +27,36 @@ loop-i-init c =
 
 pub cell-cell-requires-clause-x : goal.cell-cell-requires-clause-x
 cell-cell-requires-clause-x c =
-    let is = at c.args.tree.now.view c.args.tree.now.list c.requires.cells.0 c.args.sided.now (c.loop-i.i - 1) none c.requires.cells.1 (omega arith) in
-    (lies_in c.args.tree.now.view c.args.tree.now.list c.requires.cells.0 (c.loop-i.i - 1) _ is).x
+    let is = at c.args.grid.now.view c.args.grid.now.list c.requires.cells.0 c.args.sided.now (c.loop-i.i - 1) none c.requires.cells.1 (omega arith) in
+    (lies_in c.args.grid.now.view c.args.grid.now.list c.requires.cells.0 (c.loop-i.i - 1) _ is).x
 
 pub cell-cell-requires-clause-y : goal.cell-cell-requires-clause-y
 cell-cell-requires-clause-y c =
-    let is = at c.args.tree.now.view c.args.tree.now.list c.requires.cells.0 c.args.sided.now (c.loop-i.i - 1) none c.requires.cells.1 (omega arith) in
-    (lies_in c.args.tree.now.view c.args.tree.now.list c.requires.cells.0 (c.loop-i.i - 1) _ is).y
+    let is = at c.args.grid.now.view c.args.grid.now.list c.requires.cells.0 c.args.sided.now (c.loop-i.i - 1) none c.requires.cells.1 (omega arith) in
+    (lies_in c.args.grid.now.view c.args.grid.now.list c.requires.cells.0 (c.loop-i.i - 1) _ is).y
 
 pub cell-cell-requires-clause-z : goal.cell-cell-requires-clause-z
 cell-cell-requires-clause-z c =
-    let is = at c.args.tree.now.view c.args.tree.now.list c.requires.cells.0 c.args.sided.now (c.loop-i.i - 1) none c.requires.cells.1 (omega arith) in
-    (lies_in c.args.tree.now.view c.args.tree.now.list c.requires.cells.0 (c.loop-i.i - 1) _ is).z
+    let is = at c.args.grid.now.view c.args.grid.now.list c.requires.cells.0 c.args.sided.now (c.loop-i.i - 1) none c.requires.cells.1 (omega arith) in
+    (lies_in c.args.grid.now.view c.args.grid.now.list c.requires.cells.0 (c.loop-i.i - 1) _ is).z
 
 pub cell-cell-requires-clause-mixed : goal.cell-cell-requires-clause-mixed
 cell-cell-requires-clause-mixed c =
-    let is = at c.args.tree.now.view c.args.tree.now.list c.requires.cells.0 c.args.sided.now (c.loop-i.i - 1) none c.requires.cells.1 (omega arith) in
-    found_mixed c.args.tree.now.view c.args.tree.now.list c.requires.cells.0 (c.loop-i.i - 1) _ is
+    let is = at c.args.grid.now.view c.args.grid.now.list c.requires.cells.0 c.args.sided.now (c.loop-i.i - 1) none c.requires.cells.1 (omega arith) in
+    found_mixed c.args.grid.now.view c.args.grid.now.list c.requires.cells.0 (c.loop-i.i - 1) _ is
 
 pub put_vertices-requires-clause-placed : goal.put_vertices-requires-clause-placed
 put_vertices-requires-clause-placed c =
-    let view = c.args.tree.now.view in
-    let list = c.args.tree.now.list in
+    let view = c.args.grid.now.view in
+    let list = c.args.grid.now.list in
     let is = at view list c.requires.cells.0 c.args.sided.now (c.loop-i.i - 1) none c.requires.cells.1 (omega arith) in
     let vs = c.as_slice.ensures.value ∙ c.cell_vertices.ensures ∙ ap vertices_on (c.cell-cell.ensures ∙ found view list c.requires.cells.0 (c.loop-i.i - 1) _ is) in
     rw (vs, c.loop-i.invariant.view, c.requires.view) (placed view list is.cell is.own)
 
 pub put_vertices-requires-clause-room : goal.put_vertices-requires-clause-room
 put_vertices-requires-clause-room c =
-    let view = c.args.tree.now.view in
-    let list = c.args.tree.now.list in
+    let view = c.args.grid.now.view in
+    let list = c.args.grid.now.list in
     let cells = c.requires.cells.0 in
     let i = c.loop-i.i - 1 in
     let is = at view list cells c.args.sided.now i none c.requires.cells.1 (omega arith) in
@@ -67,8 +67,8 @@ put_vertices-requires-clause-room c =
 
 pub loop-i-preserved : goal.loop-i-preserved
 loop-i-preserved c =
-    let view = c.args.tree.now.view in
-    let list = c.args.tree.now.list in
+    let view = c.args.grid.now.view in
+    let list = c.args.grid.now.list in
     let sided = c.args.sided.now in
     let i = c.loop-i.i - 1 in
     let next : i + 1 ≡ c.loop-i.i = omega arith in

@@ -9,7 +9,7 @@ use Rattle.grid_text.proofs.vertex_lines.put_lines.Given as goal
 abbrev pub invariant-loop-i : goal.invariant-loop-i
 invariant-loop-i l = record {
   view : l.block.view ≡ l.fn.block.view;
-  room : (cells : List CellValues) → AreCellsOf l.tree.view l.tree.list cells l.sided → 69 * length (flat_map vertices_on (take l.i cells)) ≤ l.block.room;
-  lines : (cells : List CellValues) → AreCellsOf l.tree.view l.tree.list cells l.sided → l.block.bytes ≡ flat_map (vertex_line l.tree.view) (flat_map vertices_on (drop l.i cells)) ++ l.fn.block.bytes;
-  more : (cells : List CellValues) → AreCellsOf l.tree.view l.tree.list cells l.sided → length l.fn.block.bytes + length (flat_map vertices_on (drop l.i cells)) ≤ length l.block.bytes;
+  room : (cells : List CellValues) → AreCellsOf l.grid.view l.grid.list cells l.sided → 69 * length (flat_map vertices_on (take l.i cells)) ≤ l.block.room;
+  lines : (cells : List CellValues) → AreCellsOf l.grid.view l.grid.list cells l.sided → l.block.bytes ≡ flat_map (vertex_line l.grid.view) (flat_map vertices_on (drop l.i cells)) ++ l.fn.block.bytes;
+  more : (cells : List CellValues) → AreCellsOf l.grid.view l.grid.list cells l.sided → length l.fn.block.bytes + length (flat_map vertices_on (drop l.i cells)) ≤ length l.block.bytes;
 }

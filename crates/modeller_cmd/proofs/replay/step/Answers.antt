@@ -56,18 +56,18 @@ returns-in-Height-clause-counted g c =
 
 pub returns-in-Mesh-clause-written : goal.returns-in-Mesh-clause-written
 returns-in-Mesh-clause-written g c =
-    at-command (λ parts. OnOk c.show-in-Mesh.result (Written g.K.Sink.held g.K.Sink.faults c.args.out.now c.show-in-Mesh.new.out c.args.tally.now c.show-in-Mesh.new.tally parts))
-    c.args.session.now c.args.command (Command.Mesh c.in-Mesh.view) c.in-Mesh.is c.show-in-Mesh.ensures.written
+    at-command (λ parts. OnOk c.show_mesh.result (Written g.K.Sink.held g.K.Sink.faults c.args.out.now c.show_mesh.new.out c.args.tally.now c.show_mesh.new.tally parts))
+    c.args.session.now c.args.command (Command.Mesh c.in-Mesh.view) c.in-Mesh.is c.show_mesh.ensures.written
 
 pub returns-in-Mesh-clause-halted : goal.returns-in-Mesh-clause-halted
 returns-in-Mesh-clause-halted g c =
-    at-command (λ parts. IfErr c.show-in-Mesh.result (Halted g.K.Sink.held g.K.Sink.faults c.args.out.now c.show-in-Mesh.new.out c.args.tally.now c.show-in-Mesh.new.tally parts))
-    c.args.session.now c.args.command (Command.Mesh c.in-Mesh.view) c.in-Mesh.is c.show-in-Mesh.ensures.halted
+    at-command (λ parts. IfErr c.show_mesh.result (Halted g.K.Sink.held g.K.Sink.faults c.args.out.now c.show_mesh.new.out c.args.tally.now c.show_mesh.new.tally parts))
+    c.args.session.now c.args.command (Command.Mesh c.in-Mesh.view) c.in-Mesh.is c.show_mesh.ensures.halted
 
 pub returns-in-Mesh-clause-counted : goal.returns-in-Mesh-clause-counted
 returns-in-Mesh-clause-counted g c =
-    at-command (λ parts. c.show-in-Mesh.result ≡ Err WriteFault → CountsWork c.args.tally.now c.show-in-Mesh.new.tally (work_of_parts parts))
-    c.args.session.now c.args.command (Command.Mesh c.in-Mesh.view) c.in-Mesh.is c.show-in-Mesh.ensures.counted
+    at-command (λ parts. c.show_mesh.result ≡ Err WriteFault → CountsWork c.args.tally.now c.show_mesh.new.tally (work_of_parts parts))
+    c.args.session.now c.args.command (Command.Mesh c.in-Mesh.view) c.in-Mesh.is c.show_mesh.ensures.counted
 
 pub returns-in-Text-clause-written : goal.returns-in-Text-clause-written
 returns-in-Text-clause-written g c =

@@ -1,40 +1,61 @@
-use Rattle.std.proofs.Common.{◌+◌, ◌*◌, ℕ, Bool, cond, ap, arith, drop, get_or, length, refl, subst, sym, ◌∙◌}
+use Rattle.std.proofs.Common.{◌≡◌, ◌+◌, ◌*◌, ℕ, Bool, [], ◌∷◌, cond, ap, arith, drop, get_or, length, refl, subst, sym, take, ◌∙◌}
+use Rattle.std.specs.Prelude.{IfNone, IfSome, IsTrue, None, Some}
 use Rattle.std.specs.List.{All}
 use Rattle.std.proofs.lemmas.List.{take_all}
 use Rattle.std.proofs.lemmas.List.Elements.{All-nil}
+use Rattle.std.proofs.lemmas.Option.{none-some}
 use Rattle.box_chains.specs.Desks.{HasMore, Tracing, list_of, samples}
 use Rattle.box_chains.specs.Chains.{visit}
 use Rattle.box_chains.specs.Outcomes.{HandsOn, all_seen, asked_outcomes}
+use Rattle.box_chains.specs.Redrawn.{IsNew}
 use Rattle.box_chains.specs.Visits.{IsVisit}
 use Rattle.box_chains.specs.declared.outcome.Outcome.TheVariants.{Inside}
 use Rattle.interval_ops.specs.HullCounts.{CountsHulls}
 use Rattle.kuhn_cells.specs.Sizes.{SameSize}
-use Rattle.oct_descent.proofs.Sizes.{size-is, size-then}
+use Rattle.kuhn_cells.specs.declared.grid_size.GridSize.{GridSize}
+use Rattle.view_places.specs.Boxes.{halves_of}
+use Rattle.oct_descent.proofs.Sizes.{size-from, size-is, size-then}
+use Rattle.oct_descent.specs.Adding.{Adds}
+use Rattle.oct_descent.specs.After.{received_half}
+use Rattle.oct_descent.specs.AfterDesks.{ChargesBelowAfter, ChargesHalvesAfter, halves_long_spans_after, long_spans_below_after}
 use Rattle.oct_descent.specs.Bound.{CountsHullsAtLeast}
-use Rattle.oct_descent.specs.Desks.{ChargesBelow, ChargesHalves, IsToldAt, PaysHalves, halves_long_spans, long_spans_below, longer}
+use Rattle.oct_descent.specs.Desks.{IsToldAt, PaysHalves, longer}
 use Rattle.oct_descent.specs.GridValues.{list_grid_value}
+use Rattle.oct_descent.specs.KeptBoxes.{halves_places, places_of, split_places}
+use Rattle.oct_descent.specs.OldBoxes.{AreOldHalves, IsOldBox, behind, behind_halves, first_count, first_list, handed_by, received_by, visit_before}
 use Rattle.oct_descent.specs.Sizes.{size_of}
 use Rattle.oct_descent.specs.Tables.{AreRight, AreSettled, AreWorked, Grows, PaysBox}
 use Rattle.oct_descent.specs.Ways.{gridded}
-use Rattle.oct_descent.proofs.Looks.{all-settled, all-traced, begun-charged, begun-paid, cell-below, cell-traced, cell-traced_below, closed-settled, closed-traced, closed-worked, first-charged, first-traced, half-grows, half-part, half-shorter, half-visit, halves-boxes, halves-charged, halves-in_root, halves-paid, halves-traced, halves-worked, handed-grows, handed-right, handed-settled, handed-tape, next-charged, next-paid, next-settled, next-traced, next-worked, on_ok, on_ok-then, part-covers, some-charged}
+use Rattle.oct_descent.proofs.Added.{adds-more, adds-none, adds-same, adds-split, begun-within}
+use Rattle.oct_descent.proofs.AfterLooks.{all-traced_after, begun-charged_after, cell-below_after, cell-traced_after, cell-traced_below_after, closed-traced_after, first-charged_after, first-traced_after, half-is_new, halves-charged_after, halves-traced_after, halves-untraced, next-charged_after, next-traced_after, some-charged_after, taken-charged}
+use Rattle.oct_descent.proofs.Before.{cell-after, first-halves, found-old, half-old, half-was, handed-looked, handed-some, handed-was, left-all, left-anew, left-cell, left-more, left-shut, next-halves, none-halves, none-handed, old-count, old-many, old-places, old-there, other-list}
+use Rattle.oct_descent.proofs.Kept.{places-cell, places-shut, places-split}
+use Rattle.oct_descent.proofs.Looks.{all-settled, begun-paid, closed-settled, closed-worked, half-grows, half-part, half-shorter, half-visit, halves-boxes, halves-in_root, halves-paid, halves-worked, handed-grows, handed-right, handed-settled, handed-tape, next-paid, next-settled, next-worked, on_ok, on_ok-then, part-covers}
 use Rattle.oct_descent.proofs.TableLaws.{charges-none, grows-none, grows-then, pays-none, right-grows}
+use Rattle.oct_descent.proofs.Takes.{taken-known, takes-grows, takes-settled}
 use Rattle.oct_descent.proofs.Together.{among-stays, at-told, byte-is, byte-most, closed-told, list-stays, more-samples, opened-told, step-told}
 use Rattle.oct_descent.proofs.descent.+looking.Goals as goal
 
 pub look_into_told-returns-then-not-is_long-clause-counted : goal.look_into_told-returns-then-not-is_long-clause-counted
 look_into_told-returns-then-not-is_long-clause-counted t c =
-    cell-below c.layers_hold.ensures (gridded c.args.desk.now.view) (visit c.args.b (list_of c.args.desk.now c.args.received)) c.args.values.now c.look_into_cell.new.values c.args.tally.now c.look_into_cell.new.tally (sym c.is_long.ensures ∙ c.if-not-is_long.true) c.look_into_cell.ensures.counted
+    let view = c.args.desk.now.view in
+    let v = visit c.args.b (list_of c.args.desk.now c.args.received) in
+    let was = visit_before c.args.before c.args.b in
+    let short = sym c.is_long.ensures ∙ c.if-not-is_long.true in
+    cell-below_after c.layers_hold.ensures (gridded view) was v c.args.values.now c.look_into_cell.new.values c.args.tally.now c.look_into_cell.new.tally short
+    (cell-after c.layers_hold.ensures view was v c.args.values.now c.look_into_cell.new.values c.args.tally.now c.look_into_cell.new.tally c.requires.may.visit_is.box short c.requires.new c.look_into_cell.ensures.counted)
 
 pub look_into_told-returns-then-not-is_long-clause-traced : goal.look_into_told-returns-then-not-is_long-clause-traced
 look_into_told-returns-then-not-is_long-clause-traced t c =
-    let d = gridded c.args.desk.now.view in
+    let view = c.args.desk.now.view in
     let v = visit c.args.b (list_of c.args.desk.now c.args.received) in
+    let was = visit_before c.args.before c.args.b in
     on_ok c.look_into_cell.result _
-    (cell-traced_below d v c.args.tally.now c.look_into_cell.new.tally
-    (cell-traced c.layers_hold.ensures d v c.args.values.now c.look_into_cell.new.values c.args.tally.now c.look_into_cell.new.tally c.requires.may.visit_is.box (sym c.is_long.ensures ∙ c.if-not-is_long.true) c.look_into_cell.ensures.paid))
+    (cell-traced_below_after (gridded view) was v c.args.tally.now c.look_into_cell.new.tally
+    (cell-traced_after c.layers_hold.ensures (gridded view) was v c.args.values.now c.look_into_cell.new.values c.args.tally.now c.look_into_cell.new.tally (omega arith) c.requires.may.visit_is.box c.requires.new (sym c.is_long.ensures ∙ c.if-not-is_long.true) c.look_into_cell.ensures.paid))
 
-pub look_into_told-look_into_halves-requires : goal.look_into_told-look_into_halves-requires
-look_into_told-look_into_halves-requires t c =
+pub look_into_told-look_into_split-requires : goal.look_into_told-look_into_split-requires
+look_into_told-look_into_split-requires t c =
     let view = c.args.desk.now.view in
     let v = visit c.args.b (list_of c.args.desk.now c.args.received) in
     let at = c.in-Open.live in
@@ -52,7 +73,7 @@ look_into_told-look_into_halves-requires t c =
           room = omega (arith, opened.hands.few, c.requires.may.room);
           right = handed-right c.layers_hold.ensures view v live c.args.values.now c.requires.may.visit_is opened.same c.requires.may.right;
         },
-        (opened.hands.whole, long),
+        (opened.hands.whole, (long, c.requires.old)),
       ),
     )
 
@@ -65,18 +86,20 @@ look_into_told-returns-in-Open-clause-settled t c =
     let long = sym c.is_long.ensures ∙ c.if-not-is_long.false in
     let looked = at-told (samples c.args.desk.now) (list_of c.args.desk.now c.args.received) c.args.b c.args.desk.now.lists c.args.outcomes.now c.args.at Inside c.requires.may.lattice (c.requires.told long) in
     let opened = opened-told view c.args.b (list_of c.args.desk.now c.args.received) c.args.desk.now.lists at (get_or c.args.outcomes.now c.args.at Inside) looked c.in-Open.is in
-    on_ok-then c.look_into_halves.result _ _ (handed-settled c.layers_hold.ensures view v live c.look_into_halves.new.values c.requires.may.visit_is opened.same) c.look_into_halves.ensures.settled
+    on_ok-then c.look_into_split.result _ _ (handed-settled c.layers_hold.ensures view v live c.look_into_split.new.values c.requires.may.visit_is opened.same) c.look_into_split.ensures.settled
 
 pub look_into_told-returns-in-Open-clause-worked : goal.look_into_told-returns-in-Open-clause-worked
 look_into_told-returns-in-Open-clause-worked t c =
     let view = c.args.desk.now.view in
     let v = visit c.args.b (list_of c.args.desk.now c.args.received) in
+    let was = visit_before c.args.before c.args.b in
+    let left = c.args.boxes.now.before in
     let at = c.in-Open.live in
     let live = list_of c.args.desk.now at in
     let long = sym c.is_long.ensures ∙ c.if-not-is_long.false in
     let looked = at-told (samples c.args.desk.now) (list_of c.args.desk.now c.args.received) c.args.b c.args.desk.now.lists c.args.outcomes.now c.args.at Inside c.requires.may.lattice (c.requires.told long) in
     let opened = opened-told view c.args.b (list_of c.args.desk.now c.args.received) c.args.desk.now.lists at (get_or c.args.outcomes.now c.args.at Inside) looked c.in-Open.is in
-    on_ok-then c.look_into_halves.result _ _ (halves-worked c.layers_hold.ensures view v live c.look_into_halves.new.values c.requires.may.visit_is opened.open' long opened.same) c.look_into_halves.ensures.worked
+    λ none. on_ok-then c.look_into_split.result _ _ (halves-worked c.layers_hold.ensures view v live c.look_into_split.new.values c.requires.may.visit_is opened.open' long opened.same) (c.look_into_split.ensures.worked none)
 
 pub look_into_told-returns-in-Open-clause-grows : goal.look_into_told-returns-in-Open-clause-grows
 look_into_told-returns-in-Open-clause-grows t c =
@@ -87,56 +110,72 @@ look_into_told-returns-in-Open-clause-grows t c =
     let long = sym c.is_long.ensures ∙ c.if-not-is_long.false in
     let looked = at-told (samples c.args.desk.now) (list_of c.args.desk.now c.args.received) c.args.b c.args.desk.now.lists c.args.outcomes.now c.args.at Inside c.requires.may.lattice (c.requires.told long) in
     let opened = opened-told view c.args.b (list_of c.args.desk.now c.args.received) c.args.desk.now.lists at (get_or c.args.outcomes.now c.args.at Inside) looked c.in-Open.is in
-    handed-grows c.layers_hold.ensures view v live c.args.values.now c.look_into_halves.new.values c.requires.may.visit_is opened.same c.look_into_halves.ensures.grows
+    handed-grows c.layers_hold.ensures view v live c.args.values.now c.look_into_split.new.values c.requires.may.visit_is opened.same c.look_into_split.ensures.grows
 
 pub look_into_told-returns-in-Open-clause-counted : goal.look_into_told-returns-in-Open-clause-counted
 look_into_told-returns-in-Open-clause-counted t c =
     let view = c.args.desk.now.view in
     let v = visit c.args.b (list_of c.args.desk.now c.args.received) in
+    let was = visit_before c.args.before c.args.b in
+    let left = c.args.boxes.now.before in
     let at = c.in-Open.live in
     let live = list_of c.args.desk.now at in
     let long = sym c.is_long.ensures ∙ c.if-not-is_long.false in
     let looked = at-told (samples c.args.desk.now) (list_of c.args.desk.now c.args.received) c.args.b c.args.desk.now.lists c.args.outcomes.now c.args.at Inside c.requires.may.lattice (c.requires.told long) in
     let opened = opened-told view c.args.b (list_of c.args.desk.now c.args.received) c.args.desk.now.lists at (get_or c.args.outcomes.now c.args.at Inside) looked c.in-Open.is in
-    halves-charged c.layers_hold.ensures view v live c.args.values.now c.look_into_halves.new.values c.args.tally.now c.look_into_halves.new.tally c.requires.may.visit_is opened.open' long opened.same c.look_into_halves.ensures.counted
+    halves-charged_after c.layers_hold.ensures view was (handed_by c.args.before left) v live c.args.values.now c.look_into_split.new.values c.args.tally.now c.look_into_split.new.tally c.requires.may.visit_is c.requires.new opened.open' long
+    (handed-was c.layers_hold.ensures view c.args.b left c.args.before c.requires.may.visit_is.box long c.requires.old) opened.same c.look_into_split.ensures.counted
 
 pub look_into_told-returns-in-Open-clause-paid : goal.look_into_told-returns-in-Open-clause-paid
 look_into_told-returns-in-Open-clause-paid t c =
     let view = c.args.desk.now.view in
     let v = visit c.args.b (list_of c.args.desk.now c.args.received) in
+    let was = visit_before c.args.before c.args.b in
+    let left = c.args.boxes.now.before in
     let at = c.in-Open.live in
     let live = list_of c.args.desk.now at in
     let long = sym c.is_long.ensures ∙ c.if-not-is_long.false in
     let looked = at-told (samples c.args.desk.now) (list_of c.args.desk.now c.args.received) c.args.b c.args.desk.now.lists c.args.outcomes.now c.args.at Inside c.requires.may.lattice (c.requires.told long) in
     let opened = opened-told view c.args.b (list_of c.args.desk.now c.args.received) c.args.desk.now.lists at (get_or c.args.outcomes.now c.args.at Inside) looked c.in-Open.is in
-    halves-paid c.layers_hold.ensures view v live c.args.values.now c.look_into_halves.new.values c.args.tally.now c.look_into_halves.new.tally c.requires.may.visit_is opened.open' long opened.same c.look_into_halves.ensures.paid
+    λ none. halves-paid c.layers_hold.ensures view v live c.args.values.now c.look_into_split.new.values c.args.tally.now c.look_into_split.new.tally c.requires.may.visit_is opened.open' long opened.same (c.look_into_split.ensures.paid none)
 
 pub look_into_told-returns-in-Open-clause-traced : goal.look_into_told-returns-in-Open-clause-traced
 look_into_told-returns-in-Open-clause-traced t c =
     let view = c.args.desk.now.view in
     let v = visit c.args.b (list_of c.args.desk.now c.args.received) in
+    let was = visit_before c.args.before c.args.b in
+    let left = c.args.boxes.now.before in
     let at = c.in-Open.live in
     let live = list_of c.args.desk.now at in
     let long = sym c.is_long.ensures ∙ c.if-not-is_long.false in
     let looked = at-told (samples c.args.desk.now) (list_of c.args.desk.now c.args.received) c.args.b c.args.desk.now.lists c.args.outcomes.now c.args.at Inside c.requires.may.lattice (c.requires.told long) in
     let opened = opened-told view c.args.b (list_of c.args.desk.now c.args.received) c.args.desk.now.lists at (get_or c.args.outcomes.now c.args.at Inside) looked c.in-Open.is in
-    on_ok-then c.look_into_halves.result _ _ (halves-traced c.layers_hold.ensures view v live c.args.tally.now c.look_into_halves.new.tally c.requires.may.visit_is opened.open' long opened.same) c.look_into_halves.ensures.traced
+    on_ok-then c.look_into_split.result _ _
+    (halves-traced_after c.layers_hold.ensures view was (handed_by c.args.before left) v live c.args.tally.now c.look_into_split.new.tally c.requires.may.visit_is c.requires.new opened.open' long
+    (handed-was c.layers_hold.ensures view c.args.b left c.args.before c.requires.may.visit_is.box long c.requires.old) opened.same)
+    c.look_into_split.ensures.traced
 
 pub look_into_told-returns-in-Inside-clause-settled : goal.look_into_told-returns-in-Inside-clause-settled
 look_into_told-returns-in-Inside-clause-settled t c =
     let view = c.args.desk.now.view in
     let v = visit c.args.b (list_of c.args.desk.now c.args.received) in
-    let looked = at-told (samples c.args.desk.now) (list_of c.args.desk.now c.args.received) c.args.b c.args.desk.now.lists c.args.outcomes.now c.args.at Inside c.requires.may.lattice (c.requires.told (sym c.is_long.ensures ∙ c.if-not-is_long.false)) in
+    let was = visit_before c.args.before c.args.b in
+    let left = c.args.boxes.now.before in
+    let long = sym c.is_long.ensures ∙ c.if-not-is_long.false in
+    let looked = at-told (samples c.args.desk.now) (list_of c.args.desk.now c.args.received) c.args.b c.args.desk.now.lists c.args.outcomes.now c.args.at Inside c.requires.may.lattice (c.requires.told long) in
     let closed = closed-told view c.args.b (list_of c.args.desk.now c.args.received) c.args.desk.now.lists (get_or c.args.outcomes.now c.args.at Inside) looked c.in-Inside.is in
-    closed-settled c.layers_hold.ensures view v c.args.values.now c.requires.may.visit_is closed
+    on_ok c.push_shut.result _ (closed-settled c.layers_hold.ensures view v c.args.values.now c.requires.may.visit_is closed)
 
 pub look_into_told-returns-in-Inside-clause-worked : goal.look_into_told-returns-in-Inside-clause-worked
 look_into_told-returns-in-Inside-clause-worked t c =
     let view = c.args.desk.now.view in
     let v = visit c.args.b (list_of c.args.desk.now c.args.received) in
-    let looked = at-told (samples c.args.desk.now) (list_of c.args.desk.now c.args.received) c.args.b c.args.desk.now.lists c.args.outcomes.now c.args.at Inside c.requires.may.lattice (c.requires.told (sym c.is_long.ensures ∙ c.if-not-is_long.false)) in
+    let was = visit_before c.args.before c.args.b in
+    let left = c.args.boxes.now.before in
+    let long = sym c.is_long.ensures ∙ c.if-not-is_long.false in
+    let looked = at-told (samples c.args.desk.now) (list_of c.args.desk.now c.args.received) c.args.b c.args.desk.now.lists c.args.outcomes.now c.args.at Inside c.requires.may.lattice (c.requires.told long) in
     let closed = closed-told view c.args.b (list_of c.args.desk.now c.args.received) c.args.desk.now.lists (get_or c.args.outcomes.now c.args.at Inside) looked c.in-Inside.is in
-    closed-worked view v c.args.values.now c.requires.may.visit_is closed
+    λ none. on_ok c.push_shut.result _ (closed-worked view v c.args.values.now c.requires.may.visit_is closed)
 
 pub look_into_told-returns-in-Inside-clause-counted : goal.look_into_told-returns-in-Inside-clause-counted
 look_into_told-returns-in-Inside-clause-counted t c =
@@ -144,47 +183,18 @@ look_into_told-returns-in-Inside-clause-counted t c =
 
 pub look_into_told-returns-in-Inside-clause-paid : goal.look_into_told-returns-in-Inside-clause-paid
 look_into_told-returns-in-Inside-clause-paid t c =
-    λ f due. pays-none c.layers_hold.ensures f c.args.values.now c.args.tally.now
+    λ none f due. pays-none c.layers_hold.ensures f c.args.values.now c.args.tally.now
 
 pub look_into_told-returns-in-Inside-clause-traced : goal.look_into_told-returns-in-Inside-clause-traced
 look_into_told-returns-in-Inside-clause-traced t c =
     let view = c.args.desk.now.view in
     let v = visit c.args.b (list_of c.args.desk.now c.args.received) in
-    let looked = at-told (samples c.args.desk.now) (list_of c.args.desk.now c.args.received) c.args.b c.args.desk.now.lists c.args.outcomes.now c.args.at Inside c.requires.may.lattice (c.requires.told (sym c.is_long.ensures ∙ c.if-not-is_long.false)) in
+    let was = visit_before c.args.before c.args.b in
+    let left = c.args.boxes.now.before in
+    let long = sym c.is_long.ensures ∙ c.if-not-is_long.false in
+    let looked = at-told (samples c.args.desk.now) (list_of c.args.desk.now c.args.received) c.args.b c.args.desk.now.lists c.args.outcomes.now c.args.at Inside c.requires.may.lattice (c.requires.told long) in
     let closed = closed-told view c.args.b (list_of c.args.desk.now c.args.received) c.args.desk.now.lists (get_or c.args.outcomes.now c.args.at Inside) looked c.in-Inside.is in
-    closed-traced c.layers_hold.ensures view v c.args.tally.now c.requires.may.visit_is.box closed
-
-pub look_into_told-returns-in-Inside-2-clause-settled : goal.look_into_told-returns-in-Inside-2-clause-settled
-look_into_told-returns-in-Inside-2-clause-settled t c =
-    let view = c.args.desk.now.view in
-    let v = visit c.args.b (list_of c.args.desk.now c.args.received) in
-    let looked = at-told (samples c.args.desk.now) (list_of c.args.desk.now c.args.received) c.args.b c.args.desk.now.lists c.args.outcomes.now c.args.at Inside c.requires.may.lattice (c.requires.told (sym c.is_long.ensures ∙ c.if-not-is_long.false)) in
-    let closed = closed-told view c.args.b (list_of c.args.desk.now c.args.received) c.args.desk.now.lists (get_or c.args.outcomes.now c.args.at Inside) looked c.in-Inside.is in
-    closed-settled c.layers_hold.ensures view v c.args.values.now c.requires.may.visit_is closed
-
-pub look_into_told-returns-in-Inside-2-clause-worked : goal.look_into_told-returns-in-Inside-2-clause-worked
-look_into_told-returns-in-Inside-2-clause-worked t c =
-    let view = c.args.desk.now.view in
-    let v = visit c.args.b (list_of c.args.desk.now c.args.received) in
-    let looked = at-told (samples c.args.desk.now) (list_of c.args.desk.now c.args.received) c.args.b c.args.desk.now.lists c.args.outcomes.now c.args.at Inside c.requires.may.lattice (c.requires.told (sym c.is_long.ensures ∙ c.if-not-is_long.false)) in
-    let closed = closed-told view c.args.b (list_of c.args.desk.now c.args.received) c.args.desk.now.lists (get_or c.args.outcomes.now c.args.at Inside) looked c.in-Inside.is in
-    closed-worked view v c.args.values.now c.requires.may.visit_is closed
-
-pub look_into_told-returns-in-Inside-2-clause-counted : goal.look_into_told-returns-in-Inside-2-clause-counted
-look_into_told-returns-in-Inside-2-clause-counted t c =
-    λ f enough. charges-none c.layers_hold.ensures f _ c.args.values.now c.args.tally.now
-
-pub look_into_told-returns-in-Inside-2-clause-paid : goal.look_into_told-returns-in-Inside-2-clause-paid
-look_into_told-returns-in-Inside-2-clause-paid t c =
-    λ f due. pays-none c.layers_hold.ensures f c.args.values.now c.args.tally.now
-
-pub look_into_told-returns-in-Inside-2-clause-traced : goal.look_into_told-returns-in-Inside-2-clause-traced
-look_into_told-returns-in-Inside-2-clause-traced t c =
-    let view = c.args.desk.now.view in
-    let v = visit c.args.b (list_of c.args.desk.now c.args.received) in
-    let looked = at-told (samples c.args.desk.now) (list_of c.args.desk.now c.args.received) c.args.b c.args.desk.now.lists c.args.outcomes.now c.args.at Inside c.requires.may.lattice (c.requires.told (sym c.is_long.ensures ∙ c.if-not-is_long.false)) in
-    let closed = closed-told view c.args.b (list_of c.args.desk.now c.args.received) c.args.desk.now.lists (get_or c.args.outcomes.now c.args.at Inside) looked c.in-Inside.is in
-    closed-traced c.layers_hold.ensures view v c.args.tally.now c.requires.may.visit_is.box closed
+    on_ok c.push_shut.result _ (closed-traced_after c.layers_hold.ensures view was v c.args.tally.now c.requires.may.visit_is.box c.requires.new closed)
 
 pub look_into_each_half-trace_longer-requires-clause-within : goal.look_into_each_half-trace_longer-requires-clause-within
 look_into_each_half-trace_longer-requires-clause-within t c =
@@ -192,18 +202,27 @@ look_into_each_half-trace_longer-requires-clause-within t c =
 
 pub look_into_each_half-returns-in_err-outcomes-clause-counted : goal.look_into_each_half-returns-in_err-outcomes-clause-counted
 look_into_each_half-returns-in_err-outcomes-clause-counted t c =
-    begun-charged c.layers_hold.ensures c.args.desk.now.view (list_of c.args.desk.now c.args.live) c.args.b c.as_slice.result.now c.n.result c.args.values.now c.args.tally.now c.trace_longer.new.tally c.requires.may.visit_is.box
-    (c.as_slice.ensures.value ∙ c.split-halves.ensures) c.in_err-outcomes.ensures.at_most
+    let view = c.args.desk.now.view in
+    let live = list_of c.args.desk.now c.args.live in
+    let was = received_by c.args.before in
+    let other = other-list was live c.requires.new in
+    let halves = c.as_slice.result.now in
+    let all = c.as_slice.ensures.value ∙ c.split-halves.ensures in
+    subst (λ hs. ChargesHalvesAfter (gridded view) was live hs c.args.values.now c.args.values.now c.args.tally.now c.trace_longer.new.tally) all
+    (begun-charged_after c.layers_hold.ensures view was live halves c.n.result c.args.values.now c.args.tally.now c.trace_longer.new.tally other (halves-boxes c.layers_hold.ensures c.args.b halves c.requires.may.visit_is.box all)
+    c.in_err-outcomes.ensures.at_most)
 
 pub look_into_each_half-returns-in_err-outcomes-clause-paid : goal.look_into_each_half-returns-in_err-outcomes-clause-paid
 look_into_each_half-returns-in_err-outcomes-clause-paid t c =
-    begun-paid (gridded c.args.desk.now.view) (list_of c.args.desk.now c.args.live) _ _ c.args.values.now c.args.tally.now c.trace_longer.new.tally c.in_err-outcomes.ensures.at_most
+    λ none. begun-paid (gridded c.args.desk.now.view) (list_of c.args.desk.now c.args.live) _ _ c.args.values.now c.args.tally.now c.trace_longer.new.tally c.in_err-outcomes.ensures.at_most
 
 pub look_into_each_half-loop-half-init : goal.look_into_each_half-loop-half-init
 look_into_each_half-loop-half-init t c =
     let view = c.args.desk.now.view in
     let live = (list_of c.args.desk.now c.args.live) in
     let halves = c.as_slice-half-items.result.now in
+    let was = received_by c.args.before in
+    let all = c.as_slice-half-items.ensures.value ∙ c.split-halves.ensures in
     let same = c.as_slice.ensures.value ∙ sym c.as_slice-half-items.ensures.value in
     let hulls = subst (λ hs. CountsHulls (length (longer c.n.result hs) * length live) c.args.tally.now c.trace_longer.new.tally) same c.in_ok-outcomes.ensures.counted in
     record {
@@ -212,12 +231,15 @@ look_into_each_half-loop-half-init t c =
       told = ap (all_seen c.trace_longer.new.desk.lists) c.as_slice-outcomes.ensures.value ∙ c.in_ok-outcomes.ensures.outcomes ∙ ap (λ hs. asked_outcomes (samples c.args.desk.now) live (longer c.n.result hs)) same
           ∙ ap (λ n. asked_outcomes (samples c.args.desk.now) live (longer n halves)) (c.n.ensures ∙ size-is c.args.values.now.n (size_of view) c.requires.may.n);
       hand = subst (All (HandsOn (length live) c.trace_longer.new.desk.lists)) (sym c.as_slice-outcomes.ensures.value) c.in_ok-outcomes.ensures.hand;
+      stands = subst (λ hs. IfSome c.args.before (AreOldHalves view c.args.b hs c.args.boxes.now.before)) (sym all) c.requires.old;
+      left = refl;
+      adds = adds-none c.args.boxes.now;
       settled = All-nil (λ h. AreSettled (gridded view) (list_grid_value view live) h c.args.values.now);
       grows = grows-none (list_grid_value view live) c.args.b c.args.values.now;
-      counted = first-charged c.layers_hold.ensures (gridded view) live halves c.n.result c.args.values.now c.args.tally.now c.trace_longer.new.tally hulls;
-      worked = All-nil (λ h. AreWorked (gridded view) (visit h live) c.args.values.now);
-      paid = begun-paid (gridded view) live halves _ c.args.values.now c.args.tally.now c.trace_longer.new.tally (c.layers_hold.ensures.bounds.hulls c.args.tally.now c.trace_longer.new.tally _ hulls);
-      traced = first-traced (gridded view) live halves c.n.result c.args.tally.now c.trace_longer.new.tally hulls;
+      counted = first-charged_after c.layers_hold.ensures (gridded view) was live halves c.n.result c.args.values.now c.args.tally.now c.trace_longer.new.tally hulls;
+      worked = λ none. All-nil (λ h. AreWorked (gridded view) (visit h live) c.args.values.now);
+      paid = λ none. begun-paid (gridded view) live halves _ c.args.values.now c.args.tally.now c.trace_longer.new.tally (c.layers_hold.ensures.bounds.hulls c.args.tally.now c.trace_longer.new.tally _ hulls);
+      traced = first-traced_after (gridded view) was live halves c.n.result c.args.tally.now c.trace_longer.new.tally hulls;
     }
 
 pub look_into_each_half-look_into_told-requires : goal.look_into_each_half-look_into_told-requires
@@ -247,8 +269,14 @@ look_into_each_half-look_into_told-requires t c =
               (subst (λ w. AreRight (list_grid_value w live) half c.loop-half.values) (sym more.view)
               (right-grows (list_grid_value places.view live) half c.args.b c.args.values.now c.loop-half.values (λ p covers. part-covers c.args.b half p part covers) c.loop-half.invariant.grows c.requires.may.right));
         },
-        subst (λ l. IsToldAt (samples c.loop-half.desk) l half here c.as_slice-outcomes.result.now c.loop-half.at) (sym same)
-            (subst (λ w. IsToldAt w live half here c.as_slice-outcomes.result.now c.loop-half.at) (sym (more-samples c.args.desk.now c.loop-half.desk more)) step.told),
+        (
+          subst (λ l. IsToldAt (samples c.loop-half.desk) l half here c.as_slice-outcomes.result.now c.loop-half.at) (sym same)
+              (subst (λ w. IsToldAt w live half here c.as_slice-outcomes.result.now c.loop-half.at) (sym (more-samples c.args.desk.now c.loop-half.desk more)) step.told),
+          (
+            subst (λ w. IfSome c.args.before (IsOldBox w half c.loop-half.boxes.before)) (sym more.view) (half-old c.layers_hold.ensures places.view c.args.b half c.loop-half.half-index halves c.loop-half.boxes.before c.args.before all c.loop-half-test.true c.half-item.is c.loop-half.invariant.stands),
+            subst (λ r. IsNew r (visit half (list_of c.loop-half.desk c.args.live))) (sym (half-was half c.args.before)) (subst (λ l. IsNew (received_half (received_by c.args.before) half) (visit half l)) (sym same) (half-is_new (received_by c.args.before) live half (other-list (received_by c.args.before) live c.requires.new))),
+          ),
+        ),
       ),
     )
 
@@ -269,14 +297,18 @@ look_into_each_half-returns-in_err-look_into_told-clause-grows t c =
 pub look_into_each_half-returns-in_err-look_into_told-clause-counted : goal.look_into_each_half-returns-in_err-look_into_told-clause-counted
 look_into_each_half-returns-in_err-look_into_told-clause-counted t c =
     let view = c.args.desk.now.view in
+    let live = list_of c.args.desk.now c.args.live in
+    let was = received_by c.args.before in
+    let other = other-list was live c.requires.new in
     let all = c.as_slice-half-items.ensures.value ∙ c.split-halves.ensures in
     let halves = c.as_slice-half-items.result.now in
     let half = c.half-item.result in
-    let same = c.loop-half.invariant.more.view in
-    subst (λ hs. ChargesHalves (gridded view) (list_of c.args.desk.now c.args.live) hs c.args.values.now c.look_into_told.new.values c.args.tally.now c.look_into_told.new.tally) all
-    (some-charged c.layers_hold.ensures view (list_of c.args.desk.now c.args.live) halves (c.loop-half.half-index + 1) c.args.values.now c.look_into_told.new.values c.args.tally.now c.look_into_told.new.tally (halves-boxes c.layers_hold.ensures c.args.b halves c.requires.may.visit_is.box all)
-    (next-charged c.layers_hold.ensures view c.loop-half.desk.view (list_of c.args.desk.now c.args.live) half halves c.loop-half.half-index _ c.args.values.now c.loop-half.values c.look_into_told.new.values c.args.tally.now c.loop-half.tally c.look_into_told.new.tally
-    same c.loop-half-test.true c.half-item.is c.loop-half.invariant.counted (subst (λ l. ChargesBelow (gridded c.loop-half.desk.view) (visit c.half-item.result l) c.loop-half.values c.look_into_told.new.values c.loop-half.tally c.look_into_told.new.tally) (list-stays c.args.desk.now c.loop-half.desk c.args.live c.loop-half.invariant.more c.requires.may.among) c.in_err-look_into_told.ensures.counted)))
+    subst (λ hs. ChargesHalvesAfter (gridded view) was live hs c.args.values.now c.look_into_told.new.values c.args.tally.now c.look_into_told.new.tally) all
+    (some-charged_after c.layers_hold.ensures view was live halves (c.loop-half.half-index + 1) c.args.values.now c.look_into_told.new.values c.args.tally.now c.look_into_told.new.tally other (halves-boxes c.layers_hold.ensures c.args.b halves c.requires.may.visit_is.box all)
+    (next-charged_after c.layers_hold.ensures view c.loop-half.desk.view was live half halves c.loop-half.half-index _ c.args.values.now c.loop-half.values c.look_into_told.new.values c.args.tally.now c.loop-half.tally c.look_into_told.new.tally
+    c.loop-half.invariant.more.view c.loop-half-test.true c.half-item.is c.loop-half.invariant.counted
+    (subst (λ r. ChargesBelowAfter (gridded c.loop-half.desk.view) r (visit half live) c.loop-half.values c.look_into_told.new.values c.loop-half.tally c.look_into_told.new.tally) (half-was half c.args.before)
+    (subst (λ l. ChargesBelowAfter (gridded c.loop-half.desk.view) (visit_before c.args.before half) (visit half l) c.loop-half.values c.look_into_told.new.values c.loop-half.tally c.look_into_told.new.tally) (list-stays c.args.desk.now c.loop-half.desk c.args.live c.loop-half.invariant.more c.requires.may.among) c.in_err-look_into_told.ensures.counted))))
 
 pub look_into_each_half-returns-in_err-look_into_told-clause-paid : goal.look_into_each_half-returns-in_err-look_into_told-clause-paid
 look_into_each_half-returns-in_err-look_into_told-clause-paid t c =
@@ -285,9 +317,9 @@ look_into_each_half-returns-in_err-look_into_told-clause-paid t c =
     let halves = c.as_slice-half-items.result.now in
     let half = c.half-item.result in
     let same = c.loop-half.invariant.more.view in
-    subst (λ hs. PaysHalves (gridded view) (list_of c.args.desk.now c.args.live) hs c.args.values.now c.look_into_told.new.values c.args.tally.now c.look_into_told.new.tally) all
+    λ none. subst (λ hs. PaysHalves (gridded view) (list_of c.args.desk.now c.args.live) hs c.args.values.now c.look_into_told.new.values c.args.tally.now c.look_into_told.new.tally) all
     (next-paid c.layers_hold.ensures view c.loop-half.desk.view (list_of c.args.desk.now c.args.live) half halves c.loop-half.half-index c.args.values.now c.loop-half.values c.look_into_told.new.values c.args.tally.now c.loop-half.tally c.look_into_told.new.tally
-    same c.loop-half-test.true c.half-item.is c.loop-half.invariant.paid (subst (λ l. PaysBox (gridded c.loop-half.desk.view) (visit c.half-item.result l) c.loop-half.values c.look_into_told.new.values c.loop-half.tally c.look_into_told.new.tally) (list-stays c.args.desk.now c.loop-half.desk c.args.live c.loop-half.invariant.more c.requires.may.among) c.in_err-look_into_told.ensures.paid))
+    same c.loop-half-test.true c.half-item.is (c.loop-half.invariant.paid none) (subst (λ l. PaysBox (gridded c.loop-half.desk.view) (visit c.half-item.result l) c.loop-half.values c.look_into_told.new.values c.loop-half.tally c.look_into_told.new.tally) (list-stays c.args.desk.now c.loop-half.desk c.args.live c.loop-half.invariant.more c.requires.may.among) (c.in_err-look_into_told.ensures.paid none)))
 
 pub look_into_each_half-loop-half-preserved : goal.look_into_each_half-loop-half-preserved
 look_into_each_half-loop-half-preserved t c =
@@ -301,25 +333,36 @@ look_into_each_half-loop-half-preserved t c =
     let here = c.loop-half.desk.lists in
     let hands = c.loop-half.invariant.hand in
     let step = step-told places live halves half c.loop-half.half-index here c.as_slice-outcomes.result.now c.loop-half.at _ c.loop-half-test.true c.half-item.is hands c.loop-half.invariant.told (ap (λ k. c.loop-half.at + k) (c.from-at.ensures ∙ byte-is c.is_long.result ∙ ap (λ (t : Bool). cond {A = ℕ} t 1 0) c.is_long.ensures)) in
+    let was = received_by c.args.before in
     let g = list_grid_value view live in
     let before = c.loop-half.invariant in
     let after = c.in_ok-look_into_told.ensures in
     let same = before.more.view in
     let grown = half-grows view c.loop-half.desk.view live c.args.b half c.loop-half.values c.look_into_told.new.values same part (subst (λ l. Grows (list_grid_value c.loop-half.desk.view l) c.half-item.result c.loop-half.values c.look_into_told.new.values) (list-stays c.args.desk.now c.loop-half.desk c.args.live c.loop-half.invariant.more c.requires.may.among) c.in_ok-look_into_told.ensures.grows) in
+    let passed = after.left ∙ ap (λ w. behind (gridded w) (visit_before c.args.before half) c.loop-half.boxes.before) same in
     record {
       more = subst (HasMore c.args.desk.now) (sym after.kept) before.more;
       hand = subst (λ (d : Tracing). All (HandsOn (length live) d.lists) c.as_slice-outcomes.result.now) (sym after.kept) before.hand;
       few = omega (arith, c.loop-half.invariant.few, c.from-at.ensures, byte-most c.is_long.result);
       told = ap (λ (d : Tracing). drop (c.loop-half.at + c.from-at.result) (all_seen d.lists c.as_slice-outcomes.result.now)) after.kept ∙ step.rest;
+      stands = subst (λ ls. IfSome c.args.before (AreOldHalves view c.args.b (drop (c.loop-half.half-index + 1) halves) ls)) (sym passed)
+          (next-halves c.layers_hold.ensures view c.args.b half c.loop-half.half-index halves c.loop-half.boxes.before c.args.before c.loop-half-test.true c.half-item.is before.stands);
+      left = ap (behind_halves (gridded view) was (drop (c.loop-half.half-index + 1) halves)) passed ∙ left-more view half c.loop-half.half-index halves c.loop-half.boxes.before c.args.before c.loop-half-test.true c.half-item.is ∙ before.left;
+      adds = adds-more (gridded view) live halves c.loop-half.half-index half c.args.boxes.now c.loop-half.boxes c.look_into_told.new.boxes c.loop-half-test.true c.half-item.is before.adds
+          (subst (λ w. Adds c.loop-half.boxes c.look_into_told.new.boxes (places_of (gridded w) (visit half live))) same
+          (subst (λ l. Adds c.loop-half.boxes c.look_into_told.new.boxes (places_of (gridded c.loop-half.desk.view) (visit half l))) (list-stays c.args.desk.now c.loop-half.desk c.args.live c.loop-half.invariant.more c.requires.may.among) after.adds));
       settled = next-settled view c.loop-half.desk.view live c.args.b half halves c.loop-half.half-index c.loop-half.values c.look_into_told.new.values same c.loop-half-test.true c.half-item.is grown (subst (λ l. AreSettled (gridded c.loop-half.desk.view) (list_grid_value c.loop-half.desk.view l) c.half-item.result c.look_into_told.new.values) (list-stays c.args.desk.now c.loop-half.desk c.args.live c.loop-half.invariant.more c.requires.may.among) c.in_ok-look_into_told.ensures.settled) before.settled;
       grows = grows-then g c.args.b c.args.values.now c.loop-half.values c.look_into_told.new.values before.grows grown;
-      counted = next-charged c.layers_hold.ensures view c.loop-half.desk.view live half halves c.loop-half.half-index _ c.args.values.now c.loop-half.values c.look_into_told.new.values c.args.tally.now c.loop-half.tally c.look_into_told.new.tally
-          same c.loop-half-test.true c.half-item.is before.counted (subst (λ l. ChargesBelow (gridded c.loop-half.desk.view) (visit c.half-item.result l) c.loop-half.values c.look_into_told.new.values c.loop-half.tally c.look_into_told.new.tally) (list-stays c.args.desk.now c.loop-half.desk c.args.live c.loop-half.invariant.more c.requires.may.among) c.in_ok-look_into_told.ensures.counted);
-      worked = next-worked view c.loop-half.desk.view live c.args.b half halves c.loop-half.half-index c.loop-half.values c.look_into_told.new.values same c.loop-half-test.true c.half-item.is grown (subst (λ l. AreWorked (gridded c.loop-half.desk.view) (visit c.half-item.result l) c.look_into_told.new.values) (list-stays c.args.desk.now c.loop-half.desk c.args.live c.loop-half.invariant.more c.requires.may.among) c.in_ok-look_into_told.ensures.worked) before.worked;
-      paid = next-paid c.layers_hold.ensures view c.loop-half.desk.view live half halves c.loop-half.half-index c.args.values.now c.loop-half.values c.look_into_told.new.values c.args.tally.now c.loop-half.tally c.look_into_told.new.tally
-          same c.loop-half-test.true c.half-item.is before.paid (subst (λ l. PaysBox (gridded c.loop-half.desk.view) (visit c.half-item.result l) c.loop-half.values c.look_into_told.new.values c.loop-half.tally c.look_into_told.new.tally) (list-stays c.args.desk.now c.loop-half.desk c.args.live c.loop-half.invariant.more c.requires.may.among) c.in_ok-look_into_told.ensures.paid);
-      traced = next-traced c.layers_hold.ensures view c.loop-half.desk.view live half halves c.loop-half.half-index _ c.args.tally.now c.loop-half.tally c.look_into_told.new.tally same c.loop-half-test.true c.half-item.is
-          before.traced (subst (λ l. CountsHullsAtLeast (long_spans_below (gridded c.loop-half.desk.view) (visit c.half-item.result l)) c.loop-half.tally c.look_into_told.new.tally) (list-stays c.args.desk.now c.loop-half.desk c.args.live c.loop-half.invariant.more c.requires.may.among) c.in_ok-look_into_told.ensures.traced);
+      counted = next-charged_after c.layers_hold.ensures view c.loop-half.desk.view was live half halves c.loop-half.half-index _ c.args.values.now c.loop-half.values c.look_into_told.new.values c.args.tally.now c.loop-half.tally c.look_into_told.new.tally
+          same c.loop-half-test.true c.half-item.is before.counted
+          (subst (λ r. ChargesBelowAfter (gridded c.loop-half.desk.view) r (visit half live) c.loop-half.values c.look_into_told.new.values c.loop-half.tally c.look_into_told.new.tally) (half-was half c.args.before)
+          (subst (λ l. ChargesBelowAfter (gridded c.loop-half.desk.view) (visit_before c.args.before half) (visit half l) c.loop-half.values c.look_into_told.new.values c.loop-half.tally c.look_into_told.new.tally) (list-stays c.args.desk.now c.loop-half.desk c.args.live c.loop-half.invariant.more c.requires.may.among) c.in_ok-look_into_told.ensures.counted));
+      worked = λ none. next-worked view c.loop-half.desk.view live c.args.b half halves c.loop-half.half-index c.loop-half.values c.look_into_told.new.values same c.loop-half-test.true c.half-item.is grown (subst (λ l. AreWorked (gridded c.loop-half.desk.view) (visit c.half-item.result l) c.look_into_told.new.values) (list-stays c.args.desk.now c.loop-half.desk c.args.live c.loop-half.invariant.more c.requires.may.among) (c.in_ok-look_into_told.ensures.worked none)) (before.worked none);
+      paid = λ none. next-paid c.layers_hold.ensures view c.loop-half.desk.view live half halves c.loop-half.half-index c.args.values.now c.loop-half.values c.look_into_told.new.values c.args.tally.now c.loop-half.tally c.look_into_told.new.tally
+          same c.loop-half-test.true c.half-item.is (before.paid none) (subst (λ l. PaysBox (gridded c.loop-half.desk.view) (visit c.half-item.result l) c.loop-half.values c.look_into_told.new.values c.loop-half.tally c.look_into_told.new.tally) (list-stays c.args.desk.now c.loop-half.desk c.args.live c.loop-half.invariant.more c.requires.may.among) (c.in_ok-look_into_told.ensures.paid none));
+      traced = next-traced_after c.layers_hold.ensures view c.loop-half.desk.view was live half halves c.loop-half.half-index _ c.args.tally.now c.loop-half.tally c.look_into_told.new.tally same c.loop-half-test.true c.half-item.is before.traced
+          (subst (λ r. CountsHullsAtLeast (long_spans_below_after (gridded c.loop-half.desk.view) r (visit half live)) c.loop-half.tally c.look_into_told.new.tally) (half-was half c.args.before)
+          (subst (λ l. CountsHullsAtLeast (long_spans_below_after (gridded c.loop-half.desk.view) (visit_before c.args.before half) (visit half l)) c.loop-half.tally c.look_into_told.new.tally) (list-stays c.args.desk.now c.loop-half.desk c.args.live c.loop-half.invariant.more c.requires.may.among) after.traced));
     }
 
 pub look_into_each_half-returns-clause-settled : goal.look_into_each_half-returns-clause-settled
@@ -335,29 +378,352 @@ pub look_into_each_half-returns-clause-worked : goal.look_into_each_half-returns
 look_into_each_half-returns-clause-worked t c =
     let all = c.as_slice-half-items.ensures.value ∙ c.split-halves.ensures in
     let halves = c.as_slice-half-items.result.now in
-    subst (λ hs. All (λ h. AreWorked (gridded c.args.desk.now.view) (visit h (list_of c.args.desk.now c.args.live)) c.loop-half.values) hs) (take_all c.loop-half.half-index halves (omega (arith, c.loop-half-test.false)) ∙ all) c.loop-half.invariant.worked
+    λ none. subst (λ hs. All (λ h. AreWorked (gridded c.args.desk.now.view) (visit h (list_of c.args.desk.now c.args.live)) c.loop-half.values) hs) (take_all c.loop-half.half-index halves (omega (arith, c.loop-half-test.false)) ∙ all) (c.loop-half.invariant.worked none)
 
 pub look_into_each_half-returns-clause-counted : goal.look_into_each_half-returns-clause-counted
 look_into_each_half-returns-clause-counted t c =
     let view = c.args.desk.now.view in
+    let live = list_of c.args.desk.now c.args.live in
+    let was = received_by c.args.before in
+    let other = other-list was live c.requires.new in
     let all = c.as_slice-half-items.ensures.value ∙ c.split-halves.ensures in
     let halves = c.as_slice-half-items.result.now in
-    subst (λ hs. ChargesHalves (gridded view) (list_of c.args.desk.now c.args.live) hs c.args.values.now c.loop-half.values c.args.tally.now c.loop-half.tally) all
-    (some-charged c.layers_hold.ensures view (list_of c.args.desk.now c.args.live) halves c.loop-half.half-index c.args.values.now c.loop-half.values c.args.tally.now c.loop-half.tally (halves-boxes c.layers_hold.ensures c.args.b halves c.requires.may.visit_is.box all) c.loop-half.invariant.counted)
+    subst (λ hs. ChargesHalvesAfter (gridded view) was live hs c.args.values.now c.loop-half.values c.args.tally.now c.loop-half.tally) all
+    (some-charged_after c.layers_hold.ensures view was live halves c.loop-half.half-index c.args.values.now c.loop-half.values c.args.tally.now c.loop-half.tally other (halves-boxes c.layers_hold.ensures c.args.b halves c.requires.may.visit_is.box all) c.loop-half.invariant.counted)
 
 pub look_into_each_half-returns-clause-paid : goal.look_into_each_half-returns-clause-paid
 look_into_each_half-returns-clause-paid t c =
     let view = c.args.desk.now.view in
     let all = c.as_slice-half-items.ensures.value ∙ c.split-halves.ensures in
-    subst (λ hs. PaysHalves (gridded view) (list_of c.args.desk.now c.args.live) hs c.args.values.now c.loop-half.values c.args.tally.now c.loop-half.tally) all c.loop-half.invariant.paid
+    λ none. subst (λ hs. PaysHalves (gridded view) (list_of c.args.desk.now c.args.live) hs c.args.values.now c.loop-half.values c.args.tally.now c.loop-half.tally) all (c.loop-half.invariant.paid none)
 
 pub look_into_each_half-returns-clause-traced : goal.look_into_each_half-returns-clause-traced
 look_into_each_half-returns-clause-traced t c =
-    let d = gridded c.args.desk.now.view in
+    let view = c.args.desk.now.view in
+    let live = list_of c.args.desk.now c.args.live in
+    let was = received_by c.args.before in
     let all = c.as_slice-half-items.ensures.value ∙ c.split-halves.ensures in
     let halves = c.as_slice-half-items.result.now in
-    subst (λ hs. CountsHullsAtLeast (halves_long_spans d (list_of c.args.desk.now c.args.live) hs) c.args.tally.now c.loop-half.tally) all
-    (all-traced d (list_of c.args.desk.now c.args.live) halves c.loop-half.half-index c.args.tally.now c.loop-half.tally (omega (arith, c.loop-half-test.false)) c.loop-half.invariant.traced)
+    subst (λ hs. CountsHullsAtLeast (halves_long_spans_after (gridded view) was live hs) c.args.tally.now c.loop-half.tally) all
+    (all-traced_after (gridded view) was live halves c.loop-half.half-index c.args.tally.now c.loop-half.tally (omega (arith, c.loop-half-test.false)) c.loop-half.invariant.traced)
 
 pub look_into_halves-returns-clause-kept : goal.look_into_halves-returns-clause-kept
 look_into_halves-returns-clause-kept t c = c.cut.ensures.back c.args.desk.now c.look_into_each_half-looked.ensures.more (c.len-count.ensures ∙ ap (λ (d : Tracing). length d.lists) c.desk.view_is)
+
+pub look_into_told-returns-then-not-is_long-clause-adds : goal.look_into_told-returns-then-not-is_long-clause-adds
+look_into_told-returns-then-not-is_long-clause-adds t c =
+    let view = c.args.desk.now.view in
+    let v = visit c.args.b (list_of c.args.desk.now c.args.received) in
+    let was = visit_before c.args.before c.args.b in
+    on_ok c.look_into_cell.result _
+    (adds-same c.args.boxes.now c.args.boxes.now [] (places_of (gridded view) v) (sym (places-cell c.layers_hold.ensures (gridded view) v (omega arith) c.requires.may.visit_is.box (sym c.is_long.ensures ∙ c.if-not-is_long.true))) (adds-none c.args.boxes.now))
+
+pub look_into_told-returns-then-not-is_long-clause-left : goal.look_into_told-returns-then-not-is_long-clause-left
+look_into_told-returns-then-not-is_long-clause-left t c =
+    on_ok c.look_into_cell.result _ (left-cell c.layers_hold.ensures c.args.desk.now.view c.args.b c.args.boxes.now.before c.args.before c.requires.may.visit_is.box (sym c.is_long.ensures ∙ c.if-not-is_long.true))
+
+pub look_into_told-returns-then-not-is_long-clause-worked : goal.look_into_told-returns-then-not-is_long-clause-worked
+look_into_told-returns-then-not-is_long-clause-worked t c =
+    λ none. c.look_into_cell.ensures.worked
+
+pub look_into_told-returns-then-not-is_long-clause-paid : goal.look_into_told-returns-then-not-is_long-clause-paid
+look_into_told-returns-then-not-is_long-clause-paid t c =
+    λ none. c.look_into_cell.ensures.paid
+
+pub look_into_told-returns-in-Open-clause-adds : goal.look_into_told-returns-in-Open-clause-adds
+look_into_told-returns-in-Open-clause-adds t c =
+    let view = c.args.desk.now.view in
+    let v = visit c.args.b (list_of c.args.desk.now c.args.received) in
+    let was = visit_before c.args.before c.args.b in
+    let left = c.args.boxes.now.before in
+    let at = c.in-Open.live in
+    let live = list_of c.args.desk.now at in
+    let long = sym c.is_long.ensures ∙ c.if-not-is_long.false in
+    let looked = at-told (samples c.args.desk.now) (list_of c.args.desk.now c.args.received) c.args.b c.args.desk.now.lists c.args.outcomes.now c.args.at Inside c.requires.may.lattice (c.requires.told long) in
+    let opened = opened-told view c.args.b (list_of c.args.desk.now c.args.received) c.args.desk.now.lists at (get_or c.args.outcomes.now c.args.at Inside) looked c.in-Open.is in
+    on_ok-then c.look_into_split.result _ _
+    (adds-same c.args.boxes.now c.look_into_split.new.boxes (split_places (gridded view) c.args.b live) (places_of (gridded view) v)
+    (sym (places-split c.layers_hold.ensures (gridded view) v live (omega arith) c.requires.may.visit_is.box long opened.open' opened.same)))
+    c.look_into_split.ensures.adds
+
+pub look_into_told-returns-in-Inside-clause-adds : goal.look_into_told-returns-in-Inside-clause-adds
+look_into_told-returns-in-Inside-clause-adds t c =
+    let view = c.args.desk.now.view in
+    let v = visit c.args.b (list_of c.args.desk.now c.args.received) in
+    let was = visit_before c.args.before c.args.b in
+    let left = c.args.boxes.now.before in
+    let long = sym c.is_long.ensures ∙ c.if-not-is_long.false in
+    let looked = at-told (samples c.args.desk.now) (list_of c.args.desk.now c.args.received) c.args.b c.args.desk.now.lists c.args.outcomes.now c.args.at Inside c.requires.may.lattice (c.requires.told long) in
+    let closed = closed-told view c.args.b (list_of c.args.desk.now c.args.received) c.args.desk.now.lists (get_or c.args.outcomes.now c.args.at Inside) looked c.in-Inside.is in
+    on_ok-then c.push_shut.result _ _
+    (adds-same c.args.boxes.now c.push_shut.new.self (None ∷ []) (places_of (gridded view) v) (sym (places-shut c.layers_hold.ensures (gridded view) v (omega arith) c.requires.may.visit_is.box long closed)))
+    c.push_shut.ensures.adds
+
+pub look_into_told-returns-in-Inside-clause-left : goal.look_into_told-returns-in-Inside-clause-left
+look_into_told-returns-in-Inside-clause-left t c =
+    let view = c.args.desk.now.view in
+    let v = visit c.args.b (list_of c.args.desk.now c.args.received) in
+    let was = visit_before c.args.before c.args.b in
+    let left = c.args.boxes.now.before in
+    let long = sym c.is_long.ensures ∙ c.if-not-is_long.false in
+    let looked = at-told (samples c.args.desk.now) (list_of c.args.desk.now c.args.received) c.args.b c.args.desk.now.lists c.args.outcomes.now c.args.at Inside c.requires.may.lattice (c.requires.told long) in
+    let closed = closed-told view c.args.b (list_of c.args.desk.now c.args.received) c.args.desk.now.lists (get_or c.args.outcomes.now c.args.at Inside) looked c.in-Inside.is in
+    on_ok-then c.push_shut.result _ _
+    (λ passed. passed ∙ ap (λ (t : Bool). cond t (drop (first_count left) left) left) c.is_some.ensures ∙ left-shut c.layers_hold.ensures view c.args.b left c.args.before long c.requires.old)
+    c.push_shut.ensures.left
+
+pub look_into_told-push_shut-requires : goal.look_into_told-push_shut-requires
+look_into_told-push_shut-requires t c =
+    let long = sym c.is_long.ensures ∙ c.if-not-is_long.false in
+    λ some. old-there c.layers_hold.ensures c.args.desk.now.view c.args.b c.args.boxes.now.before c.args.before long c.requires.old (subst IsTrue c.is_some.ensures some)
+
+pub look_into_split-take_old-requires : goal.look_into_split-take_old-requires
+look_into_split-take_old-requires t c =
+    let view = c.args.desk.now.view in
+    let b = c.args.b in
+    let left = c.args.boxes.now.before in
+    let old = c.in-Some.old in
+    let is = found-old view b left c.args.before old c.in-Some.ensures.one c.requires.old in
+    let n = size-is c.args.values.now.n (size_of view) c.requires.may.n in
+    let within = c.requires.may.visit_is.within in
+    record {
+      count = old-many c.layers_hold.ensures view b left old c.requires.long is;
+      n = size-then old.values.now.n (size_of view) c.args.values.now.n is.looked.n (size-from (size_of view) c.args.values.now.n (sym n));
+      x = omega (arith, within.x, ap (λ (s : GridSize). s.x) n);
+      y = omega (arith, within.y, ap (λ (s : GridSize). s.y) n);
+      z = omega (arith, within.z, ap (λ (s : GridSize). s.z) n);
+    }
+
+pub look_into_split-returns-in-Some-clause-adds : goal.look_into_split-returns-in-Some-clause-adds
+look_into_split-returns-in-Some-clause-adds t c =
+    let view = c.args.desk.now.view in
+    let b = c.args.b in
+    let left = c.args.boxes.now.before in
+    let old = c.in-Some.old in
+    let live = list_of c.args.desk.now c.args.live in
+    let is = found-old view b left c.args.before old c.in-Some.ensures.one c.requires.old in
+    let handed : first_list left ≡ Some live = c.in-Some.ensures.same ∙ ap Some (c.list.ensures.list ∙ ap (λ (d : Tracing). list_of d c.args.live) c.desk.view_is) in
+    let told = handed-some c.layers_hold.ensures view b left old live c.requires.long is handed in
+    on_ok-then c.take_old.result _ _
+    (adds-same c.args.boxes.now c.take_old.new.boxes (take (first_count left) left) (split_places (gridded view) b live)
+    (old-places c.layers_hold.ensures view b left old c.requires.long is ∙ places-split c.layers_hold.ensures (gridded view) (visit b old.list.now) live (omega arith) c.requires.may.visit_is.box c.requires.long told.0 told.1))
+    c.take_old.ensures.adds
+
+pub look_into_split-returns-in-Some-clause-left : goal.look_into_split-returns-in-Some-clause-left
+look_into_split-returns-in-Some-clause-left t c =
+    let view = c.args.desk.now.view in
+    let b = c.args.b in
+    let left = c.args.boxes.now.before in
+    let old = c.in-Some.old in
+    let live = list_of c.args.desk.now c.args.live in
+    let is = found-old view b left c.args.before old c.in-Some.ensures.one c.requires.old in
+    let handed : first_list left ≡ Some live = c.in-Some.ensures.same ∙ ap Some (c.list.ensures.list ∙ ap (λ (d : Tracing). list_of d c.args.live) c.desk.view_is) in
+    let told = handed-some c.layers_hold.ensures view b left old live c.requires.long is handed in
+    on_ok-then c.take_old.result _ _
+    (λ passed. passed ∙ ap (λ n. drop n left) (old-count c.layers_hold.ensures view b left old c.requires.long is) ∙ ap (λ o. behind (gridded view) (visit_before o b) left) (sym c.in-Some.ensures.one))
+    c.take_old.ensures.left
+
+pub look_into_split-returns-in-Some-clause-settled : goal.look_into_split-returns-in-Some-clause-settled
+look_into_split-returns-in-Some-clause-settled t c =
+    let view = c.args.desk.now.view in
+    let b = c.args.b in
+    let left = c.args.boxes.now.before in
+    let old = c.in-Some.old in
+    let live = list_of c.args.desk.now c.args.live in
+    let is = found-old view b left c.args.before old c.in-Some.ensures.one c.requires.old in
+    let handed : first_list left ≡ Some live = c.in-Some.ensures.same ∙ ap Some (c.list.ensures.list ∙ ap (λ (d : Tracing). list_of d c.args.live) c.desk.view_is) in
+    let told = handed-some c.layers_hold.ensures view b left old live c.requires.long is handed in
+    let known = handed-looked c.layers_hold.ensures view b old live is.looked told.1 in
+    on_ok-then c.take_old.result _ _ (takes-settled view (list_grid_value view live) b old.values.now c.args.values.now c.take_old.new.values known.1) c.take_old.ensures.all
+
+pub look_into_split-returns-in-Some-clause-grows : goal.look_into_split-returns-in-Some-clause-grows
+look_into_split-returns-in-Some-clause-grows t c =
+    let view = c.args.desk.now.view in
+    let b = c.args.b in
+    let left = c.args.boxes.now.before in
+    let old = c.in-Some.old in
+    let live = list_of c.args.desk.now c.args.live in
+    let is = found-old view b left c.args.before old c.in-Some.ensures.one c.requires.old in
+    let handed : first_list left ≡ Some live = c.in-Some.ensures.same ∙ ap Some (c.list.ensures.list ∙ ap (λ (d : Tracing). list_of d c.args.live) c.desk.view_is) in
+    let told = handed-some c.layers_hold.ensures view b left old live c.requires.long is handed in
+    let known = handed-looked c.layers_hold.ensures view b old live is.looked told.1 in
+    takes-grows (list_grid_value view live) b old.values.now c.args.values.now c.take_old.new.values known.0 c.take_old.ensures.part
+
+pub look_into_split-returns-in-Some-clause-worked : goal.look_into_split-returns-in-Some-clause-worked
+look_into_split-returns-in-Some-clause-worked t c =
+    λ none. absurd (none-some c.in-Some.old (sym none ∙ c.in-Some.ensures.one))
+
+pub look_into_split-returns-in-Some-clause-paid : goal.look_into_split-returns-in-Some-clause-paid
+look_into_split-returns-in-Some-clause-paid t c =
+    λ none. absurd (none-some c.in-Some.old (sym none ∙ c.in-Some.ensures.one))
+
+pub look_into_split-returns-in-Some-clause-counted : goal.look_into_split-returns-in-Some-clause-counted
+look_into_split-returns-in-Some-clause-counted t c =
+    let view = c.args.desk.now.view in
+    let b = c.args.b in
+    let left = c.args.boxes.now.before in
+    let old = c.in-Some.old in
+    let live = list_of c.args.desk.now c.args.live in
+    let is = found-old view b left c.args.before old c.in-Some.ensures.one c.requires.old in
+    let handed : first_list left ≡ Some live = c.in-Some.ensures.same ∙ ap Some (c.list.ensures.list ∙ ap (λ (d : Tracing). list_of d c.args.live) c.desk.view_is) in
+    let told = handed-some c.layers_hold.ensures view b left old live c.requires.long is handed in
+    let values = c.take_old.new.values in
+    λ f enough. taken-charged c.layers_hold.ensures f _ c.args.values.now values c.args.tally.now c.take_old.ensures.part.n (λ p. taken-known _ old.values.now c.args.values.now values p c.take_old.ensures.part)
+
+pub look_into_split-returns-in-Some-clause-traced : goal.look_into_split-returns-in-Some-clause-traced
+look_into_split-returns-in-Some-clause-traced t c =
+    let view = c.args.desk.now.view in
+    let b = c.args.b in
+    let left = c.args.boxes.now.before in
+    let old = c.in-Some.old in
+    let live = list_of c.args.desk.now c.args.live in
+    let is = found-old view b left c.args.before old c.in-Some.ensures.one c.requires.old in
+    let handed : first_list left ≡ Some live = c.in-Some.ensures.same ∙ ap Some (c.list.ensures.list ∙ ap (λ (d : Tracing). list_of d c.args.live) c.desk.view_is) in
+    let told = handed-some c.layers_hold.ensures view b left old live c.requires.long is handed in
+    on_ok c.take_old.result _
+    (subst (λ h. CountsHullsAtLeast (halves_long_spans_after (gridded view) h live (halves_of 1 b)) c.args.tally.now c.args.tally.now) (sym (ap (λ o. handed_by o left) c.in-Some.ensures.one ∙ handed))
+    (halves-untraced c.layers_hold.ensures (gridded view) live (halves_of 1 b) c.args.tally.now))
+
+pub look_into_anew-half_before-half-requires : goal.look_into_anew-half_before-half-requires
+look_into_anew-half_before-half-requires t c =
+    subst (λ o. IfNone c.args.before (o ≡ None)) (sym c.take_handed-handed.ensures.list) (none-handed c.args.before c.args.boxes.now.before)
+
+pub look_into_anew-look_into_halves-requires : goal.look_into_anew-look_into_halves-requires
+look_into_anew-look_into_halves-requires t c =
+    let view = c.args.desk.now.view in
+    let b = c.args.b in
+    let left = c.args.boxes.now.before in
+    let live = list_of c.args.desk.now c.args.live in
+    let gave = c.half_before-half.ensures.received ∙ c.take_handed-handed.ensures.list in (
+      omega (arith, c.decreases),
+      (
+        c.requires.may,
+        (
+          c.requires.whole,
+          (
+            c.requires.long,
+            (
+              subst (λ ls. IfSome c.half_before-half.result (AreOldHalves view b (halves_of 1 b) ls)) (sym (c.in_ok-begun.ensures.left ∙ c.take_handed-handed.ensures.left))
+                  (first-halves c.layers_hold.ensures view b left c.args.before c.half_before-half.result c.requires.long c.requires.old gave c.half_before-half.ensures.values),
+              λ same. c.requires.new (sym gave ∙ same),
+            ),
+          ),
+        ),
+      ),
+    )
+
+pub look_into_anew-returns-in_err-begun-clause-counted : goal.look_into_anew-returns-in_err-begun-clause-counted
+look_into_anew-returns-in_err-begun-clause-counted t c =
+    λ f enough. charges-none c.layers_hold.ensures f _ c.args.values.now c.args.tally.now
+
+pub look_into_anew-returns-in_err-begun-clause-paid : goal.look_into_anew-returns-in_err-begun-clause-paid
+look_into_anew-returns-in_err-begun-clause-paid t c =
+    λ none f due. pays-none c.layers_hold.ensures f c.args.values.now c.args.tally.now
+
+pub look_into_anew-returns-in_err-look_into_halves-clause-counted : goal.look_into_anew-returns-in_err-look_into_halves-clause-counted
+look_into_anew-returns-in_err-look_into_halves-clause-counted t c =
+    let view = c.args.desk.now.view in
+    let b = c.args.b in
+    let left = c.args.boxes.now.before in
+    let live = list_of c.args.desk.now c.args.live in
+    let gave = c.half_before-half.ensures.received ∙ c.take_handed-handed.ensures.list in
+    subst (λ h. ChargesHalvesAfter (gridded view) h live (halves_of 1 b) c.args.values.now c.look_into_halves.new.values c.args.tally.now c.look_into_halves.new.tally) gave c.in_err-look_into_halves.ensures.counted
+
+pub look_into_anew-returns-in_err-look_into_halves-clause-paid : goal.look_into_anew-returns-in_err-look_into_halves-clause-paid
+look_into_anew-returns-in_err-look_into_halves-clause-paid t c =
+    let view = c.args.desk.now.view in
+    let b = c.args.b in
+    let left = c.args.boxes.now.before in
+    let live = list_of c.args.desk.now c.args.live in
+    let gave = c.half_before-half.ensures.received ∙ c.take_handed-handed.ensures.list in
+    λ none. c.in_err-look_into_halves.ensures.paid (none-halves c.args.before c.half_before-half.result left gave none)
+
+pub look_into_anew-returns-clause-counted : goal.look_into_anew-returns-clause-counted
+look_into_anew-returns-clause-counted t c =
+    let view = c.args.desk.now.view in
+    let b = c.args.b in
+    let left = c.args.boxes.now.before in
+    let live = list_of c.args.desk.now c.args.live in
+    let gave = c.half_before-half.ensures.received ∙ c.take_handed-handed.ensures.list in
+    subst (λ h. ChargesHalvesAfter (gridded view) h live (halves_of 1 b) c.args.values.now c.look_into_halves.new.values c.args.tally.now c.look_into_halves.new.tally) gave c.in_ok-look_into_halves.ensures.counted
+
+pub look_into_anew-returns-clause-paid : goal.look_into_anew-returns-clause-paid
+look_into_anew-returns-clause-paid t c =
+    let view = c.args.desk.now.view in
+    let b = c.args.b in
+    let left = c.args.boxes.now.before in
+    let live = list_of c.args.desk.now c.args.live in
+    let gave = c.half_before-half.ensures.received ∙ c.take_handed-handed.ensures.list in
+    λ none. c.in_ok-look_into_halves.ensures.paid (none-halves c.args.before c.half_before-half.result left gave none)
+
+pub look_into_anew-returns-clause-worked : goal.look_into_anew-returns-clause-worked
+look_into_anew-returns-clause-worked t c =
+    let view = c.args.desk.now.view in
+    let b = c.args.b in
+    let left = c.args.boxes.now.before in
+    let live = list_of c.args.desk.now c.args.live in
+    let gave = c.half_before-half.ensures.received ∙ c.take_handed-handed.ensures.list in
+    λ none. c.in_ok-look_into_halves.ensures.worked (none-halves c.args.before c.half_before-half.result left gave none)
+
+pub look_into_anew-returns-clause-traced : goal.look_into_anew-returns-clause-traced
+look_into_anew-returns-clause-traced t c =
+    let view = c.args.desk.now.view in
+    let b = c.args.b in
+    let left = c.args.boxes.now.before in
+    let live = list_of c.args.desk.now c.args.live in
+    let gave = c.half_before-half.ensures.received ∙ c.take_handed-handed.ensures.list in
+    subst (λ h. CountsHullsAtLeast (halves_long_spans_after (gridded view) h live (halves_of 1 b)) c.args.tally.now c.look_into_halves.new.tally) gave c.in_ok-look_into_halves.ensures.traced
+
+pub look_into_anew-returns-clause-left : goal.look_into_anew-returns-clause-left
+look_into_anew-returns-clause-left t c =
+    let view = c.args.desk.now.view in
+    let b = c.args.b in
+    let left = c.args.boxes.now.before in
+    let live = list_of c.args.desk.now c.args.live in
+    let gave = c.half_before-half.ensures.received ∙ c.take_handed-handed.ensures.list in
+    c.end_split.ensures.left ∙ c.in_ok-look_into_halves.ensures.left ∙ ap (λ r. behind_halves (gridded view) r (halves_of 1 b) c.begin_split.new.self.before) gave
+    ∙ ap (behind_halves (gridded view) (handed_by c.args.before left) (halves_of 1 b)) (c.in_ok-begun.ensures.left ∙ c.take_handed-handed.ensures.left)
+    ∙ left-anew c.layers_hold.ensures view b left c.args.before c.requires.long c.requires.old
+
+pub look_into_anew-end_split-requires : goal.look_into_anew-end_split-requires
+look_into_anew-end_split-requires t c =
+    let view = c.args.desk.now.view in
+    let b = c.args.b in
+    let left = c.args.boxes.now.before in
+    let live = list_of c.args.desk.now c.args.live in
+    let gave = c.half_before-half.ensures.received ∙ c.take_handed-handed.ensures.list in
+    let begun = c.in_ok-begun.ensures in
+    begun-within c.args.boxes.now c.begin_split.new.self c.look_into_halves.new.boxes (halves_places (gridded view) live (halves_of 1 b)) c.in_ok-begun.begun.at live c.in_ok-begun.begun.list
+    (begun.list ∙ ap (λ (d : Tracing). cond c.args.boxes.now.keeps (Some (list_of d c.args.live)) None) c.desk.view_is) begun.at
+    (record { places = begun.adds.places; keeps = begun.adds.keeps }) c.in_ok-look_into_halves.ensures.adds
+
+pub look_into_anew-returns-clause-adds : goal.look_into_anew-returns-clause-adds
+look_into_anew-returns-clause-adds t c =
+    let view = c.args.desk.now.view in
+    let b = c.args.b in
+    let left = c.args.boxes.now.before in
+    let live = list_of c.args.desk.now c.args.live in
+    let gave = c.half_before-half.ensures.received ∙ c.take_handed-handed.ensures.list in
+    let begun = c.in_ok-begun.ensures in
+    adds-split (gridded view) b live c.args.boxes.now c.begin_split.new.self c.look_into_halves.new.boxes c.end_split.new.self c.in_ok-begun.begun.at c.in_ok-begun.begun.list
+    (begun.list ∙ ap (λ (d : Tracing). cond c.args.boxes.now.keeps (Some (list_of d c.args.live)) None) c.desk.view_is) begun.at
+    (record { places = begun.adds.places; keeps = begun.adds.keeps }) c.in_ok-look_into_halves.ensures.adds c.end_split.ensures.keeps c.end_split.ensures.filled
+
+pub look_into_each_half-returns-clause-left : goal.look_into_each_half-returns-clause-left
+look_into_each_half-returns-clause-left t c =
+    let view = c.args.desk.now.view in
+    let live = list_of c.args.desk.now c.args.live in
+    let was = received_by c.args.before in
+    let all = c.as_slice-half-items.ensures.value ∙ c.split-halves.ensures in
+    let halves = c.as_slice-half-items.result.now in
+    sym (left-all (gridded view) was halves c.loop-half.half-index c.loop-half.boxes.before (omega (arith, c.loop-half-test.false))) ∙ c.loop-half.invariant.left
+    ∙ ap (λ hs. behind_halves (gridded view) was hs c.args.boxes.now.before) all
+
+pub look_into_each_half-returns-clause-adds : goal.look_into_each_half-returns-clause-adds
+look_into_each_half-returns-clause-adds t c =
+    let view = c.args.desk.now.view in
+    let live = list_of c.args.desk.now c.args.live in
+    let was = received_by c.args.before in
+    let all = c.as_slice-half-items.ensures.value ∙ c.split-halves.ensures in
+    let halves = c.as_slice-half-items.result.now in
+    subst (λ hs. Adds c.args.boxes.now c.loop-half.boxes (halves_places (gridded view) live hs)) (take_all c.loop-half.half-index halves (omega (arith, c.loop-half-test.false)) ∙ all) c.loop-half.invariant.adds

@@ -10,14 +10,14 @@ use Rattle.oct_descent.proofs.listing.cell_list.Goals as goal
 
 pub loop-z-preserved : goal.loop-z-preserved
 loop-z-preserved c =
-    let d = c.args.tree.now in
+    let d = c.args.grid.now in
     next-front (cells_in_layer d.view d.list) [] c.loop-z.cells.items c.push_layer.new.cells.items c.loop-z.z c.loop-z.invariant c.in_ok-push_layer.ensures
 
 pub returns : goal.returns
 returns c =
-    let d = c.args.tree.now in
-    let n = ap (λ t. t.view.n) c.tree-inside.view_is ∙ ap (λ t. t.view.n) c.tree.view_is in
-    let size = c.mesh_size-z-end.ensures.size ∙ ap (λ t. size_of t.view) c.tree.view_is in
+    let d = c.args.grid.now in
+    let n = ap (λ t. t.view.n) c.grid-inside.view_is ∙ ap (λ t. t.view.n) c.grid.view_is in
+    let size = c.mesh_size-z-end.ensures.size ∙ ap (λ t. size_of t.view) c.grid.view_is in
     let all : c.loop-z.z ≡ (size_of d.view).z = omega (arith, ap (λ (s : GridSize). s.z) size, c.loop-z-test.false, c.loop-z.auto.z-end) in
     record {
       x = grid-x d.view d.list;

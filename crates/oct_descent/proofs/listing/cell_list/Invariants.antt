@@ -4,4 +4,4 @@ use Rattle.oct_descent.specs.Rows.{cells_in_layer}
 use Rattle.oct_descent.proofs.listing.cell_list.Given as goal
 
 abbrev pub invariant-loop-z : goal.invariant-loop-z
-invariant-loop-z l = l.cells.items ≡ flat_map (cells_in_layer l.fn.tree.view l.fn.tree.list) (range_with_len 0 l.z)
+invariant-loop-z l = l.cells.items ≡ flat_map (cells_in_layer l.fn.grid.view l.fn.grid.list) (range_with_len 0 l.z)

@@ -13,7 +13,7 @@ pub find_numbers-requires-clause-kept : goal.find_numbers-requires-clause-kept
 find_numbers-requires-clause-kept c =
     let cell = c.args.cell.now in
     let ts = shape_of cell.signs in
-    rw c.deref-2.ensures.value
+    rw c.as_slice.ensures.value
     (edges_kept c.args.n cell ts c.shape-shape.result.now.edges.items c.shape-shape.ensures.triangles.own (all_moved (OfEdges (IsKept c.args.n)) cell ts refl c.requires.kept))
 
 pub returns : goal.returns
@@ -24,10 +24,10 @@ returns c =
     let f = face_in c.args.n c.args.slots.now in
     let has = c.shape-shape.ensures.triangles in
     let are : (i : ℕ) → i < length shape.edges.items → get_or c.find_numbers.new.numbers i 0 ≡ number_in c.args.n c.args.slots.now (moved cell (get_or shape.edges.items i no_edge)) =
-    λ i less. rw (← c.deref-2.ensures.value) (c.find_numbers.ensures i (omega (arith, less, ap length c.deref-2.ensures.value))) in
+    λ i less. rw (← c.as_slice.ensures.value) (c.find_numbers.ensures i (omega (arith, less, ap length c.as_slice.ensures.value))) in
     c.push_triangles.ensures
     ∙ ap (λ l. c.args.faces.now.items ++ l)
-    (ap (map (face_by c.find_numbers.new.numbers)) c.deref-3.ensures.value
+    (ap (map (face_by c.find_numbers.new.numbers)) c.as_slice-2.ensures.value
     ∙ faces_by c.args.n c.args.slots.now cell shape.edges.items c.find_numbers.new.numbers shape.triangles.items are has.places
     ∙ ap (map (λ t. f (moved_triple cell t))) has.triangles
     ∙ faces_moved f cell ts refl)

@@ -9,7 +9,7 @@ pub returns-then-not-is_empty-clause-done : goal.returns-then-not-is_empty-claus
 returns-then-not-is_empty-clause-done c = (
   λ no. cc,
   λ none.
-      let d = c.self.inside.tree.now in
+      let d = c.self.inside.grid.now in
       let block = c.put_vertices-self-inside.new.block in
       let some : 0 < length block.bytes = grind (arith, c.is_empty.ensures, c.if-not-is_empty.true, c.piece.ensures.piece) in
       let are : AreCellsOf d.view d.list (cells_of d.view d.list) c.cells.result.now = rw c.cells.ensures c.self.invariant.cells in

@@ -7,12 +7,12 @@ use Rattle.grid_text.proofs.grid_pieces.GridPieces.new.Goals as goal
 
 pub new-requires : goal.new-requires
 new-requires c =
-    let d = c.args.tree.now in
+    let d = c.args.grid.now in
     (cells_of d.view d.list, own_sides c.cells_make_meshes.ensures.cells c.grids_are_bordered.ensures d.view d.list c.n.result c.in_ok-sided.sided.items c.n.ensures.size c.n.ensures.bounded c.in_ok-sided.ensures)
 
 pub invariant_of-result : goal.invariant_of-result
 invariant_of-result c =
-    let d = c.args.tree.now in
+    let d = c.args.grid.now in
     let sides = own_sides c.cells_make_meshes.ensures.cells c.grids_are_bordered.ensures d.view d.list c.n.result c.in_ok-sided.sided.items c.n.ensures.size c.n.ensures.bounded c.in_ok-sided.ensures in
     record {
       over = c.put_header.ensures.view ∙ c.in_ok-block.ensures.view ∙ c.view.ensures;
@@ -23,7 +23,7 @@ invariant_of-result c =
 
 pub returns : goal.returns
 returns c =
-    let d = c.args.tree.now in
+    let d = c.args.grid.now in
     let sides = own_sides c.cells_make_meshes.ensures.cells c.grids_are_bordered.ensures d.view d.list c.n.result c.in_ok-sided.sided.items c.n.ensures.size c.n.ensures.bounded c.in_ok-sided.ensures in
     let now : AreSidesOf c.in_ok-walk.walk.n (cells_of d.view d.list) c.in_ok-walk.walk.sided = rw c.in_ok-walk.ensures sides in
     text_is c.cells_make_meshes.ensures.meshes c.grids_are_bordered.ensures d.view d.list c.vertex_count.result c.face_count.result c.in_ok-walk.walk.made c.put_header.new.self.bytes c.in_ok-block.block.bytes

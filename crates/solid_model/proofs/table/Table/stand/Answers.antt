@@ -3,8 +3,8 @@ use Rattle.solid_model.proofs.table.Table.stand.Goals as goal
 use Rattle.std.specs.List.{insert}
 use Rattle.std.proofs.lemmas.Option.{get_or_from_slice_get, slice_get_within}
 use Rattle.std.proofs.Common.{ap, arith, length, map, subst, sym, ◌∙◌, ◌≤◌}
-use Rattle.solid_model.specs.Tables.{HasName, Standing, clauses_in, standing_place}
-use Rattle.solid_model.specs.Seen.{clause_seen}
+use Rattle.solid_model.specs.Tables.{HasName, IsNumbered, Standing, clauses_in, standing_place}
+use Rattle.solid_model.specs.Seen.{clause_seen, named_clause}
 use Rattle.solid_model.specs.Surgery.{moved, up}
 use Rattle.solid_model.specs.Clauses.{AreInOrder}
 use Rattle.solid_model.proofs.UseLemmas.{uses-few}
@@ -14,11 +14,11 @@ use Rattle.solid_model.proofs.KeptLemmas.{kept-stood, clauses-arrived}
 
 pub count_operands-requires-clause-first : goal.count_operands-requires-clause-first
 count_operands-requires-clause-first c =
-    λ h. omega (arith, first-within _ _ _ _ c.self.invariant.table (clause_seen c.args.clause.now) c.numbered-row.result c.numbered-row.ensures h, c.self.invariant.counted.as_many)
+    λ h. omega (arith, first-within _ _ _ _ c.self.invariant.table (clause_seen c.args.clause.now) c.numbered-row.result (subst (λ f. IsNumbered c.self.inside.numbers.items (named_clause c.args.clause.now.name.now f) c.numbered-row.result) c.form.ensures (c.numbered-row.ensures c.args.clause.now.name.now)) h, c.self.invariant.counted.as_many)
 
 pub count_operands-requires-clause-second : goal.count_operands-requires-clause-second
 count_operands-requires-clause-second c =
-    λ h. omega (arith, second-within _ _ _ _ c.self.invariant.table (clause_seen c.args.clause.now) c.numbered-row.result c.numbered-row.ensures h, c.self.invariant.counted.as_many)
+    λ h. omega (arith, second-within _ _ _ _ c.self.invariant.table (clause_seen c.args.clause.now) c.numbered-row.result (subst (λ f. IsNumbered c.self.inside.numbers.items (named_clause c.args.clause.now.name.now f) c.numbered-row.result) c.form.ensures (c.numbered-row.ensures c.args.clause.now.name.now)) h, c.self.invariant.counted.as_many)
 
 pub count_operands-requires-clause-few : goal.count_operands-requires-clause-few
 count_operands-requires-clause-few c =
@@ -60,7 +60,7 @@ invariant_of-self c =
     let behind : c.self.inside.count ≤ from = subst (λ p. c.self.inside.count ≤ p) (get_or_from_slice_get c.self.inside.places.items m from 0 stands) (subst (λ k. k.count ≤ standing_place k.order m) (sym c.self.view_is) c.requires.behind) in
     let new : Standing = record { numbers = c.move_number.new.numbers.items; places = c.move_number.new.places.items } in
     rw c.clear.ensures.items
-    (kept-stood _ _ _ _ _ _ c.self.invariant new c.args.at from m (clause_seen c.args.clause.now) c.numbered-row.result front behind number c.numbered-row.ensures
+    (kept-stood _ _ _ _ _ _ c.self.invariant new c.args.at from m (clause_seen c.args.clause.now) c.numbered-row.result front behind number (subst (λ f. IsNumbered c.self.inside.numbers.items (named_clause c.args.clause.now.name.now f) c.numbered-row.result) c.form.ensures (c.numbered-row.ensures c.args.clause.now.name.now))
     c.move_number.ensures.are c.move_number.ensures.moved c.count_operands.new.uses.items c.count_operands.ensures.len c.count_operands.ensures.each)
 
 pub returns : goal.returns
@@ -74,6 +74,6 @@ returns c =
     let number = table.places.back m from stands in
     let behind : c.self.inside.count ≤ from = subst (λ p. c.self.inside.count ≤ p) (get_or_from_slice_get c.self.inside.places.items m from 0 stands) (subst (λ k. k.count ≤ standing_place k.order m) (sym c.self.view_is) c.requires.behind) in
     let new : Standing = record { numbers = c.move_number.new.numbers.items; places = c.move_number.new.places.items } in
-    clauses-arrived _ _ _ _ _ _ c.self.invariant new c.args.at from m (clause_seen c.args.clause.now) c.numbered-row.result front behind number c.numbered-row.ensures
+    clauses-arrived _ _ _ _ _ _ c.self.invariant new c.args.at from m (clause_seen c.args.clause.now) c.numbered-row.result front behind number (subst (λ f. IsNumbered c.self.inside.numbers.items (named_clause c.args.clause.now.name.now f) c.numbered-row.result) c.form.ensures (c.numbered-row.ensures c.args.clause.now.name.now))
     c.move_number.ensures.are c.move_number.ensures.moved (subst (λ k. AreInOrder (clauses_in k)) (sym c.self.view_is) c.requires.in_order) has c.requires.operands
     ∙ ap (λ k. insert (map (moved (up c.args.at)) (clauses_in k)) c.args.at (clause_seen c.args.clause.now)) c.self.view_is

@@ -1,0 +1,14 @@
+use Rattle.std.proofs.Common.{ap, refl, sym, ◌∙◌}
+use Rattle.oct_descent.specs.KeptBoxes.{places_of}
+use Rattle.oct_descent.specs.Trees.{Gridding}
+use Rattle.oct_descent.specs.Ways.{grid_root, gridded}
+use Rattle.oct_descent.proofs.Before.{root-stands}
+use Rattle.oct_descent.proofs.oct_tree.look_into_after.Goals as goal
+
+pub returns-in_err-desk-clause-at_most : goal.returns-in_err-desk-clause-at_most
+returns-in_err-desk-clause-at_most c = c.layers_hold.ensures.bounds.none c.args.tally.now _ _
+
+pub look_into_all-requires-clause-old : goal.look_into_all-requires-clause-old
+look_into_all-requires-clause-old c =
+    root-stands c.grid.inside.view c.grid.inside.list c.grid.inside.values c.old.inside.boxes.items _ c.grid.invariant c.grid_holds.ensures refl refl
+    (c.old.invariant.0 ∙ ap (λ (g : Gridding). places_of (gridded g.view) (grid_root g.view g.list)) (sym c.grid.view_is))

@@ -1,6 +1,0 @@
-use Rattle.std.proofs.Common.{◌≡◌}
-use Rattle.tetra_mesh.specs.Shapes.{shape_front}
-use Rattle.tetra_mesh.proofs.shapes.shape.Given as goal
-
-abbrev pub invariant-loop-tetra : goal.invariant-loop-tetra
-invariant-loop-tetra l = l.shape.items ≡ shape_front l.signs l.tetra
