@@ -8,4 +8,6 @@ pub use laws::refusals_begin_anew;
 pub use session::Session;
 
 #[cfg(test)]
+mod mesh_tests;
+#[cfg(test)]
 mod tests;
