@@ -5,12 +5,12 @@ use modeller_io::MemSink;
 use std::alloc::{AllocError, Global};
 use std::test::Fail;
 
-// A script over the same model, with an edit between two meshes, the model that it makes of the other
+// A script over the same model, with edits between two meshes, the model that it makes of the other
 // one, and the most evaluations and traced steps that both meshes take together.
 type Case = (&'static str, &'static str, &'static str, u64, u64);
 
 // The numbers were worked out by hand.
-const CASES: [Case; 3] = [
+const CASES: [Case; 5] = [
     // Two bars, of which the second one moves.
     (
         "x var-x\np const -0.5\nq const 0.5\na sub x p\nb abs a\nc sub x q\nd abs c\ne min b d\n\
@@ -26,6 +26,15 @@ const CASES: [Case; 3] = [
         "u const 5\nx var-x\n",
         "set u const 7",
         "u const 7\nx var-x\n",
+        75,
+        41,
+    ),
+    // Edits that are taken back before the second mesh, which takes nothing then.
+    ("x var-x\n", "set x const 5\nundo", "x var-x\n", 75, 41),
+    (
+        "u const 5\nx var-x\n",
+        "add f neg x\ncut f\nadd g neg u\nundo\nundo\nundo",
+        "u const 5\nx var-x\n",
         75,
         41,
     ),
@@ -74,6 +83,23 @@ fn a_mesh_after_an_edit_is_that_of_the_edited_model(rt: HostRuntime) -> Result<(
         trial.assert_holds(&rt, &frames(rt.alloc(), &case)?, b"");
         assert!(rt; trial.tally.points() <= points);
         assert!(rt; trial.tally.spans() <= spans);
+    }
+    Ok(())
+}
+
+#[test]
+fn a_mesh_of_the_same_cells_takes_nothing_by_other_words(rt: HostRuntime) -> Result<(), Fail> {
+    let mut written = Vec::new(rt.alloc());
+    push_mesh(rt.alloc(), "x var-x\n", &mut written)?;
+    push_mesh(rt.alloc(), "x var-x\n", &mut written)?;
+    for words in ["nx=4 ny=4 nz=4", "nz=4 n=4", "ny=4 nz=4 n=9 nx=4"] {
+        let input = format!(in rt.alloc(); "x var-x\n%%\nmesh {words}\nmesh n=4\n")?;
+        let mut trial = trial(rt.alloc(), &input)?;
+        assert_eq!(rt; trial.run(rt.alloc(), &["replay"])?, Status::Done);
+        trial.assert_holds(&rt, &written, b"");
+        // What one mesh takes at most.
+        assert!(rt; trial.tally.points() <= 75);
+        assert!(rt; trial.tally.spans() <= 41);
     }
     Ok(())
 }

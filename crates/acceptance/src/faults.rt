@@ -83,33 +83,54 @@ fn each_byte_may_be_the_first_that_is_not_written(rt: HostRuntime) -> Result<(),
     Ok(())
 }
 
-// Words, an input, the numbers of the read and of the write that fail, and the status. Nothing fails at
-// call 0.
-type Noted = (&'static [&'static str], &'static [u8], u64, u64, Status);
+// Words, how many bytes `#` the input begins with, the text behind them, the numbers of the read and of the
+// write that fail, and the status. Nothing fails at call 0.
+type Noted = (
+    &'static [&'static str],
+    usize,
+    &'static [u8],
+    u64,
+    u64,
+    Status,
+);
 
-// Each status that a run may be made to end with.
-const NOTED: [Noted; 6] = [
-    (&["draw"], DISC, 0, 0, Status::Usage),
-    (THREE_BY_THREE, b"", 0, 0, Status::BadModel),
-    (THREE_BY_THREE, b"a", 0, 0, Status::BadModel),
-    (&["replay"], DISC, 0, 0, Status::BadScript),
-    (THREE_BY_THREE, DISC, 1, 0, Status::ReadFault),
-    (THREE_BY_THREE, DISC, 0, 1, Status::WriteFault),
+// Each status that a run may be made to end with where memory is there.
+const NOTED: [Noted; 7] = [
+    (&["draw"], 0, DISC, 0, 0, Status::Usage),
+    (THREE_BY_THREE, 0, b"", 0, 0, Status::BadModel),
+    (THREE_BY_THREE, 0, b"a", 0, 0, Status::BadModel),
+    (&["replay"], 0, DISC, 0, 0, Status::BadScript),
+    (&["text"], 8_388_609, b"", 0, 0, Status::TooLong),
+    (THREE_BY_THREE, 0, DISC, 1, 0, Status::ReadFault),
+    (THREE_BY_THREE, 0, DISC, 0, 1, Status::WriteFault),
 ];
+
+// A run whose note fails at this call, and has taken these bytes then.
+fn assert_noted(
+    rt: &impl Abort,
+    alloc: Global,
+    noted: Noted,
+    failing: u64,
+    front: &[u8],
+) -> Result<(), AllocError> {
+    let (words, comment, text, failing_read, failing_write, status) = noted;
+    let mut input = vec![in alloc; b'#'; comment]?;
+    input.extend_from_slice(text)?;
+    let mut trial = Trial::new(alloc, b"")?;
+    trial.source = source(alloc, &input, 8192, &[failing_read])?;
+    trial.out = sink(alloc, 8192, &[failing_write])?;
+    trial.notes = sink(alloc, 9, &[failing])?;
+    assert_eq!(rt; trial.run(alloc, words)?, status);
+    trial.assert_holds(rt, b"", front);
+    Ok(())
+}
 
 #[test]
 fn a_note_that_fails_changes_no_status(rt: HostRuntime) -> Result<(), Fail> {
-    for (words, text, failing_read, failing_write, status) in NOTED {
+    for noted in NOTED {
         // The note fails at once, or after nine bytes.
-        let fronts: [(u64, &[u8]); 2] = [(1, b""), (2, b"modeller:")];
-        for (failing, front) in fronts {
-            let mut trial = Trial::new(rt.alloc(), b"")?;
-            trial.source = source(rt.alloc(), text, 8192, &[failing_read])?;
-            trial.out = sink(rt.alloc(), 8192, &[failing_write])?;
-            trial.notes = sink(rt.alloc(), 9, &[failing])?;
-            assert_eq!(rt; trial.run(rt.alloc(), words)?, status);
-            trial.assert_holds(&rt, b"", front);
-        }
+        assert_noted(&rt, rt.alloc(), noted, 1, b"")?;
+        assert_noted(&rt, rt.alloc(), noted, 2, b"modeller:")?;
     }
     Ok(())
 }

@@ -10,8 +10,6 @@ mod faults;
 #[cfg(test)]
 mod forges;
 #[cfg(test)]
-mod grids;
-#[cfg(test)]
 mod heights;
 #[cfg(test)]
 mod limits;
@@ -22,18 +20,18 @@ mod pictures;
 #[cfg(test)]
 mod refusals;
 #[cfg(test)]
-mod regrids;
-#[cfg(test)]
 mod replays;
 #[cfg(test)]
 mod scripts;
 #[cfg(test)]
 mod sure;
 #[cfg(test)]
-mod tapes;
-#[cfg(test)]
 mod texts;
 #[cfg(test)]
 mod trial;
+#[cfg(test)]
+mod undos;
+#[cfg(test)]
+mod uneven_meshes;
 #[cfg(test)]
 mod words;

@@ -92,8 +92,8 @@ const CASES: [(&str, &[u8]); 13] = [
     ("x var-x\n%%", b""),
 ];
 
-// A trial over this input, with room for more than one frame.
-fn trial(alloc: Global, input: &str) -> Result<Trial, AllocError> {
+/// A trial over this input, with room for more than one frame.
+pub fn trial(alloc: Global, input: &str) -> Result<Trial, AllocError> {
     let mut trial = Trial::new(alloc, input.as_bytes())?;
     let room = vec![in alloc; 0; 2048]?;
     trial.out = MemSink::new(8192, Vec::new(alloc), room);
@@ -111,11 +111,11 @@ fn commands_write_frames_of_the_model_then_standing(rt: HostRuntime) -> Result<(
     Ok(())
 }
 
-// The model that the edits below leave as it is.
-const SUM: &str = "a var-x\nb var-y\nc add a b\n";
+/// The model that the edits below leave as it is.
+pub const SUM: &str = "a var-x\nb var-y\nc add a b\n";
 
-// What `text` writes of it.
-const SUM_TEXT: &str = "@ text 26\na var-x\nb var-y\nc add a b\n";
+/// What `text` writes of it.
+pub const SUM_TEXT: &str = "@ text 26\na var-x\nb var-y\nc add a b\n";
 
 // Edits that are refused, in the lines 5, 7, 9 and so on, and why: the first reason that holds, also
 // where others hold too.
@@ -164,10 +164,10 @@ fn an_edit_that_is_refused_changes_nothing(rt: HostRuntime) -> Result<(), Fail> 
     Ok(())
 }
 
-// Edits that are accepted, and the text after each: clauses that are put in and cut at the first
-// place, at the last and between, names that come again, and uses that fall to none and rise again.
-// The texts were worked out by a program of its own, which keeps a list of lines.
-const ACCEPTED: [(&str, &str); 28] = [
+/// Edits that are accepted, and the text after each: clauses that are put in and cut at the first
+/// place, at the last and between, names that come again, and uses that fall to none and rise again.
+/// The texts were worked out by a program of its own, which keeps a list of lines.
+pub const ACCEPTED: [(&str, &str); 28] = [
     ("set b neg a", "@ text 26\na var-x\nb neg a\nc add a b\n"),
     (
         "put b d abs a",

@@ -4,7 +4,7 @@ use modeller_cmd::Status;
 use std::test::Fail;
 
 // Inputs, and the status and the note that they end with.
-const CASES: [(&str, Status, &str); 24] = [
+const CASES: [(&str, Status, &str); 29] = [
     (
         "x var-x\n",
         Status::BadScript,
@@ -27,6 +27,16 @@ const CASES: [(&str, Status, &str); 24] = [
     ),
     (
         "x var-x\n%%\nmesh w=3\n",
+        Status::BadScript,
+        "modeller: script line 3: BadSetting\n",
+    ),
+    (
+        "x var-x\n%%\nmesh nx=513\n",
+        Status::BadScript,
+        "modeller: script line 3: BadSetting\n",
+    ),
+    (
+        "x var-x\n%%\nmesh nx=512 ny=512 nz=65\n",
         Status::BadScript,
         "modeller: script line 3: BadSetting\n",
     ),
@@ -99,6 +109,21 @@ const CASES: [(&str, Status, &str); 24] = [
         "x var-x\n%%\ncost #\n",
         Status::BadScript,
         "modeller: script line 3: WrongArity\n",
+    ),
+    (
+        "x var-x\n%%\nundo x\n",
+        Status::BadScript,
+        "modeller: script line 3: WrongArity\n",
+    ),
+    (
+        "x var-x\n%%\nadd y var-y\nundo #\n",
+        Status::BadScript,
+        "modeller: script line 4: WrongArity\n",
+    ),
+    (
+        "x var-x\n%%\nUndo\n",
+        Status::BadScript,
+        "modeller: script line 3: UnknownCommand\n",
     ),
     (
         "x var-x\n%%\nset x const 0x1\n",

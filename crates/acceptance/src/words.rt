@@ -5,7 +5,7 @@ use modeller_io::Source;
 use std::test::Fail;
 
 // Words, the number of the one that is noted, and the reason.
-const CASES: [(&[&str], u32, &str); 50] = [
+const CASES: [(&[&str], u32, &str); 70] = [
     (&[], 0, "NoVerb"),
     (&["draw"], 1, "UnknownVerb"),
     (&["Render", "w"], 1, "UnknownVerb"),
@@ -31,6 +31,66 @@ const CASES: [(&[&str], u32, &str); 50] = [
     (&["render", "w=0"], 2, "OutOfRange"),
     (&["render", "h=3", "w=4097"], 3, "OutOfRange"),
     (&["mesh", "n=257"], 2, "OutOfRange"),
+    // Cells along each axis.
+    (&["render", "nx=3"], 2, "UnknownSetting"),
+    (&["count", "ny=3"], 2, "UnknownSetting"),
+    (&["height", "nz=3"], 2, "UnknownSetting"),
+    (&["forge", "nx=3"], 2, "UnknownSetting"),
+    (&["mesh", "nx=3", "n=4", "nx=3"], 4, "Twice"),
+    (&["mesh", "nx"], 2, "NotASetting"),
+    (&["mesh", "nx=0"], 2, "OutOfRange"),
+    (&["mesh", "nx=513"], 2, "OutOfRange"),
+    (&["mesh", "ny=0"], 2, "OutOfRange"),
+    (&["mesh", "ny=513"], 2, "OutOfRange"),
+    (&["mesh", "nz=0"], 2, "OutOfRange"),
+    (&["mesh", "nz=513"], 2, "OutOfRange"),
+    // What all axes share keeps its own range where no axis uses it.
+    (&["mesh", "nx=4", "ny=4", "nz=4", "n=257"], 5, "OutOfRange"),
+    // 17039360 cells, and 16777225, the least number above 16777216 that three counts make.
+    (&["mesh", "nx=512", "ny=512", "nz=65"], 0, "TooManyCells"),
+    (&["mesh", "nx=145", "ny=317", "nz=365"], 0, "TooManyCells"),
+    (&["mesh", "nz=145", "nx=317", "ny=365"], 0, "TooManyCells"),
+    // All three reasons that are asked of all words together hold, then the last two.
+    (
+        &[
+            "mesh",
+            "nx=512",
+            "ny=512",
+            "nz=65",
+            "x0=0",
+            "x1=0.0078",
+            "y0=1",
+            "y1=0",
+        ],
+        0,
+        "EmptySpan",
+    ),
+    (
+        &["mesh", "nx=512", "ny=512", "nz=65", "x0=0", "x1=0.0078"],
+        0,
+        "CellTooSmall",
+    ),
+    // One raw unit less than 512 times 65536, along y and along z.
+    (
+        &[
+            "mesh",
+            "ny=512",
+            "y0=0",
+            "y1=0.00781249976716935634613037109375",
+        ],
+        0,
+        "CellTooSmall",
+    ),
+    (
+        &[
+            "mesh",
+            "nz=512",
+            "z0=0",
+            "z1=0.00781249976716935634613037109375",
+        ],
+        0,
+        "CellTooSmall",
+    ),
     (&["forge", "solids=5001"], 2, "OutOfRange"),
     // The first bad word is noted, whatever stands after it.
     (&["render", "w=0", "h", "h=3"], 2, "OutOfRange"),

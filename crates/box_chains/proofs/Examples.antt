@@ -27,7 +27,9 @@ raster w h = record {
     w = w;
     h = h;
     d = 1;
-    n = 1;
+    nx = 1;
+    ny = 1;
+    nz = 1;
   };
   lattice = Raster;
   leaf = 8;
@@ -102,7 +104,9 @@ uneven = record {
   w = 5;
   h = 3;
   d = 4;
-  n = 2;
+  nx = 2;
+  ny = 2;
+  nz = 2;
 }
 
 -- columns lie from the left on

@@ -86,6 +86,8 @@ keyword-holds law line keywords.Put (before ∷ name ∷ form) = under-holds nam
 keyword-holds law line keywords.Cut [] = tt
 keyword-holds law line keywords.Cut (name ∷ []) = cut-holds line name
 keyword-holds law line keywords.Cut (name ∷ next ∷ others) = tt
+keyword-holds law line keywords.Undo [] = tt
+keyword-holds law line keywords.Undo (next ∷ others) = tt
 keyword-holds law line keywords.Render tokens =
     draw-holds law line verbs.Render tokens (job_after tokens verbs.Render) refl
 keyword-holds law line keywords.Height tokens =

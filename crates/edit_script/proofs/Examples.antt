@@ -1,6 +1,6 @@
 -- A small script, worked out by hand: which lines say commands, and on which of them memory may be wanted.
 use Rattle.std.proofs.Common.{◌≡◌, ℕ, pos, negsuc, true, false, Some, Ok, Err, List, [], ◌∷◌, refl, arith}
-use Rattle.std.specs.Prelude.{◌≢◌, codes, map, None, Option}
+use Rattle.std.specs.Prelude.{◌≢◌, ◌≤◌, codes, map, None, Option}
 use Rattle.std.proofs.lemmas.Int.{ints}
 use Rattle.fixed_ops.specs.Numerals.{cut_magnitude, is_unsigned_numeral, nearest_raw, unsigned_raw}
 use Rattle.fixed_ops.specs.declared.operation.Op.TheVariants as ops
@@ -13,7 +13,7 @@ use Rattle.clause_reader.specs.Lines.{tokens_of}
 use Rattle.edit_script.specs.Commands.{IsCommand, command_read}
 use Rattle.edit_script.specs.Keywords.{keyword_named}
 use Rattle.edit_script.specs.Marks.{before_mark, mark_ends}
-use Rattle.edit_script.specs.declared.command.Command.TheVariants.{Cost, Edit, Height, Mesh, Render, Stray, Text}
+use Rattle.edit_script.specs.declared.command.Command.TheVariants.{Cost, Edit, Height, Mesh, Render, Stray, Text, Undo}
 use Rattle.edit_script.specs.declared.keyword.Keyword.TheVariants as keywords
 use Rattle.edit_script.specs.declared.script_fault.ScriptFault.{ScriptFault}
 use Rattle.edit_script.specs.declared.script_reason.ScriptReason.{ScriptReason}
@@ -108,22 +108,31 @@ window = record {
   w = 512;
   h = 512;
   d = 255;
-  n = 64;
+  nx = 64;
+  ny = 64;
+  nz = 64;
 }
 
+-- what takes an edit back tells its line
+undo_of_a_script : script_read (codes "%%\nundo\n#undo\n undo") ≡ Ok (Undo 2 ∷ Undo 4 ∷ [])
+undo_of_a_script = refl
+
+undo_is_written_small : command_read 2 (codes "Undo" ∷ []) ≡ Err UnknownCommand
+undo_is_written_small = refl
+
 -- each draw has its own settings
-draws_of_a_script : script_read (codes "%%\nrender w=3\nheight h=4 d=5\nmesh n=6\nrender")
+draws_of_a_script : script_read (codes "%%\nrender w=3\nheight h=4 d=5\nmesh nx=3 n=6\nrender")
     ≡ Ok (
     Render (record window { w = 3 })
     ∷ Height (record window { h = 4; d = 5 })
-    ∷ Mesh (record window { n = 6 })
+    ∷ Mesh (record window { nx = 3; ny = 6; nz = 6 })
     ∷ Render window ∷ [])
 unfolding setting_of has_room
 draws_of_a_script = refl
 
--- a stray line, the text and the cost keep nothing
-kept_by_none : IsCommand (Stray 5) × IsCommand Text × IsCommand Cost
-kept_by_none = (tt, tt, tt)
+-- a stray line, the text, the cost and what takes an edit back keep nothing
+kept_by_none : IsCommand (Stray 5) × IsCommand Text × IsCommand Cost × IsCommand (Undo 5)
+kept_by_none = (tt, tt, tt, tt)
 
 -- what an edit names is a name, and each draw keeps to its own limits
 cut_of_no_name : IsCommand (Edit 3 (edits.Cut [])) → ⊥
@@ -138,17 +147,20 @@ flat_map is = absurd (omega (arith, is.0.d.some))
 no_columns : IsCommand (Render (record window { w = 0 })) → ⊥
 no_columns is = absurd (omega (arith, is.w.some))
 
-many_cells : IsCommand (Mesh (record window { n = 257 })) → ⊥
-many_cells is = absurd (omega (arith, is.0.n.few))
+many_cells : IsCommand (Mesh (record window { ny = 513 })) → ⊥
+many_cells is = absurd (omega (arith, is.0.ny.few))
+
+many_in_all : IsCommand (Mesh (record window { nx = 512; ny = 512; nz = 65 })) → ⊥
+many_in_all is = let all : 17039360 ≤ 16777216 = is.1.all in omega (arith, all)
 
 small_cells : IsCommand (Mesh (record window { x1 = negsuc 4290772992 })) → ⊥
 small_cells is = absurd (omega (arith, ints, is.1.x))
 
 each_keyword_is_read : map keyword_named
-    (codes "set" ∷ codes "add" ∷ codes "put" ∷ codes "cut" ∷ codes "render" ∷ codes "height"
+    (codes "set" ∷ codes "add" ∷ codes "put" ∷ codes "cut" ∷ codes "undo" ∷ codes "render" ∷ codes "height"
     ∷ codes "mesh" ∷ codes "text" ∷ codes "cost" ∷ codes "count" ∷ [])
     ≡ Some keywords.Set ∷ Some keywords.Add ∷ Some keywords.Put ∷ Some keywords.Cut
-    ∷ Some keywords.Render ∷ Some keywords.Height ∷ Some keywords.Mesh ∷ Some keywords.Text
+    ∷ Some keywords.Undo ∷ Some keywords.Render ∷ Some keywords.Height ∷ Some keywords.Mesh ∷ Some keywords.Text
     ∷ Some keywords.Cost ∷ None ∷ []
 each_keyword_is_read = refl
 
@@ -168,8 +180,8 @@ new_names_that_begin_comments = refl
 -- a token too many is told before a bad numeral
 wrong_counts_of_tokens : map reason_against
     (codes "set x neg" ∷ codes "add x const y z" ∷ codes "cut x y" ∷ codes "text x"
-    ∷ codes "cost x" ∷ codes "put x t sub y" ∷ [])
-    ≡ Some WrongArity ∷ Some WrongArity ∷ Some WrongArity ∷ Some WrongArity ∷ Some WrongArity
+    ∷ codes "cost x" ∷ codes "put x t sub y" ∷ codes "undo x" ∷ codes "undo #" ∷ [])
+    ≡ Some WrongArity ∷ Some WrongArity ∷ Some WrongArity ∷ Some WrongArity ∷ Some WrongArity ∷ Some WrongArity ∷ Some WrongArity
     ∷ Some WrongArity ∷ []
 wrong_counts_of_tokens = refl
 

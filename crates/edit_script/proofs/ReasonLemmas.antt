@@ -16,16 +16,16 @@ use Rattle.view_settings.specs.declared.verb.Verb.{Verb}
 use Rattle.view_settings.specs.declared.verb.Verb.TheVariants as verbs
 use Rattle.view_settings.specs.declared.word_fault.WordFault.{WordFault}
 use Rattle.view_settings.specs.declared.word_fault.WordReason.{WordReason}
-use Rattle.view_settings.specs.declared.word_fault.WordReason.TheVariants.{EmptySpan, CellTooSmall}
+use Rattle.view_settings.specs.declared.word_fault.WordReason.TheVariants.{EmptySpan, CellTooSmall, TooManyCells}
 use Rattle.view_settings.specs.Setting.{setting_of}
 use Rattle.view_settings.specs.Settings.{Given, begun, finished, settled}
 use Rattle.view_settings.specs.Verbs.{job_with}
 use Rattle.view_settings.specs.Views.{is_empty, window_of}
 use Rattle.view_settings.specs.Steps.{◌>>=◌}
-use Rattle.view_places.specs.Window.{fits_mesh}
+use Rattle.view_places.specs.Window.{cells_are_few, cells_have_room}
 use Rattle.view_settings.specs.Words.{after_words, job_after, refused_at}
 use Rattle.edit_script.specs.declared.keyword.Keyword.{Keyword}
-use Rattle.edit_script.specs.declared.keyword.Keyword.TheVariants.{Set, Add, Put, Cut, Render, Height, Mesh, Text, Cost}
+use Rattle.edit_script.specs.declared.keyword.Keyword.TheVariants.{Set, Add, Put, Cut, Undo, Render, Height, Mesh, Text, Cost}
 use Rattle.edit_script.specs.declared.script_reason.ScriptReason.{ScriptReason}
 use Rattle.edit_script.specs.declared.script_reason.ScriptReason.TheVariants.{UnknownCommand, TooShort, BadName, UnknownOperation, WrongArity, BadNumeral, BadSetting, NoMemory}
 use Rattle.edit_script.specs.declared.command.Command.{Command}
@@ -93,12 +93,15 @@ height-settled settings = by (is_empty (window_of settings))
     by false = refl
 
 mesh-settled : (settings : List Setting) → DrawnOf (refused_at 0 (settled verbs.Mesh settings))
-mesh-settled settings = by (is_empty (window_of settings)) (fits_mesh (window_of settings))
+mesh-settled settings =
+    by (is_empty (window_of settings)) (cells_have_room (window_of settings)) (cells_are_few (window_of settings))
   where
-    by : (b fits : Bool) → DrawnOf (refused_at 0 (cond b (Err EmptySpan) (cond fits (Ok (jobs.Mesh (window_of settings))) (Err CellTooSmall))))
-    by true fits = refl
-    by false true = refl
-    by false false = refl
+    by : (b room few : Bool)
+        → DrawnOf (refused_at 0 (cond b (Err EmptySpan) (cond room (cond few (Ok (jobs.Mesh (window_of settings))) (Err TooManyCells)) (Err CellTooSmall))))
+    by true room few = refl
+    by false false few = refl
+    by false true false = refl
+    by false true true = refl
 
 draw-lowest : (verb : Verb) (tokens : List (List ℕ)) → ((settings : List Setting) → DrawnOf (refused_at 0 (settled verb settings))) → DrawnOf (job_after tokens verb)
 draw-lowest verb tokens all = by (after_words (begun verb) tokens) refl
@@ -138,6 +141,8 @@ after-lowest line Cut [] = refl
 after-lowest line Cut (name ∷ []) = refl
 after-lowest line Cut (name ∷ next ∷ others) =
     rw (not_below (suc (suc (length others))) 1 (omega arith), below 1 (suc (suc (length others))) (omega arith)) refl
+after-lowest line Undo [] = refl
+after-lowest line Undo (next ∷ others) = rw (not_below (suc (length others)) 0 (omega arith), below 0 (suc (length others)) (omega arith)) refl
 after-lowest line Render tokens = rw (not_below (length tokens) 0 (omega arith)) (draw-lowest verbs.Render tokens render-settled)
 after-lowest line Height tokens = rw (not_below (length tokens) 0 (omega arith)) (draw-lowest verbs.Height tokens height-settled)
 after-lowest line Mesh tokens = rw (not_below (length tokens) 0 (omega arith)) (draw-lowest verbs.Mesh tokens mesh-settled)

@@ -122,6 +122,7 @@ after_keyword line keywords.Set tokens = set_read line tokens
 after_keyword line keywords.Add tokens = add_read line tokens
 after_keyword line keywords.Put tokens = put_read line tokens
 after_keyword line keywords.Cut tokens = cut_read line tokens
+after_keyword line keywords.Undo tokens = alone_read (commands.Undo line) tokens
 after_keyword line keywords.Render tokens = draw_read verbs.Render tokens
 after_keyword line keywords.Height tokens = draw_read verbs.Height tokens
 after_keyword line keywords.Mesh tokens = draw_read verbs.Mesh tokens
@@ -146,6 +147,7 @@ command_read line (word ∷ tokens) = keyword_read line (keyword_named word) tok
 abbrev pub IsCommand : Command → Type 0
 IsCommand (commands.Edit line edit) = IsEdit edit
 IsCommand (commands.Stray line) = ⊤
+IsCommand (commands.Undo line) = ⊤
 IsCommand (commands.Render view) = IsWindow view
 IsCommand (commands.Height view) = IsWindow view × FitsHeight view
 IsCommand (commands.Mesh view) = IsWindow view × FitsMesh view
@@ -156,6 +158,7 @@ IsCommand commands.Cost = ⊤
 abbrev pub MayBeDrawn : Command → Type 0
 MayBeDrawn (commands.Edit line edit) = ⊤
 MayBeDrawn (commands.Stray line) = ⊤
+MayBeDrawn (commands.Undo line) = ⊤
 MayBeDrawn (commands.Render view) = IsWindow view
 MayBeDrawn (commands.Height view) = IsWindow view × FitsHeight view
 MayBeDrawn (commands.Mesh view) = IsWindow view × FitsMesh view

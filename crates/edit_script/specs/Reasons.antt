@@ -10,7 +10,7 @@ use Rattle.view_settings.specs.declared.verb.Verb.TheVariants as verbs
 use Rattle.view_settings.specs.Words.{job_after}
 use Rattle.edit_script.specs.declared.command.Command.{Command}
 use Rattle.edit_script.specs.declared.keyword.Keyword.{Keyword}
-use Rattle.edit_script.specs.declared.keyword.Keyword.TheVariants.{Set, Add, Put, Cut, Render, Height, Mesh, Text, Cost}
+use Rattle.edit_script.specs.declared.keyword.Keyword.TheVariants.{Set, Add, Put, Cut, Undo, Render, Height, Mesh, Text, Cost}
 use Rattle.edit_script.specs.declared.script_reason.ScriptReason.{ScriptReason}
 use Rattle.edit_script.specs.declared.script_reason.ScriptReason.TheVariants.{UnknownCommand, TooShort, BadName, UnknownOperation, WrongArity, BadNumeral, BadSetting}
 use Rattle.edit_script.specs.Commands.{command_read}
@@ -27,6 +27,7 @@ least_after Set = 2
 least_after Add = 2
 least_after Put = 3
 least_after Cut = 1
+least_after Undo = 0
 least_after Render = 0
 least_after Height = 0
 least_after Mesh = 0
@@ -59,6 +60,7 @@ of_form test (word ∷ args) = option_map_or (λ op. test op args) (operation_of
 -- a token follows the last one of a command that has no arguments of an operation
 abbrev pub has_more : Keyword → List (List ℕ) → Bool
 has_more Cut tokens = nat_lt 1 (length tokens)
+has_more Undo tokens = nat_lt 0 (length tokens)
 has_more Text tokens = nat_lt 0 (length tokens)
 has_more Cost tokens = nat_lt 0 (length tokens)
 has_more keyword tokens = false

@@ -11,6 +11,8 @@ pub enum Command {
     /// An edit with a token that begins with `#` where it should name a clause, so that it can name
     /// none, by the number of its line. It is refused as one of a name that is unknown.
     Stray(u32),
+    /// Take back the last edit that was accepted and is not taken back yet, and the number of its line.
+    Undo(u32),
     /// An image of this view.
     Render(View),
     /// A height map of this view.

@@ -1,24 +1,25 @@
-// Draws, and commands that are one word.
+// Draws.
 ghost use Rattle.std.specs.Prelude.{◌≡◌, IfOk};
-ghost use Rattle.edit_script.specs.Commands.{alone_read, draw_read, job_or_bad, IsCommand};
+ghost use Rattle.clause_reader.specs.Gives.{Gives};
+ghost use Rattle.edit_script.specs.Commands.{draw_read, job_or_bad, IsCommand};
 ghost use Rattle.view_settings.specs.Verbs.{IsJob};
 ghost use Rattle.view_settings.specs.Words.{job_after};
 
 use crate::{Command, ScriptReason};
-use clause_reader::Tokens;
+use clause_reader::{ReadError, Tokens};
 use view_settings::{Job, Settings, Verb};
 
 /// The command that draws as this verb, with these settings. A script draws what is named here, and
 /// nothing else.
-pub(crate) fn read_draw(verb: Verb, tokens: Tokens<'_>) -> Result<Command, ScriptReason>
-    ensures value { result ≡ draw_read verb tokens.entry }
+pub(crate) fn read_draw(verb: Verb, tokens: Tokens<'_>) -> Result<Command, ReadError<ScriptReason>>
+    ensures gives { Gives (draw_read verb tokens.entry) result }
     ensures keeps { IfOk result IsCommand }
 {
     match read_settings(verb, tokens)? {
         Job::Render(view) => Ok(Command::Render(view)),
         Job::Height(view) => Ok(Command::Height(view)),
         Job::Mesh(view) => Ok(Command::Mesh(view)),
-        _ => Err(ScriptReason::BadSetting),
+        _ => Err(ReadError::Defect(ScriptReason::BadSetting)),
     }
 }
 
@@ -36,18 +37,5 @@ fn read_settings(verb: Verb, mut tokens: Tokens<'_>) -> Result<Job, ScriptReason
     match settings.finish() {
         Ok(job) => Ok(job),
         Err(_) => Err(ScriptReason::BadSetting),
-    }
-}
-
-/// A command that is one word, after which no token stands.
-pub(crate) fn read_alone(command: Command, tokens: Tokens<'_>) -> Result<Command, ScriptReason>
-    requires { IsCommand command }
-    ensures value { result ≡ alone_read command tokens.entry }
-    ensures keeps { IfOk result IsCommand }
-{
-    if tokens.is_empty() {
-        Ok(command)
-    } else {
-        Err(ScriptReason::WrongArity)
     }
 }

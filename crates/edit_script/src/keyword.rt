@@ -14,6 +14,8 @@ pub(crate) enum Keyword {
     Put,
     /// Take a clause out.
     Cut,
+    /// Take the last edit back.
+    Undo,
     /// Draw an image.
     Render,
     /// Draw a height map.
@@ -36,6 +38,7 @@ pub(crate) fn read_keyword(word: &[u8]) -> Option<Keyword>
         b"add" => Some(Keyword::Add),
         b"put" => Some(Keyword::Put),
         b"cut" => Some(Keyword::Cut),
+        b"undo" => Some(Keyword::Undo),
         b"render" => Some(Keyword::Render),
         b"height" => Some(Keyword::Height),
         b"mesh" => Some(Keyword::Mesh),

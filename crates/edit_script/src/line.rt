@@ -3,7 +3,7 @@ ghost use Rattle.std.specs.Prelude.{◌∷◌, IfOk};
 ghost use Rattle.clause_reader.specs.Gives.{Gives};
 ghost use Rattle.edit_script.specs.Commands.{after_keyword, command_read, IsCommand};
 
-use crate::draw::{read_alone, read_draw};
+use crate::draw::read_draw;
 use crate::edit_line::{read_add, read_cut, read_put, read_set};
 use crate::keyword::{Keyword, read_keyword};
 use crate::{Command, ScriptReason};
@@ -38,10 +38,14 @@ fn read_after(
         Keyword::Add => read_add(alloc, line, tokens),
         Keyword::Put => read_put(alloc, line, tokens),
         Keyword::Cut => read_cut(alloc, line, tokens),
-        Keyword::Render => Ok(read_draw(Verb::Render, tokens)?),
-        Keyword::Height => Ok(read_draw(Verb::Height, tokens)?),
-        Keyword::Mesh => Ok(read_draw(Verb::Mesh, tokens)?),
-        Keyword::Text => Ok(read_alone(Command::Text, tokens)?),
-        Keyword::Cost => Ok(read_alone(Command::Cost, tokens)?),
+        Keyword::Undo | Keyword::Text | Keyword::Cost if !tokens.is_empty() => {
+            Err(ReadError::Defect(ScriptReason::WrongArity))
+        }
+        Keyword::Undo => Ok(Command::Undo(line)),
+        Keyword::Render => read_draw(Verb::Render, tokens),
+        Keyword::Height => read_draw(Verb::Height, tokens),
+        Keyword::Mesh => read_draw(Verb::Mesh, tokens),
+        Keyword::Text => Ok(Command::Text),
+        Keyword::Cost => Ok(Command::Cost),
     }
 }

@@ -37,7 +37,7 @@ fn expect_refusal(rt: &impl Abort, alloc: Global, input: &[u8], fault: ScriptFau
 
 #[test]
 fn refuses_the_first_bad_line(rt: HostRuntime) {
-    let cases: [(&[u8], u32, ScriptReason); 14] = [
+    let cases: [(&[u8], u32, ScriptReason); 18] = [
         (b"", 0, ScriptReason::NoMark),
         (b"x var-x\nrender\n", 0, ScriptReason::NoMark),
         (b"x var-x\n%% render\n", 0, ScriptReason::NoMark),
@@ -47,7 +47,11 @@ fn refuses_the_first_bad_line(rt: HostRuntime) {
         (b"x var-x\n%%\nadd #y var-x", 3, ScriptReason::BadName),
         (b"x var-x\n%%\ntext x", 3, ScriptReason::WrongArity),
         (b"x var-x\n%%\ncost 1", 3, ScriptReason::WrongArity),
+        (b"x var-x\n%%\nundo\nundo x", 4, ScriptReason::WrongArity),
+        (b"x var-x\n%%\nundo #", 3, ScriptReason::WrongArity),
         (b"%%\n%%", 2, ScriptReason::UnknownCommand),
+        (b"%%\nUndo", 2, ScriptReason::UnknownCommand),
+        (b"%%\nundo#", 2, ScriptReason::UnknownCommand),
         (b"%%\nCost", 2, ScriptReason::UnknownCommand),
         (b"%%\ncost#", 2, ScriptReason::UnknownCommand),
         (b"%%\nRender", 2, ScriptReason::UnknownCommand),
@@ -85,13 +89,16 @@ fn tells_the_lowest_reason(rt: HostRuntime) {
 
 #[test]
 fn refuses_settings(rt: HostRuntime) {
-    let cases: [&[u8]; 7] = [
+    let cases: [&[u8]; 10] = [
         b"%%\nrender w",
         b"%%\nrender d=1",
         b"%%\nheight w=1025",
         b"%%\nrender w=1 w=1",
         b"%%\nrender x0=a",
         b"%%\nmesh x0=0 x1=0",
+        b"%%\nmesh nx=513",
+        b"%%\nmesh nx=512 ny=512 nz=65",
+        b"%%\nheight nx=3",
         b"%%\nrender x0=1 x1=0",
     ];
     for input in cases {
@@ -104,9 +111,9 @@ fn refuses_settings(rt: HostRuntime) {
 fn reads_each_command(rt: HostRuntime) -> Result<(), Fail> {
     let input = b"x var-x\n%%\r\nset x neg #y\nset #x var-x\nput #x y var-x\ncut #x\n\n# c\n\
         add y min x x\nput y c const 0.5\nset y var-z\ncut y\n\
-        render w=3 z=0.5\nheight w=1024 d=300\nmesh n=5\ntext\n cost ";
+        render w=3 z=0.5\nheight w=1024 d=300\nmesh n=5\ntext\n cost \n undo ";
     let commands = read_script(rt.alloc(), input)?;
-    assert_eq!(rt; commands.len(), 13);
+    assert_eq!(rt; commands.len(), 14);
     for (at, line) in [3, 4, 5, 6].into_iter().enumerate() {
         let stray = matches!(&commands[at], Command::Stray(number) if *number == line);
         assert!(rt; stray, "at {at}");
@@ -130,9 +137,10 @@ fn reads_each_command(rt: HostRuntime) -> Result<(), Fail> {
     );
     assert!(rt; matches!(&commands[8], Command::Render(view) if view.w == 3 && view.z == 1 << 31));
     assert!(rt; matches!(&commands[9], Command::Height(view) if view.w == 1024 && view.d == 300));
-    assert!(rt; matches!(&commands[10], Command::Mesh(view) if view.n == 5 && view.h == 512));
+    assert!(rt; matches!(&commands[10], Command::Mesh(view) if view.nx == 5 && view.h == 512));
     assert!(rt; matches!(&commands[11], Command::Text));
     assert!(rt; matches!(&commands[12], Command::Cost));
+    assert!(rt; matches!(&commands[13], Command::Undo(18)));
     Ok(())
 }
 

@@ -1,5 +1,5 @@
 -- What a session is seen as, what its frames are, and what it is seen as after them.
-use Rattle.std.specs.Prelude.{ℕ, List, Option, Some, None}
+use Rattle.std.specs.Prelude.{ℕ, List, [], ◌∷◌, Option, Some, None}
 use Rattle.live_clauses.specs.Live.{root_of}
 use Rattle.model_frames.specs.Frames.{Part, frame_part}
 use Rattle.model_frames.specs.Images.{list_before}
@@ -9,6 +9,9 @@ use Rattle.model_frames.specs.declared.frame.Frame.TheVariants.{Render, Height, 
 use Rattle.oct_descent.specs.Trees.{Gridding}
 use Rattle.quad_descent.specs.Raster.{Drawing, frame_points, frame_spans}
 use Rattle.solid_model.specs.declared.clause.Clause.{Clause}
+use Rattle.solid_model.specs.declared.edit.Edit.{Edit}
+use Rattle.solid_model.specs.Edited.{Edited, opening}
+use Rattle.solid_model.specs.Inverses.{inverse_of}
 use Rattle.view_places.specs.Window.{Window}
 
 -- how many evaluations and traced steps an image took
@@ -16,10 +19,12 @@ pub record Cost : Type 0 where
   pub points : ℕ
   pub spans : ℕ
 
--- a session: the clauses of the model then standing; the view and the root list of its last image, and
--- of its last mesh, where one stands; and the cost of its last image, nothing before the first
+-- a session: the clauses of the model then standing; the edits that take back those that were accepted,
+-- the latest first; the view and the root list of its last image, and of its last mesh, where one stands;
+-- and the cost of its last image, nothing before the first
 pub record State : Type 0 where
   pub clauses : List Clause
+  pub undo : List Edit
   pub image : Option Drawing
   pub mesh : Option Gridding
   pub cost : Cost
@@ -28,14 +33,30 @@ pub record State : Type 0 where
 abbrev pub started : List Clause → State
 started clauses = record {
   clauses = clauses;
+  undo = [];
   image = None;
   mesh = None;
   cost = record { points = 0; spans = 0 };
 }
 
--- a session whose model was edited
-abbrev pub with_clauses : State → List Clause → State
-with_clauses state clauses = record state { clauses = clauses }
+-- the model of a session, as one that is edited
+abbrev pub model_of : State → Edited
+model_of state = record { clauses = state.clauses; undo = state.undo }
+
+-- what a session was opened with: the clauses that its edits which take one back lead to
+abbrev pub opening_of : State → List Clause
+opening_of state = opening (model_of state)
+
+-- a session with another model: its image, its mesh and its cost stand
+abbrev pub with_model : State → Edited → State
+with_model state model = record state { clauses = model.clauses; undo = model.undo }
+
+-- the session after an edit that gives these clauses: the edit that takes it back comes before the others
+abbrev pub after_edit : State → Edit → List Clause → State
+after_edit state edit clauses = with_model state (record {
+  clauses = clauses;
+  undo = inverse_of state.clauses edit ∷ state.undo;
+})
 
 -- A frame of a session: its bytes hang on the clauses alone. An image takes the work of what changed
 -- since the last one, and so does a mesh.

@@ -1,12 +1,22 @@
-// What always holds of what a session takes.
-ghost use Rattle.edit_session.specs.Laws.{RefusalsBeginAnew};
+// What always holds of what a session takes, and of what it was opened with.
+ghost use Rattle.edit_session.specs.Laws.{OpeningStands, RefusalsBeginAnew};
 
 use quad_descent::frame_work_is_bounded;
+use solid_model::edits_are_taken_back;
 
-/// After a frame that was refused, the next one of its kind takes exactly what a fresh one does, and the
-/// next one of the other kind what it would have taken without it.
+/// After an image or a mesh that was refused, the next one of its kind takes exactly what a fresh one does,
+/// and the next one of the other kind what it would have taken without it. A height map or a text that was
+/// refused leaves the session as it was.
 pub fn refusals_begin_anew()
     ensures { RefusalsBeginAnew }
 {
     frame_work_is_bounded();
+}
+
+/// Frames, edits and edits that are taken back leave what a session was opened with. Once no edit is left
+/// to be taken back, that is its model.
+pub fn opening_stands()
+    ensures { OpeningStands }
+{
+    edits_are_taken_back();
 }

@@ -4,10 +4,16 @@
 mod laws;
 mod session;
 
-pub use laws::refusals_begin_anew;
+pub use laws::{opening_stands, refusals_begin_anew};
 pub use session::Session;
 
 #[cfg(test)]
-mod mesh_tests;
+mod fixtures;
+#[cfg(test)]
+mod playing;
+#[cfg(test)]
+mod refusal_tests;
+#[cfg(test)]
+mod row_tests;
 #[cfg(test)]
 mod tests;

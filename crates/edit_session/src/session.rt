@@ -1,7 +1,8 @@
 // A model that is edited and drawn.
-ghost use Rattle.std.specs.Prelude.{◌≡◌, length, None, Ok, IfErr, IfOk, OnErr, OnOk};
+ghost use Rattle.std.specs.Prelude.{◌≡◌, ◌≢◌, ◌↔◌, length, [], None, Ok, IfErr, IfOk, IsErrOf, OnErr, OnOk};
 ghost use Rattle.clause_reader.specs.ModelText.{model_text};
-ghost use Rattle.solid_model.specs.Edits.{edited, MakesClause};
+ghost use Rattle.solid_model.specs.Edited.{IsUndone};
+ghost use Rattle.solid_model.specs.Edits.{edited};
 ghost use Rattle.solid_model.specs.Refusals.{RefusesAs, WantsMemoryFor};
 ghost use Rattle.view_places.specs.Window.{FitsHeight, FitsMesh};
 ghost use Rattle.model_frames.specs.Frames.{CanDraw};
@@ -10,7 +11,7 @@ ghost use Rattle.model_frames.specs.Images.{drawn_text, image_of, plain_points};
 ghost use Rattle.model_frames.specs.Meshes.{mesh_text, meshed_text, plain_grid};
 ghost use Rattle.model_frames.specs.Work.{CountsWithin, CountsWork, PointsRiseAtMost, height_work, image_work, mesh_work_after};
 ghost use Rattle.quad_descent.specs.Rows.{AreRows, rows_at};
-ghost use Rattle.edit_session.specs.Sessions.{after_frame, after_refusal, session_part, started, with_clauses};
+ghost use Rattle.edit_session.specs.Sessions.{after_edit, after_frame, after_refusal, model_of, opening_of, session_part, started, with_model};
 
 use clause_reader::write_model;
 use fixed_ops::Tally;
@@ -18,17 +19,19 @@ use live_clauses::RootRoom;
 use model_frames::{Frame, frames_add_up, image_text, mesh_text_in, redraw_image, redraw_mesh};
 use oct_descent::OctTree;
 use quad_descent::{QuadTree, RowSource, rows};
-use solid_model::{Edit, EditFault, Model};
+use solid_model::{Edit, EditFault, EditedModel, Model};
 use std::alloc::{AllocError, Global};
 use view_places::View;
 
 /// A model that is edited and drawn. Each frame shows the model then standing, whatever was drawn
-/// before. Contracts see the clauses of that model, the view and the root list of the last image and of
-/// the last mesh, where one stands, and the cost of that image.
+/// before. Contracts see the clauses of that model, the edits that take back those that were accepted, the
+/// view and the root list of the last image and of the last mesh, where one stands, and the cost of that
+/// image. No call changes what the edits that take one back lead to: what the session was opened with.
 #[derive(Debug, Drop)]
 pub struct Session {
     alloc: Global,
-    model: Model,
+    // The model, with what takes its edits back.
+    model: EditedModel,
     // The last image by its boxes, where none was refused since, and what it took.
     image: Option<QuadTree>,
     points: u64,
@@ -45,7 +48,8 @@ impl std::marker::Model for Session {
     ghost Value = { State };
 
     ghost view = { λ s. record {
-      clauses = s.model;
+      clauses = s.model.clauses;
+      undo = s.model.undo;
       image = s.image;
       mesh = s.mesh;
       cost = record { points = s.points; spans = s.spans };
@@ -60,7 +64,7 @@ impl Session {
     {
         Session {
             alloc,
-            model,
+            model: EditedModel::start(alloc, model),
             image: None,
             points: 0,
             spans: 0,
@@ -69,23 +73,61 @@ impl Session {
         }
     }
 
-    /// Applies a change to the model. The last image with its cost and the last mesh stand. After an
-    /// `Err` the session is as it was, and the change is dropped.
+    /// Applies a change to the model, and keeps what takes it back. The last image with its cost and the
+    /// last mesh stand. After an `Err` the session is as it was.
     ///
     /// The first of these that holds is answered. `UnknownName`: an argument, or a name that should
     /// stand already, names no clause. `DoubleName`: the new name stands already. `NotEarlier`: an
     /// argument stands at or after the place of the clause. `InUse`: another clause has this one as
     /// an argument. `LastClause`: the model has one clause. `Full`: the model has 65,535 clauses.
-    /// `NoMemory`: memory was refused for a new clause, and none of these holds.
+    /// `NoMemory`: memory was refused for the change or for what takes it back, and none of these holds.
+    /// `NothingToUndo` is never answered.
+    pub fn apply(&mut self, edit: &Edit) -> Result<(), EditFault>
+        ensures ok { OnOk result (edited self.old.clauses edit.now ≡ Ok self.new.clauses) }
+        ensures kept { OnOk result (self.new ≡ after_edit self.old edit.now self.new.clauses) }
+        ensures stands { self.new ≡ with_model self.old (model_of self.new) }
+        ensures fault { RefusesAs (edited self.old.clauses edit.now) EditFault.NoMemory result }
+        ensures no_memory { WantsMemoryFor (edited self.old.clauses edit.now) EditFault.NoMemory result }
+        ensures not_undo { IfErr result (λ fault. fault ≢ EditFault.NothingToUndo) }
+        ensures err { OnErr result (self.new ≡ self.old) }
+        ensures opening { opening_of self.new ≡ opening_of self.old }
+    {
+        self.model.edit(edit)
+    }
+
+    /// Applies a change to the model, as `apply` does, and drops it.
     pub fn edit(&mut self, edit: Edit) -> Result<(), EditFault>
         ensures ok { OnOk result (edited self.old.clauses edit ≡ Ok self.new.clauses) }
-        ensures stands { self.new ≡ with_clauses self.old self.new.clauses }
+        ensures kept { OnOk result (self.new ≡ after_edit self.old edit self.new.clauses) }
+        ensures stands { self.new ≡ with_model self.old (model_of self.new) }
         ensures fault { RefusesAs (edited self.old.clauses edit) EditFault.NoMemory result }
         ensures no_memory { WantsMemoryFor (edited self.old.clauses edit) EditFault.NoMemory result }
-        ensures makes { IfErr result (λ fault. fault ≡ EditFault.NoMemory → MakesClause edit) }
+        ensures not_undo { IfErr result (λ fault. fault ≢ EditFault.NothingToUndo) }
         ensures err { OnErr result (self.new ≡ self.old) }
+        ensures opening { opening_of self.new ≡ opening_of self.old }
     {
-        self.model.apply(edit)
+        self.apply(&edit)
+    }
+
+    /// Takes back the edit that was accepted last. The last image with its cost and the last mesh stand,
+    /// and no undo takes this one back. After an `Err` the session is as it was.
+    ///
+    /// `NothingToUndo`: each edit that was accepted was taken back. `NoMemory`: memory was refused for a
+    /// clause that comes back. No other fault is answered.
+    pub fn undo(&mut self) -> Result<(), EditFault>
+        ensures undone { OnOk result (IsUndone (model_of self.old) (model_of self.new)) }
+        ensures stands { self.new ≡ with_model self.old (model_of self.new) }
+        ensures nothing { IsErrOf result EditFault.NothingToUndo ↔ self.old.undo ≡ [] }
+        ensures fault { IfErr result (λ fault.
+            fault ≢ EditFault.NoMemory → fault ≡ EditFault.NothingToUndo) }
+        ensures err { OnErr result (self.new ≡ self.old) }
+        ensures opening { opening_of self.new ≡ opening_of self.old }
+    {
+        match self.model.undo() {
+            Ok(true) => Ok(()),
+            Ok(false) => Err(EditFault::NothingToUndo),
+            Err(_) => Err(EditFault::NoMemory),
+        }
     }
 
     /// The image of the model over a view, as PGM text. It is drawn as `draw_raster` does. AllocError:
@@ -135,7 +177,7 @@ impl Session {
         let drawn = redraw_image(
             self.alloc,
             &mut self.room,
-            &self.model,
+            self.model.model(),
             view,
             before,
             &mut own,
@@ -195,7 +237,7 @@ impl Session {
         ensures plain { PointsRiseAtMost tally.old tally.new
             (plain_depths view.now (length self.old.clauses)) }
     {
-        Frame::Height(*view).bytes(self.alloc, &self.model, tally)
+        Frame::Height(*view).bytes(self.alloc, self.model.model(), tally)
     }
 
     /// The mesh of the model over a view, as PLY text. It is drawn as `draw_mesh` does. AllocError:
@@ -239,7 +281,14 @@ impl Session {
             (plain_grid view.now (length self.old.clauses)) }
     {
         let before = self.mesh.take();
-        let tree = redraw_mesh(self.alloc, &mut self.room, &self.model, view, before, tally)?;
+        let tree = redraw_mesh(
+            self.alloc,
+            &mut self.room,
+            self.model.model(),
+            view,
+            before,
+            tally,
+        )?;
         self.mesh = Some(tree);
         Ok(())
     }
@@ -286,7 +335,7 @@ impl Session {
         match frame {
             Frame::Render(view) => self.render(view, tally),
             Frame::Mesh(view) => self.mesh(view, tally),
-            Frame::Height(_) | Frame::Text => frame.bytes(self.alloc, &self.model, tally),
+            Frame::Height(_) | Frame::Text => frame.bytes(self.alloc, self.model.model(), tally),
         }
     }
 
@@ -294,7 +343,7 @@ impl Session {
     pub fn text(&self) -> Result<Vec<u8>, AllocError>
         ensures { IfOk result (λ text. text.items ≡ model_text self.now.clauses) }
     {
-        write_model(self.alloc, &self.model)
+        write_model(self.alloc, self.model.model())
     }
 
     /// What the last image that was drawn whole took: evaluations, and steps that were traced. Nothing

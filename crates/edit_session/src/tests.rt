@@ -1,19 +1,11 @@
-// Models that are edited, the frames of the model then standing, and what its images take, worked out
-// by hand.
-ghost use Rattle.std.specs.Prelude.{◌≡◌, ◌<◌, ◌≤◌, ◌^◌, length};
-ghost use Rattle.quad_descent.specs.Rows.{IsOver};
-ghost use Rattle.view_places.specs.Window.{FitsHeight, FitsMesh};
-
-use crate::Session;
-use clause_reader::{read_form, read_model};
+// Sessions that are edited, drawn and taken back, step by step, with what each step takes, worked out by
+// hand.
+use crate::fixtures::{BALL, BARS, Change};
+use crate::playing::{Kind, Step, play};
+use Change::{Add, Cut, Put, Set};
+use Step::{Bytes, Cost, Edit, Image, Mesh, Undo};
 use fixed_ops::Tally;
-use model_frames::draw_image;
-use quad_descent::image;
-use solid_model::{Edit, EditFault, Name};
-use std::alloc::{AllocError, Global};
-use std::process::Abort;
-use std::test::Fail;
-use view_places::View;
+use solid_model::EditFault;
 
 // Of nine samples or columns the three of the bottom row are inside, where y is -1.
 const BOTTOM: &[u8] = b"P5\n3 3\n255\n\x00\x00\x00\x00\x00\x00\xff\xff\xff";
@@ -25,185 +17,333 @@ const NO_MESH: &[u8] = b"ply\nformat ascii 1.0\nelement vertex 0\nproperty doubl
     property double y\nproperty double z\nelement face 0\n\
     property list uchar int vertex_indices\nend_header\n";
 
-// So many columns and rows, from -1 to 1.
-fn view(w: u8, h: u8) -> View
-    requires columns { 1 ≤ w }
-    requires rows { 1 ≤ h }
-    ensures height { FitsHeight result }
-    ensures mesh { FitsMesh result }
-{
-    View {
-        x0: -1 << 32,
-        x1: 1 << 32,
-        y0: -1 << 32,
-        y1: 1 << 32,
-        z0: -1 << 32,
-        z1: 1 << 32,
-        z: 0,
-        w: u32::from(w),
-        h: u32::from(h),
-        d: 3,
-        n: 2,
-    }
-}
-
-// Turns the plane, and draws it.
-fn assert_turned(
-    rt: &impl Abort,
-    alloc: Global,
-    session: &mut Session,
-    tally: &mut Tally,
-) -> Result<(), Fail> {
-    let turn = Edit::Set(Name::new(alloc, b"f")?, read_form(alloc, b"var-y")?);
-    assert!(rt; session.edit(turn) == Ok(()));
-    assert!(rt; session.cost() == (0, 0));
-    assert!(rt; session.render(&view(3, 3), tally)?.as_slice() == BOTTOM);
-    assert!(rt; session.cost() == (9, 1));
-    Ok(())
-}
-
-// A refused edit leaves the plane, and like all other frames it leaves the image and its cost.
-fn assert_stays(
-    rt: &impl Abort,
-    alloc: Global,
-    session: &mut Session,
-    tally: &mut Tally,
-) -> Result<(), Fail> {
-    let cut = Edit::Cut(Name::new(alloc, b"f")?);
-    assert!(rt; session.edit(cut) == Err(EditFault::LastClause));
-    assert!(rt; session.height(&view(3, 3), tally)?.as_slice() == BOTTOM_TOPS);
-    assert!(rt; session.mesh(&view(3, 3), tally)?.as_slice() == NO_MESH);
-    assert!(rt; session.text()?.as_slice() == b"f var-y\n".as_slice());
-    assert!(rt; session.cost() == (9, 1));
-    assert!(rt; session.render(&view(3, 3), tally)?.as_slice() == BOTTOM);
-    assert!(rt; session.cost() == (0, 0));
-    Ok(())
-}
-
-#[test]
-fn draws_the_model_as_it_stands(rt: HostRuntime) -> Result<(), Fail> {
-    let mut session = Session::start(rt.alloc(), read_model(rt.alloc(), b"f var-x\n")?);
-    let mut tally = Tally::new();
-    assert_turned(&rt, rt.alloc(), &mut session, &mut tally)?;
-    assert_stays(&rt, rt.alloc(), &mut session, &mut tally)
-}
-
-// An edit, by its names and the form that it gives, or none.
-#[derive(Clone, Copy)]
-enum Change {
-    Nothing,
-    Set(&'static [u8], &'static [u8]),
-    Add(&'static [u8], &'static [u8]),
-    Put(&'static [u8], &'static [u8], &'static [u8]),
-    Cut(&'static [u8]),
-}
-
-use Change::{Add, Cut, Nothing, Put, Set};
-
-// An edit, the columns and rows of the image after it, and the evaluations and traced steps that this
-// takes, where it is drawn.
-type Row = (Change, u8, u8, Option<(u64, u64)>);
-
-// The lesser of the distances of x from -0.5 and from 0.5, less 0.25.
-const BARS: &[u8] = b"x var-x\np const -0.5\nq const 0.5\na sub x p\nb abs a\nc sub x q\nd abs c\n\
-    e min b d\nr const 0.25\nf sub e r\n";
-
 // The lesser of 0, whose hull over a box is wider, and of a constant that is never chosen.
 const ZERO: &[u8] = b"x var-x\nz sub x x\nk const 9\nm min z k\n";
 
-// Models, each with edits and images one after another.
-const SESSIONS: [(&[u8], &[Row]); 4] = [
+const PLANE: &[u8] = b"x var-x\nc const 0.5\nf sub x c\n";
+
+// The texts of the plane after the edits of a row, one after another.
+const OPENED: &[u8] = b"x var-x\nc const 0.5000000000\nf sub x c\n";
+
+const WITH_SET: &[u8] = b"x var-x\nc const -0.5000000000\nf sub x c\n";
+
+const WITH_PUT: &[u8] = b"w var-y\nx var-x\nc const -0.5000000000\nf sub x c\n";
+
+const WITH_ADD: &[u8] = b"w var-y\nx var-x\nc const -0.5000000000\nf sub x c\ng min f w\n";
+
+const WITH_TURN: &[u8] = b"w var-y\nx var-x\nc const -0.5000000000\nf sub c x\ng min f w\n";
+
+// Models, each with steps one after another.
+const SESSIONS: [(&[u8], &[Step]); 19] = [
+    (
+        b"f var-x\n",
+        &[
+            Edit(Set(b"f", b"var-y"), Ok(())),
+            Cost(0, 0),
+            Bytes(Kind::Image, BOTTOM),
+            Cost(9, 1),
+            // A refused edit leaves the plane, and like all other frames it leaves the image and its cost.
+            Edit(Cut(b"f"), Err(EditFault::LastClause)),
+            Bytes(Kind::Height, BOTTOM_TOPS),
+            Bytes(Kind::Mesh, NO_MESH),
+            Bytes(Kind::Text, b"f var-y\n"),
+            Cost(9, 1),
+            Bytes(Kind::Image, BOTTOM),
+            Cost(0, 0),
+        ],
+    ),
     (
         BARS,
         &[
-            (Nothing, 32, 1, Some((192, 54))),
-            (Nothing, 32, 1, Some((0, 0))),
+            Image(32, 1, 192, 54),
+            Image(32, 1, 0, 0),
             // Another view, and the first one again.
-            (Nothing, 31, 1, Some((186, 54))),
-            (Nothing, 32, 1, Some((192, 54))),
-            // What is taken back takes nothing.
-            (Set(b"q", b"const 0.625"), 32, 1, None),
-            (Set(b"q", b"const 0.5"), 32, 1, Some((0, 0))),
+            Image(31, 1, 186, 54),
+            Image(32, 1, 192, 54),
+            // An edit and one that gives the old form again take nothing.
+            Edit(Set(b"q", b"const 0.625"), Ok(())),
+            Edit(Set(b"q", b"const 0.5"), Ok(())),
+            Image(32, 1, 0, 0),
             // Nothing is inside, or all is, and no box below the first one is looked into.
-            (Set(b"r", b"const -9"), 32, 1, Some((0, 10))),
-            (Set(b"r", b"const 0.25"), 32, 1, Some((192, 54))),
-            (Set(b"r", b"const 9"), 32, 1, Some((0, 10))),
-            (Set(b"r", b"const 0.25"), 32, 1, Some((192, 54))),
+            Edit(Set(b"r", b"const -9"), Ok(())),
+            Image(32, 1, 0, 10),
+            Edit(Set(b"r", b"const 0.25"), Ok(())),
+            Image(32, 1, 192, 54),
+            Edit(Set(b"r", b"const 9"), Ok(())),
+            Image(32, 1, 0, 10),
+            Edit(Set(b"r", b"const 0.25"), Ok(())),
+            Image(32, 1, 192, 54),
             // Clauses that the output does not need.
-            (Put(b"r", b"s", b"const 7"), 32, 1, Some((0, 0))),
-            (Put(b"x", b"y", b"var-y"), 32, 1, Some((0, 0))),
+            Edit(Put(b"r", b"s", b"const 7"), Ok(())),
+            Image(32, 1, 0, 0),
+            Edit(Put(b"x", b"y", b"var-y"), Ok(())),
+            Image(32, 1, 0, 0),
             // One step more in each list, and one less.
-            (Add(b"g", b"min f f"), 32, 1, Some((224, 61))),
-            (Cut(b"g"), 32, 1, Some((192, 54))),
+            Edit(Add(b"g", b"min f f"), Ok(())),
+            Image(32, 1, 224, 61),
+            Edit(Cut(b"g"), Ok(())),
+            Image(32, 1, 192, 54),
         ],
     ),
     (
         BARS,
         &[
             // Each end of a bar lies between two leaves, until a bar ends with the row.
-            (Nothing, 64, 1, Some((0, 102))),
-            (Set(b"q", b"const 0.75"), 64, 1, Some((48, 62))),
-            (Set(b"q", b"const 0.5"), 64, 1, Some((0, 66))),
-            (Set(b"p", b"const -0.75"), 64, 1, Some((48, 62))),
+            Image(64, 1, 0, 102),
+            Edit(Set(b"q", b"const 0.75"), Ok(())),
+            Image(64, 1, 48, 62),
+            Edit(Set(b"q", b"const 0.5"), Ok(())),
+            Image(64, 1, 0, 66),
+            Edit(Set(b"p", b"const -0.75"), Ok(())),
+            Image(64, 1, 48, 62),
         ],
     ),
     (
         ZERO,
         &[
             // The first box alone receives the constant, and evaluates what it hands on.
-            (Nothing, 8, 8, Some((128, 4))),
-            (Set(b"k", b"const 8"), 8, 8, Some((128, 4))),
+            Image(8, 8, 128, 4),
+            Edit(Set(b"k", b"const 8"), Ok(())),
+            Image(8, 8, 128, 4),
         ],
     ),
     (
         ZERO,
         &[
             // Its halves evaluate that.
-            (Nothing, 16, 1, Some((32, 8))),
-            (Set(b"k", b"const 8"), 16, 1, Some((0, 4))),
+            Image(16, 1, 32, 8),
+            Edit(Set(b"k", b"const 8"), Ok(())),
+            Image(16, 1, 0, 4),
+        ],
+    ),
+    // Meshes.
+    (
+        BARS,
+        &[
+            Edit(Set(b"q", b"const 0.5"), Ok(())),
+            Mesh([4; 3], 1050, 602),
+            // Twice the same.
+            Edit(Set(b"q", b"const 0.5"), Ok(())),
+            Mesh([4; 3], 0, 0),
+            // One bar moves, and moves back.
+            Edit(Set(b"q", b"const 0.625"), Ok(())),
+            Mesh([4; 3], 750, 410),
+            Edit(Set(b"q", b"const 0.5"), Ok(())),
+            Mesh([4; 3], 750, 410),
+            // Another grid, and the first one again.
+            Mesh([3; 3], 592, 318),
+            Mesh([4; 3], 1050, 602),
+        ],
+    ),
+    (
+        BARS,
+        &[
+            Mesh([8; 3], 3564, 4186),
+            // All is inside, and the border alone works.
+            Edit(Set(b"r", b"const 9"), Ok(())),
+            Mesh([8; 3], 4296, 3674),
+            Edit(Set(b"r", b"const 0.25"), Ok(())),
+            Mesh([8; 3], 3564, 4186),
+            // All is outside.
+            Edit(Set(b"r", b"const -9"), Ok(())),
+            Mesh([8; 3], 0, 10),
+            Edit(Set(b"r", b"const 0.25"), Ok(())),
+            Mesh([8; 3], 3564, 4186),
+        ],
+    ),
+    (
+        BALL,
+        &[
+            Mesh([2; 3], 270, 90),
+            Mesh([2; 3], 0, 0),
+            Edit(Set(b"r", b"const 0.3"), Ok(())),
+            Mesh([2; 3], 270, 90),
+        ],
+    ),
+    (
+        BALL,
+        &[
+            // The box of all cells is one cell.
+            Mesh([1; 3], 80, 10),
+            Edit(Set(b"r", b"const 9"), Ok(())),
+            Mesh([1; 3], 80, 10),
+            Mesh([1; 3], 0, 0),
+            Edit(Set(b"r", b"const -9"), Ok(())),
+            Mesh([1; 3], 0, 10),
+            Edit(Set(b"r", b"const 0.25"), Ok(())),
+            Mesh([1; 3], 80, 10),
+        ],
+    ),
+    (
+        BALL,
+        &[
+            // Halves of two cells, and of one, side by side.
+            Mesh([3; 3], 640, 360),
+            Edit(Set(b"r", b"const 0.5"), Ok(())),
+            Mesh([3; 3], 640, 360),
+            Mesh([3; 3], 0, 0),
+            // A list that grows by steps, and shrinks.
+            Edit(Set(b"e", b"max d c"), Ok(())),
+            Mesh([3; 3], 640, 360),
+            Edit(Set(b"e", b"neg x"), Ok(())),
+            Mesh([3; 3], 640, 360),
+            Edit(Set(b"e", b"add d c"), Ok(())),
+            Mesh([3; 3], 640, 360),
+        ],
+    ),
+    (
+        BARS,
+        &[
+            // As many cells in all, and other numbers of them along the axes.
+            Mesh([4, 2, 3], 504, 282),
+            Mesh([3, 2, 4], 540, 298),
+            Mesh([2, 3, 4], 520, 282),
+            Edit(Set(b"q", b"const 0.625"), Ok(())),
+            Mesh([2, 3, 4], 400, 210),
+            // One cell along an axis.
+            Mesh([8, 1, 17], 1512, 1166),
+            Edit(Set(b"q", b"const 0.5"), Ok(())),
+            Mesh([8, 1, 17], 648, 602),
+        ],
+    ),
+    (
+        ZERO,
+        &[
+            Mesh([3; 3], 128, 72),
+            Edit(Set(b"k", b"const 8"), Ok(())),
+            Mesh([3; 3], 0, 4),
+        ],
+    ),
+    (
+        // A clause that the output does not need.
+        b"u const 5\nx var-x\n",
+        &[
+            Mesh([4; 3], 125, 73),
+            Edit(Set(b"u", b"const 7"), Ok(())),
+            Mesh([4; 3], 0, 0),
+        ],
+    ),
+    // Other frames and refused edits leave the last mesh and the last image.
+    (
+        BARS,
+        &[
+            Mesh([4; 3], 1050, 602),
+            Image(32, 1, 192, 54),
+            Edit(Cut(b"x"), Err(EditFault::InUse(3))),
+            Mesh([4; 3], 0, 0),
+            Cost(192, 54),
+            Image(32, 1, 0, 0),
+        ],
+    ),
+    (
+        b"f var-y\n",
+        &[
+            Mesh([4; 3], 125, 73),
+            Bytes(Kind::Image, BOTTOM),
+            Bytes(Kind::Height, BOTTOM_TOPS),
+            Edit(Cut(b"f"), Err(EditFault::LastClause)),
+            Mesh([4; 3], 0, 0),
+            Cost(9, 1),
+            Bytes(Kind::Height, BOTTOM_TOPS),
+            Bytes(Kind::Image, BOTTOM),
+            Cost(0, 0),
+        ],
+    ),
+    // Edits that are taken back, while the last image stands.
+    (
+        BARS,
+        &[
+            Undo(Err(EditFault::NothingToUndo)),
+            Image(32, 1, 192, 54),
+            Edit(Set(b"q", b"const 0.625"), Ok(())),
+            Undo(Ok(())),
+            Image(32, 1, 0, 0),
+            Edit(Set(b"q", b"const 0.625"), Ok(())),
+            Image(32, 1, 128, 50),
+            Undo(Ok(())),
+            Cost(128, 50),
+            Image(32, 1, 96, 42),
+            Edit(Cut(b"f"), Ok(())),
+            Undo(Ok(())),
+            Image(32, 1, 0, 0),
+            Undo(Err(EditFault::NothingToUndo)),
+            Cost(0, 0),
+        ],
+    ),
+    // And while the last mesh does.
+    (
+        BARS,
+        &[
+            Mesh([4; 3], 1050, 602),
+            Edit(Set(b"q", b"const 0.625"), Ok(())),
+            Undo(Ok(())),
+            Mesh([4; 3], 0, 0),
+            Edit(Cut(b"f"), Ok(())),
+            Undo(Ok(())),
+            Mesh([4; 3], 0, 0),
+        ],
+    ),
+    // An edit of each kind, and the text once each of them is taken back.
+    (
+        PLANE,
+        &[
+            Edit(Set(b"c", b"const -0.5"), Ok(())),
+            Bytes(Kind::Text, WITH_SET),
+            Edit(Put(b"x", b"w", b"var-y"), Ok(())),
+            Bytes(Kind::Text, WITH_PUT),
+            Edit(Add(b"g", b"min f w"), Ok(())),
+            Bytes(Kind::Text, WITH_ADD),
+            Edit(Set(b"f", b"sub c x"), Ok(())),
+            Bytes(Kind::Text, WITH_TURN),
+            // What is refused puts nothing before what takes the last edit back.
+            Edit(Cut(b"f"), Err(EditFault::InUse(4))),
+            Edit(Add(b"c", b"var-z"), Err(EditFault::DoubleName)),
+            Edit(Set(b"c", b"neg f"), Err(EditFault::NotEarlier)),
+            Edit(Cut(b"k"), Err(EditFault::UnknownName)),
+            Undo(Ok(())),
+            Bytes(Kind::Text, WITH_ADD),
+            Undo(Ok(())),
+            Bytes(Kind::Text, WITH_PUT),
+            Undo(Ok(())),
+            Bytes(Kind::Text, WITH_SET),
+            Undo(Ok(())),
+            Bytes(Kind::Text, OPENED),
+            Undo(Err(EditFault::NothingToUndo)),
+            Bytes(Kind::Text, OPENED),
+        ],
+    ),
+    // Clauses that were taken out: the output and the one before it, and the first.
+    (
+        PLANE,
+        &[
+            Edit(Set(b"c", b"const -0.5"), Ok(())),
+            Edit(Put(b"x", b"w", b"var-y"), Ok(())),
+            Edit(Cut(b"f"), Ok(())),
+            Edit(Cut(b"c"), Ok(())),
+            Bytes(Kind::Text, b"w var-y\nx var-x\n"),
+            Edit(Cut(b"w"), Ok(())),
+            Edit(Cut(b"x"), Err(EditFault::LastClause)),
+            Bytes(Kind::Text, b"x var-x\n"),
+            Undo(Ok(())),
+            Bytes(Kind::Text, b"w var-y\nx var-x\n"),
+            Undo(Ok(())),
+            Undo(Ok(())),
+            Bytes(Kind::Text, WITH_PUT),
+            // After these another edit, and an undo of it and of those before.
+            Edit(Add(b"g", b"min f w"), Ok(())),
+            Bytes(Kind::Text, WITH_ADD),
+            Undo(Ok(())),
+            Undo(Ok(())),
+            Bytes(Kind::Text, WITH_SET),
+            // The same form again.
+            Edit(Set(b"c", b"const -0.5"), Ok(())),
+            Undo(Ok(())),
+            Bytes(Kind::Text, WITH_SET),
+            Undo(Ok(())),
+            Bytes(Kind::Text, OPENED),
         ],
     ),
 ];
-
-// The edit of a change, where it is one.
-fn edit_of(alloc: Global, change: Change) -> Result<Option<Edit>, Fail> {
-    let edit = match change {
-        Nothing => return Ok(None),
-        Set(name, form) => Edit::Set(Name::new(alloc, name)?, read_form(alloc, form)?),
-        Add(name, form) => Edit::Add(Name::new(alloc, name)?, read_form(alloc, form)?),
-        Put(next, name, form) => Edit::Put(
-            Name::new(alloc, next)?,
-            Name::new(alloc, name)?,
-            read_form(alloc, form)?,
-        ),
-        Cut(name) => Edit::Cut(Name::new(alloc, name)?),
-    };
-    Ok(Some(edit))
-}
-
-// A session on a model is edited and drawn row by row, and its images take what the rows say.
-fn assert_costs(
-    rt: &impl Abort,
-    alloc: Global,
-    model: &[u8],
-    rows: &[Row],
-    tally: &mut Tally,
-) -> Result<(), Fail>
-    requires { length model.now < 2 ^ 32 }
-{
-    let mut session = Session::start(alloc, read_model(alloc, model)?);
-    for (change, w, h, cost) in rows {
-        if let Some(edit) = edit_of(alloc, *change)? {
-            session.edit(edit)?;
-        }
-        if let Some(cost) = cost {
-            assert!(rt; *w > 0 && *h > 0);
-            session.render(&view(*w, *h), tally)?;
-            assert_eq!(rt; session.cost(), *cost);
-        }
-    }
-    Ok(())
-}
 
 // A tally whose counts stand at their ends where another one has counted something of each.
 fn at_its_end(tally: &Tally) -> Tally {
@@ -218,198 +358,16 @@ fn at_its_end(tally: &Tally) -> Tally {
 }
 
 #[test]
-fn an_image_takes_what_changed_since_the_last(rt: HostRuntime) -> Result<(), Fail> {
-    for (model, rows) in SESSIONS {
-        assert!(rt; model.len() < 200);
-        let mut tally = Tally::new();
-        assert_costs(&rt, rt.alloc(), model, rows, &mut tally)?;
-        // The same where the caller's tally can count no more.
-        let mut full = at_its_end(&tally);
-        assert!(rt; full.points() == u64::MAX);
-        assert!(rt; full.spans() == u64::MAX);
-        assert!(rt; full.corners() == u64::MAX);
-        assert_costs(&rt, rt.alloc(), model, rows, &mut full)?;
-    }
-    Ok(())
-}
-
-// A disc about the middle.
-const DISC: &[u8] =
-    b"a var-x\nb var-y\nc square a\nd square b\ne add c d\nr const 0.5\nf sub e r\n";
-
-// The columns and rows of images, and how many rows are painted together.
-const SIDES: [u32; 4] = [1, 9, 17, 1000];
-
-const TOGETHER: [u32; 4] = [1, 2, 7, 16];
-
-// Paints rows of the last image of a session, which are those of these pixels.
-#[tactic(auto, using(crate::proofs::Asked::are_rows))]
-fn assert_rows(
-    rt: &impl Abort,
-    session: &Session,
-    view: &View,
-    row: u32,
-    band: &mut [u8],
-    pixels: &[u8],
-)
-    requires { IsOver session.now.image view.now }
-{
-    let columns = view.w as usize;
-    assert!(rt; band.len() % columns == 0);
-    assert!(rt; row as usize + band.len() / columns <= view.h as usize);
-    session.raster_rows(row, band);
-    let front = row as usize * columns;
-    match pixels.get(front..) {
-        Some(rest) => assert!(rt; rest.starts_with(band)),
-        None => assert!(rt; false, "more rows than the image has"),
-    }
-}
-
-// Paints the last image of a session, so many rows at a time.
-fn assert_bands(
-    rt: &impl Abort,
-    alloc: Global,
-    session: &Session,
-    view: &View,
-    together: u32,
-    pixels: &[u8],
-) -> Result<(), AllocError>
-    requires over { IsOver session.now.image view.now }
-    requires some { 0 < together }
-{
-    for row in 0..view.h {
-        if row % together == 0 {
-            let rows = together.min(view.h - row);
-            let mut band = vec![in alloc; 1; rows as usize * view.w as usize]?;
-            assert_rows(rt, session, view, row, &mut band, pixels);
-        }
-    }
-    Ok(())
-}
-
-// Paints the last image of a session in bands of several heights.
-fn assert_painted(
-    rt: &impl Abort,
-    alloc: Global,
-    session: &Session,
-    view: &View,
-    pixels: &[u8],
-) -> Result<(), AllocError>
-    requires { IsOver session.now.image view.now }
-{
-    for together in TOGETHER {
-        assert!(rt; 0 < together);
-        assert_bands(rt, alloc, session, view, together, pixels)?;
-    }
-    Ok(())
-}
-
-// Draws an image of the disc, and paints it in bands.
-#[tactic(auto, using(crate::proofs::Asked::over_drawn))]
-fn assert_disc(
-    rt: &impl Abort,
-    alloc: Global,
-    session: &mut Session,
-    view: &View,
-) -> Result<(), Fail> {
+fn each_step_answers_and_takes_what_it_should(rt: HostRuntime) {
     let mut tally = Tally::new();
-    let picture = draw_image(alloc, &read_model(alloc, DISC)?, view, &mut tally)?;
-    let grid = image(alloc, &picture)?;
-    let text = session.render(view, &mut tally)?;
-    assert!(rt; text.as_slice().ends_with(&grid.pixels));
-    assert_painted(rt, alloc, session, view, &grid.pixels)?;
-    Ok(())
-}
-
-#[test]
-fn rows_are_the_same_however_many_are_asked_for(rt: HostRuntime) -> Result<(), Fail> {
-    let mut session = Session::start(rt.alloc(), read_model(rt.alloc(), DISC)?);
-    for w in SIDES {
-        for h in SIDES {
-            assert!(rt; 0 < w && w <= 1000 && 0 < h && h <= 1000);
-            let view = View { w, h, ..view(1, 1) };
-            assert_disc(&rt, rt.alloc(), &mut session, &view)?;
-        }
+    assert!(rt; play(&rt, rt.alloc(), BARS, &[Image(32, 1, 192, 54)], &mut tally).is_some());
+    // What is told stays the same where the caller's tally can count no more.
+    let mut full = at_its_end(&tally);
+    assert!(rt; full.points() == u64::MAX);
+    assert!(rt; full.spans() == u64::MAX);
+    assert!(rt; full.corners() == u64::MAX);
+    for (model, steps) in SESSIONS {
+        assert!(rt; play(&rt, rt.alloc(), model, steps, &mut tally).is_some());
+        assert!(rt; play(&rt, rt.alloc(), model, steps, &mut full).is_some());
     }
-    Ok(())
-}
-
-// Turns the plane, and draws what is no image.
-fn turn(alloc: Global, session: &mut Session, tally: &mut Tally) -> Result<(), Fail>
-    ensures { session.new.image ≡ session.old.image }
-{
-    let turned = Edit::Set(Name::new(alloc, b"f")?, read_form(alloc, b"var-x")?);
-    session.edit(turned)?;
-    session.height(&view(3, 3), tally)?;
-    session.mesh(&view(3, 3), tally)?;
-    Ok(())
-}
-
-// Draws a plane, and paints its image when it was turned.
-#[tactic(auto, using(crate::proofs::Asked::over_drawn, crate::proofs::Asked::over_kept))]
-fn assert_old(
-    rt: &impl Abort,
-    alloc: Global,
-    session: &mut Session,
-    view: &View,
-) -> Result<(), Fail> {
-    let mut tally = Tally::new();
-    session.draw_raster(view, &mut tally)?;
-    assert!(rt; session.cost() == (9, 1));
-    turn(alloc, session, &mut tally)?;
-    assert!(rt; session.cost() == (9, 1));
-    assert_painted(rt, alloc, session, view, &[0, 0, 0, 0, 0, 0, 255, 255, 255])?;
-    Ok(())
-}
-
-#[test]
-fn rows_are_those_of_the_model_that_was_drawn(rt: HostRuntime) -> Result<(), Fail> {
-    let mut session = Session::start(rt.alloc(), read_model(rt.alloc(), b"f var-y\n")?);
-    assert_old(&rt, rt.alloc(), &mut session, &view(3, 3))
-}
-
-// The bars in one row, and where the second one is moved by an eighth.
-const TWO_BARS: [u8; 32] = [
-    0, 0, 0, 0, 255, 255, 255, 255, 255, 255, 255, 255, 0, 0, 0, 0, 0, 0, 0, 0, 255, 255, 255, 255,
-    255, 255, 255, 255, 0, 0, 0, 0,
-];
-
-const MOVED_BARS: [u8; 32] = [
-    0, 0, 0, 0, 255, 255, 255, 255, 255, 255, 255, 255, 0, 0, 0, 0, 0, 0, 0, 0, 0, 0, 255, 255,
-    255, 255, 255, 255, 255, 255, 0, 0,
-];
-
-// Draws an image without its bytes, which takes this, and paints its rows.
-#[tactic(auto, using(crate::proofs::Asked::over_drawn))]
-fn assert_drawn(
-    rt: &impl Abort,
-    alloc: Global,
-    session: &mut Session,
-    view: &View,
-    cost: (u64, u64),
-    pixels: &[u8],
-) -> Result<(), Fail> {
-    let mut tally = Tally::new();
-    session.draw_raster(view, &mut tally)?;
-    assert!(rt; session.cost() == cost);
-    assert_painted(rt, alloc, session, view, pixels)?;
-    Ok(())
-}
-
-// Moves the second bar.
-fn move_bar(alloc: Global, session: &mut Session) -> Result<(), Fail> {
-    let moved = Edit::Set(Name::new(alloc, b"q")?, read_form(alloc, b"const 0.625")?);
-    session.edit(moved)?;
-    Ok(())
-}
-
-#[test]
-fn rows_are_those_of_the_image_that_was_drawn_last(rt: HostRuntime) -> Result<(), Fail> {
-    let alloc = rt.alloc();
-    let mut session = Session::start(alloc, read_model(alloc, BARS)?);
-    let view = view(32, 1);
-    assert_drawn(&rt, alloc, &mut session, &view, (192, 54), &TWO_BARS)?;
-    assert_drawn(&rt, alloc, &mut session, &view, (0, 0), &TWO_BARS)?;
-    move_bar(alloc, &mut session)?;
-    assert_drawn(&rt, alloc, &mut session, &view, (128, 50), &MOVED_BARS)
 }

@@ -1,4 +1,4 @@
--- Steps, counts of work, numbers, cuts, numerals and roots, worked out by hand.
+-- Steps, slopes, light, counts of work, numbers, cuts, numerals and roots, worked out by hand.
 use Rattle.std.proofs.Common.{◌≡◌, ◌≤◌, ℕ, ℤ, pos, negsuc, true, false, Some, [], ◌∷◌, refl, ap, arith, inl, inr}
 use Rattle.std.specs.Prelude.{codes}
 use Rattle.std.proofs.lemmas.Int.{ints}
@@ -8,11 +8,12 @@ use Rattle.fixed_ops.specs.Cut.{cut_of}
 use Rattle.fixed_ops.specs.Laws.{IsClamped, IsOverZero}
 use Rattle.fixed_ops.specs.Numerals.{cut_magnitude, is_unsigned_numeral, nearest_raw, numeral, unsigned_raw}
 use Rattle.fixed_ops.specs.Points.{IsRawPoint, Point, step_value}
-use Rattle.fixed_ops.specs.Raw.{IsInside, IsRaw}
+use Rattle.fixed_ops.specs.Raw.{IsInside, IsRaw, greatest}
 use Rattle.fixed_ops.specs.Root.{IsRawRoot, IsRoot}
+use Rattle.fixed_ops.specs.Slopes.{Sloped, flat, light_of, one, slope_result, step_sloped, two}
 use Rattle.fixed_ops.specs.Spelling.{IsDot, IsSign, IsSpelling, Spelling, spelled, spelling_value}
 use Rattle.fixed_ops.specs.declared.operation.Op.{Op}
-use Rattle.fixed_ops.specs.declared.operation.Op.TheVariants.{X, Y, Z, Const, Sub}
+use Rattle.fixed_ops.specs.declared.operation.Op.TheVariants.{X, Y, Z, Const, Neg, Square, Sqrt, Abs, Floor, Add, Sub, Mul, Div, Min, Max}
 
 abbrev here : Point
 here = record { x = pos 1; y = pos 2; z = pos 3 }
@@ -28,6 +29,90 @@ steps = refl
 -- each coordinate of a raw point is raw
 raw_coordinates : (p : Point) → IsRawPoint p → IsRaw p.x × IsRaw p.y × IsRaw p.z
 raw_coordinates p raw = (raw.x, raw.y, raw.z)
+
+-- ---- slopes
+
+abbrev sloped : ℤ → ℤ → ℤ → ℤ → Sloped
+sloped value dx dy dz = record { value = value; dx = dx; dy = dy; dz = dz }
+
+abbrev step_with_slopes : Op → Sloped
+step_with_slopes op =
+    step_sloped op here (pos 7) (sloped (pos 8) (pos 20) (pos 30) (pos 40)) (sloped (pos 9) (pos 1) (pos 2) (pos 3))
+
+-- a coordinate rises along its own axis, a constant stands still, and a difference has the difference of the
+-- slopes along each axis
+steps_with_slopes : step_with_slopes X ∷ step_with_slopes Y ∷ step_with_slopes Z ∷ step_with_slopes Const
+    ∷ step_with_slopes Sub ∷ [] ≡
+    sloped (pos 1) one (pos 0) (pos 0) ∷ sloped (pos 2) (pos 0) one (pos 0) ∷ sloped (pos 3) (pos 0) (pos 0) one
+    ∷ record flat { value = pos 7 } ∷ sloped (negsuc 0) (pos 19) (pos 28) (pos 37) ∷ []
+steps_with_slopes = refl
+
+one_and_two : one ∷ two ∷ [] ≡ pos 4294967296 ∷ pos 8589934592 ∷ []
+one_and_two = refl
+
+-- values that are the same along the axis, whatever their operands
+still_slopes : slope_result X (pos 8) (pos 9) (pos 8) (pos 5) (pos 6)
+    ∷ slope_result Const (pos 8) (pos 9) (pos 8) (pos 5) (pos 6)
+    ∷ slope_result Floor (pos 8) (pos 9) (pos 0) (pos 5) (pos 6) ∷ [] ≡ pos 0 ∷ pos 0 ∷ pos 0 ∷ []
+still_slopes = refl
+
+-- the opposite, the sum and the difference of two slopes
+linear_slopes : slope_result Neg (pos 8) (pos 9) (negsuc 7) (pos 5) (pos 6)
+    ∷ slope_result Add (pos 8) (pos 9) (pos 17) (pos 5) (pos 6)
+    ∷ slope_result Sub (pos 8) (pos 9) (negsuc 0) (pos 5) (pos 6) ∷ [] ≡ negsuc 4 ∷ pos 11 ∷ negsuc 0 ∷ []
+linear_slopes = refl
+
+-- the square of 3 rises by 6, the product of 2 and 3 by 5, and 6 divided by 3 by a third less than nothing,
+-- rounded down
+curved_slopes : slope_result Square (pos 12884901888) (pos 0) (pos 38654705664) one (pos 0)
+    ∷ slope_result Mul (pos 8589934592) (pos 12884901888) (pos 25769803776) one one
+    ∷ slope_result Div (pos 25769803776) (pos 12884901888) (pos 8589934592) one one ∷ [] ≡
+    pos 25769803776 ∷ pos 21474836480 ∷ negsuc 1431655765 ∷ []
+curved_slopes = refl
+
+-- the root of 4 rises by a quarter; a root that is 0, of 0 or of less, has no slope
+root_slopes : slope_result Sqrt (pos 17179869184) (pos 0) (pos 8589934592) one (pos 0)
+    ∷ slope_result Sqrt (pos 0) (pos 0) (pos 0) one (pos 0)
+    ∷ slope_result Sqrt (negsuc 8) (pos 0) (pos 0) one (pos 0) ∷ [] ≡ pos 1073741824 ∷ pos 0 ∷ pos 0 ∷ []
+root_slopes = refl
+
+-- a distance from 0 rises with its operand at 0 and above, and against it below
+distance_slopes : slope_result Abs (pos 0) (pos 0) (pos 0) (pos 5) (pos 0)
+    ∷ slope_result Abs (pos 1) (pos 0) (pos 1) (pos 5) (pos 0)
+    ∷ slope_result Abs (negsuc 0) (pos 0) (pos 1) (pos 5) (pos 0) ∷ [] ≡ pos 5 ∷ pos 5 ∷ negsuc 4 ∷ []
+distance_slopes = refl
+
+-- divided by 0, nothing has a slope
+no_quotient_slope : slope_result Div (pos 5) (pos 0) greatest one one ≡ pos 0
+no_quotient_slope = refl
+
+-- the slope of the operand that is less, of two equal ones the left one's
+least_slopes : slope_result Min (pos 8) (pos 9) (pos 8) (pos 5) (pos 6)
+    ∷ slope_result Min (pos 8) (pos 8) (pos 8) (pos 5) (pos 6)
+    ∷ slope_result Min (pos 9) (pos 8) (pos 8) (pos 5) (pos 6) ∷ [] ≡ pos 5 ∷ pos 5 ∷ pos 6 ∷ []
+least_slopes = refl
+
+-- and of the one that is greater
+greatest_slopes : slope_result Max (pos 9) (pos 8) (pos 9) (pos 5) (pos 6)
+    ∷ slope_result Max (pos 8) (pos 8) (pos 8) (pos 5) (pos 6)
+    ∷ slope_result Max (pos 8) (pos 9) (pos 9) (pos 5) (pos 6) ∷ [] ≡ pos 5 ∷ pos 5 ∷ pos 6 ∷ []
+greatest_slopes = refl
+
+-- 10^9 times a slope of 10^9, and 10^9 times one of 2 * 10^9, both stop at the greatest number
+steep_slopes :
+    slope_result Mul (negsuc 4294967295999999999) (pos 4294967296000000000) (negsuc 4611686018427387902)
+    (pos 4294967296000000000) (pos 0)
+    ∷ slope_result Mul (negsuc 4294967295999999999) (pos 4294967296000000000) (negsuc 4611686018427387902)
+    (pos 4611686018427387903) (pos 0) ∷ [] ≡ greatest ∷ greatest ∷ []
+steep_slopes = refl
+
+-- ---- light
+
+-- the share of the slope along z, whatever the signs; without any slope the surface is light
+lights : light_of one one (pos 0) ∷ light_of (pos 0) one (negsuc 4294967295)
+    ∷ light_of greatest greatest greatest ∷ light_of (pos 0) (pos 0) (pos 0) ∷ light_of (pos 0) (pos 0) one ∷ [] ≡
+    1 ∷ 128 ∷ 85 ∷ 255 ∷ 255 ∷ []
+lights = refl
 
 -- ---- counts of work
 

@@ -11,4 +11,5 @@ pub mod Points
 pub mod Quotient
 pub mod Raw
 pub mod Root
+pub mod Slopes
 pub mod Spelling

@@ -14,6 +14,7 @@ mod operation;
 mod quotient;
 mod root;
 mod rounding;
+mod shading;
 mod tally;
 mod text_before;
 
@@ -29,6 +30,7 @@ pub use number_text::{write_number, write_raw};
 pub use numeral::{BadNumeral, read_numeral, read_raw};
 pub use op_names::{op_name, read_op};
 pub use operation::{Op, arity};
+pub use shading::light;
 pub use tally::{Tally, count_points, count_span};
 pub use text_before::{LONGEST_NUMBER, byte_before, number_before};
 

@@ -499,3 +499,18 @@ fn numbers_are_written_with_ten_decimals(rt: HostRuntime) {
         assert_eq!(rt; read_raw(digits), Ok(raw));
     }
 }
+
+#[test]
+fn light_is_the_share_of_the_slope_along_z(rt: HostRuntime) {
+    let (none, one) = (Fx::from_raw(0), Fx::from_raw(1 << 32));
+    let (minus_one, most) = (Fx::from_raw(-(1 << 32)), Fx::from_raw(Fx::MAX_RAW));
+    for (dx, dy, dz, byte) in [
+        (one, one, none, 1),
+        (none, one, minus_one, 128),
+        (most, most, most, 85),
+        (none, none, none, 255),
+        (none, none, one, 255),
+    ] {
+        assert_eq!(rt; light(dx, dy, dz), byte);
+    }
+}

@@ -20,7 +20,6 @@ use Rattle.live_clauses.specs.declared.step.Step.{Step}
 use Rattle.mesh_laws.specs.Places.{way_up}
 use Rattle.oct_descent.specs.GridValues.{list_grid}
 use Rattle.oct_descent.specs.Laws.{GridsAreBordered}
-use Rattle.oct_descent.specs.Sizes.{size_of}
 use Rattle.ply_writer.specs.Ply.{face_line, ply_header, ply_of, vertex_line}
 use Rattle.tetra_mesh.specs.declared.sided_cell.SidedCell.{SidedCell}
 use Rattle.tetra_mesh.specs.declared.vertex.Vertex.{Vertex}
@@ -29,7 +28,7 @@ use Rattle.tetra_mesh.specs.Meshes.{Triangulation}
 use Rattle.tetra_mesh.specs.Numbering.{all_faces, vertex_on, vertices_on}
 use Rattle.tetra_mesh.specs.Places.{IsPlaced}
 use Rattle.tetra_mesh.specs.Sides.{AreSidesOf, sided_of}
-use Rattle.view_places.specs.Window.{Window}
+use Rattle.view_places.specs.Window.{Window, size_of}
 use Rattle.grid_text.specs.Texts.{AreCellsOf, cells_of, lines_left, text_of}
 
 -- ---- one cell
@@ -75,23 +74,23 @@ behind cells sided i d same inside =
       sided = ap (λ l. get_or l i d) same ∙ get_or-map sided_of cells i no_cell d within;
     }
 
-pub grid_x : (view : Window) (list : List Step) → (list_grid view list).x ≡ view.n
+pub grid_x : (view : Window) (list : List Step) → (list_grid view list).x ≡ view.nx
 unfolding list_grid
 grid_x view list = refl
 
-pub grid_y : (view : Window) (list : List Step) → (list_grid view list).y ≡ view.n
+pub grid_y : (view : Window) (list : List Step) → (list_grid view list).y ≡ view.ny
 unfolding list_grid
 grid_y view list = refl
 
-pub grid_z : (view : Window) (list : List Step) → (list_grid view list).z ≡ view.n
+pub grid_z : (view : Window) (list : List Step) → (list_grid view list).z ≡ view.nz
 unfolding list_grid
 grid_z view list = refl
 
 -- it lies in the grid
 pub record LiesIn (view : Window) (s : SidedCell) : Type 0 where
-  pub x : s.x < view.n
-  pub y : s.y < view.n
-  pub z : s.z < view.n
+  pub x : s.x < view.nx
+  pub y : s.y < view.ny
+  pub z : s.z < view.nz
 
 pub lies_in : (view : Window) (list : List Step) (cells : List CellValues) (i : ℕ) (s : SidedCell) → IsAt view list cells i s → LiesIn view s
 lies_in view list cells i s is = record {

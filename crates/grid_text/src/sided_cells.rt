@@ -1,7 +1,7 @@
 // The places and sides of the mixed cells of a grid.
 ghost use Rattle.std.specs.Prelude.{◌≡◌, ◌<◌, ◌++◌, IfOk, OnOk, map};
 ghost use Rattle.oct_descent.specs.Rows.{cells_in_layer, cells_in_row};
-ghost use Rattle.oct_descent.specs.Sizes.{size_of};
+ghost use Rattle.view_places.specs.Window.{size_of};
 ghost use Rattle.tetra_mesh.specs.Sides.{sided_of};
 ghost use Rattle.grid_text.specs.Texts.{cells_of};
 

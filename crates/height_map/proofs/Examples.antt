@@ -23,7 +23,9 @@ window w h d = record {
   w = w;
   h = h;
   d = d;
-  n = 1;
+  nx = 1;
+  ny = 1;
+  nz = 1;
 }
 
 -- the coordinate z

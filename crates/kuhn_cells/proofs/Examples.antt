@@ -14,7 +14,6 @@ use Rattle.kuhn_cells.specs.Faces.{Face, faces, all_triangles}
 use Rattle.kuhn_cells.specs.Grids.{Grid, is_point, over_block, value_at, vertices}
 use Rattle.kuhn_cells.specs.Lists.{ListsCells}
 use Rattle.kuhn_cells.specs.Rings.{HasEdge, IsRing, corners_off, sides}
-use Rattle.kuhn_cells.specs.Sizes.{cube}
 use Rattle.kuhn_cells.specs.Triangles.{point}
 use Rattle.kuhn_cells.specs.Vectors.{Vector}
 
@@ -126,17 +125,27 @@ zeros_are_bordered : IsBordered (record uneven { values = replicate 24 (pos 0) }
 zeros_are_bordered = record { whole = refl; outside = λ p within outer. rw (zero_everywhere 24 _) refl }
 
 -- cells are listed of grids alone that have as many of them along each axis as is told
-listed_along_x : (list : CellList) → ListsCells (cube 3) list (record wide { z = 3 }) → ⊥
+abbrev sized : ℕ → ℕ → ℕ → GridSize
+sized x y z = record { x = x; y = y; z = z }
+
+listed_along_x : (list : CellList) → ListsCells (sized 3 3 4) list wide → ⊥
 listed_along_x list h = let x : 2 ≡ 3 = h.x in omega (arith, x)
 
-listed_along_y : (list : CellList) → ListsCells (cube 2) list (record wide { z = 2 }) → ⊥
+listed_along_y : (list : CellList) → ListsCells (sized 2 2 4) list wide → ⊥
 listed_along_y list h = let y : 3 ≡ 2 = h.y in omega (arith, y)
 
-listed_along_z : (list : CellList) → ListsCells (cube 3) list (record wide { x = 3 }) → ⊥
+listed_along_z : (list : CellList) → ListsCells (sized 2 3 3) list wide → ⊥
 listed_along_z list h = let z : 4 ≡ 3 = h.z in omega (arith, z)
 
-listed_count : (list : CellList) (g : Grid) → list.n ≡ 3 → ListsCells (cube 2) list g → ⊥
-listed_count list g e h = let count = ap (λ (s : GridSize). s.x) h.count in omega (arith, e, count)
+-- and each of the three counts of the list is that of its axis
+counted_along_x : (list : CellList) → list.nx ≡ 3 → ListsCells (sized 2 3 4) list wide → ⊥
+counted_along_x list e h = let x = ap (λ (s : GridSize). s.x) h.count in omega (arith, e, x)
+
+counted_along_y : (list : CellList) → list.ny ≡ 2 → ListsCells (sized 2 3 4) list wide → ⊥
+counted_along_y list e h = let y = ap (λ (s : GridSize). s.y) h.count in omega (arith, e, y)
+
+counted_along_z : (list : CellList) → list.nz ≡ 3 → ListsCells (sized 2 3 4) list wide → ⊥
+counted_along_z list e h = let z = ap (λ (s : GridSize). s.z) h.count in omega (arith, e, z)
 
 -- ---- rings
 

@@ -6,5 +6,4 @@ mod Examples
 pub mod FaceLaws
 pub mod OrderLaws
 pub mod RingLaws
-pub mod SizeLaws
 pub mod VertexLaws

@@ -4,7 +4,10 @@ use Rattle.kuhn_cells.specs.declared.cell_list.CellList.{CellList}
 use Rattle.kuhn_cells.specs.declared.grid_size.GridSize.{GridSize}
 use Rattle.kuhn_cells.specs.Cells.{IsBordered, mixed_cells}
 use Rattle.kuhn_cells.specs.Grids.{Grid}
-use Rattle.kuhn_cells.specs.Sizes.{cube}
+
+-- how many cells along each axis the grid of a list has
+abbrev pub listed_size : CellList → GridSize
+listed_size list = record { x = list.nx; y = list.ny; z = list.nz }
 
 -- a list has the mixed cells of a grid of so many cells along each axis, whose outermost layer is outside
 pub record ListsCells (n : GridSize) (list : CellList) (g : Grid) : Type 0 where
@@ -12,5 +15,5 @@ pub record ListsCells (n : GridSize) (list : CellList) (g : Grid) : Type 0 where
   pub y : g.y ≡ n.y
   pub z : g.z ≡ n.z
   pub border : IsBordered g
-  pub count : cube list.n ≡ n
+  pub count : listed_size list ≡ n
   pub cells : list.cells.items ≡ mixed_cells g

@@ -2,10 +2,6 @@
 use Rattle.std.specs.Prelude.{◌≡◌, ℕ, ◌*◌, ◌≤◌}
 use Rattle.kuhn_cells.specs.declared.grid_size.GridSize.{GridSize}
 
--- as many along each axis
-abbrev pub cube : ℕ → GridSize
-cube n = record { x = n; y = n; z = n }
-
 -- two grids have as many cells
 abbrev pub SameSize : GridSize → GridSize → Type 0
 SameSize m n = (m.x ≡ n.x) × ((m.y ≡ n.y) × (m.z ≡ n.z))

@@ -17,8 +17,12 @@ pub struct CellValues {
 /// Cells of a grid.
 #[derive(Debug, Drop)]
 pub struct CellList {
-    /// How many cells the grid has along each axis.
-    pub n: u32,
+    /// How many cells the grid has along x.
+    pub nx: u32,
+    /// How many it has along y.
+    pub ny: u32,
+    /// How many it has along z.
+    pub nz: u32,
     /// The cells that are listed.
     pub cells: Vec<CellValues>,
 }

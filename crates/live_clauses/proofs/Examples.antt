@@ -1,7 +1,8 @@
 -- Lists of steps, their values, and what choices leave of them, worked out by hand.
-use Rattle.std.proofs.Common.{◌≡◌, ℕ, ◌+◌, ℤ, pos, ◌≤◌, List, [], ◌∷◌, length, refl, ap, arith}
+use Rattle.std.proofs.Common.{◌≡◌, ℕ, ◌+◌, ℤ, pos, negsuc, ◌≤◌, List, [], ◌∷◌, length, refl, ap, arith}
 use Rattle.fixed_ops.specs.Points.{Point}
 use Rattle.fixed_ops.specs.Raw.{IsRaw}
+use Rattle.fixed_ops.specs.Slopes.{Sloped, one}
 use Rattle.fixed_ops.specs.declared.operation.Op.{Op}
 use Rattle.fixed_ops.specs.declared.operation.Op.TheVariants.{X, Y, Z, Neg, Sub, Min}
 use Rattle.interval_ops.specs.declared.choice.Choice.TheVariants.{Left, Right, Both}
@@ -9,7 +10,7 @@ use Rattle.live_clauses.specs.declared.choice_row.ChoiceRow.{ChoiceRow}
 use Rattle.live_clauses.specs.declared.step.Step.{Step}
 use Rattle.live_clauses.specs.Choices.{AreChoices, AreRight, lane}
 use Rattle.live_clauses.specs.Live.{live_of, IsWhole}
-use Rattle.live_clauses.specs.Meanings.{Meaning, MeanTheirChoices, ReadsItsOperands, meanings, tape_meaning}
+use Rattle.live_clauses.specs.Meanings.{Meaning, MeanTheirChoices, ReadsItsOperands, meanings, sloped_at, tape_meaning}
 use Rattle.live_clauses.specs.Steps.{IsStepAt, IsTape, tape_value, values}
 
 abbrev step : Op → ℕ → ℕ → Step
@@ -27,6 +28,16 @@ values_in_order = refl
 
 last_value : tape_value (at (pos 5) (pos 3) (pos 1)) lesser ≡ pos 2
 last_value = refl
+
+abbrev slopes_at : ℤ → ℤ → ℤ → Sloped
+slopes_at x y z = tape_meaning (sloped_at (at x y z)) lesser
+
+-- its slopes are those of the lesser one, of two equal ones those of the first, less those of z
+right_slopes : slopes_at (pos 5) (pos 3) (pos 1) ≡ record { value = pos 2; dx = pos 0; dy = one; dz = negsuc 4294967295 }
+right_slopes = refl
+
+left_slopes : slopes_at (pos 3) (pos 3) (pos 1) ≡ record { value = pos 2; dx = one; dy = pos 0; dz = negsuc 4294967295 }
+left_slopes = refl
 
 -- where one operand is chosen, the other is not needed, nor is the minimum
 right_alone : live_of lesser (Both ∷ Both ∷ Right ∷ Both ∷ Both ∷ []) ≡ step Y 0 0 ∷ step Z 0 0 ∷ step Sub 0 1 ∷ []

@@ -13,6 +13,7 @@ pub mod Numbering
 pub mod Parts
 pub mod Representatives
 pub mod RootLaws
+pub mod SlopeLaws
 pub mod Stored
 pub mod ValueLaws
 pub mod Walks

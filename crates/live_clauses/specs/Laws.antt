@@ -1,8 +1,9 @@
--- What always holds of live lists and of root lists.
+-- What always holds of live lists, of root lists, and of the slopes of a list.
 use Rattle.std.specs.Prelude.{◌≡◌, ℕ, ◌<◌, ◌≤◌, ◌↔◌, IsTrue, List, length, replicate, slice_get, Some}
 use Rattle.fixed_ops.specs.Points.{Point, step_value}
 use Rattle.solid_model.specs.declared.clause.Clause.{Clause}
 use Rattle.solid_model.specs.Clauses.{IsModel}
+use Rattle.solid_model.specs.Slopes.{solid_sloped}
 use Rattle.solid_model.specs.Values.{solid_value}
 use Rattle.interval_ops.specs.declared.choice.Choice.{Choice}
 use Rattle.interval_ops.specs.declared.choice.Choice.TheVariants.{Both}
@@ -10,7 +11,7 @@ use Rattle.live_clauses.specs.Equality.{same_list}
 use Rattle.live_clauses.specs.declared.step.Step.{Step}
 use Rattle.live_clauses.specs.Choices.{step_at, choice_at, AreChoices, AreRight}
 use Rattle.live_clauses.specs.Live.{chosen, representative, IsLive, is_kept, live_of, root_of, IsWhole}
-use Rattle.live_clauses.specs.Meanings.{Meaning, MeanTheirChoices, ReadsItsOperands, meaning_at, tape_meaning}
+use Rattle.live_clauses.specs.Meanings.{Meaning, MeanTheirChoices, ReadsItsOperands, meaning_at, sloped_at, tape_meaning}
 use Rattle.live_clauses.specs.Steps.{AreSteps, IsTape, steps_of, tape_value, value_at}
 
 -- the representative of a step is that of the operand that it chooses, or the step itself
@@ -88,6 +89,20 @@ ChoicesKeepTheValue = (p : Point) (steps : List Step) (choices : List Choice) �
 abbrev pub RootHasTheValue : Type 0
 RootHasTheValue = (p : Point) (clauses : List Clause) → IsModel clauses
     → tape_value p (root_of clauses) ≡ solid_value p clauses
+
+-- values with their slopes are a meaning of steps
+abbrev pub SlopesAreOfOperands : Type 0
+SlopesAreOfOperands = (p : Point) → ReadsItsOperands (sloped_at p)
+
+-- whose values are the values of the steps
+abbrev pub SlopesStandByValues : Type 0
+SlopesStandByValues = (p : Point) (steps : List Step) (place : ℕ)
+    → (meaning_at (sloped_at p) steps place).value ≡ value_at p steps place
+
+-- a root list has the solid's slopes everywhere
+abbrev pub RootHasTheSlopes : Type 0
+RootHasTheSlopes = (p : Point) (clauses : List Clause) → IsModel clauses
+    → tape_meaning (sloped_at p) (root_of clauses) ≡ solid_sloped p clauses
 
 -- the test of whether two lists have the same steps tells whether they are equal
 abbrev pub ListsAreToldApart : Type 0

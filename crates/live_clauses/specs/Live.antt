@@ -6,7 +6,7 @@ use Rattle.interval_ops.specs.declared.choice.Choice.{Choice}
 use Rattle.interval_ops.specs.declared.choice.Choice.TheVariants.{Left, Right, Both}
 use Rattle.live_clauses.specs.declared.step.Step.{Step}
 use Rattle.live_clauses.specs.Choices.{step_at, choice_at}
-use Rattle.live_clauses.specs.Steps.{steps_of}
+use Rattle.live_clauses.specs.Steps.{IsTape, steps_of}
 
 -- what a choice takes: what the left operand has, what the right one has, or what the step has itself
 abbrev pub chosen : {A : Type 0} → Choice → A → A → A → A
@@ -100,6 +100,11 @@ live_of steps choices = live_below steps choices (length steps)
 -- the root list of a solid: the live list of all its clauses where every choice is Both
 abbrev pub root_of : List Clause → List Step
 root_of clauses = live_of (steps_of clauses) (replicate (length clauses) Both)
+
+-- a list is the live list of steps, which can be evaluated, where every choice is Both
+pub record IsLiveOf (list steps : List Step) : Type 0 where
+  pub tape : IsTape steps
+  pub live : list ≡ live_of steps (replicate (length steps) Both)
 
 -- A list is whole where its last step needs each of its steps: shortened where no choice is made, it
 -- stays as it is.

@@ -2,6 +2,7 @@
 use Rattle.std.specs.Prelude.{◌≡◌, ℕ, ◌≤◌, ◌-◌, ℤ, pos, List, [], ◌∷◌, ◌++◌, length, fold, slice_get, slice_index_or, Some}
 use Rattle.fixed_ops.specs.Arity.{arity_of}
 use Rattle.fixed_ops.specs.Points.{Point, step_value}
+use Rattle.fixed_ops.specs.Slopes.{Sloped, flat, step_sloped}
 use Rattle.fixed_ops.specs.declared.operation.Op.{Op}
 use Rattle.interval_ops.specs.declared.choice.Choice.{Choice}
 use Rattle.interval_ops.specs.declared.choice.Choice.TheVariants.{Left, Right}
@@ -52,3 +53,8 @@ pub record MeanTheirChoices {D : Type 0} (m : Meaning D)
 abbrev pub number_at : Point → Meaning ℤ
 number_at p =
     record { step = λ op constant a b. step_value op p constant a b; absent = pos 0 }
+
+-- the numbers with their slopes that steps mean at a point
+abbrev pub sloped_at : Point → Meaning Sloped
+sloped_at p =
+    record { step = λ op constant a b. step_sloped op p constant a b; absent = flat }

@@ -1,5 +1,5 @@
 // What always holds of the definitions that the contracts cite.
-ghost use Rattle.live_clauses.specs.Laws.{RepresentativesAreChosen, LiveStepsAreKept, LiveListsAreTapes, ChoicesKeepTheMeaning, ChoicesKeepTheValue, ListsAreToldApart, MeaningsAreOfOperands, RootHasTheMeaning, RootHasTheValue, LiveListsAreWhole, RootListsAreWhole, ValuesAreOfOperands, WholeListsNeedEachStep, WholeListsStand};
+ghost use Rattle.live_clauses.specs.Laws.{RepresentativesAreChosen, LiveStepsAreKept, LiveListsAreTapes, ChoicesKeepTheMeaning, ChoicesKeepTheValue, ListsAreToldApart, MeaningsAreOfOperands, RootHasTheMeaning, RootHasTheSlopes, RootHasTheValue, LiveListsAreWhole, RootListsAreWhole, SlopesAreOfOperands, SlopesStandByValues, ValuesAreOfOperands, WholeListsNeedEachStep, WholeListsStand};
 
 use fixed_ops::Fx;
 
@@ -53,6 +53,16 @@ pub fn root_has_the_value()
 {
     live_lists_keep_meanings::<Fx>();
 }
+
+/// At each point values with their slopes are a meaning of steps, which reads only the operands that
+/// an operation has. The value of each is the step's value. A root list has the value and the slopes
+/// of the solid, evaluated whole.
+#[inline]
+pub fn values_have_slopes()
+    ensures operands { SlopesAreOfOperands }
+    ensures values { SlopesStandByValues }
+    ensures root { RootHasTheSlopes }
+{}
 
 /// The test of whether two lists have the same steps tells whether they are equal.
 #[inline]

@@ -22,7 +22,7 @@ pub use choice_row::{ChoiceRow, with_bit};
 pub use choices::{Choices, Lane};
 pub use laws::{
     choices_keep_the_value, lists_are_told_apart, live_lists_are_whole, live_lists_keep_meanings,
-    live_steps_are_the_least, root_has_the_value, values_are_of_operands,
+    live_steps_are_the_least, root_has_the_value, values_are_of_operands, values_have_slopes,
 };
 pub use lists::Lists;
 pub use marking::mark_lanes;

@@ -1,12 +1,13 @@
 // The root lists of solids.
-ghost use Rattle.std.specs.Prelude.{◌≡◌, ◌*◌, ◌≤◌, ◌++◌, [], ◌∷◌, length, map, replicate, IfOk, OnOk, if◌then◌else◌};
+ghost use Rattle.std.specs.Prelude.{◌≡◌, ◌*◌, ◌≤◌, ◌++◌, [], ◌∷◌, length, map, replicate, Some, IfOk, IsTrue, OnOk, if◌then◌else◌};
 ghost use Rattle.fixed_ops.specs.Points.{Point};
 ghost use Rattle.interval_ops.specs.declared.choice.Choice.TheVariants.{Both};
 ghost use Rattle.solid_model.specs.Clauses.{IsModel};
+ghost use Rattle.solid_model.specs.Seen.{clause_seen};
 ghost use Rattle.solid_model.specs.Values.{solid_value};
 ghost use Rattle.live_clauses.specs.Live.{live_of, root_of};
 ghost use Rattle.live_clauses.specs.Packed.{is_constant, unpacked};
-ghost use Rattle.live_clauses.specs.Steps.{AreSteps, IsStepAt, IsTape, steps_of, tape_value};
+ghost use Rattle.live_clauses.specs.Steps.{AreSteps, IsStepAt, IsTape, step_of, steps_of, tape_value};
 
 use crate::choices::NoChoice;
 use crate::owned::keep;
@@ -14,7 +15,7 @@ use crate::packed_step::PackedStep;
 use crate::shortening::shorten;
 use crate::{Step, Steps, Tape};
 use fixed_ops::{Fx, Op};
-use solid_model::Model;
+use solid_model::{ClauseRef, Model};
 use std::alloc::{AllocError, Global};
 use std::rc::RcSlice;
 
@@ -28,8 +29,8 @@ pub fn root_tape(alloc: Global, model: &Model) -> Result<Tape, AllocError>
     RootRoom::new(alloc).root(model, None)
 }
 
-/// Memory for making root lists, which one caller keeps over many models. What it holds means
-/// nothing.
+/// Memory for making root lists, which one caller keeps over many models. Contracts see the root list
+/// that was made last, where one was.
 #[derive(Debug, Drop)]
 pub struct RootRoom {
     // The steps that the clauses of a model are, and the numbers of the constants among them.
@@ -38,8 +39,25 @@ pub struct RootRoom {
     // Which of them are needed, and the new numbers of these.
     marks: Vec<u8>,
     numbers: Vec<u16>,
-    // Those that are live.
+    // Those that are live, and whether they were made of these steps.
     live: Vec<PackedStep>,
+    known: bool,
+}
+
+impl std::marker::Model for RootRoom {
+    ghost use Rattle.std.specs.Prelude.{◌≡◌, List, Option, Some, None, map, true, if◌then◌else◌};
+    ghost use Rattle.live_clauses.specs.Packed.{unpacked};
+    ghost use Rattle.live_clauses.specs.Live.{IsLiveOf};
+    ghost use Rattle.live_clauses.specs.declared.step.Step.{Step};
+
+    ghost Value = { Option (List Step) };
+
+    ghost view = { λ r.
+        if r.known then Some (map (unpacked r.constants.items) r.live.items) else None };
+
+    ghost invariant = { λ r. r.known ≡ true
+        → IsLiveOf (map (unpacked r.constants.items) r.live.items)
+        (map (unpacked r.constants.items) r.steps.items) };
 }
 
 impl RootRoom {
@@ -51,6 +69,7 @@ impl RootRoom {
             marks: Vec::new(alloc),
             numbers: Vec::new(alloc),
             live: Vec::new(alloc),
+            known: false,
         }
     }
 
@@ -61,6 +80,23 @@ impl RootRoom {
         ensures value { IfOk result (λ tape. (p : Point)
             → tape_value p tape ≡ solid_value p model.now) }
     {
+        self.make(model)?;
+        let root = Steps::from_packed(&self.live, &self.constants);
+        match before {
+            Some(tape) if tape.steps().same(&root) => tape.share(),
+            _ => keep(*self.live.allocator(), &root),
+        }
+    }
+
+    // Makes the root list of a model, unless it was made last.
+    fn make(&mut self, model: &Model) -> Result<(), AllocError>
+        ensures live { OnOk result (self.new ≡ Some (root_of model.now)) }
+        ensures model { IsModel model.now }
+    {
+        if self.known && are_steps(&self.steps, &self.constants, model) {
+            return Ok(());
+        }
+        self.known = false;
         pack_clauses(model, &mut self.steps, &mut self.constants)?;
         shorten(
             &self.steps,
@@ -72,12 +108,36 @@ impl RootRoom {
             &mut self.numbers,
             &mut self.live,
         )?;
-        let root = Steps::from_packed(&self.live, &self.constants);
-        match before {
-            Some(tape) if tape.steps().same(&root) => tape.share(),
-            _ => keep(*self.live.allocator(), &root),
+        self.known = true;
+        Ok(())
+    }
+}
+
+// Whether the clauses of a model are these steps, with the table of their constants.
+fn are_steps(steps: &[PackedStep], constants: &[Fx], model: &Model) -> bool
+    requires { IsTape (map (unpacked constants.now) steps.now) }
+    ensures same { IsTrue result
+        → map (unpacked constants.now) steps.now ≡ steps_of model.now }
+    ensures model { IsModel model.now }
+{
+    let steps = Steps::from_packed(steps, constants);
+    if steps.len() != model.len() {
+        return false;
+    }
+    for at in 0..model.len() {
+        if !is_step(&model.clause(at), steps.step(at)) {
+            return false;
         }
     }
+    true
+}
+
+// Whether a clause is this step.
+#[inline(always)]
+fn is_step(clause: &ClauseRef<'_>, step: Step) -> bool
+    ensures { IsTrue result → step_of (clause_seen clause.now) ≡ step }
+{
+    clause.op == step.op && clause.a == step.a && clause.b == step.b && clause.value == step.value
 }
 
 // Keeps the steps that the clauses are, with the numbers of the constants among them.

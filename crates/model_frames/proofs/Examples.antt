@@ -1,5 +1,5 @@
 -- The definitions of frames, computed on models and views that were worked out by hand.
-use Rattle.std.proofs.Common.{◌≡◌, ℕ, pos, negsuc, List, [], ◌∷◌, ◌++◌, Result, Ok, Err, refl, arith}
+use Rattle.std.proofs.Common.{◌≡◌, ℕ, pos, negsuc, List, [], ◌∷◌, ◌++◌, map, Option, Some, None, Result, Ok, Err, refl, arith}
 use Rattle.std.specs.Prelude.{codes, replicate, take}
 use Rattle.std.specs.Fmt.{digits}
 use Rattle.box_chains.specs.Chains.{chain_within}
@@ -15,10 +15,11 @@ use Rattle.kuhn_cells.specs.Grids.{vertices}
 use Rattle.solid_model.specs.declared.clause.Clause.{Clause}
 use Rattle.view_places.specs.Window.{Window}
 use Rattle.model_frames.specs.Heights.{heights_of, plain_depths}
-use Rattle.model_frames.specs.Images.{image_of, plain_points}
-use Rattle.model_frames.specs.Meshes.{grid_of, mesh_text, plain_grid}
+use Rattle.live_clauses.specs.declared.step.Step.{Step}
+use Rattle.model_frames.specs.Images.{image_of, list_before, plain_points}
+use Rattle.model_frames.specs.Meshes.{grid_before, grid_of, mesh_text, plain_grid}
 use Rattle.fixed_ops.specs.Counts.{no_counts, points_of, spans_of}
-use Rattle.model_frames.specs.Work.{CountsWithin, CountsWork, FitsCounts, PointsRiseAtMost, Work, both, exactly, frame_work, height_work, mesh_work, no_work}
+use Rattle.model_frames.specs.Work.{CountsWithin, CountsWork, FitsCounts, PointsRiseAtMost, Work, both, exactly, frame_work, height_work, mesh_work, mesh_work_after, no_work}
 
 -- the clauses of a text that is read
 abbrev solid : List ℕ → List Clause
@@ -41,7 +42,9 @@ window columns rows layers = record {
   w = columns;
   h = rows;
   d = layers;
-  n = 1;
+  nx = 1;
+  ny = 1;
+  nz = 1;
 }
 
 -- x * x + y * y is below 0.5 in the middle alone
@@ -69,7 +72,7 @@ plain_pixels = refl
 plain_samples : plain_depths (window 2 3 5) 7 ≡ 210
 plain_samples = refl
 
-plain_corners : plain_grid (record (window 2 3 5) { n = 3 }) 7 ≡ 448
+plain_corners : plain_grid (record (window 2 3 5) { nx = 3; ny = 3; nz = 3 }) 7 ≡ 448
 plain_corners = refl
 
 -- The left one of two boxes holds five samples, of which the middle one is 0, and so stays undecided.
@@ -102,7 +105,7 @@ one_cell = refl
 
 -- two cells along each axis have 27 points, by z, then by y, then by x, of which the middle one alone keeps what is below 0
 abbrev two_cells : Window
-two_cells = record (window 1 1 1) { n = 2 }
+two_cells = record (window 1 1 1) { nx = 2; ny = 2; nz = 2 }
 
 inner_point : (grid_of two_cells (λ p. negsuc 0)).values ≡ replicate 13 (pos 0) ++ negsuc 0 ∷ replicate 13 (pos 0)
 unfolding grid_of
@@ -144,6 +147,36 @@ mesh_of_two_clauses : mesh_work (window 1 1 1) (solid (codes "u var-x\na const -
     ≡ record (exactly 8 1 16) { least = points_of 8 }
 unfolding mesh_points mesh_least long_spans_in spans_of_cells way_within cut_magnitude is_unsigned_numeral nearest_raw unsigned_raw
 mesh_of_two_clauses = refl
+
+-- the views that differ from one in a single number
+abbrev other_views : Window → List Window
+other_views view =
+    record view { x0 = pos 0 } ∷ record view { x1 = pos 0 } ∷ record view { y0 = pos 0 } ∷ record view { y1 = pos 0 }
+    ∷ record view { z0 = pos 0 } ∷ record view { z1 = pos 0 } ∷ record view { z = pos 1 } ∷ record view { w = 9 }
+    ∷ record view { h = 9 } ∷ record view { d = 9 } ∷ record view { nx = 9 } ∷ record view { ny = 9 }
+    ∷ record view { nz = 9 } ∷ []
+
+-- an image and a mesh take over what has their very view, and nothing of any other
+image_of_this_view : (list : List Step) → list_before (Some (record { view = two_cells; list = list })) two_cells ≡ Some list
+image_of_this_view list = refl
+
+image_of_another_view : (list : List Step)
+    → map (list_before (Some (record { view = two_cells; list = list }))) (other_views two_cells) ≡ replicate 13 None
+image_of_another_view list = refl
+
+mesh_of_this_view : (list : List Step) → grid_before (Some (record { view = two_cells; list = list })) two_cells ≡ Some list
+mesh_of_this_view list = refl
+
+mesh_of_another_view : (list : List Step)
+    → map (grid_before (Some (record { view = two_cells; list = list }))) (other_views two_cells) ≡ replicate 13 None
+mesh_of_another_view list = refl
+
+-- after a mesh of another view one takes no less than a fresh one
+mesh_after_another_view : (list : List Step)
+    → mesh_work_after (Some (record { view = two_cells; list = list })) (window 1 1 1) (solid (codes "u var-x\na const -1\n"))
+    ≡ record (exactly 8 1 16) { least = points_of 8 }
+unfolding mesh_points mesh_least long_spans_in spans_of_cells way_within cut_magnitude is_unsigned_numeral nearest_raw unsigned_raw
+mesh_after_another_view list = refl
 
 -- exact work is counted neither more nor less, and evaluations are no hulls
 abbrev two_points : Work

@@ -19,8 +19,7 @@ use Rattle.ply_writer.specs.Ply.{ply_of}
 use Rattle.solid_model.specs.Values.{solid_value}
 use Rattle.solid_model.specs.declared.clause.Clause.{Clause}
 use Rattle.tetra_mesh.specs.Cuts.{mesh_of}
-use Rattle.tetra_mesh.specs.Sizes.{size_of}
-use Rattle.view_places.specs.Window.{IsWindow, Window}
+use Rattle.view_places.specs.Window.{IsWindow, Window, size_of}
 use Rattle.model_frames.specs.Meshes.{grid_of, mesh_text, plain_grid}
 use Rattle.model_frames.specs.Work.{CountsWithin, CountsWork, PointsRiseAtMost, grid_work, mesh_work}
 use Rattle.model_frames.proofs.Frames.{on_ok, plain-within, root-few}
@@ -86,10 +85,12 @@ mesh_counted r before after view clauses list is h points spans =
 pub mesh-few : (view : Window) (clauses : List Clause) (list : List Step) → list ≡ root_of clauses → IsWindow view → IsTape list
     → MeshPointsAreBounded → mesh_points view (root_of clauses) ≤ plain_grid view (length clauses)
 mesh-few view clauses list is window tape points =
-    let n = view.n + 1 in
+    let nx = view.nx + 1 in
+    let ny = view.ny + 1 in
+    let nz = view.nz + 1 in
     let most = points view (root_of clauses) window (subst IsTape is tape) in
-    let less : n * (n * (n * length (root_of clauses))) ≤ plain_grid view (length clauses) = mul-le-mul_left n (mul-le-mul_left n (mul-le-mul_left n (root-few clauses))) in
-    let same : n * (n * n) * length (root_of clauses) ≡ n * (n * (n * length (root_of clauses))) = grind arith in
+    let less : nx * (ny * (nz * length (root_of clauses))) ≤ plain_grid view (length clauses) = mul-le-mul_left nx (mul-le-mul_left ny (mul-le-mul_left nz (root-few clauses))) in
+    let same : nx * (ny * nz) * length (root_of clauses) ≡ nx * (ny * (nz * length (root_of clauses))) = grind arith in
     omega (arith, most, same, less)
 
 pub mesh_plain : (before after : Counts) (view : Window) (clauses : List Clause) (list : List Step) → list ≡ root_of clauses → IsWindow view → IsTape list

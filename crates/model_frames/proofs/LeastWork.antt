@@ -13,10 +13,9 @@ use Rattle.live_clauses.specs.declared.step.Step.{Step}
 use Rattle.oct_descent.specs.After.{cell_spans_after, long_spans_after, mesh_before, mesh_long_spans_after, mesh_spans_after, new_long_lengths, ways_before}
 use Rattle.oct_descent.specs.Bound.{has_point, least, lengths_at, long_lengths, long_spans_in, mesh_least, mesh_long_spans, mesh_points, mesh_spans, points_of_grid, sample_of, cell_spans_in, working_lengths}
 use Rattle.box_chains.specs.Sums.{maximum}
-use Rattle.oct_descent.specs.Sizes.{size_of}
 use Rattle.oct_descent.specs.Ways.{gridded, is_working, way, way_end, grid_root}
 use Rattle.view_places.specs.Boxes.{Indices}
-use Rattle.view_places.specs.Window.{Window}
+use Rattle.view_places.specs.Window.{Window, size_of}
 
 -- sums over a box of what is nowhere more
 sum-less : (b : Indices) (f g : Sample → ℕ) → ((s : Sample) → f s ≤ g s) → sum_in b f ≤ sum_in b g

@@ -24,7 +24,7 @@ use Rattle.tetra_mesh.specs.Cuts.{mesh_of, vertex_of}
 use Rattle.mesh_laws.specs.Places.{way_up}
 use Rattle.tetra_mesh.specs.Meshes.{Triangulation}
 use Rattle.tetra_mesh.specs.Places.{IsPlaced}
-use Rattle.view_places.specs.Window.{Window}
+use Rattle.view_places.specs.Window.{IsWindow, Window}
 use Rattle.model_frames.specs.Meshes.{grid_of, mesh_text}
 use Rattle.model_frames.proofs.GridLaws.{flat_length}
 
@@ -51,8 +51,9 @@ block_most n x y z size len fx fy fz few =
     let block : z * (y * (x * size)) ≤ n * (n * (n * size)) = mul-le-mul fz layer in
     omega (arith, few, block)
 
--- a grid of at most 256 cells along each axis has fewer than 2^31 vertices
-pub few_vertices : (g : Grid) → g.x ≤ 256 → g.y ≤ 256 → g.z ≤ 256 → length (mesh_of g).vertices < 2 ^ 31
+-- Seven edges go up from a point. So a grid of at most 512 cells along each axis has fewer than 2^31 vertices, though
+-- it may have eight times as many cells as a mesh.
+pub few_vertices : (g : Grid) → g.x ≤ 512 → g.y ≤ 512 → g.z ≤ 512 → length (mesh_of g).vertices < 2 ^ 31
 unfolding vertices
 few_vertices g fx fy fz =
     let at : GridPoint → List EdgeKey = λ p. map (edge_from p) (range_with_len 1 7) in
@@ -62,7 +63,7 @@ few_vertices g fx fy fz =
     let kept = filter_most (λ e. is_point g (upper e)) all in
     let mixed = filter_most (is_mixed (is_inside_at g)) (edges g) in
     let made = length-map (vertices g) (vertex_of g) in
-    let most = block_most 257 (g.x + 1) (g.y + 1) (g.z + 1) 7 (length (vertices g)) (omega (arith, fx)) (omega (arith, fy)) (omega (arith, fz)) (omega (arith, whole, kept, mixed)) in
+    let most = block_most 513 (g.x + 1) (g.y + 1) (g.z + 1) 7 (length (vertices g)) (omega (arith, fx)) (omega (arith, fy)) (omega (arith, fz)) (omega (arith, whole, kept, mixed)) in
     omega (arith, made, most)
 
 few_of : {A : Type 0} (one three two : Bool) (p q r s : A)
@@ -85,8 +86,8 @@ few_triangles cell tetra pattern =
     few_of {A = Triple} (count == 1) (count == 3) (count == 2) (record { a = edge a b; b = edge a c; c = edge a d }) (record { a = edge a b; b = edge a d; c = edge a c })
     (record { a = edge a c; b = edge a d; c = edge b d }) (record { a = edge a c; b = edge b d; c = edge b c })
 
--- and fewer than 2^31 faces
-pub few_faces : (g : Grid) → g.x ≤ 256 → g.y ≤ 256 → g.z ≤ 256 → length (mesh_of g).faces < 2 ^ 31
+-- and a cell has at most twelve faces, so it has fewer than 2^31 of them
+pub few_faces : (g : Grid) → g.x ≤ 512 → g.y ≤ 512 → g.z ≤ 512 → length (mesh_of g).faces < 2 ^ 31
 unfolding faces all_triangles
 few_faces g fx fy fz =
     let inside = is_inside_at g in
@@ -96,7 +97,7 @@ few_faces g fx fy fz =
     let whole : length (all_triangles g) ≤ g.z * (g.y * (g.x * 12)) =
     flat_most _ 0 g.z (g.y * (g.x * 12)) (λ z. flat_most _ 0 g.y (g.x * 12) (λ y. flat_most (λ x. at (point x y z)) 0 g.x 12 (λ x. cell (point x y z)))) in
     let made = length-map (all_triangles g) (face_among (vertices g)) in
-    let most = block_most 256 g.x g.y g.z 12 (length (all_triangles g)) fx fy fz whole in
+    let most = block_most 512 g.x g.y g.z 12 (length (all_triangles g)) fx fy fz whole in
     omega (arith, made, most)
 
 -- ---- places
@@ -121,7 +122,7 @@ turned_within false s r some few least most = (omega (arith, most), omega (arith
 way_within : (a b : ℤ) → (1 ≤ way_up a b) × (way_up a b ≤ 65535)
 way_within a b = turned_within (is_inside a) (cut_of a b) (cut_of b a) (cut_least a b) (cut_greatest a b) (cut_least b a) (cut_greatest b a)
 
-placed : (view : Window) (g : Grid) (e : EdgeKey) → g.x ≡ view.n → g.y ≡ view.n → g.z ≡ view.n → IsVertex g e → IsPlaced view (vertex_of g e)
+placed : (view : Window) (g : Grid) (e : EdgeKey) → g.x ≡ view.nx → g.y ≡ view.ny → g.z ≡ view.nz → IsVertex g e → IsPlaced view (vertex_of g e)
 placed view g e sx sy sz v =
     let p = upper e in
     let x = and_parts (nat_le p.x g.x) (nat_le p.y g.y && nat_le p.z g.z) v.within in
@@ -139,7 +140,7 @@ placed view g e sx sy sz v =
     }
 
 -- each vertex of the mesh of a view's grid lies in that grid
-pub all_placed : (view : Window) (g : Grid) → VerticesAreMixedEdges → g.x ≡ view.n → g.y ≡ view.n → g.z ≡ view.n → All (IsPlaced view) (mesh_of g).vertices
+pub all_placed : (view : Window) (g : Grid) → VerticesAreMixedEdges → g.x ≡ view.nx → g.y ≡ view.ny → g.z ≡ view.nz → All (IsPlaced view) (mesh_of g).vertices
 all_placed view g law sx sy sz =
     All-map (IsPlaced view) (vertex_of g) (vertices g) (λ k d within.
     let e = get_or (vertices g) k d in
@@ -175,10 +176,10 @@ pub solid_placed : (view : Window) (value : Point → ℤ) → VerticesAreMixedE
 unfolding grid_of
 solid_placed view value law = all_placed view (grid_of view value) law refl refl refl
 
-pub solid_vertices : (view : Window) (value : Point → ℤ) → view.n ≤ 256 → length (mesh_of (grid_of view value)).vertices < 2 ^ 31
+pub solid_vertices : (view : Window) (value : Point → ℤ) → IsWindow view → length (mesh_of (grid_of view value)).vertices < 2 ^ 31
 unfolding grid_of
-solid_vertices view value few = few_vertices (grid_of view value) few few few
+solid_vertices view value window = few_vertices (grid_of view value) window.nx.few window.ny.few window.nz.few
 
-pub solid_faces : (view : Window) (value : Point → ℤ) → view.n ≤ 256 → length (mesh_of (grid_of view value)).faces < 2 ^ 31
+pub solid_faces : (view : Window) (value : Point → ℤ) → IsWindow view → length (mesh_of (grid_of view value)).faces < 2 ^ 31
 unfolding grid_of
-solid_faces view value few = few_faces (grid_of view value) few few few
+solid_faces view value window = few_faces (grid_of view value) window.nx.few window.ny.few window.nz.few

@@ -22,6 +22,8 @@ one_view a b e =
     let w = both _ _ z.1 in
     let h = both _ _ w.1 in
     let d = both _ _ h.1 in
+    let nx = both _ _ d.1 in
+    let ny = both _ _ nx.1 in
     λ k. record {
       x0 = (Decides-int_eq a.x0 b.x0).0 x0.0 k;
       x1 = (Decides-int_eq a.x1 b.x1).0 x1.0 k;
@@ -33,5 +35,7 @@ one_view a b e =
       w = (Decides-eqb a.w b.w).0 w.0 k;
       h = (Decides-eqb a.h b.h).0 h.0 k;
       d = (Decides-eqb a.d b.d).0 d.0 k;
-      n = (Decides-eqb a.n b.n).0 d.1 k;
+      nx = (Decides-eqb a.nx b.nx).0 nx.0 k;
+      ny = (Decides-eqb a.ny b.ny).0 ny.0 k;
+      nz = (Decides-eqb a.nz b.nz).0 ny.1 k;
     }

@@ -44,7 +44,8 @@ abbrev pub same_view : Window → Window → Bool
 same_view a b =
     int_eq a.x0 b.x0 && (int_eq a.x1 b.x1 && (int_eq a.y0 b.y0 && (int_eq a.y1 b.y1
     && (int_eq a.z0 b.z0 && (int_eq a.z1 b.z1 && (int_eq a.z b.z
-    && (a.w == b.w && (a.h == b.h && (a.d == b.d && a.n == b.n)))))))))
+    && (a.w == b.w && (a.h == b.h && (a.d == b.d
+    && (a.nx == b.nx && (a.ny == b.ny && a.nz == b.nz)))))))))))
 
 -- the list of the image before, where there was one of this very view
 abbrev pub list_before : Option Drawing → Window → Option (List Step)

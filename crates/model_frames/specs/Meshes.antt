@@ -10,9 +10,8 @@ use Rattle.ply_writer.specs.Ply.{ply_of}
 use Rattle.solid_model.specs.Values.{solid_value}
 use Rattle.solid_model.specs.declared.clause.Clause.{Clause}
 use Rattle.tetra_mesh.specs.Cuts.{mesh_of}
-use Rattle.tetra_mesh.specs.Sizes.{size_of}
 use Rattle.view_places.specs.Places.{point_of}
-use Rattle.view_places.specs.Window.{Window}
+use Rattle.view_places.specs.Window.{Window, size_of}
 use Rattle.view_places.specs.declared.lattice.Lattice.TheVariants as lattices
 use Rattle.model_frames.specs.Images.{same_view}
 

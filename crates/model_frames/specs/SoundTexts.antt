@@ -18,7 +18,7 @@ pub record IsSoundText (view : Window) (clauses : List Clause) (text : List ℕ)
   pub places : AllPairs (λ u v. raw_of view u ≢ raw_of view v) mesh.vertices
   pub lines : AllPairs (λ u v. vertex_line view u ≢ vertex_line view v) mesh.vertices
 
--- so it is of each solid over each view whose cells have 65536 raw units along each axis
+-- so it is of each solid over each view of which a mesh may be made
 abbrev pub MeshTextsAreSound : Type 0
 MeshTextsAreSound =
     (view : Window) (clauses : List Clause) → IsWindow view → FitsMesh view

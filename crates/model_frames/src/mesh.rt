@@ -9,8 +9,7 @@ ghost use Rattle.ply_writer.specs.Ply.{ply_of};
 ghost use Rattle.solid_model.specs.Values.{solid_value};
 ghost use Rattle.tetra_mesh.specs.Cuts.{mesh_of};
 ghost use Rattle.tetra_mesh.specs.Places.{IsPlaced};
-ghost use Rattle.tetra_mesh.specs.Sizes.{size_of};
-ghost use Rattle.view_places.specs.Window.{FitsMesh};
+ghost use Rattle.view_places.specs.Window.{FitsMesh, size_of};
 ghost use Rattle.model_frames.specs.Meshes.{grid_of, mesh_text, plain_grid};
 ghost use Rattle.model_frames.specs.SoundTexts.{MeshTextsAreSound};
 ghost use Rattle.model_frames.specs.Work.{CountsWithin, CountsWork, PointsRiseAtMost, mesh_work};
@@ -122,8 +121,8 @@ fn mixed_cells(
     cell_list(alloc, &grid)
 }
 
-/// The text of the mesh of each solid is that of a sound mesh, over each view whose cells have
-/// 65536 raw units along each axis.
+/// The text of the mesh of each solid is that of a sound mesh, over each view of which a mesh may be
+/// made.
 pub fn mesh_texts_are_sound()
     ensures { MeshTextsAreSound }
 {

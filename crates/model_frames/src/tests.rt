@@ -59,7 +59,9 @@ fn view() -> View
         w: 3,
         h: 3,
         d: 3,
-        n: 2,
+        nx: 2,
+        ny: 2,
+        nz: 2,
     }
 }
 

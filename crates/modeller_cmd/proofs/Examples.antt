@@ -43,7 +43,7 @@ use Rattle.solid_model.specs.declared.edit.Edit.TheVariants as edits
 use Rattle.edit_script.specs.declared.command.Command.{Command}
 use Rattle.edit_script.specs.declared.command.Command.TheVariants as commands
 use Rattle.edit_session.specs.Sessions.{State, started}
-use Rattle.modeller_cmd.specs.Replays.{parts_at, replayed, standing}
+use Rattle.modeller_cmd.specs.Replays.{parts_at, replayed, standing, state_after}
 use Rattle.model_frames.specs.SoundTexts.{IsSoundText}
 use Rattle.model_frames.specs.Work.{CountsWithin, CountsWork, exactly, frame_work, no_work}
 use Rattle.modeller_cmd.specs.declared.bad_text.BadText.{BadText}
@@ -68,7 +68,9 @@ window columns rows height = record {
   w = columns;
   h = rows;
   d = 255;
-  n = 64;
+  nx = 64;
+  ny = 64;
+  nz = 64;
 }
 
 -- what a drawing of a text gives
@@ -357,6 +359,10 @@ mesh_header : frame_header (codes "mesh") 305 ≡ codes "@ mesh 305\n"
 unfolding digits
 mesh_header = refl
 
+no_edit : refused_line 4294967295 fault.NothingToUndo ≡ codes "@ refused 4294967295 NothingToUndo\n"
+unfolding digits
+no_edit = refl
+
 no_room : refused_line 65536 fault.Full ≡ codes "@ refused 65536 Full\n"
 unfolding digits
 no_room = refl
@@ -499,7 +505,7 @@ unwritten_part written = let same : [] ≡ codes "a" = written.gained in (cc)
 part_without_memory : HaltsIn (λ (s : List ℕ). Some s) (λ s. 0) [] (codes "@") no_counts no_counts (started []) commands.Text stop.NoMemory → ⊥
 part_without_memory halts = let same : codes "@" ≡ [] = halts.unwritten refl in (cc)
 
--- memory is wanted for a frame and for a clause that is added, and for no edit that is refused or makes no clause
+-- memory is wanted for a frame, for an edit that is accepted and for an undo that finds one, and for no edit that is refused
 abbrev two : List Clause
 two = record { name = codes "x"; op = op.X; a = 0; b = 0; value = pos 0 } ∷ record { name = codes "f"; op = op.Neg; a = 0; b = 0; value = pos 0 } ∷ []
 
@@ -510,13 +516,19 @@ text_wants_memory : WantsMemory shown commands.Text
 text_wants_memory = tt
 
 clause_wants_memory : WantsMemory shown (commands.Edit 4 (edits.Add (codes "y") (record { op = op.Y; args = []; value = pos 0 })))
-clause_wants_memory = (refl, tt)
+clause_wants_memory = refl
 
 double_name_wants_none : WantsMemory shown (commands.Edit 4 (edits.Add (codes "f") (record { op = op.Y; args = []; value = pos 0 }))) → ⊥
-double_name_wants_none wants = let is : false ≡ true = wants.0 in (cc)
+double_name_wants_none wants = let is : false ≡ true = wants in (cc)
 
-cut_wants_none : WantsMemory shown (commands.Edit 4 (edits.Cut (codes "f"))) → ⊥
-cut_wants_none wants = wants.1
+cut_wants_memory : WantsMemory shown (commands.Edit 4 (edits.Cut (codes "f")))
+cut_wants_memory = refl
+
+undo_wants_none : WantsMemory shown (commands.Undo 4) → ⊥
+undo_wants_none wants = wants refl
+
+undo_wants_memory : WantsMemory (state_after shown (commands.Edit 3 (edits.Cut (codes "f")))) (commands.Undo 4)
+undo_wants_memory = λ none. (cc)
 
 stray_wants_none : WantsMemory shown (commands.Stray 4) → ⊥
 stray_wants_none wants = wants
@@ -534,10 +546,26 @@ cost_writes = tt
 accepted_edit_writes_nothing : WritesSomething shown (commands.Edit 4 (edits.Cut (codes "f"))) → ⊥
 accepted_edit_writes_nothing writes = let is : false ≡ true = writes in (cc)
 
+undo_writes : WritesSomething shown (commands.Undo 4)
+undo_writes = refl
+
+undo_of_an_edit_writes_nothing : WritesSomething (state_after shown (commands.Edit 3 (edits.Cut (codes "f")))) (commands.Undo 4) → ⊥
+undo_of_an_edit_writes_nothing writes = (cc)
+
 -- what stands after an edit that is accepted
 after_a_cut : (standing shown (commands.Edit 3 (edits.Cut (codes "f")) ∷ commands.Text ∷ [])).clauses ≡ record { name = codes "x"; op = op.X; a = 0; b = 0; value = pos 0 } ∷ []
 unfolding standing
 after_a_cut = refl
+
+-- what stands after an edit that is taken back, and what an undo writes that finds none
+after_an_undo : standing shown (commands.Edit 3 (edits.Cut (codes "f")) ∷ commands.Undo 4 ∷ []) ≡ shown
+unfolding standing
+after_an_undo = refl
+
+one_undo_too_many : replayed shown (commands.Edit 3 (edits.Cut (codes "f")) ∷ commands.Undo 4 ∷ commands.Undo 5 ∷ [])
+    ≡ record { bytes = codes "@ refused 5 NothingToUndo\n"; work = no_work } ∷ []
+unfolding digits replayed
+one_undo_too_many = refl
 
 -- a frame halts for want of memory only behind what the stray line before it writes, and that line never does
 abbrev stray_and_text : List Command
@@ -570,7 +598,7 @@ work_adds_up = refl
 -- an image, a map and a mesh have each their own plain evaluation: pixels, samples and points
 abbrev drawn_of_two : List Part
 drawn_of_two =
-    let view = record (window 2 3 (pos 0)) { d = 4; n = 1 } in replayed shown (commands.Render view ∷ commands.Height view ∷ commands.Mesh view ∷ [])
+    let view = record (window 2 3 (pos 0)) { d = 4; nx = 1; ny = 1; nz = 1 } in replayed shown (commands.Render view ∷ commands.Height view ∷ commands.Mesh view ∷ [])
 
 plain_evaluations : map (λ part. part.work.plain) drawn_of_two ≡ 12 ∷ 48 ∷ 16 ∷ []
 unfolding replayed
@@ -628,7 +656,7 @@ unfolding digits points_in spans_in chain_within forged_clauses
 disc_out_of_sight = refl
 
 -- the mesh of a text: eight points of a grid of one cell
-mesh_of_a_text : map (λ part. part.work.plain) (output_as (made (Mesh (record (window 3 2 (pos 0)) { n = 1 })) (codes "x var-x\ny var-y"))).parts ≡ 16 ∷ []
+mesh_of_a_text : map (λ part. part.work.plain) (output_as (made (Mesh (record (window 3 2 (pos 0)) { nx = 1; ny = 1; nz = 1 })) (codes "x var-x\ny var-y"))).parts ≡ 16 ∷ []
 mesh_of_a_text = refl
 
 -- a frame bears the name of what it shows
@@ -809,7 +837,7 @@ half_a_frame run = by run.stop run.is (run.replay refl)
 
 -- the text of a mesh that is written is told to be sound, and so is that of a frame: of what stands where it comes
 abbrev cells : ℕ → Window
-cells n = record (window 512 512 (pos 0)) { n = n }
+cells n = record (window 512 512 (pos 0)) { nx = n; ny = n; nz = n }
 
 mesh_is_told_sound : MeshesAreSound (codes "mesh" ∷ codes "n=3" ∷ []) (codes "x var-x")
     → IsSoundText (cells 3) (take 1 two) (bytes_of_parts (output_of (codes "mesh" ∷ codes "n=3" ∷ []) (codes "x var-x")).parts)

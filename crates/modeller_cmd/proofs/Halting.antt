@@ -1,5 +1,5 @@
 -- Where the commands of a script are halted.
-use Rattle.std.proofs.Common.{◌≡◌, ◌≢◌, ℕ, List, inl, inr, Option, Some, None, Result, Ok, Err, IfSome, refl, subst}
+use Rattle.std.proofs.Common.{◌≡◌, ◌≢◌, ℕ, List, [], ◌∷◌, inl, inr, Option, Some, None, Result, Ok, Err, IfSome, refl, subst}
 use Rattle.std.specs.Prelude.{IfErr}
 use Rattle.clause_reader.specs.Reading.{text_read}
 use Rattle.clause_reader.specs.declared.text_reason.TextReason.{TextReason}
@@ -22,7 +22,7 @@ use Rattle.solid_model.specs.declared.clause.Clause.{Clause}
 use Rattle.solid_model.specs.declared.edit.Edit.{Edit}
 use Rattle.solid_model.specs.declared.edit.EditFault.{EditFault as Fault}
 use Rattle.modeller_cmd.specs.Parts.{work_of_parts}
-use Rattle.modeller_cmd.specs.Replays.{parts_at}
+use Rattle.modeller_cmd.specs.Replays.{parts_at, undo_parts}
 use Rattle.modeller_cmd.specs.Halting.{IsUnbegun, HaltsAt, HaltsReplay}
 use Rattle.view_settings.specs.declared.job.Job.{Job}
 use Rattle.view_settings.specs.declared.job.Job.TheVariants.{Replay}
@@ -85,3 +85,11 @@ edit-work frames state line edit counts = by (edited state.clauses edit) refl
     by : (r : Result (List Clause) Fault) → edited state.clauses edit ≡ r → CountsWork counts counts (work_of_parts (parts_at state (commands.Edit line edit)))
     by (Ok new) is = rw is (frames.none counts)
     by (Err fault) is = rw is (frames.none counts)
+
+-- and so does an undo
+pub undo-work : (frames : FramesAddUp) (state : State) (line : ℕ) (counts : Counts) → CountsWork counts counts (work_of_parts (parts_at state (commands.Undo line)))
+undo-work frames state line counts = by state.undo
+  where
+    by : (edits : List Edit) → CountsWork counts counts (work_of_parts (undo_parts line edits))
+    by [] = frames.none counts
+    by (last ∷ others) = frames.none counts

@@ -11,5 +11,6 @@ mod NameExamples
 mod Outcomes
 mod ReplayLaws
 mod Soundness
+mod Undoing
 mod WorkSums
 mod Writing

@@ -14,17 +14,17 @@ use Rattle.modeller_cmd.specs.declared.refusal.Refusal.TheVariants as refusal
 use Rattle.modeller_cmd.specs.declared.stop.Stop.TheVariants.{NoMemory, ReadFault, Refused}
 
 refused_edits : map fault_name (fault.UnknownName ∷ fault.DoubleName ∷ fault.NotEarlier
-    ∷ fault.InUse 3 ∷ fault.LastClause ∷ fault.Full ∷ [])
+    ∷ fault.InUse 3 ∷ fault.LastClause ∷ fault.Full ∷ fault.NothingToUndo ∷ [])
     ≡ codes "UnknownName" ∷ codes "DoubleName" ∷ codes "NotEarlier" ∷ codes "InUse"
-    ∷ codes "LastClause" ∷ codes "Full" ∷ []
+    ∷ codes "LastClause" ∷ codes "Full" ∷ codes "NothingToUndo" ∷ []
 refused_edits = refl
 
 refused_words : map word_reason_name (word.NoVerb ∷ word.UnknownVerb ∷ word.NotASetting
     ∷ word.UnknownSetting ∷ word.Twice ∷ word.BadValue ∷ word.OutOfRange ∷ word.EmptySpan
-    ∷ word.CellTooSmall ∷ [])
+    ∷ word.CellTooSmall ∷ word.TooManyCells ∷ [])
     ≡ codes "NoVerb" ∷ codes "UnknownVerb" ∷ codes "NotASetting" ∷ codes "UnknownSetting"
     ∷ codes "Twice" ∷ codes "BadValue" ∷ codes "OutOfRange" ∷ codes "EmptySpan"
-    ∷ codes "CellTooSmall" ∷ []
+    ∷ codes "CellTooSmall" ∷ codes "TooManyCells" ∷ []
 refused_words = refl
 
 refused_models : map text_reason_name (text.NoOperation ∷ text.UnknownOperation ∷ text.WrongArity

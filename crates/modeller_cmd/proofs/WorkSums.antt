@@ -63,7 +63,7 @@ work-append (p ∷ ps) qs =
     ap (both p.work) (work-append ps qs) ∙ sym (both-both p.work (work_of_parts ps) (work_of_parts qs))
 
 -- an item between others has what all have
-All-right : {X : Type 0} (P : X → Type 0) (xs ys : List X) → All P (xs ++ ys) → All P ys
+pub All-right : {X : Type 0} (P : X → Type 0) (xs ys : List X) → All P (xs ++ ys) → All P ys
 All-right P xs ys all k d less =
     subst P (get_or-append-add xs ys k d) (all (length xs + k) d (omega (arith, less, length-append xs ys)))
 

@@ -14,4 +14,5 @@ pub mod Runs
 pub mod SoundTexts
 pub mod Statuses
 pub mod Stops
+pub mod Undoing
 pub mod Writing

@@ -24,6 +24,7 @@ word_reason_name word.BadValue = codes "BadValue"
 word_reason_name word.OutOfRange = codes "OutOfRange"
 word_reason_name word.EmptySpan = codes "EmptySpan"
 word_reason_name word.CellTooSmall = codes "CellTooSmall"
+word_reason_name word.TooManyCells = codes "TooManyCells"
 
 -- the name of a reason why a model's text is refused
 abbrev pub text_reason_name : TextReason → List ℕ

@@ -1,4 +1,4 @@
-// The blocks that a script writes: frames, and the lines of edits that are refused.
+// The blocks that a script writes: frames, and the lines of what is refused.
 ghost use Rattle.std.specs.Prelude.{◌≡◌, ◌≤◌, codes, length, OnErr, OnOk};
 ghost use Rattle.model_frames.specs.Images.{drawn_text};
 ghost use Rattle.modeller_io.specs.Count.{RoseBy, Stands};
@@ -51,7 +51,7 @@ pub fn write_image_frame<K: Sink, R: RowSource>(
     write_image(out, image, view, line.bytes(), buffer)
 }
 
-/// Writes the line of an edit that is refused: the number of its line in the script, and why. After
+/// Writes the line of an edit or an undo that is refused: the number of its line in the script, and why. After
 /// `Failed` some of it was taken, from its front.
 pub fn write_refused<K: Sink>(out: &mut K, line: u32, fault: EditFault) -> Result<(), Failed>
     ensures ok { OnOk result (Gains K.held out.old out.new (refused_line line fault)) }
@@ -89,7 +89,7 @@ fn header(name: &[u8], count: u64) -> Line
     line
 }
 
-// The line of an edit in the line of this number, which is refused.
+// The line of an edit or an undo in the line of this number, which is refused.
 fn refused(number: u32, fault: EditFault) -> Line
     ensures { result ≡ refused_line number fault }
 {
@@ -105,7 +105,7 @@ fn refused(number: u32, fault: EditFault) -> Line
 // The name of a fault.
 fn fault_name(fault: EditFault) -> &'static [u8]
     ensures name { result.now ≡ fault_name fault }
-    ensures short { length result.now ≤ 11 }
+    ensures short { length result.now ≤ 13 }
 {
     match fault {
         EditFault::UnknownName => b"UnknownName",
@@ -115,5 +115,6 @@ fn fault_name(fault: EditFault) -> &'static [u8]
         EditFault::LastClause => b"LastClause",
         EditFault::Full => b"Full",
         EditFault::NoMemory => b"NoMemory",
+        EditFault::NothingToUndo => b"NothingToUndo",
     }
 }

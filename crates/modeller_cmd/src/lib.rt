@@ -9,6 +9,7 @@ mod drawing;
 mod forge;
 mod frame;
 mod image;
+mod laws;
 mod line;
 mod note;
 mod refusal;
@@ -19,5 +20,6 @@ mod stop;
 mod sure;
 
 pub use command::run;
+pub use laws::undos_lead_back;
 pub use status::Status;
 pub use sure::run_surely;

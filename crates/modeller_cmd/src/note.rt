@@ -86,6 +86,7 @@ fn word_reason(reason: WordReason) -> &'static [u8]
         WordReason::OutOfRange => b"OutOfRange",
         WordReason::EmptySpan => b"EmptySpan",
         WordReason::CellTooSmall => b"CellTooSmall",
+        WordReason::TooManyCells => b"TooManyCells",
     }
 }
 

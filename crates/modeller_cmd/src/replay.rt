@@ -13,7 +13,7 @@ ghost use Rattle.modeller_cmd.specs.Halting.{HaltsAt, HaltsReplay, WantsMemory, 
 ghost use Rattle.modeller_cmd.specs.Parts.{work_of_parts};
 ghost use Rattle.model_frames.specs.Frames.{CanDraw};
 ghost use Rattle.model_frames.specs.Work.{CountsWork};
-ghost use Rattle.solid_model.specs.Edits.{MakesClause, edited};
+ghost use Rattle.solid_model.specs.Edits.{edited};
 ghost use Rattle.view_places.specs.Window.{FitsMesh};
 
 use crate::frame::{cost_line, write_frame, write_image_frame, write_refused};
@@ -94,7 +94,7 @@ fn replay_commands<K: Sink>(
     Ok(())
 }
 
-// Replays one command.
+// Replays one command, and drops it.
 fn step<K: Sink>(
     session: &mut Session,
     command: Command,
@@ -115,13 +115,38 @@ fn step<K: Sink>(
     ensures counted { result ≡ Err Stop.WriteFault
         → CountsWork tally.old tally.new (work_of_parts (parts_at session.old command)) }
 {
+    play(session, &command, buffer, out, tally)
+}
+
+// Replays one command.
+fn play<K: Sink>(
+    session: &mut Session,
+    command: &Command,
+    buffer: &mut Vec<u8>,
+    out: &mut K,
+    tally: &mut Tally,
+) -> Result<(), Stop>
+    requires { IsCommand command.now }
+    ensures stop { IfErr result IsHalt }
+    ensures stands { OnOk result (session.new ≡ state_after session.old command.now) }
+    ensures written { OnOk result (Written K.held K.faults out.old out.new tally.old tally.new
+        (parts_at session.old command.now)) }
+    ensures halted { IfErr result (Halted K.held K.faults out.old out.new tally.old tally.new
+        (parts_at session.old command.now)) }
+    ensures unwritten { result ≡ Err Stop.NoMemory → out.new ≡ out.old }
+    ensures wants { result ≡ Err Stop.NoMemory → WantsMemory session.old command.now }
+    ensures writes { result ≡ Err Stop.WriteFault → WritesSomething session.old command.now }
+    ensures counted { result ≡ Err Stop.WriteFault
+        → CountsWork tally.old tally.new (work_of_parts (parts_at session.old command.now)) }
+{
     frames_add_up();
     match command {
-        Command::Edit(line, edit) => change(session, line, edit, out),
-        Command::Stray(line) => refuse(out, line, EditFault::UnknownName),
-        Command::Render(view) => show_image(session, &view, buffer, out, tally),
-        Command::Height(view) => show(session, &Frame::Height(view), out, tally),
-        Command::Mesh(view) => show_mesh(session, &view, buffer, out, tally),
+        Command::Edit(line, edit) => change(session, *line, edit, out),
+        Command::Stray(line) => refuse(out, *line, EditFault::UnknownName),
+        Command::Undo(line) => take_back(session, *line, out),
+        Command::Render(view) => show_image(session, view, buffer, out, tally),
+        Command::Height(view) => show(session, &Frame::Height(*view), out, tally),
+        Command::Mesh(view) => show_mesh(session, view, buffer, out, tally),
         Command::Text => show(session, &Frame::Text, out, tally),
         Command::Cost => tell_cost(session, out),
     }
@@ -215,29 +240,49 @@ fn tell_cost<K: Sink>(session: &Session, out: &mut K) -> Result<(), Stop>
 }
 
 // Makes the edit of the line of this number, or writes why it is refused. Nothing is counted.
-fn change<K: Sink>(session: &mut Session, line: u32, edit: Edit, out: &mut K) -> Result<(), Stop>
+fn change<K: Sink>(session: &mut Session, line: u32, edit: &Edit, out: &mut K) -> Result<(), Stop>
     ensures stop { IfErr result IsHalt }
-    ensures stands { OnOk result (session.new ≡ state_after session.old (Command.Edit line edit)) }
+    ensures stands { OnOk result (session.new ≡ state_after session.old (Command.Edit line edit.now)) }
     ensures written { OnOk result ((counts : Counts)
         → Written K.held K.faults out.old out.new counts counts
-        (parts_at session.old (Command.Edit line edit))) }
+        (parts_at session.old (Command.Edit line edit.now))) }
     ensures halted { IfErr result (λ stop. (counts : Counts)
         → Halted K.held K.faults out.old out.new counts counts
-        (parts_at session.old (Command.Edit line edit)) stop) }
+        (parts_at session.old (Command.Edit line edit.now)) stop) }
     ensures unwritten { result ≡ Err Stop.NoMemory → out.new ≡ out.old }
-    ensures wants { result ≡ Err Stop.NoMemory
-        → IsOk (edited session.old.clauses edit) × MakesClause edit }
-    ensures writes { result ≡ Err Stop.WriteFault → IsErr (edited session.old.clauses edit) }
+    ensures wants { result ≡ Err Stop.NoMemory → IsOk (edited session.old.clauses edit.now) }
+    ensures writes { result ≡ Err Stop.WriteFault → IsErr (edited session.old.clauses edit.now) }
 {
     frames_add_up();
-    match session.edit(edit) {
+    match session.apply(edit) {
         Ok(()) => Ok(()),
         Err(fault) => refuse(out, line, fault),
     }
 }
 
-// Writes why the edit of the line of this number is refused. Want of memory is no line, but the
-// end. Nothing is counted.
+// Takes the last edit back, or writes that the line of this number finds none. Nothing is counted.
+fn take_back<K: Sink>(session: &mut Session, line: u32, out: &mut K) -> Result<(), Stop>
+    ensures stop { IfErr result IsHalt }
+    ensures stands { OnOk result (session.new ≡ state_after session.old (Command.Undo line)) }
+    ensures written { OnOk result ((counts : Counts)
+        → Written K.held K.faults out.old out.new counts counts
+        (parts_at session.old (Command.Undo line))) }
+    ensures halted { IfErr result (λ stop. (counts : Counts)
+        → Halted K.held K.faults out.old out.new counts counts
+        (parts_at session.old (Command.Undo line)) stop) }
+    ensures unwritten { result ≡ Err Stop.NoMemory → out.new ≡ out.old }
+    ensures wants { result ≡ Err Stop.NoMemory → session.old.undo ≢ [] }
+    ensures writes { result ≡ Err Stop.WriteFault → session.old.undo ≡ [] }
+{
+    frames_add_up();
+    match session.undo() {
+        Ok(()) => Ok(()),
+        Err(fault) => refuse(out, line, fault),
+    }
+}
+
+// Writes why the edit or the undo of the line of this number is refused. Want of memory is no line,
+// but the end. Nothing is counted.
 fn refuse<K: Sink>(out: &mut K, line: u32, fault: EditFault) -> Result<(), Stop>
     ensures stop { IfErr result IsHalt }
     ensures memory { fault ≡ EditFault.NoMemory

@@ -10,16 +10,16 @@ use Rattle.box_chains.specs.Tallied.{CountsAtMost}
 use Rattle.fixed_ops.specs.Counts.{Counts}
 use Rattle.kuhn_cells.specs.Grids.{over_block}
 use Rattle.kuhn_cells.specs.Triangles.{GridPoint, point}
+use Rattle.kuhn_cells.specs.declared.grid_size.GridSize.{GridSize}
 use Rattle.live_clauses.specs.declared.step.Step.{Step}
 use Rattle.view_places.specs.Boxes.{Indices, IsBox}
 use Rattle.view_places.specs.Spans.{root_box_of}
-use Rattle.view_places.specs.Window.{IsWindow, Window}
+use Rattle.view_places.specs.Window.{IsWindow, Window, size_of}
 use Rattle.view_places.specs.declared.lattice.Lattice.TheVariants as lattices
 use Rattle.oct_descent.specs.After.{is_new_working, mesh_before, mesh_points_after, mesh_spans_after, new_length_in, new_lengths_at, ways_before}
 use Rattle.oct_descent.specs.AfterDesks.{ChargesBoxAfter, IsEnoughAfter}
 use Rattle.oct_descent.specs.AfterLaws.{MeshesAfterAddUp}
 use Rattle.oct_descent.specs.Bound.{length_in, lengths_at, mesh_points, points_of_grid, sample_of}
-use Rattle.oct_descent.specs.Sizes.{size_of}
 use Rattle.oct_descent.specs.Tables.{PointValues, known_at, left}
 use Rattle.oct_descent.specs.Ways.{CellDescent, grid_root, gridded, is_working, way, way_end}
 use Rattle.oct_descent.proofs.AfterOld.{end-stands, stands-old}
@@ -41,14 +41,14 @@ abbrev at_corner : (GridPoint → ℕ) → GridPoint → GridPoint → List ℕ
 at_corner f p cell = cond (has_corner cell p) (f cell ∷ []) []
 
 -- where the number of each cell is no greater, so is the greatest
-greatest-below : (n : ℕ) (f g : GridPoint → ℕ) (p : GridPoint) → ((cell : GridPoint) → f cell ≤ g cell)
-    → maximum (over_block n n n (at_corner f p)) ≤ maximum (over_block n n n (at_corner g p))
+greatest-below : (n : GridSize) (f g : GridPoint → ℕ) (p : GridPoint) → ((cell : GridPoint) → f cell ≤ g cell)
+    → maximum (over_block n.x n.y n.z (at_corner f p)) ≤ maximum (over_block n.x n.y n.z (at_corner g p))
 greatest-below n f g p less =
-    greatest-block_most n n n (at_corner f p) (maximum (over_block n n n (at_corner g p)))
+    greatest-block_most n.x n.y n.z (at_corner f p) (maximum (over_block n.x n.y n.z (at_corner g p)))
     (λ cell x y z. omega (
       arith,
       one cell (has_corner cell p),
-      greatest-block n n n
+      greatest-block n.x n.y n.z
           (at_corner g p) cell x y z,
     ))
   where
@@ -71,7 +71,7 @@ points-most laws view before list =
     sum_in-below laws (points_of_grid (size_of view))
     (λ s. maximum (new_lengths_at view before list (point s.i s.j s.k)))
     (λ s. maximum (lengths_at view list (point s.i s.j s.k)))
-    (λ s lies. greatest-below view.n (new_length view before list) (any_length view list) (point s.i s.j s.k)
+    (λ s lies. greatest-below (size_of view) (new_length view before list) (any_length view list) (point s.i s.j s.k)
     (λ cell. one (sample_of cell)))
   where
     d : CellDescent
@@ -108,14 +108,14 @@ points-fresh laws view list = omega (arith, points-most laws view None list, lea
         sum_in-below laws (points_of_grid (size_of view))
         (λ s. maximum (lengths_at view list (point s.i s.j s.k)))
         (λ s. maximum (new_lengths_at view None list (point s.i s.j s.k)))
-        (λ s lies. greatest-below view.n (any_length view list) (new_length view None list)
+        (λ s lies. greatest-below (size_of view) (any_length view list) (new_length view None list)
         (point s.i s.j s.k)
         (λ cell. any-below_new (is_working d v (sample_of cell))
         (length (way_end d v (sample_of cell)).list)))
 
 -- the box of all cells is a box
 whole-box : (view : Window) (list : List Step) → IsWindow view → IsBox (grid_root view list).box
-whole-box view list window = record { x = window.n.some; y = window.n.some; z = window.n.some }
+whole-box view list window = record { x = window.nx.some; y = window.ny.some; z = window.nz.some }
 
 points-same : (laws : Lawful) (view : Window) (list : List Step) → IsWindow view
     → mesh_points_after view (Some list) list ≡ 0
@@ -125,7 +125,7 @@ points-same laws view list window =
     (λ s. maximum (new_lengths_at view (Some list) list (point s.i s.j s.k)))
     (λ s lies. omega (
       arith,
-      greatest-block_most view.n view.n view.n
+      greatest-block_most view.nx view.ny view.nz
           (at_corner (new_length view (Some list) list) (point s.i s.j s.k)) 0
           (λ cell x y z. one (has_corner cell (point s.i s.j s.k)) cell),
     ))
@@ -174,7 +174,7 @@ pub points_suffice_after : (view : Window) (before : Option (List Step)) (list :
     (mesh_before view before) (grid_root view list)
 points_suffice_after view before list s lies works p covers =
     let cell = point s.i s.j s.k in
-    let one = greatest-block view.n view.n view.n
+    let one = greatest-block view.nx view.ny view.nz
     (at_corner (new_length view before list) p) cell lies.x.1 lies.y.1 lies.z.1 in
     let here : maximum (cond (has_corner cell p) (new_length view before list cell ∷ []) [])
     ≡ max (length (way_end (gridded view) (grid_root view list) s).list) 0 =

@@ -14,7 +14,7 @@ use Rattle.box_chains.specs.Visits.{IsVisit}
 use Rattle.live_clauses.specs.declared.step.Step.{Step}
 use Rattle.view_places.specs.Boxes.{Indices, IsBox, halves_of}
 use Rattle.view_places.specs.Spans.{root_box_of}
-use Rattle.view_places.specs.Window.{Window}
+use Rattle.view_places.specs.Window.{Window, size_of}
 use Rattle.view_places.specs.declared.lattice.Lattice.TheVariants.{Grid}
 use Rattle.fixed_ops.specs.Counts.{Counts}
 use Rattle.kuhn_cells.specs.Triangles.{GridPoint}
@@ -25,7 +25,6 @@ use Rattle.oct_descent.specs.GridValues.{list_grid_value}
 use Rattle.oct_descent.specs.KeptBoxes.{halves_places, places_of}
 use Rattle.oct_descent.specs.OldBoxes.{AreOldHalves, IsLookedInto, IsOldBox, StandsFirst, behind, behind_halves, first_count, first_list, handed_by, received_by, visit_before}
 use Rattle.kuhn_cells.specs.Sizes.{SameSize}
-use Rattle.oct_descent.specs.Sizes.{size_of}
 use Rattle.oct_descent.specs.Tables.{AreRight, AreSettled, ChargesBox, IsEnough, PointValues}
 use Rattle.oct_descent.specs.Trees.{IsTold}
 use Rattle.oct_descent.specs.Ways.{CellDescent, grid_root, gridded, is_cut, is_open, way_end}

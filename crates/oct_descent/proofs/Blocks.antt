@@ -11,11 +11,10 @@ use Rattle.kuhn_cells.specs.Grids.{over_block, value_at}
 use Rattle.kuhn_cells.specs.Triangles.{GridPoint, point}
 use Rattle.kuhn_cells.specs.declared.grid_size.GridSize.{GridSize}
 use Rattle.live_clauses.specs.declared.step.Step.{Step}
-use Rattle.view_places.specs.Window.{Window}
+use Rattle.view_places.specs.Window.{Window, size_of}
 use Rattle.box_chains.specs.Sums.{maximum}
 use Rattle.oct_descent.specs.GridValues.{list_grid, list_grid_value, value_on}
 use Rattle.oct_descent.specs.Laws.{GridsAreBordered}
-use Rattle.oct_descent.specs.Sizes.{size_of}
 use Rattle.oct_descent.proofs.Covered.{bordered-outside}
 
 greatest-append : (xs ys : List ℕ) → maximum (xs ++ ys) ≡ max (maximum xs) (maximum ys)
@@ -122,15 +121,15 @@ point-parts n p e =
     (leb-true p.x n.x x.0, (leb-true p.y n.y yz.0, leb-true p.z n.z yz.1))
 
 -- the value at a point of the grid of a list is the grid value
-pub value-at_grid : (view : Window) (list : List Step) (p : GridPoint) → p.x ≤ view.n → p.y ≤ view.n → p.z ≤ view.n → value_at (list_grid view list) p ≡ list_grid_value view list p
+pub value-at_grid : (view : Window) (list : List Step) (p : GridPoint) → p.x ≤ view.nx → p.y ≤ view.ny → p.z ≤ view.nz → value_at (list_grid view list) p ≡ list_grid_value view list p
 unfolding list_grid
-value-at_grid view list p x y z = block-at (view.n + 1) (view.n + 1) (view.n + 1) (list_grid_value view list) p (pos 0) (omega (arith, x)) (omega (arith, y)) (omega (arith, z))
+value-at_grid view list p x y z = block-at (view.nx + 1) (view.ny + 1) (view.nz + 1) (list_grid_value view list) p (pos 0) (omega (arith, x)) (omega (arith, y)) (omega (arith, z))
 
-grid-length : (view : Window) (list : List Step) → length (list_grid view list).values ≡ (view.n + 1) * ((view.n + 1) * (view.n + 1))
+grid-length : (view : Window) (list : List Step) → length (list_grid view list).values ≡ (view.nx + 1) * ((view.ny + 1) * (view.nz + 1))
 unfolding list_grid
 grid-length view list =
-    let one : (view.n + 1) * ((view.n + 1) * ((view.n + 1) * 1)) ≡ (view.n + 1) * ((view.n + 1) * (view.n + 1)) = ap (λ k. (view.n + 1) * ((view.n + 1) * k)) (omega arith) in
-    block-length (view.n + 1) (view.n + 1) (view.n + 1) (list_grid_value view list) ∙ one
+    let one : (view.nz + 1) * ((view.ny + 1) * ((view.nx + 1) * 1)) ≡ (view.nx + 1) * ((view.ny + 1) * (view.nz + 1)) = grind arith in
+    block-length (view.nx + 1) (view.ny + 1) (view.nz + 1) (list_grid_value view list) ∙ one
 
 pub grids_are_bordered_is : GridsAreBordered
 unfolding list_grid

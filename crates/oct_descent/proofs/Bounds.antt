@@ -11,11 +11,10 @@ use Rattle.kuhn_cells.specs.Triangles.{GridPoint, point}
 use Rattle.live_clauses.specs.Steps.{IsTape}
 use Rattle.live_clauses.specs.declared.step.Step.{Step}
 use Rattle.view_places.specs.Boxes.{Indices}
-use Rattle.view_places.specs.Window.{Window, IsWindow}
+use Rattle.view_places.specs.Window.{Window, IsWindow, size_of}
 use Rattle.oct_descent.specs.Bound.{has_point, least, length_in, lengths_at, mesh_points, mesh_spans, points_of_grid, sample_of, working_lengths}
 use Rattle.box_chains.specs.Sums.{maximum}
 use Rattle.oct_descent.specs.Laws.{MeshPointsAreBounded, MeshSpansAreBounded}
-use Rattle.oct_descent.specs.Sizes.{size_of}
 use Rattle.oct_descent.specs.Tables.{AreWorked, IsDue, IsEnough, PointValues, is_known, known_at}
 use Rattle.oct_descent.specs.Ways.{CellDescent, Covers, cell_box, gridded, is_working, way_end, grid_root}
 use Rattle.oct_descent.proofs.Members.{all_in_block, head_or_tail, in_block, in_head, not_in_none}
@@ -33,7 +32,7 @@ working_length view list = length_in (gridded view) (grid_root view list)
 pub whole-visit : (view : Window) (list : List Step) → IsWindow view → IsTape list → IsVisit (gridded view).boxes (grid_root view list)
 whole-visit view list window tape = record {
   window = window;
-  box = record { x = window.n.some; y = window.n.some; z = window.n.some };
+  box = record { x = window.nx.some; y = window.ny.some; z = window.nz.some };
   within = record { x = omega arith; y = omega arith; z = omega arith };
   tape = tape;
 }
@@ -45,7 +44,7 @@ sum_in-most laws b f c less =
     let all = laws.sums.same b (λ s. f s + (c - f s)) (λ s. c) (λ s lies. omega (arith, less s)) in
     omega (arith, more, all, laws.sums.const b c)
 
-at-most : (laws : Lawful) (view : Window) (list : List Step) (p cell : GridPoint) → IsWindow view → IsTape list → cell.x < view.n → cell.y < view.n → cell.z < view.n
+at-most : (laws : Lawful) (view : Window) (list : List Step) (p cell : GridPoint) → IsWindow view → IsTape list → cell.x < view.nx → cell.y < view.ny → cell.z < view.nz
     → maximum (cond (has_corner cell p) (working_length view list cell ∷ []) []) ≤ length list
 at-most laws view list p cell window tape x y z = by (has_corner cell p) (is_working (gridded view) (grid_root view list) (sample_of cell)) refl
   where
@@ -60,21 +59,32 @@ at-most laws view list p cell window tape x y z = by (has_corner cell p) (is_wor
     by true true e = rw e (omega (arith, end))
     by true false e = rw e (omega arith)
 
+-- the indices of a box, from 0 on along each axis
+block-size : (a b c x y z : ℕ) → a ≡ z → b ≡ y → c ≡ x → a * (b * c) ≡ x * (y * z)
+block-size a b c x y z ez ey ex = rw (ez, ey, ex) (grind arith)
+
 pub points_bounded : Lawful → MeshPointsAreBounded
 unfolding mesh_points
 points_bounded laws view list window tape =
-    subst (λ (n : ℕ). mesh_points view list ≤ n * (n * n) * length list) side
+    subst (λ (n : ℕ). mesh_points view list ≤ n * length list)
+    (block-size (view.nz + 1 - 0) (view.ny + 1 - 0) (view.nx + 1 - 0) (view.nx + 1) (view.ny + 1) (view.nz + 1) (side view.nz) (side view.ny) (side view.nx))
     (sum_in-most laws (points_of_grid (size_of view)) (λ s. maximum (lengths_at view list (point s.i s.j s.k))) (length list)
-    (λ s. greatest-block_most view.n view.n view.n (λ cell. cond (has_corner cell (point s.i s.j s.k)) (working_length view list cell ∷ []) []) (length list)
+    (λ s. greatest-block_most view.nx view.ny view.nz (λ cell. cond (has_corner cell (point s.i s.j s.k)) (working_length view list cell ∷ []) []) (length list)
     (λ cell x y z. at-most laws view list (point s.i s.j s.k) cell window tape x y z)))
   where
-    side : (view.n + 1) - 0 ≡ view.n + 1
-    side = omega arith
+    side : (n : ℕ) → (n + 1) - 0 ≡ n + 1
+    side n = omega arith
 
 pub spans_bounded : Lawful → MeshSpansAreBounded
 spans_bounded laws view list window tape =
-    let side : view.n - 0 ≡ view.n = omega arith in
-    subst (λ (n : ℕ). mesh_spans view list ≤ n * (n * n) * ((n + n + n) * length list)) side (spans-below laws (gridded view) (grid_root view list) (omega arith) (whole-visit view list window tape))
+    let cells = block-size (view.nz - 0) (view.ny - 0) (view.nx - 0) view.nx view.ny view.nz (side view.nz) (side view.ny) (side view.nx) in
+    let sides : (view.nx - 0) + (view.ny - 0) + (view.nz - 0) ≡ view.nx + view.ny + view.nz = omega arith in
+    subst (λ (k : ℕ). mesh_spans view list ≤ view.nx * (view.ny * view.nz) * (k * length list)) sides
+    (subst (λ (n : ℕ). mesh_spans view list ≤ n * (((view.nx - 0) + (view.ny - 0) + (view.nz - 0)) * length list)) cells
+    (spans-below laws (gridded view) (grid_root view list) (omega arith) (whole-visit view list window tape)))
+  where
+    side : (n : ℕ) → n - 0 ≡ n
+    side n = omega arith
 
 -- ---- what is due
 
@@ -120,7 +130,7 @@ covers-has_corner s p covers =
 pub points_due : (view : Window) (list : List Step) → IsDue (λ p. least (working_lengths view list p)) (gridded view) (grid_root view list)
 points_due view list s lies works p covers =
     least-of (working_lengths view list p) (length (way_end d w s).list)
-    (in_block view.n view.n view.n at (point s.i s.j s.k) (length (way_end d w s).list) lies.x.1 lies.y.1 lies.z.1 (subst (λ (ns : List ℕ). Contains ns (length (way_end d w s).list)) (sym here) (in_head [] (length (way_end d w s).list))))
+    (in_block view.nx view.ny view.nz at (point s.i s.j s.k) (length (way_end d w s).list) lies.x.1 lies.y.1 lies.z.1 (subst (λ (ns : List ℕ). Contains ns (length (way_end d w s).list)) (sym here) (in_head [] (length (way_end d w s).list))))
   where
     d : CellDescent
     d = gridded view
@@ -137,7 +147,7 @@ points_due view list s lies works p covers =
 -- and a point takes nothing that is not known once all working cells are
 pub none_due : (view : Window) (list : List Step) (t : PointValues) (p : GridPoint) → AreWorked (gridded view) (grid_root view list) t → is_known (known_at t p) ≡ false → least (working_lengths view list p) ≡ 0
 none_due view list t p worked unknown =
-    least-none (working_lengths view list p) (all_in_block (λ n. ⊥) view.n view.n view.n at (λ cell x y z. by cell x y z (has_corner cell p && is_working d w (sample_of cell)) refl))
+    least-none (working_lengths view list p) (all_in_block (λ n. ⊥) view.nx view.ny view.nz at (λ cell x y z. by cell x y z (has_corner cell p && is_working d w (sample_of cell)) refl))
   where
     d : CellDescent
     d = gridded view
@@ -148,7 +158,7 @@ none_due view list t p worked unknown =
     at : GridPoint → List ℕ
     at cell = cond (has_corner cell p && is_working d w (sample_of cell)) (length (way_end d w (sample_of cell)).list ∷ []) []
 
-    by : (cell : GridPoint) → cell.x < view.n → cell.y < view.n → cell.z < view.n → (b : Bool) → (has_corner cell p && is_working d w (sample_of cell)) ≡ b → All (λ n. ⊥) (cond b (length (way_end d w (sample_of cell)).list ∷ []) [])
+    by : (cell : GridPoint) → cell.x < view.nx → cell.y < view.ny → cell.z < view.nz → (b : Bool) → (has_corner cell p && is_working d w (sample_of cell)) ≡ b → All (λ n. ⊥) (cond b (length (way_end d w (sample_of cell)).list ∷ []) [])
     by cell x y z true e =
         let parts = and_parts (has_corner cell p) _ e in
         let lies : LiesIn w.box (sample_of cell) = record { x = (omega arith, x); y = (omega arith, y); z = (omega arith, z) } in
@@ -159,7 +169,7 @@ none_due view list t p worked unknown =
 pub points_suffice : (view : Window) (list : List Step) → IsEnough (λ p. maximum (lengths_at view list p)) (gridded view) (grid_root view list)
 points_suffice view list s lies works p covers =
     let cell = point s.i s.j s.k in
-    let one = greatest-block view.n view.n view.n (λ cell. cond (has_corner cell p) (working_length view list cell ∷ []) []) cell lies.x.1 lies.y.1 lies.z.1 in
+    let one = greatest-block view.nx view.ny view.nz (λ cell. cond (has_corner cell p) (working_length view list cell ∷ []) []) cell lies.x.1 lies.y.1 lies.z.1 in
     let corner : has_corner cell p ≡ true = and_from (nat_le s.i p.x) _ (le-leb s.i p.x covers.x.0) (and_from (nat_le p.x (s.i + 1)) _ (le-leb p.x (s.i + 1) covers.x.1)
     (and_from (nat_le s.j p.y) _ (le-leb s.j p.y covers.y.0) (and_from (nat_le p.y (s.j + 1)) _ (le-leb p.y (s.j + 1) covers.y.1)
     (and_from (nat_le s.k p.z) _ (le-leb s.k p.z covers.z.0) (le-leb p.z (s.k + 1) covers.z.1))))) in

@@ -13,7 +13,7 @@ use Rattle.live_clauses.specs.Steps.{tape_value}
 use Rattle.view_places.specs.Boxes.{Indices}
 use Rattle.view_places.specs.Places.{point_of}
 use Rattle.view_places.specs.Spans.{region_of}
-use Rattle.view_places.specs.Window.{Window}
+use Rattle.view_places.specs.Window.{Window, size_of}
 use Rattle.view_places.specs.declared.lattice.Axis.TheVariants as axes
 use Rattle.view_places.specs.declared.lattice.Lattice.TheVariants as lattices
 use Rattle.box_chains.specs.Chains.{Visit, decision, handed_on}
@@ -23,7 +23,6 @@ use Rattle.box_chains.specs.Laws.{Lawful}
 use Rattle.kuhn_cells.specs.Grids.{bordered, is_border}
 use Rattle.kuhn_cells.specs.declared.grid_size.GridSize.{GridSize}
 use Rattle.oct_descent.specs.GridValues.{list_grid_value, value_on}
-use Rattle.oct_descent.specs.Sizes.{size_of}
 use Rattle.oct_descent.specs.Tables.{IsUniform}
 use Rattle.oct_descent.specs.Ways.{Covers, cell_box, gridded, meets_border}
 

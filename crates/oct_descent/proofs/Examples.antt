@@ -31,7 +31,9 @@ window n = record {
   w = 1;
   h = 1;
   d = 1;
-  n = n;
+  nx = n;
+  ny = n;
+  nz = n;
 }
 
 -- a grid of so many cells along each axis

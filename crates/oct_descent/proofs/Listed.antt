@@ -108,14 +108,14 @@ filter-block p nx ny nz at =
     (λ y. filter-flat p (λ x. at (point x y z)) (range_with_len 0 nx)))
 
 -- the mixed cells are those of the layers
-pub layers-mixed : (view : Window) (list : List Step) → flat_map (cells_in_layer view list) (range_with_len 0 view.n) ≡ mixed_cells (list_grid view list)
+pub layers-mixed : (view : Window) (list : List Step) → flat_map (cells_in_layer view list) (range_with_len 0 view.nz) ≡ mixed_cells (list_grid view list)
 unfolding mixed_cells list_grid
-layers-mixed view list = sym (filter-block is_mixed_cell view.n view.n view.n (λ p. cell_at (list_grid view list) p ∷ []))
+layers-mixed view list = sym (filter-block is_mixed_cell view.nx view.ny view.nz (λ p. cell_at (list_grid view list) p ∷ []))
 
 -- ---- one cell
 
 -- a cell whose corners are known has their values
-corner-value : (view : Window) (list : List Step) (t : PointValues) (p : GridPoint) (values : List ℤ) (k : ℕ) → IsTold view list t → p.x < view.n → p.y < view.n → p.z < view.n → AreCorners t p values → k < 8
+corner-value : (view : Window) (list : List Step) (t : PointValues) (p : GridPoint) (values : List ℤ) (k : ℕ) → IsTold view list t → p.x < view.nx → p.y < view.ny → p.z < view.nz → AreCorners t p values → k < 8
     → get_or values k (pos 0) ≡ value_at (list_grid view list) (further p k)
 corner-value view list t p values k told x y z corners few =
     let q = further p k in
@@ -124,7 +124,7 @@ corner-value view list t p values k told x y z corners few =
     let same : get_or values k (pos 0) ≡ list_grid_value view list q = ap (λ o. unwrap_or o (pos 0)) (sym read ∙ right) in
     same ∙ sym (value-at_grid view list q (omega (arith, x)) (omega (arith, y)) (omega (arith, z)))
 
-cell-is : (view : Window) (list : List Step) (t : PointValues) (p : GridPoint) (values : List ℤ) → IsTold view list t → p.x < view.n → p.y < view.n → p.z < view.n → AreCorners t p values
+cell-is : (view : Window) (list : List Step) (t : PointValues) (p : GridPoint) (values : List ℤ) → IsTold view list t → p.x < view.nx → p.y < view.ny → p.z < view.nz → AreCorners t p values
     → record { x = p.x; y = p.y; z = p.z; values = values } ≡ cell_at (list_grid view list) p
 cell-is view list t p values told x y z corners =
     let g = list_grid view list in
@@ -134,14 +134,14 @@ cell-is view list t p values told x y z corners =
     let few : k < 8 = omega (arith, less, corners.all) in
     corner-value view list t p values k told x y z corners few ∙ sym (get_or-map-range_with_len (λ c. value_at g (further p c)) 0 8 k k (pos 0) few (omega arith))))
 
-pub listed-mixed : (view : Window) (list : List Step) (t : PointValues) (p : GridPoint) (values : List ℤ) → IsTold view list t → p.x < view.n → p.y < view.n → p.z < view.n → AreCorners t p values → are_mixed values ≡ true
+pub listed-mixed : (view : Window) (list : List Step) (t : PointValues) (p : GridPoint) (values : List ℤ) → IsTold view list t → p.x < view.nx → p.y < view.ny → p.z < view.nz → AreCorners t p values → are_mixed values ≡ true
     → record { x = p.x; y = p.y; z = p.z; values = values } ∷ [] ≡ cells_at view list p
 listed-mixed view list t p values told x y z corners e =
     let same = cell-is view list t p values told x y z corners in
     let mixed : is_mixed_cell (cell_at (list_grid view list) p) ≡ true = ap is_mixed_cell (sym same) ∙ e in
     ap (λ c. c ∷ []) same ∙ sym (ap (λ b. cond b (cell_at (list_grid view list) p ∷ []) []) mixed)
 
-pub listed-not : (view : Window) (list : List Step) (t : PointValues) (p : GridPoint) (values : List ℤ) → IsTold view list t → p.x < view.n → p.y < view.n → p.z < view.n → AreCorners t p values → are_mixed values ≡ false
+pub listed-not : (view : Window) (list : List Step) (t : PointValues) (p : GridPoint) (values : List ℤ) → IsTold view list t → p.x < view.nx → p.y < view.ny → p.z < view.nz → AreCorners t p values → are_mixed values ≡ false
     → [] ≡ cells_at view list p
 listed-not view list t p values told x y z corners e =
     let same = cell-is view list t p values told x y z corners in
@@ -163,7 +163,7 @@ one-side true values same =
 one-side false values same = rw (none-any is_inside values same) refl
 
 -- a cell of which some corner is not known has all of them on one side
-pub listed-none : (view : Window) (list : List Step) (t : PointValues) (p : GridPoint) → IsTold view list t → p.x < view.n → p.y < view.n → p.z < view.n → LacksCorner t p → [] ≡ cells_at view list p
+pub listed-none : (view : Window) (list : List Step) (t : PointValues) (p : GridPoint) → IsTold view list t → p.x < view.nx → p.y < view.ny → p.z < view.nz → LacksCorner t p → [] ≡ cells_at view list p
 listed-none view list t p told x y z lacks = by (told.settled (sample_of p) (record { x = (omega arith, x); y = (omega arith, y); z = (omega arith, z) }))
   where
     g : GridPoint → ℤ
@@ -185,7 +185,7 @@ listed-none view list t p told x y z lacks = by (told.settled (sample_of p) (rec
     by (inr uniform) = sym (ap (λ b. cond b (cell_at (list_grid view list) p ∷ []) []) (side uniform))
 
 -- the corners of a mixed cell are known, and the cell is the grid's
-pub cell-found : (view : Window) (list : List Step) (t : PointValues) (p : GridPoint) (found : Option (List ℤ)) (else : List ℤ) → IsTold view list t → p.x < view.n → p.y < view.n → p.z < view.n
+pub cell-found : (view : Window) (list : List Step) (t : PointValues) (p : GridPoint) (found : Option (List ℤ)) (else : List ℤ) → IsTold view list t → p.x < view.nx → p.y < view.ny → p.z < view.nz
     → IfSome found (λ values. AreCorners t p values) → (found ≡ None → LacksCorner t p) → is_mixed_cell (cell_at (list_grid view list) p) ≡ true
     → record { x = p.x; y = p.y; z = p.z; values = unwrap_or found else } ≡ cell_at (list_grid view list) p
 cell-found view list t p (Some values) else told x y z all lacks mixed = cell-is view list t p values told x y z all
@@ -196,20 +196,20 @@ cell-found view list t p None else told x y z all lacks mixed =
 
 -- ---- the grid
 
-pub grid-x : (view : Window) (list : List Step) → (list_grid view list).x ≡ view.n
+pub grid-x : (view : Window) (list : List Step) → (list_grid view list).x ≡ view.nx
 unfolding list_grid
 grid-x view list = refl
 
-pub grid-y : (view : Window) (list : List Step) → (list_grid view list).y ≡ view.n
+pub grid-y : (view : Window) (list : List Step) → (list_grid view list).y ≡ view.ny
 unfolding list_grid
 grid-y view list = refl
 
-pub grid-z : (view : Window) (list : List Step) → (list_grid view list).z ≡ view.n
+pub grid-z : (view : Window) (list : List Step) → (list_grid view list).z ≡ view.nz
 unfolding list_grid
 grid-z view list = refl
 
 -- no cell of a row is mixed whose lowest corner is not known
-pub row-none : (view : Window) (list : List Step) (t : PointValues) (first x y z start : ℕ) → IsTold view list t → IsRow t (point first y z) start → first ≤ x → x < first + 8 → x < view.n → y < view.n → z < view.n
+pub row-none : (view : Window) (list : List Step) (t : PointValues) (first x y z start : ℕ) → IsTold view list t → IsRow t (point first y z) start → first ≤ x → x < first + 8 → x < view.nx → y < view.ny → z < view.nz
     → is_known (read t.kept (start + (x - first))) ≡ false → [] ≡ cells_at view list (point x y z)
 row-none view list t first x y z start told row low high fx fy fz e =
     let back : first + (x - first) ≡ x = omega (arith, low) in
@@ -226,7 +226,7 @@ row-none view list t first x y z start told row low high fx fy fz e =
     starts p = rw (add-zero p.x, add-zero p.y, add-zero p.z) refl
 
 -- no cell is mixed whose lowest corners lie in a brick of which nothing is known
-pub eight-none : (view : Window) (list : List Step) (t : PointValues) (first high y z : ℕ) → IsTold view list t → first % 8 ≡ 0 → high ≤ view.n → high ≤ first + 8 → y < view.n → z < view.n
+pub eight-none : (view : Window) (list : List Step) (t : PointValues) (first high y z : ℕ) → IsTold view list t → first % 8 ≡ 0 → high ≤ view.nx → high ≤ first + 8 → y < view.ny → z < view.nz
     → stand t (point first y z) ≡ None → [] ≡ cells_between view list first high y z
 eight-none view list t first high y z told eighth within near fy fz e =
     flat-none (λ x. cells_at view list (point x y z)) first (high - first)

@@ -31,7 +31,7 @@ use Rattle.view_places.specs.Boxes.{Indices, IsBox, halves_of}
 use Rattle.view_places.specs.Spans.{IsInRoot, region_of}
 use Rattle.box_chains.specs.Outcomes.{AreInRoot}
 use Rattle.box_chains.specs.Placing.{Sampling}
-use Rattle.view_places.specs.Window.{Window}
+use Rattle.view_places.specs.Window.{Window, size_of}
 use Rattle.view_places.specs.declared.lattice.Lattice.{Lattice}
 use Rattle.view_places.specs.declared.lattice.Lattice.TheVariants as lattices
 use Rattle.oct_descent.specs.Bound.{CountsHullsAtLeast, CountsNoHull, long_spans_in, cell_spans_in}
@@ -39,7 +39,6 @@ use Rattle.oct_descent.specs.Corners.{AllShow, IsSeen, IsShown, ShowsCorner}
 use Rattle.oct_descent.specs.Desks.{ChargesBelow, ChargesHalves, PaysHalves, asked_of, halves_long_spans, halves_spans, long_spans_below, longer, own_spans, spans_below}
 use Rattle.oct_descent.specs.Fills.{ChargesCorners, PaysCorners}
 use Rattle.oct_descent.specs.GridValues.{list_grid_value}
-use Rattle.oct_descent.specs.Sizes.{size_of}
 use Rattle.oct_descent.specs.Tables.{AllKnown, AreRight, AreSettled, AreWorked, Charges, ChargesBox, Grows, IsDue, IsEnough, IsUniform, PaysBox, PointValues, is_known}
 use Rattle.oct_descent.specs.Ways.{CellDescent, Covers, cell_box, gridded, is_cut, is_open, is_open_by, is_working, meets_border, way_end}
 use Rattle.oct_descent.specs.declared.seen.Seen.{Seen}

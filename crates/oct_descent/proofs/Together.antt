@@ -19,10 +19,9 @@ use Rattle.box_chains.specs.declared.outcome.Outcome.TheVariants.{Inside, Outsid
 use Rattle.kuhn_cells.specs.declared.grid_size.GridSize.{GridSize}
 use Rattle.live_clauses.specs.declared.step.Step.{Step}
 use Rattle.view_places.specs.Boxes.{Indices}
-use Rattle.view_places.specs.Window.{Window}
+use Rattle.view_places.specs.Window.{Window, size_of}
 use Rattle.view_places.specs.declared.lattice.Lattice.TheVariants as lattices
 use Rattle.oct_descent.specs.Desks.{IsAt, IsToldAt, asked_of, longer}
-use Rattle.oct_descent.specs.Sizes.{size_of}
 use Rattle.oct_descent.specs.Ways.{gridded, is_open, is_open_by, meets_border}
 
 -- whether an outcome hands on a list, and which

@@ -12,13 +12,12 @@ use Rattle.kuhn_cells.specs.Sizes.{IsBounded, SameSize}
 use Rattle.live_clauses.specs.declared.step.Step.{Step}
 use Rattle.view_places.specs.Boxes.{Indices}
 use Rattle.view_places.specs.Spans.{root_box_of}
-use Rattle.view_places.specs.Window.{Window}
+use Rattle.view_places.specs.Window.{Window, size_of}
 use Rattle.view_places.specs.declared.lattice.Lattice.TheVariants as lattices
 use Rattle.oct_descent.proofs.Sizes.{size-from, size-is, size-then}
 use Rattle.oct_descent.specs.Bound.{CountsAtLeast, least, lengths_at, mesh_least, mesh_points, mesh_spans, points_of_grid, working_lengths}
 use Rattle.box_chains.specs.Sums.{maximum}
 use Rattle.oct_descent.specs.GridValues.{list_grid_value}
-use Rattle.oct_descent.specs.Sizes.{size_of}
 use Rattle.oct_descent.specs.Tables.{AreSettled, AreWorked, ChargesBox, Grows, IsNew, PaysBox, PointValues, is_known, known_at, left}
 use Rattle.oct_descent.specs.Trees.{IsTold}
 use Rattle.oct_descent.specs.Ways.{gridded, grid_root}

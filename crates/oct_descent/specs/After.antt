@@ -12,9 +12,8 @@ use Rattle.kuhn_cells.specs.Triangles.{GridPoint, point}
 use Rattle.kuhn_cells.specs.declared.grid_size.GridSize.{GridSize}
 use Rattle.live_clauses.specs.declared.step.Step.{Step}
 use Rattle.view_places.specs.Boxes.{Indices}
-use Rattle.view_places.specs.Window.{Window}
+use Rattle.view_places.specs.Window.{Window, size_of}
 use Rattle.oct_descent.specs.Bound.{has_point, points_of_grid, sample_of}
-use Rattle.oct_descent.specs.Sizes.{size_of}
 use Rattle.oct_descent.specs.Ways.{CellDescent, grid_root, gridded, is_cut, is_working, way, way_end}
 
 -- the boxes on the ways to the cells in the mesh before, from a box that it reached; there are none

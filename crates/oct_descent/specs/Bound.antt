@@ -11,8 +11,7 @@ use Rattle.kuhn_cells.specs.Triangles.{GridPoint, point}
 use Rattle.kuhn_cells.specs.declared.grid_size.GridSize.{GridSize}
 use Rattle.live_clauses.specs.declared.step.Step.{Step}
 use Rattle.view_places.specs.Boxes.{Indices}
-use Rattle.view_places.specs.Window.{Window}
-use Rattle.oct_descent.specs.Sizes.{size_of}
+use Rattle.view_places.specs.Window.{Window, size_of}
 use Rattle.oct_descent.specs.Ways.{CellDescent, gridded, is_working, way, way_end, grid_root}
 
 -- The steps that are traced over a box of cells and the boxes below it: the lengths of the lists

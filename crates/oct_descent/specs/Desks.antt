@@ -18,7 +18,7 @@ use Rattle.view_places.specs.Boxes.{Indices}
 use Rattle.view_places.specs.declared.lattice.Lattice.TheVariants as lattices
 use Rattle.oct_descent.specs.Bound.{long_spans_in, cell_spans_in}
 use Rattle.oct_descent.specs.GridValues.{list_grid_value}
-use Rattle.oct_descent.specs.Sizes.{size_of}
+use Rattle.view_places.specs.Window.{size_of}
 use Rattle.oct_descent.specs.Tables.{AreRight, Charges, IsDue, IsEnough, Pays, PointValues}
 use Rattle.oct_descent.specs.Ways.{CellDescent, gridded, meets_border}
 

@@ -5,9 +5,8 @@ use Rattle.kuhn_cells.specs.Triangles.{GridPoint}
 use Rattle.live_clauses.specs.Steps.{tape_value}
 use Rattle.live_clauses.specs.declared.step.Step.{Step}
 use Rattle.view_places.specs.Places.{point_of}
-use Rattle.view_places.specs.Window.{Window}
+use Rattle.view_places.specs.Window.{Window, size_of}
 use Rattle.view_places.specs.declared.lattice.Lattice.TheVariants as lattices
-use Rattle.oct_descent.specs.Sizes.{size_of}
 
 -- the value of a list at a point of the grid over a view
 abbrev pub value_on : Window → List Step → GridPoint → ℤ

@@ -7,11 +7,10 @@ use Rattle.kuhn_cells.specs.Cells.{IsBordered, mixed_cells}
 use Rattle.live_clauses.specs.Steps.{IsTape}
 use Rattle.live_clauses.specs.declared.step.Step.{Step}
 use Rattle.view_places.specs.Boxes.{IsBox, halves_of}
-use Rattle.view_places.specs.Window.{Window, IsWindow}
+use Rattle.view_places.specs.Window.{Window, IsWindow, size_of}
 use Rattle.oct_descent.specs.Bound.{long_spans_in, mesh_points, mesh_spans, cell_spans_in}
 use Rattle.oct_descent.specs.GridValues.{list_grid}
 use Rattle.oct_descent.specs.Rows.{cells_in_layer}
-use Rattle.oct_descent.specs.Sizes.{size_of}
 use Rattle.oct_descent.specs.Ways.{CellDescent, is_cut, way}
 
 -- every point of the outermost layer of a list's grid is outside

@@ -12,7 +12,6 @@ pub mod KeptBoxes
 pub mod Laws
 pub mod OldBoxes
 pub mod Rows
-pub mod Sizes
 pub mod Tables
 pub mod Taking
 pub mod Trees

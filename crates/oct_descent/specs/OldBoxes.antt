@@ -5,10 +5,9 @@ use Rattle.box_chains.specs.Visits.{IsVisit}
 use Rattle.kuhn_cells.specs.Sizes.{SameSize}
 use Rattle.live_clauses.specs.declared.step.Step.{Step}
 use Rattle.view_places.specs.Boxes.{Indices}
-use Rattle.view_places.specs.Window.{Window}
+use Rattle.view_places.specs.Window.{Window, size_of}
 use Rattle.oct_descent.specs.GridValues.{list_grid_value}
 use Rattle.oct_descent.specs.KeptBoxes.{halves_places, places_of}
-use Rattle.oct_descent.specs.Sizes.{size_of}
 use Rattle.oct_descent.specs.Tables.{AreRight, AreSettled}
 use Rattle.oct_descent.specs.Ways.{CellDescent, gridded}
 use Rattle.oct_descent.specs.declared.old_box.OldBox.{OldBox}

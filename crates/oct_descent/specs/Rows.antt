@@ -5,9 +5,8 @@ use Rattle.kuhn_cells.specs.Cells.{cell_at, is_mixed_cell}
 use Rattle.kuhn_cells.specs.Triangles.{GridPoint, point}
 use Rattle.kuhn_cells.specs.declared.cell_list.CellValues.{CellValues}
 use Rattle.live_clauses.specs.declared.step.Step.{Step}
-use Rattle.view_places.specs.Window.{Window}
+use Rattle.view_places.specs.Window.{Window, size_of}
 use Rattle.oct_descent.specs.GridValues.{list_grid}
-use Rattle.oct_descent.specs.Sizes.{size_of}
 
 -- the cell at a place, where it is mixed
 abbrev pub cells_at : Window → List Step → GridPoint → List CellValues

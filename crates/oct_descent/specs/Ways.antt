@@ -8,9 +8,8 @@ use Rattle.kuhn_cells.specs.Triangles.{GridPoint}
 use Rattle.kuhn_cells.specs.declared.grid_size.GridSize.{GridSize}
 use Rattle.live_clauses.specs.declared.step.Step.{Step}
 use Rattle.view_places.specs.Boxes.{Indices}
-use Rattle.view_places.specs.Window.{Window}
+use Rattle.view_places.specs.Window.{Window, size_of}
 use Rattle.view_places.specs.declared.lattice.Lattice.TheVariants as lattices
-use Rattle.oct_descent.specs.Sizes.{size_of}
 
 -- How the cells of a grid are looked into: how its boxes are, which of these cover a point of the
 -- outermost layer, and the box that covers the corners of a cell.

@@ -3,7 +3,9 @@ ghost use Rattle.std.specs.Prelude.{◌≡◌, ◌∷◌, [], IfOk, IfSome, IsTr
 ghost use Rattle.box_chains.specs.Redrawn.{IsNew};
 ghost use Rattle.box_chains.specs.Tallied.{CountsAtMost};
 ghost use Rattle.box_chains.specs.Visits.{IsVisit};
+ghost use Rattle.kuhn_cells.specs.Sizes.{IsBounded};
 ghost use Rattle.view_places.specs.Spans.{root_box_of};
+ghost use Rattle.view_places.specs.Window.{FitsMesh, size_of};
 ghost use Rattle.oct_descent.specs.After.{mesh_long_spans_after, mesh_points_after, mesh_spans_after};
 ghost use Rattle.oct_descent.specs.Bound.{CountsAtLeast, CountsHullsAtLeast, mesh_least};
 ghost use Rattle.oct_descent.specs.KeptBoxes.{places_of};
@@ -14,7 +16,6 @@ ghost use Rattle.oct_descent.specs.Ways.{grid_root, gridded};
 use crate::boxes::Boxes;
 use crate::descent::look_into;
 use crate::grid_values::GridValues;
-use crate::mesh_size::mesh_size;
 use crate::old_box::OldBox;
 use crate::split_box::SplitBox;
 use box_chains::{Desk, layers_hold};
@@ -45,6 +46,7 @@ pub fn look_into_all(
         places.items) }
     requires new { IsNew (visit_before before (root_box_of view.now Lattice.Grid))
         (grid_root view.now list.now) }
+    requires bounded { IsBounded (size_of view.now) }
     ensures told { IfOk result (λ made. IsTold view.now list.now made.0) }
     ensures places { IfOk result (λ made. IsTrue keeps → made.1.places.items
         ≡ places_of (gridded view.now) (grid_root view.now list.now)) }
@@ -62,18 +64,20 @@ pub fn look_into_all(
     grid_holds(view, list);
     let alloc = *places.allocator();
     let root = desk.root();
-    let mut values = GridValues::new(alloc, mesh_size(view))?;
+    let mut values = GridValues::new(alloc, view.grid())?;
     let mut boxes = Boxes::new(alloc, list, keeps, places)?;
     // The list that the desk was made with has the number 0.
     look_into(desk, root, before, 0, &mut boxes, &mut values, tally)?;
     Ok((values, boxes))
 }
 
-/// Lets a proof know that the box of all cells of the grid over a view may receive a list.
+/// Lets a proof know that the box of all cells of the grid over a view may receive a list, and that a
+/// grid of which a mesh may be made has no more cells than there is room for.
 #[inline]
 pub fn grid_holds(view: &View, list: &Tape)
-    ensures { IsVisit (gridded view.now).boxes (grid_root view.now list.now) }
+    ensures visit { IsVisit (gridded view.now).boxes (grid_root view.now list.now) }
+    ensures bounded { FitsMesh view.now → IsBounded (size_of view.now) }
 {
-    let _n = mesh_size(view);
+    let _n = view.grid();
     let _len = list.len();
 }

@@ -21,7 +21,7 @@ ghost use Rattle.oct_descent.specs.Desks.{IsToldAt, MayLook, PaysHalves, asked_o
 ghost use Rattle.oct_descent.specs.GridValues.{list_grid_value};
 ghost use Rattle.oct_descent.specs.KeptBoxes.{halves_places, places_of, split_places};
 ghost use Rattle.oct_descent.specs.OldBoxes.{AreOldHalves, IsOldBox, behind, behind_halves, first_count, handed_by, received_by, visit_before};
-ghost use Rattle.oct_descent.specs.Sizes.{size_of};
+ghost use Rattle.view_places.specs.Window.{size_of};
 ghost use Rattle.oct_descent.specs.Tables.{AreSettled, AreWorked, ChargesBox, Grows, PaysBox, PointValues};
 ghost use Rattle.oct_descent.specs.Taking.{TakesOver, TakesPart};
 ghost use Rattle.oct_descent.specs.Ways.{gridded, is_open as is_open_for, is_open_by, meets_border as meets_border_of};
@@ -480,6 +480,7 @@ fn look_into_cell(
     ensures kept { desk.new ≡ desk.old }
 {
     layers_hold();
+    values.holds();
     let seen = seen(values, b.x0, b.y0, b.z0);
     if seen.all {
         return Ok(());

@@ -40,6 +40,7 @@ pub fn fill_cell(
     ensures kept { desk.new ≡ desk.old }
 {
     layers_hold();
+    values.holds();
     let list = desk.lists.list(received);
     // All memory is taken first, so that no value is lost for want of it.
     make_rows(&mut desk.rows, list.len())?;

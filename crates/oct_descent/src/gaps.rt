@@ -9,7 +9,7 @@ ghost use Rattle.kuhn_cells.specs.Triangles.{point};
 ghost use Rattle.view_places.specs.declared.lattice.Lattice.TheVariants as lattices;
 ghost use Rattle.oct_descent.specs.Gaps.{Fills, StandsIn, lies_at, nth};
 ghost use Rattle.oct_descent.specs.GridValues.{list_grid_value};
-ghost use Rattle.oct_descent.specs.Sizes.{size_of};
+ghost use Rattle.view_places.specs.Window.{size_of};
 ghost use Rattle.oct_descent.specs.Tables.{KeepsPlaces};
 
 use crate::gap::Gap;

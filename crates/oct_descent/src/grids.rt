@@ -5,7 +5,7 @@ ghost use Rattle.box_chains.specs.Tallied.{CountsAtMost};
 ghost use Rattle.oct_descent.specs.Bound.{CountsAtLeast, CountsHullsAtLeast, mesh_least, mesh_long_spans, mesh_points, mesh_spans};
 ghost use Rattle.oct_descent.specs.Trees.{IsTold};
 
-use crate::all_boxes::look_into_all;
+use crate::all_boxes::{grid_holds, look_into_all};
 use crate::grid_values::GridValues;
 use box_chains::{Desk, layers_hold};
 use fixed_ops::Tally;
@@ -54,6 +54,7 @@ pub fn cell_grid(
         (CountsHullsAtLeast (mesh_long_spans view.now list.now) tally.old tally.new) }
 {
     layers_hold();
+    grid_holds(view, list);
     let mut desk = Desk::new(alloc, view, Lattice::Grid, list)?;
     let (values, _) = look_into_all(&mut desk, list, view, None, Vec::new(alloc), false, tally)?;
     grid_of(values, list, view)

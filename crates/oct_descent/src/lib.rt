@@ -14,7 +14,6 @@ mod grid_values;
 mod grids;
 mod laws;
 mod listing;
-mod mesh_size;
 mod oct_tree;
 mod old_box;
 mod old_boxes;

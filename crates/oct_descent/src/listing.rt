@@ -4,14 +4,12 @@ ghost use Rattle.kuhn_cells.specs.Cells.{cell_at, is_mixed_cell};
 ghost use Rattle.kuhn_cells.specs.Lists.{ListsCells};
 ghost use Rattle.kuhn_cells.specs.Sizes.{IsBounded};
 ghost use Rattle.kuhn_cells.specs.Triangles.{point};
-ghost use Rattle.view_places.specs.Window.{IsWindow};
+ghost use Rattle.view_places.specs.Window.{IsWindow, size_of};
 ghost use Rattle.oct_descent.specs.GridValues.{list_grid};
 ghost use Rattle.oct_descent.specs.Rows.{cells_at, cells_between, cells_in_layer, cells_in_row};
-ghost use Rattle.oct_descent.specs.Sizes.{size_of};
 
 use crate::CellGrid;
 use crate::corner_values::{corners, is_mixed};
-use crate::mesh_size::mesh_size;
 use fixed_ops::Fx;
 use kuhn_cells::{CellList, CellValues, GridSize};
 use std::alloc::{AllocError, Global};
@@ -24,11 +22,14 @@ pub fn cell_list(alloc: Global, grid: &CellGrid) -> Result<CellList, AllocError>
         (list_grid grid.now.view grid.now.list)) }
 {
     let mut cells = Vec::new(alloc);
-    for z in 0..mesh_size(&grid.view).z {
+    let n = grid.n();
+    for z in 0..n.z {
         grid.push_layer(z, &mut cells)?;
     }
     Ok(CellList {
-        n: grid.view.n,
+        nx: n.x,
+        ny: n.y,
+        nz: n.z,
         cells,
     })
 }
@@ -41,7 +42,7 @@ impl CellGrid {
         ensures bounded { IsBounded result }
         ensures window { IsWindow self.now.view }
     {
-        mesh_size(&self.view)
+        self.view.grid()
     }
 
     /// The view.
@@ -74,7 +75,7 @@ impl CellGrid {
         ensures { OnOk result (cells.new.items ≡ cells.old.items ++ cells_in_layer self.now.view
             self.now.list z) }
     {
-        for y in 0..mesh_size(&self.view).y {
+        for y in 0..self.n().y {
             self.push_row(y, z, cells)?;
         }
         Ok(())
@@ -88,7 +89,7 @@ impl CellGrid {
         ensures { OnOk result (cells.new.items ≡ cells.old.items ++ cells_in_row self.now.view
             self.now.list y z) }
     {
-        for eighth in 0..(mesh_size(&self.view).x + 7) / 8 {
+        for eighth in 0..(self.n().x + 7) / 8 {
             self.push_eight(eighth * 8, y, z, cells)?;
         }
         Ok(())
@@ -114,7 +115,7 @@ impl CellGrid {
         let Some(start) = self.values.row(first, y, z) else {
             return Ok(());
         };
-        for x in first..mesh_size(&self.view).x.min(first + 8) {
+        for x in first..self.n().x.min(first + 8) {
             if self.values.is_known(start, (x - first) as usize) {
                 self.push_cell(x, y, z, cells)?;
             }

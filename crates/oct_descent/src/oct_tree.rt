@@ -98,6 +98,7 @@ pub fn cells(
         (CountsHullsAtLeast (mesh_long_spans view.now list.now) tally.old tally.new) }
 {
     layers_hold();
+    grid_holds(view, list);
     let mut desk = Desk::new(alloc, view, Lattice::Grid, list)?;
     let (values, boxes) = look_into_all(&mut desk, list, view, None, Vec::new(alloc), true, tally)?;
     tree_of(values, boxes, desk, list, view)

@@ -7,7 +7,7 @@ use Rattle.tetra_mesh.specs.declared.vertex.Vertex.{Vertex}
 use Rattle.view_places.specs.Window.{Window}
 use Rattle.ply_writer.specs.Ply.{ply_of}
 
--- two cells along each axis: x from -1 to 3, y from 0 to 8 and z from 10 to 11
+-- two cells along x from -1 to 3, four along y from 0 to 8 and one along z from 10 to 11
 abbrev uneven : Window
 uneven = record {
   x0 = negsuc 4294967295;
@@ -20,7 +20,9 @@ uneven = record {
   w = 1;
   h = 1;
   d = 1;
-  n = 2;
+  nx = 2;
+  ny = 4;
+  nz = 1;
 }
 
 abbrev at : ℕ → ℕ → ℕ → ℕ → ℕ → Vertex
@@ -29,6 +31,6 @@ at x y z dir t = record { key = record { x = x; y = y; z = z; dir = dir }; t = t
 -- The first vertex lies a quarter of a cell along x from the lowest point, the second half a cell along y from the point
 -- (1, 0, 1), the third an eighth of a cell along z from the point (0, 1, 0). The face names them from the third on.
 one_triangle : ply_of uneven (at 0 0 0 1 16384 ∷ at 1 0 1 2 32768 ∷ at 0 1 0 4 8192 ∷ []) (record { a = 2; b = 0; c = 1 } ∷ [])
-    ≡ codes "ply\nformat ascii 1.0\nelement vertex 3\nproperty double x\nproperty double y\nproperty double z\nelement face 1\nproperty list uchar int vertex_indices\nend_header\n-0.5000000000 0.0000000000 10.0000000000\n1.0000000000 2.0000000000 10.5000000000\n-1.0000000000 4.0000000000 10.0625000000\n3 2 0 1\n"
+    ≡ codes "ply\nformat ascii 1.0\nelement vertex 3\nproperty double x\nproperty double y\nproperty double z\nelement face 1\nproperty list uchar int vertex_indices\nend_header\n-0.5000000000 0.0000000000 10.0000000000\n1.0000000000 1.0000000000 11.0000000000\n-1.0000000000 2.0000000000 10.1250000000\n3 2 0 1\n"
 unfolding digits size_text
 one_triangle = refl

@@ -73,8 +73,8 @@ fn texts_along(alloc: Global, view: &View, axis: Axis) -> Result<Vec<PointText>,
     ensures { IfOk result (λ texts. AreTextsAlong view.now axis texts.items) }
 {
     let samples = samples_along(view, Lattice::Grid, axis);
-    let mut texts = Vec::with_capacity(alloc, view.n as usize + 1)?;
-    for i in 0..view.n + 1 {
+    let mut texts = Vec::with_capacity(alloc, samples.steps as usize + 1)?;
+    for i in 0..samples.steps + 1 {
         texts.push(PointText::new(samples.place(i)))?;
     }
     Ok(texts)

@@ -12,7 +12,7 @@ const ONE: i64 = 1 << 32;
 
 // The view of n cells along each axis, from -1 to 1.
 fn view_of(n: u32) -> Option<View> {
-    if n == 0 || n > 256 {
+    if n == 0 || n > 512 {
         return None;
     }
     Some(View {
@@ -26,7 +26,9 @@ fn view_of(n: u32) -> Option<View> {
         w: 1,
         h: 1,
         d: 1,
-        n,
+        nx: n,
+        ny: n,
+        nz: n,
     })
 }
 
@@ -46,9 +48,9 @@ fn is_placed(view: &View, v: &Vertex) -> bool
     let key = v.key;
     1 <= key.dir
         && key.dir <= 7
-        && u32::from(key.x) + u32::from(key.dir % 2) <= view.n
-        && u32::from(key.y) + u32::from(key.dir / 2 % 2) <= view.n
-        && u32::from(key.z) + u32::from(key.dir / 4 % 2) <= view.n
+        && u32::from(key.x) + u32::from(key.dir % 2) <= view.nx
+        && u32::from(key.y) + u32::from(key.dir / 2 % 2) <= view.ny
+        && u32::from(key.z) + u32::from(key.dir / 4 % 2) <= view.nz
         && 1 <= v.t
         && v.t <= 65535
 }

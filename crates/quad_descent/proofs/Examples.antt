@@ -27,7 +27,9 @@ window w h = record {
   w = w;
   h = h;
   d = 1;
-  n = 1;
+  nx = 1;
+  ny = 1;
+  nz = 1;
 }
 
 -- the coordinate x

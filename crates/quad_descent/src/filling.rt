@@ -93,7 +93,22 @@ fn fill(pixels: &mut [u8], from: usize, to: usize, byte: u8)
     requires within { to ≤ length pixels.old }
     ensures { Paints (among from to) (λ _. byte) pixels.old pixels.new }
 {
-    for p in from..to {
+    if to - from == 8 {
+        fill_eight(pixels, from, byte);
+    } else {
+        for p in from..to {
+            pixels[p] = byte;
+        }
+    }
+}
+
+// The same of eight bytes, which are set by one store.
+#[inline(always)]
+fn fill_eight(pixels: &mut [u8], from: usize, byte: u8)
+    requires { from + 8 ≤ length pixels.old }
+    ensures { Paints (among from (from + 8)) (λ _. byte) pixels.old pixels.new }
+{
+    for p in from..from + 8 {
         pixels[p] = byte;
     }
 }

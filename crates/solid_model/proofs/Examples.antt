@@ -2,6 +2,7 @@
 use Rattle.std.proofs.Common.{◌≡◌, nat_le, pos, negsuc, [], ◌∷◌, ◌++◌, List, length, map, Ok, Err, true, false, refl}
 use Rattle.fixed_ops.specs.declared.operation.Op.TheVariants as ops
 use Rattle.fixed_ops.specs.Points.{Point}
+use Rattle.fixed_ops.specs.Slopes.{flat, one}
 use Rattle.solid_model.specs.declared.clause.Clause.{Clause}
 use Rattle.solid_model.specs.declared.edit.Edit.TheVariants.{Set, Add, Put, Cut}
 use Rattle.solid_model.specs.declared.edit.EditFault.TheVariants.{UnknownName, DoubleName, NotEarlier, InUse, LastClause, Full}
@@ -9,6 +10,7 @@ use Rattle.solid_model.specs.Edits.{before, edited, is_named, MakesClause}
 use Rattle.solid_model.specs.Named.{named_of, placed}
 use Rattle.solid_model.specs.Names.{is_name}
 use Rattle.solid_model.specs.Parts.{Parts}
+use Rattle.solid_model.specs.Slopes.{sloped_values, solid_sloped}
 use Rattle.solid_model.specs.Values.{values, solid_value}
 
 -- x, 0.5, and their difference, named by the bytes 120, 99 and 102
@@ -33,6 +35,15 @@ model_values = refl
 
 model_value : solid_value point model ≡ pos 6442450944
 model_value = refl
+
+-- it rises by one along x, where the constant stands still
+model_slopes : sloped_values point model ≡ record { value = pos 8589934592; dx = one; dy = pos 0; dz = pos 0 }
+    ∷ record flat { value = pos 2147483648 }
+    ∷ record { value = pos 6442450944; dx = one; dy = pos 0; dz = pos 0 } ∷ []
+model_slopes = refl
+
+model_slope : solid_sloped point model ≡ record { value = pos 6442450944; dx = one; dy = pos 0; dz = pos 0 }
+model_slope = refl
 
 -- a clause of the name 103 before that of the constant, whose place moves
 put_moves : edited model (Put (99 ∷ []) (103 ∷ []) (record { op = ops.Neg; args = (120 ∷ []) ∷ []; value = pos 0 }))

@@ -1,5 +1,5 @@
 -- What takes changes of clauses back, by places.
-use Rattle.std.proofs.Common.{◌≡◌, ℕ, zero, suc, ◌-◌, ◌<◌, inl, inr, false, nat_le, List, [], ◌∷◌, ◌++◌, length, map, set, take, get_or, Option, None, Some, Result, Ok, Err, OnOk, slice_get, reverse, OnErr, refl, ap, sym, subst, ◌∙◌, arith}
+use Rattle.std.proofs.Common.{◌≡◌, ◌≢◌, ℕ, zero, suc, ◌-◌, ◌<◌, inl, inr, false, nat_le, List, [], ◌∷◌, ◌++◌, length, map, set, take, get_or, Option, None, Some, Result, Ok, Err, OnOk, slice_get, reverse, OnErr, refl, ap, sym, subst, ◌∙◌, arith}
 use Rattle.std.specs.List.{insert, remove}
 use Rattle.std.specs.Option.{option_map}
 use Rattle.std.proofs.lemmas.Bool.Decides.{nat_tests}
@@ -319,6 +319,10 @@ module _ (clauses : List Clause) (xs : List Reversal) (x : Reversal) (latest : s
   pub latest-allowed : AllowBack clauses (reverse xs) → AllowsBack clauses x × AllowBack (reverted clauses x) (reverse (take (length xs - 1) xs))
   unfolding AllowBack
   latest-allowed are = subst (AllowBack clauses) turned are
+
+  pub latest-stands : edits_back clauses (reverse xs) ≢ []
+  unfolding edits_back
+  latest-stands = λ none. let is = sym none ∙ ap (edits_back clauses) turned in (cc)
 
   module _ (new : List Clause) (ys : List Reversal) (rest : ys ≡ take (length xs - 1) xs) (is : new ≡ reverted clauses x) where
     pub others-allowed : AllowBack clauses (reverse xs) → AllowBack new (reverse ys)

@@ -15,6 +15,7 @@ pub mod Pushing
 pub mod Refusals
 pub mod Reversals
 pub mod Seen
+pub mod Slopes
 pub mod Surgery
 pub mod Tables
 pub mod Values

@@ -36,7 +36,7 @@ impl Edit {
     }
 }
 
-/// Why an edit was refused.
+/// Why an edit, or taking the last one back, was refused.
 #[derive(Clone, Copy, Debug, PartialEq, Eq, Error)]
 pub enum EditFault {
     /// A name that should stand already, or an argument, names no clause.
@@ -60,4 +60,7 @@ pub enum EditFault {
     /// Memory was refused.
     #[error("out of memory")]
     NoMemory,
+    /// There is no edit to take back.
+    #[error("there is no edit to undo")]
+    NothingToUndo,
 }

@@ -1,5 +1,5 @@
 // A model that is edited.
-ghost use Rattle.std.specs.Prelude.{◌≡◌, ◌↔◌, [], ◌∷◌, true, false, IfOk, OnErr, OnOk, Ok};
+ghost use Rattle.std.specs.Prelude.{◌≡◌, ◌≢◌, [], ◌∷◌, true, false, IfErr, IfOk, OnErr, OnOk, Ok};
 ghost use Rattle.solid_model.specs.Edited.{opening, IsUndone};
 ghost use Rattle.solid_model.specs.Edits.{edited};
 ghost use Rattle.solid_model.specs.Inverses.{inverse_of};
@@ -63,6 +63,7 @@ impl EditedModel {
         ensures fault { RefusesAs (edited self.old.clauses edit.now) EditFault.NoMemory result }
         ensures no_memory { WantsMemoryFor (edited self.old.clauses edit.now) EditFault.NoMemory
             result }
+        ensures not_undo { IfErr result (λ fault. fault ≢ EditFault.NothingToUndo) }
         ensures err { OnErr result (self.new ≡ self.old) }
         ensures opening { opening self.new ≡ opening self.old }
     {
@@ -74,6 +75,7 @@ impl EditedModel {
     pub fn undo(&mut self) -> Result<bool, AllocError>
         ensures undone { IfOk result (λ some. some ≡ true → IsUndone self.old self.new) }
         ensures none { IfOk result (λ some. some ≡ false → (self.old.undo ≡ []) × (self.new ≡ self.old)) }
+        ensures memory { OnErr result (self.old.undo ≢ []) }
         ensures err { OnErr result (self.new ≡ self.old) }
         ensures opening { opening self.new ≡ opening self.old }
     {

@@ -20,6 +20,7 @@ mod placed_form;
 mod push_fault;
 mod refusal;
 mod reversal;
+mod reverting;
 mod row;
 mod table;
 mod users;

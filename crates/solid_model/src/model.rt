@@ -44,6 +44,7 @@ impl Model {
         ensures ok { IfOk result (λ model. edited [] (Add name form) ≡ Ok model) }
         ensures fault { RefusesAs (edited [] (Add name form)) EditFault.NoMemory result }
         ensures no_memory { WantsMemoryFor (edited [] (Add name form)) EditFault.NoMemory result }
+        ensures not_undo { IfErr result (λ fault. fault ≢ EditFault.NothingToUndo) }
         ensures no_argument { OnOk result (form.args ≡ []) }
         ensures argument { IfErr result (λ fault. fault ≢ EditFault.NoMemory
             → (fault ≡ EditFault.UnknownName) × (form.args ≢ [])) }
@@ -67,6 +68,7 @@ impl Model {
         ensures fault { RefusesAs (edited self.old edit) EditFault.NoMemory result }
         ensures no_memory { WantsMemoryFor (edited self.old edit) EditFault.NoMemory result }
         ensures makes { IfErr result (λ fault. fault ≡ EditFault.NoMemory → MakesClause edit) }
+        ensures not_undo { IfErr result (λ fault. fault ≢ EditFault.NothingToUndo) }
         ensures err { OnErr result (self.new ≡ self.old) }
     {
         self.table.apply(&edit)
@@ -78,6 +80,7 @@ impl Model {
         ensures ok { OnOk result (IsOk (edited self.now edit.now)) }
         ensures fault { IfErr result (λ fault. edited self.now edit.now ≡ Err fault) }
         ensures memory { IfErr result (λ fault. fault ≢ EditFault.NoMemory) }
+        ensures not_undo { IfErr result (λ fault. fault ≢ EditFault.NothingToUndo) }
     {
         match self.table.change(edit) {
             Ok(_) => Ok(()),

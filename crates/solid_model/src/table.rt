@@ -9,7 +9,6 @@ ghost use Rattle.solid_model.specs.Edits.{IsEdit, MakesClause};
 ghost use Rattle.solid_model.specs.Named.{by_name, name_at};
 ghost use Rattle.solid_model.specs.Pushing.{push_fault};
 ghost use Rattle.solid_model.specs.Refusals.{RefusesAs, WantsMemoryFor};
-ghost use Rattle.solid_model.specs.Reversals.{reversal_of, reverted, AllowsBack, IsMadeAndKept};
 ghost use Rattle.solid_model.specs.Seen.{clause_seen, named_clause};
 ghost use Rattle.solid_model.specs.declared.clause.Clause.{Clause};
 ghost use Rattle.solid_model.specs.Surgery.{down, moved, reads, up};
@@ -20,7 +19,6 @@ use crate::key::{Key, number_in};
 use crate::numbers::{grow, move_number};
 use crate::placed_form::PlacedForm;
 use crate::refusal::Refusal;
-use crate::reversal::Reversal;
 use crate::row::Row;
 use crate::users::{first_reader, keep_user, kept_user};
 use crate::uses::{count_operands, uncount_operands};
@@ -198,7 +196,7 @@ impl Table {
     }
 
     // Makes a change that the clauses allow.
-    fn make(&mut self, change: &Change<'_>) -> Result<(), EditFault>
+    pub(crate) fn make(&mut self, change: &Change<'_>) -> Result<(), EditFault>
         requires in_order { AreInOrder (clauses_in self.old) }
         requires allowed { Allows (clauses_in self.old) change.now }
         ensures ok { OnOk result (clauses_in self.new ≡ done (clauses_in self.old) change.now) }
@@ -222,106 +220,8 @@ impl Table {
         }
     }
 
-    // What takes back a change that the clauses allow. AllocError: memory was refused.
-    pub(crate) fn reversal(&self, change: &Change<'_>) -> Result<Reversal, AllocError>
-        requires in_order { AreInOrder (clauses_in self.now) }
-        requires allowed { Allows (clauses_in self.now) change.now }
-        ensures { IfOk result (λ back. back ≡ reversal_of (clauses_in self.now) change.now) }
-    {
-        match change {
-            Change::Write(at, _) => Ok(Reversal::Write(*at, self.clause(*at as usize).form())),
-            Change::Insert(at, _) => Ok(Reversal::Remove(*at)),
-            Change::Remove(at) => {
-                let name = self.name(*at as usize)?;
-                Ok(Reversal::Insert(*at, name, self.clause(*at as usize).form()))
-            }
-        }
-    }
-
-    // Makes an edit, and puts what takes it back behind others, or leaves both as they are.
-    pub(crate) fn apply_and_keep(
-        &mut self,
-        edit: &Edit,
-        backs: &mut Vec<Reversal>,
-    ) -> Result<(), EditFault>
-        requires in_order { AreInOrder (clauses_in self.old) }
-        ensures ok { OnOk result (surgery (clauses_in self.old) edit.now
-            ≡ Ok (clauses_in self.new)) }
-        ensures kept { OnOk result (IsMadeAndKept (clauses_in self.old) (clauses_in self.new)
-            edit.now backs.old.items backs.new.items) }
-        ensures fault { RefusesAs (surgery (clauses_in self.old) edit.now) EditFault.NoMemory
-            result }
-        ensures no_memory { WantsMemoryFor (surgery (clauses_in self.old) edit.now)
-            EditFault.NoMemory result }
-        ensures err { OnErr result (clauses_in self.new ≡ clauses_in self.old) }
-        ensures others { OnErr result (backs.new.items ≡ backs.old.items) }
-        ensures edit { IsEdit edit.now }
-    {
-        match self.change(edit) {
-            Ok(change) => match self.make_and_keep(&change, backs) {
-                Ok(()) => Ok(()),
-                Err(_) => Err(EditFault::NoMemory),
-            },
-            Err(refusal) => {
-                self.keep(&refusal);
-                Err(refusal.fault())
-            }
-        }
-    }
-
-    // Makes a change that the clauses allow, and puts what takes it back behind others. All memory is taken
-    // before anything changes. AllocError: memory was refused, and all is as it was.
-    fn make_and_keep(
-        &mut self,
-        change: &Change<'_>,
-        backs: &mut Vec<Reversal>,
-    ) -> Result<(), AllocError>
-        requires in_order { AreInOrder (clauses_in self.old) }
-        requires allowed { Allows (clauses_in self.old) change.now }
-        ensures ok { OnOk result (clauses_in self.new ≡ done (clauses_in self.old) change.now) }
-        ensures kept { OnOk result (backs.new.items
-            ≡ backs.old.items ++ reversal_of (clauses_in self.old) change.now ∷ []) }
-        ensures err { OnErr result (clauses_in self.new ≡ clauses_in self.old) }
-        ensures others { OnErr result (backs.new.items ≡ backs.old.items) }
-    {
-        let back = self.reversal(change)?;
-        backs.reserve(1)?;
-        if self.make(change).is_err() {
-            return Err(AllocError);
-        }
-        backs.push_reserved(back);
-        Ok(())
-    }
-
-    // Takes a change back. AllocError: memory was refused for a clause that comes back, and the clauses
-    // are as they were.
-    pub(crate) fn revert(&mut self, back: &Reversal) -> Result<(), AllocError>
-        requires clauses { AreClauses (clauses_in self.old) }
-        requires allowed { AllowsBack (clauses_in self.old) back.now }
-        ensures ok { OnOk result (clauses_in self.new ≡ reverted (clauses_in self.old) back.now) }
-        ensures err { OnErr result (clauses_in self.new ≡ clauses_in self.old) }
-    {
-        match back {
-            Reversal::Write(at, form) => {
-                self.write(*at as usize, form);
-                Ok(())
-            }
-            Reversal::Insert(at, name, form) => {
-                let clause = form.named(name.bytes());
-                match self.insert(*at as usize, &clause) {
-                    Ok(()) => Ok(()),
-                    Err(_) => Err(AllocError),
-                }
-            }
-            Reversal::Remove(at) => {
-                self.remove(*at);
-                Ok(())
-            }
-        }
-    }
-
     // Keeps the first user that a refusal tells, until the clauses change.
-    fn keep(&mut self, refusal: &Refusal)
+    pub(crate) fn keep(&mut self, refusal: &Refusal)
         requires in_order { AreInOrder (clauses_in self.old) }
         requires told { TellsUser (clauses_in self.old) refusal.now }
         ensures { clauses_in self.new ≡ clauses_in self.old }
@@ -365,7 +265,7 @@ impl Table {
 
     // Puts a clause in at a place. Its name is hashed once. Where memory is refused, the name is
     // looked up after all, since a fault of the clause goes first.
-    fn insert(&mut self, at: usize, clause: &ClauseRef<'_>) -> Result<(), PushFault>
+    pub(crate) fn insert(&mut self, at: usize, clause: &ClauseRef<'_>) -> Result<(), PushFault>
         requires in_order { AreInOrder (clauses_in self.old) }
         requires within { at ≤ length (clauses_in self.old) }
         requires operands { HasOperandsBefore at (clause_seen clause.now) }
@@ -458,7 +358,7 @@ impl Table {
     }
 
     // Gives the clause at a place, whose name stays, another form.
-    fn write(&mut self, at: usize, form: &PlacedForm)
+    pub(crate) fn write(&mut self, at: usize, form: &PlacedForm)
         requires named { place_of (clauses_in self.old) (name_at (clauses_in self.old) at) ≡ Some at }
         requires operands { HasOperandsBefore at
             (named_clause (name_at (clauses_in self.old) at) form.now) }
@@ -502,7 +402,7 @@ impl Table {
     }
 
     // Takes out the clause at a place, which is no operand. Its number goes behind the others.
-    fn remove(&mut self, at: u32)
+    pub(crate) fn remove(&mut self, at: u32)
         requires in_order { AreInOrder (clauses_in self.old) }
         requires there { at < length (clauses_in self.old) }
         requires unread { position (reads at) (clauses_in self.old) ≡ None }

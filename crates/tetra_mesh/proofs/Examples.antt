@@ -20,7 +20,9 @@ cells = record {
   w = 1;
   h = 1;
   d = 1;
-  n = 2;
+  nx = 2;
+  ny = 2;
+  nz = 2;
 }
 
 -- the vertex of an edge in a direction from the point (1, 0, 1)
@@ -47,7 +49,7 @@ raw_rounds_down : vertex_place (record cells { y1 = negsuc 4294967288 }) (from_s
 unfolding cells
 raw_rounds_down = refl
 
--- three cells along each axis, 100 raw units long along x, 200 along y and 30 along z
+-- three cells along x, four along y and two along z, 100 raw units long along x, 150 along y and 45 along z
 abbrev uneven : Window
 uneven = record {
   x0 = pos 0;
@@ -60,7 +62,9 @@ uneven = record {
   w = 1;
   h = 1;
   d = 1;
-  n = 3;
+  nx = 3;
+  ny = 4;
+  nz = 2;
 }
 
 -- the vertex a quarter of the way from the point (2, 0, 1) on, along x and z
@@ -82,7 +86,7 @@ raw_quarter_along_x = refl
 raw_quarter_beside_y : vertex_place uneven quarter Y ≡ pos 1000
 raw_quarter_beside_y = refl
 
-raw_quarter_along_z : vertex_place uneven quarter Z ≡ pos 7
+raw_quarter_along_z : vertex_place uneven quarter Z ≡ pos 26
 raw_quarter_along_z = refl
 
 -- ---- where an edge is cut
@@ -113,7 +117,7 @@ cut_below_inside = refl
 lattice_of_quarter : lattice_of quarter ≡ record { x = pos 147456; y = pos 0; z = pos 81920 }
 lattice_of_quarter = refl
 
-raw_of_quarter : raw_of uneven quarter ≡ record { x = pos 225; y = pos 1000; z = pos 7 }
+raw_of_quarter : raw_of uneven quarter ≡ record { x = pos 225; y = pos 1000; z = pos 26 }
 raw_of_quarter = refl
 
 -- ---- which vertices lie in a grid
@@ -150,3 +154,18 @@ none_beyond_along_y h = let y : 3 ≤ 2 = h.upper_end.y in omega (arith, y)
 none_beyond_along_z : IsPlaced cells (at 1 0 2 4 1) → ⊥
 unfolding cells
 none_beyond_along_z h = let z : 3 ≤ 2 = h.upper_end.z in omega (arith, z)
+
+-- each axis has its own last point
+last_of_uneven : IsPlaced uneven (at 2 3 1 7 65535)
+last_of_uneven = record {
+  direction = record { some = omega arith; within = omega arith };
+  upper_end = record { x = omega arith; y = omega arith; z = omega arith };
+  some = omega arith;
+  few = omega arith;
+}
+
+none_beyond_three : IsPlaced uneven (at 3 0 0 1 1) → ⊥
+none_beyond_three h = let x : 4 ≤ 3 = h.upper_end.x in omega (arith, x)
+
+none_beyond_two : IsPlaced uneven (at 0 0 2 4 1) → ⊥
+none_beyond_two h = let z : 3 ≤ 2 = h.upper_end.z in omega (arith, z)

@@ -7,9 +7,8 @@ use Rattle.kuhn_cells.specs.declared.cell_list.CellValues.{CellValues}
 use Rattle.kuhn_cells.specs.Arrangement.{arranged}
 use Rattle.kuhn_cells.specs.Cells.{is_outermost, mixed_cells}
 use Rattle.kuhn_cells.specs.Faces.{Face, all_triangles, faces}
-use Rattle.kuhn_cells.specs.Grids.{Grid, is_inside_at, is_point, vertices}
-use Rattle.kuhn_cells.specs.Lists.{ListsCells}
-use Rattle.kuhn_cells.specs.Sizes.{cube}
+use Rattle.kuhn_cells.specs.Grids.{Grid, grid_size, is_inside_at, is_point, vertices}
+use Rattle.kuhn_cells.specs.Lists.{ListsCells, listed_size}
 use Rattle.kuhn_cells.specs.Triangles.{GridPoint, point}
 use Rattle.tetra_mesh.specs.declared.vertex.Vertex.{Vertex}
 use Rattle.tetra_mesh.specs.Cuts.{mesh_of}
@@ -100,14 +99,14 @@ cells_of_lone_point : cells_round inside axis face_diagonal body_diagonal ≡ mi
 unfolding mixed_cells
 cells_of_lone_point = refl
 
-pub lists_lone_point : (i a f b : ℤ) (list : CellList) → i ≡ inside → a ≡ axis → f ≡ face_diagonal → b ≡ body_diagonal → list.n ≡ 2 → list.cells.items ≡ cells_round i a f b → ListsCells (cube 2) list lone_point
+pub lists_lone_point : (i a f b : ℤ) (list : CellList) → i ≡ inside → a ≡ axis → f ≡ face_diagonal → b ≡ body_diagonal → listed_size list ≡ grid_size lone_point → list.cells.items ≡ cells_round i a f b → ListsCells (grid_size lone_point) list lone_point
 lists_lone_point i a f b list ei ea ef eb n items =
     record {
       x = refl;
       y = refl;
       z = refl;
       border = record { whole = refl; outside = outside lone_point 3 (omega arith) (omega arith) (omega arith) lone_point_is_safe };
-      count = ap cube n;
+      count = n;
       cells = items ∙ same ∙ cells_of_lone_point;
     }
   where
@@ -125,13 +124,13 @@ none_mixed : [] ≡ mixed_cells lone_cell
 unfolding mixed_cells
 none_mixed = refl
 
-pub lists_lone_cell : (list : CellList) → list.n ≡ 1 → list.cells.items ≡ [] → ListsCells (cube 1) list lone_cell
+pub lists_lone_cell : (list : CellList) → listed_size list ≡ grid_size lone_cell → list.cells.items ≡ [] → ListsCells (grid_size lone_cell) list lone_cell
 lists_lone_cell list n items =
     record {
       x = refl;
       y = refl;
       z = refl;
       border = record { whole = refl; outside = outside lone_cell 2 (omega arith) (omega arith) (omega arith) lone_cell_is_safe };
-      count = ap cube n;
+      count = n;
       cells = items ∙ none_mixed;
     }

@@ -114,7 +114,7 @@ along : ℤ → ℤ → ℕ → List ℤ
 along low high n = map (place_up low high n) (range_with_len 0 (n + 1))
 
 places_of : Window → RawPlaces
-places_of w = record { along_x = along w.x0 w.x1 w.n; along_y = along w.y0 w.y1 w.n; along_z = along w.z0 w.z1 w.n }
+places_of w = record { along_x = along w.x0 w.x1 w.nx; along_y = along w.y0 w.y1 w.ny; along_z = along w.z0 w.z1 w.nz }
 
 along-at : (low high : ℤ) (n i : ℕ) (d : ℤ) → i ≤ n → get_or (along low high n) i d ≡ place_up low high n i
 unfolding along
@@ -140,9 +140,9 @@ raw_same w g e of_view within =
     let gx = of_view.x in
     let gy = of_view.y in
     let gz = of_view.z in
-    let x = axis_same w.x0 w.x1 w.n e.x (along_x e.dir) (share g e) (few_steps e.dir) (omega (arith, fx, gx)) in
-    let y = axis_same w.y0 w.y1 w.n e.y (along_y e.dir) (share g e) (few_steps (e.dir / 2)) (omega (arith, fy, gy)) in
-    let z = axis_same w.z0 w.z1 w.n e.z (along_z e.dir) (share g e) (few_steps (e.dir / 4)) (omega (arith, fz, gz)) in
+    let x = axis_same w.x0 w.x1 w.nx e.x (along_x e.dir) (share g e) (few_steps e.dir) (omega (arith, fx, gx)) in
+    let y = axis_same w.y0 w.y1 w.ny e.y (along_y e.dir) (share g e) (few_steps (e.dir / 2)) (omega (arith, fy, gy)) in
+    let z = axis_same w.z0 w.z1 w.nz e.z (along_z e.dir) (share g e) (few_steps (e.dir / 4)) (omega (arith, fz, gz)) in
     let v = raw_of w (vertex_of g e) in
     let r = raw_place (places_of w) g e in
     ap (λ (n : ℤ). record { x = n; y = v.y; z = v.z }) x
@@ -201,9 +201,9 @@ apart_along low high (suc n) some raw_low raw_high room =
 points_apart : (w : Window) (g : Grid) → IsWindow w → FitsMesh w → IsGridOf w g → AreAllApart g (places_of w)
 unfolding places_of
 points_apart w g is fits of_view = record {
-  x = subst (λ (n : ℕ). AreApart n (along w.x0 w.x1 w.n)) (sym of_view.x) (apart_along w.x0 w.x1 w.n is.n.some is.x.low_raw is.x.high_raw fits.x);
-  y = subst (λ (n : ℕ). AreApart n (along w.y0 w.y1 w.n)) (sym of_view.y) (apart_along w.y0 w.y1 w.n is.n.some is.y.low_raw is.y.high_raw fits.y);
-  z = subst (λ (n : ℕ). AreApart n (along w.z0 w.z1 w.n)) (sym of_view.z) (apart_along w.z0 w.z1 w.n is.n.some is.z_ends.low_raw is.z_ends.high_raw fits.z);
+  x = subst (λ (n : ℕ). AreApart n (along w.x0 w.x1 w.nx)) (sym of_view.x) (apart_along w.x0 w.x1 w.nx is.nx.some is.x.low_raw is.x.high_raw fits.x);
+  y = subst (λ (n : ℕ). AreApart n (along w.y0 w.y1 w.ny)) (sym of_view.y) (apart_along w.y0 w.y1 w.ny is.ny.some is.y.low_raw is.y.high_raw fits.y);
+  z = subst (λ (n : ℕ). AreApart n (along w.z0 w.z1 w.nz)) (sym of_view.z) (apart_along w.z0 w.z1 w.nz is.nz.some is.z_ends.low_raw is.z_ends.high_raw fits.z);
 }
 
 -- ---- the laws

@@ -7,7 +7,6 @@ pub mod Places
 pub mod Ranks
 pub mod Shapes
 pub mod Sides
-pub mod Sizes
 pub mod Sound
 pub mod SoundLaws
 pub mod Tables

@@ -9,9 +9,8 @@ use Rattle.view_places.specs.declared.lattice.Axis.{Axis}
 use Rattle.view_places.specs.declared.lattice.Axis.TheVariants.{X, Y, Z}
 use Rattle.view_places.specs.declared.lattice.Lattice.TheVariants.{Grid}
 use Rattle.view_places.specs.Places.{sample_place}
-use Rattle.view_places.specs.Window.{Window}
+use Rattle.view_places.specs.Window.{Window, size_of}
 use Rattle.tetra_mesh.specs.declared.vertex.Vertex.{Vertex}
-use Rattle.tetra_mesh.specs.Sizes.{size_of}
 
 -- the index of a point along an axis
 abbrev pub index_along : Axis → GridPoint → ℕ

@@ -1,5 +1,5 @@
 -- The triangles of a cell by those of the cell at the origin.
-use Rattle.std.specs.Prelude.{◌≡◌, ℕ, ◌+◌, ◌<◌, List, flat_map, get_or, length, map}
+use Rattle.std.specs.Prelude.{◌≡◌, ℕ, ◌+◌, ◌<◌, List, All, flat_map, get_or, length, map}
 use Rattle.std.specs.List.{range_with_len}
 use Rattle.kuhn_cells.specs.declared.edge_key.EdgeKey.{EdgeKey}
 use Rattle.kuhn_cells.specs.declared.triple.Triple.{Triple}
@@ -29,9 +29,20 @@ moved_triple c t = record { a = moved c t.a; b = moved c t.b; c = moved c t.c }
 abbrev pub sided_triangles : SidedCell → List Triple
 sided_triangles c = map (moved_triple c) (shape_of c.signs)
 
--- the triangles for all signs
-pub record AreShapes (s : Kept) : Type 0 where
-  pub room : length s.shapes.items ≡ 256
-  pub each : (signs : ℕ) (d : Shape) → signs < 256
-      → HasTriangles (shape_of signs) (get_or s.shapes.items signs d)
+-- the triangles for these signs are made
+pub record IsMade (s : Kept) (signs : ℕ) : Type 0 where
+  pub place : ℕ
+  pub at : get_or s.places.items signs 0 ≡ place + 1
+  pub within : place < length s.shapes.items
+  pub shape : (d : Shape) → HasTriangles (shape_of signs) (get_or s.shapes.items place d)
+
+-- those that have a place are made
+pub record AreMade (s : Kept) : Type 0 where
+  pub room : length s.places.items ≡ 256
+  pub each : (signs : ℕ) → 0 < get_or s.places.items signs 0 → IsMade s signs
   pub ranks : AreRanks s.ranks.items
+
+-- those of these cells are made
+pub record AreShapes (sided : List SidedCell) (s : Kept) : Type 0 where
+  pub made : AreMade s
+  pub each : All (λ (c : SidedCell). IsMade s c.signs) sided

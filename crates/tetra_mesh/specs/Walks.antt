@@ -21,4 +21,4 @@ pub record CanGoOn (numbering : Numbering) (shapes : Shapes) (sided : List Sided
   pub within : made ≤ length sided
   pub numbered : OfCells numbering.n sided (λ cells. IsNumbered cells numbering.n numbering)
   pub reached : OfCells numbering.n sided (λ cells. HasReached cells numbering.ahead made)
-  pub tables : AreShapes shapes
+  pub tables : AreShapes sided shapes

@@ -5,14 +5,12 @@ ghost use Rattle.kuhn_cells.specs.Lists.{ListsCells};
 ghost use Rattle.tetra_mesh.specs.Cuts.{mesh_of};
 ghost use Rattle.tetra_mesh.specs.Numbering.{all_faces, vertices_on};
 ghost use Rattle.tetra_mesh.specs.Sides.{HasParts, HaveCells, OfCells, sided_of};
-ghost use Rattle.tetra_mesh.specs.Sizes.{size_of};
 ghost use Rattle.tetra_mesh.specs.Sound.{IsSound, LieApart};
-ghost use Rattle.view_places.specs.Window.{FitsMesh};
+ghost use Rattle.view_places.specs.Window.{FitsMesh, size_of};
 
 use crate::counts::count_vertices;
 use crate::face_walk::FaceWalk;
 use crate::laws::meshes_are_sound;
-use crate::mesh_size::mesh_size;
 use crate::sided_cell::SidedCell;
 use crate::vertices::vertices_of;
 use crate::{Face, Mesh, Vertex};
@@ -23,14 +21,14 @@ use view_places::View;
 
 /// The mesh of a grid of the view's size whose outermost layer is outside, from the list of its
 /// mixed cells. It is closed, a manifold and separating, and its vertices lie apart: on the lattice,
-/// and over a view whose cells have 65536 raw units along each axis also as raw places and as lines.
-/// AllocError: there is no memory for it.
+/// as raw places and as lines. AllocError: there is no memory for it.
 pub fn build(alloc: Global, cells: &CellList, view: &View) -> Result<Mesh, AllocError>
-    requires { (g : Grid) × ListsCells (size_of view.now) cells.now g }
+    requires fits { FitsMesh view.now }
+    requires cells { (g : Grid) × ListsCells (size_of view.now) cells.now g }
     ensures mesh { (g : Grid) → ListsCells (size_of view.now) cells.now g → IfOk result
         (λ mesh. mesh ≡ mesh_of g) }
     ensures sound { (g : Grid) → ListsCells (size_of view.now) cells.now g → IfOk result (IsSound g) }
-    ensures apart { FitsMesh view.now → IfOk result (λ mesh. LieApart view.now mesh.vertices) }
+    ensures apart { IfOk result (λ mesh. LieApart view.now mesh.vertices) }
 {
     cells_are_few(cells, view);
     let (vertices, sided) = parts(alloc, &cells.cells)?;
@@ -39,11 +37,12 @@ pub fn build(alloc: Global, cells: &CellList, view: &View) -> Result<Mesh, Alloc
 
 /// The mesh that `build` gives. The list of cells is given up before the faces are made.
 pub fn build_from(alloc: Global, cells: CellList, view: &View) -> Result<Mesh, AllocError>
-    requires { (g : Grid) × ListsCells (size_of view.now) cells g }
+    requires fits { FitsMesh view.now }
+    requires cells { (g : Grid) × ListsCells (size_of view.now) cells g }
     ensures mesh { (g : Grid) → ListsCells (size_of view.now) cells g → IfOk result
         (λ mesh. mesh ≡ mesh_of g) }
     ensures sound { (g : Grid) → ListsCells (size_of view.now) cells g → IfOk result (IsSound g) }
-    ensures apart { FitsMesh view.now → IfOk result (λ mesh. LieApart view.now mesh.vertices) }
+    ensures apart { IfOk result (λ mesh. LieApart view.now mesh.vertices) }
 {
     cells_are_few(&cells, view);
     let (vertices, sided) = parts_of(alloc, cells)?;
@@ -53,11 +52,12 @@ pub fn build_from(alloc: Global, cells: CellList, view: &View) -> Result<Mesh, A
 // Lets a proof know how many cells of a grid of the view's size are mixed at most.
 #[inline]
 fn cells_are_few(cells: &CellList, view: &View)
-    requires { (g : Grid) × ListsCells (size_of view.now) cells.now g }
+    requires fits { FitsMesh view.now }
+    requires cells { (g : Grid) × ListsCells (size_of view.now) cells.now g }
     ensures { length cells.now.cells.items ≤ 16777216 }
 {
     mixed_cells_suffice();
-    let _size = mesh_size(view);
+    let _size = view.grid();
 }
 
 // The vertices of the cells of a list that is given up, and the places and sides of the cells.
@@ -102,16 +102,17 @@ fn mesh_of_parts(
     sided: Vec<SidedCell>,
     view: &View,
 ) -> Result<Mesh, AllocError>
-    requires { (g : Grid) × HasParts (size_of view.now) g vertices.items sided.items }
+    requires fits { FitsMesh view.now }
+    requires parts { (g : Grid) × HasParts (size_of view.now) g vertices.items sided.items }
     ensures mesh { (g : Grid) → HasParts (size_of view.now) g vertices.items sided.items
         → IfOk result (λ mesh. mesh ≡ mesh_of g) }
     ensures sound { (g : Grid) → HasParts (size_of view.now) g vertices.items sided.items
         → IfOk result (IsSound g) }
-    ensures apart { FitsMesh view.now → IfOk result (λ mesh. LieApart view.now mesh.vertices) }
+    ensures apart { IfOk result (λ mesh. LieApart view.now mesh.vertices) }
 {
     meshes_are_sound();
     mixed_cells_suffice();
-    let faces = faces_of(alloc, sided, mesh_size(view))?;
+    let faces = faces_of(alloc, sided, view.grid())?;
     Ok(Mesh { vertices, faces })
 }
 

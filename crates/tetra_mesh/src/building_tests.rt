@@ -2,7 +2,8 @@
 ghost use Rattle.std.specs.Prelude.{◌≡◌, ◌≤◌, IfOk};
 ghost use Rattle.kuhn_cells.specs.Grids.{Grid};
 ghost use Rattle.kuhn_cells.specs.Lists.{ListsCells};
-ghost use Rattle.kuhn_cells.specs.Sizes.{cube};
+ghost use Rattle.kuhn_cells.specs.declared.grid_size.GridSize.{GridSize};
+ghost use Rattle.view_places.specs.Window.{FitsMesh, size_of};
 
 use super::*;
 use fixed_ops::Fx;
@@ -15,7 +16,8 @@ use view_places::View;
 fn view_of(n: u32) -> View
     requires some { 1 ≤ n }
     requires few { n ≤ 2 }
-    ensures { result.n ≡ n }
+    ensures size { size_of result ≡ record { x = n; y = n; z = n } }
+    ensures fits { FitsMesh result }
 {
     View {
         x0: -1 << 32,
@@ -28,14 +30,16 @@ fn view_of(n: u32) -> View
         w: 1,
         h: 1,
         d: 1,
-        n,
+        nx: n,
+        ny: n,
+        nz: n,
     }
 }
 
 // The cells round a middle point that lies a quarter below 0. The others lie 3 quarters above 0 along
 // an axis, 7 along two and 11 along three.
 fn lone_point(alloc: Global) -> Result<CellList, AllocError>
-    ensures { IfOk result (λ list. (g : Grid) × ListsCells (cube 2) list g) }
+    ensures { IfOk result (λ list. (g : Grid) × ListsCells (record { x = 2; y = 2; z = 2 }) list g) }
 {
     let i = Fx::from_raw(-1_073_741_824);
     let a = Fx::from_raw(3_221_225_472);
@@ -91,15 +95,22 @@ fn lone_point(alloc: Global) -> Result<CellList, AllocError>
             values: [i, a, a, f, a, f, f, b]
         },
     ]?;
-    Ok(CellList { n: 2, cells })
+    Ok(CellList {
+        nx: 2,
+        ny: 2,
+        nz: 2,
+        cells,
+    })
 }
 
 // No cell is mixed where there is one cell.
 fn lone_cell(alloc: Global) -> CellList
-    ensures { (g : Grid) × ListsCells (cube 1) result g }
+    ensures { (g : Grid) × ListsCells (record { x = 1; y = 1; z = 1 }) result g }
 {
     CellList {
-        n: 1,
+        nx: 1,
+        ny: 1,
+        nz: 1,
         cells: Vec::new(alloc),
     }
 }

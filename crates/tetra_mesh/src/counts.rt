@@ -26,7 +26,7 @@ pub(crate) fn count_vertices(sided: &[SidedCell]) -> usize
 // How many faces cells have.
 pub(crate) fn count_faces(sided: &[SidedCell], shapes: &Shapes) -> usize
     requires few { length sided.now ≤ 16777216 }
-    requires shapes { AreShapes shapes.now }
+    requires shapes { AreShapes sided.now shapes.now }
     ensures exact { (cells : List CellValues) → sided.now ≡ map sided_of cells → result
         ≡ length (flat_map triangles_of_cell cells) }
     ensures few { result ≤ 12 * length sided.now }

@@ -47,7 +47,7 @@ impl FaceWalk {
         ensures { IfOk result (λ walk. walk ≡ record { n = n; sided = sided.items; made = 0 }) }
     {
         let numbering = Numbering::new(alloc, n)?;
-        let shapes = Shapes::new(alloc)?;
+        let shapes = Shapes::new(alloc, &sided)?;
         Ok(FaceWalk {
             sided,
             made: 0,
@@ -126,7 +126,7 @@ fn push_some(
         (λ cells. IsNumbered cells numbering.old.n numbering.old) }
     requires reached { OfCells numbering.old.n sided.now
         (λ cells. HasReached cells numbering.old.ahead made) }
-    requires shapes { AreShapes shapes.now }
+    requires shapes { AreShapes sided.now shapes.now }
     requires none { faces.old.items ≡ [] }
     ensures width { numbering.new.n ≡ numbering.old.n }
     ensures within { result ≤ length sided.now }

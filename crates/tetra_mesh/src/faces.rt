@@ -5,7 +5,7 @@ ghost use Rattle.kuhn_cells.specs.Laws.{OfEdges};
 ghost use Rattle.tetra_mesh.specs.Edges.{AreAmong, face_by, no_edge};
 ghost use Rattle.tetra_mesh.specs.Numbering.{AreSlots, IsKept, face_in, number_in};
 ghost use Rattle.tetra_mesh.specs.Ranks.{AreRanks};
-ghost use Rattle.tetra_mesh.specs.Shapes.{AreShapes, moved, sided_triangles};
+ghost use Rattle.tetra_mesh.specs.Shapes.{AreMade, IsMade, moved, sided_triangles};
 
 use crate::Face;
 use crate::entry::Entry;
@@ -30,7 +30,8 @@ pub(crate) fn push_faces(
 )
     requires slots { AreSlots n slots.now }
     requires room { array_vec_len faces.old + 12 ≤ FACES }
-    requires shapes { AreShapes shapes.now }
+    requires shapes { AreMade shapes.now }
+    requires made { IsMade shapes.now cell.now.signs }
     requires kept { All (OfEdges (IsKept n)) (sided_triangles cell.now) }
     ensures { faces.new.items ≡ faces.old.items ++ map (face_in n slots.now)
         (sided_triangles cell.now) }

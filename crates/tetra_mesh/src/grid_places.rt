@@ -7,7 +7,6 @@ ghost use Rattle.tetra_mesh.specs.Places.{IsPlaced, vertex_place};
 ghost use Rattle.tetra_mesh.specs.Tables.{IsTable};
 
 use crate::Vertex;
-use crate::mesh_size::mesh_size;
 use crate::place::{between, index_along, leads_along};
 use std::marker::Model;
 use view_places::{Axis, Lattice, View, samples_along};
@@ -100,7 +99,7 @@ fn table(view: &View, axis: Axis) -> [i64; POINTS]
     ensures { IsTable view.now axis result }
 {
     // No grid has more than 512 cells along an axis.
-    let _size = mesh_size(view);
+    let _size = view.grid();
     let samples = samples_along(view, Lattice::Grid, axis);
     let mut places = [0; POINTS];
     for i in 0..samples.steps + 1 {

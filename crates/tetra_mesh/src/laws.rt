@@ -6,8 +6,8 @@ use kuhn_cells::{mixed_cells_suffice, vertices_are_mixed_edges};
 use mesh_laws::{edges_paired, one_cycle, places_distinct, separates};
 
 /// The mesh of each grid whose outermost layer is outside is closed, a manifold and separating, and
-/// no two of its vertices have one place on the lattice of 65536 steps a cell. Over a view whose
-/// cells have 65536 raw units along each axis no two have one raw place or one line.
+/// no two of its vertices have one place on the lattice of 65536 steps a cell. Over a view of which a
+/// mesh may be made no two have one raw place or one line.
 pub fn meshes_are_sound()
     ensures sound { GridMeshesAreSound }
     ensures apart { GridMeshesLieApart }

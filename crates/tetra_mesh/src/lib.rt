@@ -11,7 +11,6 @@ mod faces;
 mod grid_places;
 mod laws;
 mod mesh;
-mod mesh_size;
 mod numbering;
 mod place;
 mod ranks;

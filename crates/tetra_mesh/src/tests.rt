@@ -13,7 +13,7 @@ const GREATEST: i64 = 4_611_686_018_427_387_903;
 
 // A view with these ends along each axis and so many cells.
 fn view_of(low: i64, high: i64, n: u32) -> Option<View> {
-    if low < -Fx::MAX_RAW || high > Fx::MAX_RAW || low > high || n == 0 || n > 256 {
+    if low < -Fx::MAX_RAW || high > Fx::MAX_RAW || low > high || n == 0 || n > 512 {
         return None;
     }
     Some(View {
@@ -27,7 +27,9 @@ fn view_of(low: i64, high: i64, n: u32) -> Option<View> {
         w: 1,
         h: 1,
         d: 1,
-        n,
+        nx: n,
+        ny: n,
+        nz: n,
     })
 }
 
@@ -38,9 +40,9 @@ fn is_placed(view: &View, v: &Vertex) -> bool
     let key = v.key;
     1 <= key.dir
         && key.dir <= 7
-        && u32::from(key.x) + u32::from(key.dir % 2) <= view.n
-        && u32::from(key.y) + u32::from(key.dir / 2 % 2) <= view.n
-        && u32::from(key.z) + u32::from(key.dir / 4 % 2) <= view.n
+        && u32::from(key.x) + u32::from(key.dir % 2) <= view.nx
+        && u32::from(key.y) + u32::from(key.dir / 2 % 2) <= view.ny
+        && u32::from(key.z) + u32::from(key.dir / 4 % 2) <= view.nz
         && 1 <= v.t
         && v.t <= 65535
 }

@@ -22,7 +22,9 @@ counted n = record {
   w = n;
   h = n;
   d = n;
-  n = n;
+  nx = n;
+  ny = n;
+  nz = n;
 }
 
 -- a third of 2^33 is not whole: columns are rounded down, and rows the other way
@@ -63,6 +65,50 @@ no_room_along_z : fits_mesh (record (counted 4) { z0 = pos 5; z1 = pos 5 }) ≡ 
 unfolding has_room
 no_room_along_z = refl
 
+-- each axis is asked for its own cells: 131072 raw units are room for two of them and no more
+abbrev narrow : ℕ → ℕ → ℕ → Window
+narrow nx ny nz = record (counted 1) {
+  x0 = pos 0;
+  x1 = pos 131072;
+  y0 = pos 0;
+  y1 = pos 131072;
+  z0 = pos 0;
+  z1 = pos 131072;
+  nx = nx;
+  ny = ny;
+  nz = nz;
+}
+
+room_for_two : fits_mesh (narrow 2 2 2) ≡ true
+unfolding has_room
+room_for_two = refl
+
+third_along_x : fits_mesh (narrow 3 1 1) ≡ false
+unfolding has_room
+third_along_x = refl
+
+third_along_y : fits_mesh (narrow 1 3 1) ≡ false
+unfolding has_room
+third_along_y = refl
+
+third_along_z : fits_mesh (narrow 1 1 3) ≡ false
+unfolding has_room
+third_along_z = refl
+
+-- a mesh has at most 16777216 cells, which is 512 by 512 by 64 or 256 along each axis; of the products of three
+-- counts of at most 512 the next one is 145 by 317 by 365
+most_cells : fits_mesh (record (counted 1) { nx = 512; ny = 512; nz = 64 }) ≡ true
+unfolding has_room
+most_cells = refl
+
+most_along_each : fits_mesh (counted 256) ≡ true
+unfolding has_room
+most_along_each = refl
+
+nine_cells_more : fits_mesh (record (counted 1) { nx = 145; ny = 317; nz = 365 }) ≡ false
+unfolding has_room
+nine_cells_more = refl
+
 -- of 17 indices from 3 on the lower half has 9
 lower_half_has_the_odd_index : middle 3 20 ≡ 12
 lower_half_has_the_odd_index = refl
@@ -87,7 +133,7 @@ none_along_z h = omega (arith, h.z)
 lone_pixel : root_box_of (counted 1) Raster ≡ one_sample
 lone_pixel = refl
 
--- ---- a view whose axes differ: 3 columns, 4 rows, 5 layers and 6 cells
+-- ---- a view whose axes differ: 3 columns, 4 rows and 5 layers, and 6 by 3 by 4 cells
 
 abbrev uneven : Window
 uneven = record {
@@ -101,7 +147,9 @@ uneven = record {
   w = 3;
   h = 4;
   d = 5;
-  n = 6;
+  nx = 6;
+  ny = 3;
+  nz = 4;
 }
 
 -- half of 7 along x, and two thirds of 30 from the top along y
@@ -112,8 +160,8 @@ uneven_pixel = refl
 uneven_layer : point_of uneven Height 1 1 3 ≡ record { x = pos 13; y = pos 40; z = pos 325 }
 uneven_layer = refl
 
--- a sixth of 7, a third of 30 and two thirds of 300
-uneven_corner : point_of uneven Grid 1 2 4 ≡ record { x = pos 11; y = pos 30; z = pos 300 }
+-- a sixth of 7, two thirds of 30 and three quarters of 300
+uneven_corner : point_of uneven Grid 1 2 3 ≡ record { x = pos 11; y = pos 40; z = pos 325 }
 uneven_corner = refl
 
 -- the samples of an image, of a height map and of a mesh, along each axis
@@ -123,7 +171,7 @@ uneven_pixels = refl
 uneven_layers : root_box_of uneven Height ≡ record { x0 = 0; x1 = 3; y0 = 0; y1 = 4; z0 = 0; z1 = 5 }
 uneven_layers = refl
 
-uneven_cells : root_box_of uneven Grid ≡ record { x0 = 0; x1 = 6; y0 = 0; y1 = 6; z0 = 0; z1 = 6 }
+uneven_cells : root_box_of uneven Grid ≡ record { x0 = 0; x1 = 6; y0 = 0; y1 = 3; z0 = 0; z1 = 4 }
 uneven_cells = refl
 
 -- the ranges of columns 1 and 2 and of rows 0 to 2, and those of the corners of some cells
@@ -143,11 +191,11 @@ ranges_of_layers : region_of uneven Height (record { x0 = 1; x1 = 3; y0 = 0; y1 
     }
 ranges_of_layers = refl
 
-ranges_of_cells : region_of uneven Grid (record { x0 = 1; x1 = 3; y0 = 2; y1 = 5; z0 = 0; z1 = 4 })
+ranges_of_cells : region_of uneven Grid (record { x0 = 1; x1 = 3; y0 = 1; y1 = 3; z0 = 0; z1 = 2 })
     ≡ record {
       x = record { lo = pos 11; hi = pos 13 };
-      y = record { lo = pos 30; hi = pos 45 };
-      z = record { lo = pos 100; hi = pos 300 };
+      y = record { lo = pos 30; hi = pos 50 };
+      z = record { lo = pos 100; hi = pos 250 };
     }
 ranges_of_cells = refl
 
@@ -187,7 +235,7 @@ steps_of_layers : steps_of uneven Height axes.X ∷ steps_of uneven Height axes.
 steps_of_layers = refl
 
 steps_of_cells : steps_of uneven Grid axes.X ∷ steps_of uneven Grid axes.Y ∷ steps_of uneven Grid axes.Z ∷ []
-    ≡ 6 ∷ 6 ∷ 6 ∷ []
+    ≡ 6 ∷ 3 ∷ 4 ∷ []
 steps_of_cells = refl
 
 -- columns 1 and 2 are at 13 and 17: neither the place of column 0 is among them nor one between
@@ -220,7 +268,9 @@ largest_window : IsWindow (record {
   w = 4096;
   h = 4096;
   d = 1024;
-  n = 256;
+  nx = 512;
+  ny = 512;
+  nz = 512;
 })
 largest_window = record {
   x = largest_ends;
@@ -230,7 +280,9 @@ largest_window = record {
   w = record { some = omega arith; few = omega arith };
   h = record { some = omega arith; few = omega arith };
   d = record { some = omega arith; few = omega arith };
-  n = record { some = omega arith; few = omega arith };
+  nx = record { some = omega arith; few = omega arith };
+  ny = record { some = omega arith; few = omega arith };
+  nz = record { some = omega arith; few = omega arith };
 }
 
 -- the ends of an axis may be one place, and a count may be 1
@@ -241,14 +293,20 @@ lone_place = record {
   ordered = record { le = tt };
 }
 
-lone_count : IsCount 256 1
+lone_count : IsCount 512 1
 lone_count = record { some = omega arith; few = omega arith }
 
-no_window_has_more : (v : Window) → IsWindow v → (v.w ≤ 4096) × (v.h ≤ 4096) × (v.d ≤ 1024) × (v.n ≤ 256)
-no_window_has_more v is = (is.w.few, is.h.few, is.d.few, is.n.few)
+no_window_has_more : (v : Window) → IsWindow v → (v.w ≤ 4096) × (v.h ≤ 4096) × (v.d ≤ 1024)
+no_window_has_more v is = (is.w.few, is.h.few, is.d.few)
 
-none_has_none : (v : Window) → IsWindow v → (1 ≤ v.w) × (1 ≤ v.h) × (1 ≤ v.d) × (1 ≤ v.n)
-none_has_none v is = (is.w.some, is.h.some, is.d.some, is.n.some)
+no_mesh_has_more : (v : Window) → IsWindow v → (v.nx ≤ 512) × (v.ny ≤ 512) × (v.nz ≤ 512)
+no_mesh_has_more v is = (is.nx.few, is.ny.few, is.nz.few)
+
+none_has_none : (v : Window) → IsWindow v → (1 ≤ v.w) × (1 ≤ v.h) × (1 ≤ v.d)
+none_has_none v is = (is.w.some, is.h.some, is.d.some)
+
+no_mesh_has_none : (v : Window) → IsWindow v → (1 ≤ v.nx) × (1 ≤ v.ny) × (1 ≤ v.nz)
+no_mesh_has_none v is = (is.nx.some, is.ny.some, is.nz.some)
 
 ends_are_in_order : (v : Window) → IsWindow v → (v.x0 ≤ℤ v.x1) × (v.y0 ≤ℤ v.y1) × (v.z0 ≤ℤ v.z1)
 ends_are_in_order v is = (is.x.ordered, is.y.ordered, is.z_ends.ordered)

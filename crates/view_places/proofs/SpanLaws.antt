@@ -67,9 +67,9 @@ ranges v Raster axes.Z low high is le = rising v Raster axes.Z low high le (λ i
 ranges v Height axes.X low high is le = rising v Height axes.X low high le (λ i j. rises v.x0 v.x1 (v.w - 1) i j is.x)
 ranges v Height axes.Y low high is le = falling v Height axes.Y low high le (λ i j. falls v.y0 v.y1 (v.h - 1) i j is.y)
 ranges v Height axes.Z low high is le = rising v Height axes.Z low high le (λ i j. rises v.z0 v.z1 (v.d - 1) i j is.z_ends)
-ranges v Grid axes.X low high is le = rising v Grid axes.X low high le (λ i j. rises v.x0 v.x1 v.n i j is.x)
-ranges v Grid axes.Y low high is le = rising v Grid axes.Y low high le (λ i j. rises v.y0 v.y1 v.n i j is.y)
-ranges v Grid axes.Z low high is le = rising v Grid axes.Z low high le (λ i j. rises v.z0 v.z1 v.n i j is.z_ends)
+ranges v Grid axes.X low high is le = rising v Grid axes.X low high le (λ i j. rises v.x0 v.x1 v.nx i j is.x)
+ranges v Grid axes.Y low high is le = rising v Grid axes.Y low high le (λ i j. rises v.y0 v.y1 v.ny i j is.y)
+ranges v Grid axes.Z low high is le = rising v Grid axes.Z low high le (λ i j. rises v.z0 v.z1 v.nz i j is.z_ends)
 
 -- the way is no longer than the whole
 way_short : (n steps i : ℕ) → i ≤ steps → distance_of (pos n) steps i ≤ℤ pos n
@@ -117,9 +117,9 @@ raw_place_of v Raster axes.Z i is le = is.z
 raw_place_of v Height axes.X i is le = raw_up v.x0 v.x1 (v.w - 1) i is.x le
 raw_place_of v Height axes.Y i is le = raw_down v.y0 v.y1 (v.h - 1) i is.y le
 raw_place_of v Height axes.Z i is le = raw_up v.z0 v.z1 (v.d - 1) i is.z_ends le
-raw_place_of v Grid axes.X i is le = raw_up v.x0 v.x1 v.n i is.x le
-raw_place_of v Grid axes.Y i is le = raw_up v.y0 v.y1 v.n i is.y le
-raw_place_of v Grid axes.Z i is le = raw_up v.z0 v.z1 v.n i is.z_ends le
+raw_place_of v Grid axes.X i is le = raw_up v.x0 v.x1 v.nx i is.x le
+raw_place_of v Grid axes.Y i is le = raw_up v.y0 v.y1 v.ny i is.y le
+raw_place_of v Grid axes.Z i is le = raw_up v.z0 v.z1 v.nz i is.z_ends le
 
 pub spans : RangesAreSpans
 spans v lattice axis low high is few last =

@@ -1,8 +1,9 @@
 -- The test of a window is what it tests.
-use Rattle.std.specs.Prelude.{◌≡◌, ◌↔◌, ◌*◌, IsTrue, Bool, true, false, ◌&&◌, ◌≤ℤ◌, T, ℤ, ℕ, pos, ◌-ℤ◌}
+use Rattle.std.specs.Prelude.{◌≡◌, ◌↔◌, ◌*◌, ◌≤◌, nat_le, IsTrue, Bool, true, false, ◌&&◌, ◌≤ℤ◌, T, ℤ, ℕ, pos, ◌-ℤ◌}
 use Rattle.std.specs.Int.Signed.{le_z_yes}
-use Rattle.std.proofs.Common.{refl}
-use Rattle.view_places.specs.Window.{Window, FitsMesh, fits_mesh, has_room}
+use Rattle.std.proofs.Common.{refl, arith}
+use Rattle.std.proofs.lemmas.Bool.Decides.{nat_tests}
+use Rattle.view_places.specs.Window.{Window, FitsMesh, cells_are_few, cells_have_room, fits_mesh, has_room}
 
 to_true : (b : Bool) → T b → b ≡ true
 to_true true t = refl
@@ -31,17 +32,32 @@ all_true false b c e = absurd cc
 true_all : (a b c : Bool) → a ≡ true → b ≡ true → c ≡ true → (a && (b && c)) ≡ true
 true_all a b c ha hb hc = rw (ha, hb, hc) refl
 
+few_yes : (cells : ℕ) → nat_le cells 16777216 ≡ true → cells ≤ 16777216
+few_yes cells e = grind (arith, nat_tests, e)
+
+yes_few : (cells : ℕ) → cells ≤ 16777216 → nat_le cells 16777216 ≡ true
+yes_few cells h = grind (arith, nat_tests, h)
+
+both_true : (a b : Bool) → (a && b) ≡ true → (a ≡ true) × (b ≡ true)
+both_true true true e = (refl, refl)
+both_true true false e = absurd cc
+both_true false b e = absurd cc
+
 pub fits_mesh_is : (v : Window) → IsTrue (fits_mesh v) ↔ FitsMesh v
 fits_mesh_is v = (
-  λ h. let each =
-      all_true (has_room v.x0 v.x1 v.n) (has_room v.y0 v.y1 v.n) (has_room v.z0 v.z1 v.n) h in
+  λ h. let both = both_true (cells_have_room v) (cells_are_few v) h in
+      let each = all_true (has_room v.x0 v.x1 v.nx) (has_room v.y0 v.y1 v.ny) (has_room v.z0 v.z1 v.nz) both.0 in
       record {
-        x = room_yes v.x0 v.x1 v.n each.0;
-        y = room_yes v.y0 v.y1 v.n each.1;
-        z = room_yes v.z0 v.z1 v.n each.2;
+        x = room_yes v.x0 v.x1 v.nx each.0;
+        y = room_yes v.y0 v.y1 v.ny each.1;
+        z = room_yes v.z0 v.z1 v.nz each.2;
+        all = few_yes (v.nx * (v.ny * v.nz)) both.1;
       },
-  λ f. true_all _ _ _ (yes_room v.x0 v.x1 v.n f.x) (yes_room v.y0 v.y1 v.n f.y)
-      (yes_room v.z0 v.z1 v.n f.z),
+  λ f. rw (
+    true_all _ _ _ (yes_room v.x0 v.x1 v.nx f.x) (yes_room v.y0 v.y1 v.ny f.y)
+        (yes_room v.z0 v.z1 v.nz f.z),
+    yes_few (v.nx * (v.ny * v.nz)) f.all,
+  ) refl,
 )
 
 pub tested : (v : Window) (b : Bool) → b ≡ fits_mesh v → IsTrue b ↔ FitsMesh v

@@ -36,7 +36,9 @@ samples_along v Raster Z = record { low = v.z; high = v.z; steps = 0; course = L
 samples_along v Height X = from_end_to_end v X (v.w - 1) Rising
 samples_along v Height Y = from_end_to_end v Y (v.h - 1) Falling
 samples_along v Height Z = from_end_to_end v Z (v.d - 1) Rising
-samples_along v Grid axis = from_end_to_end v axis v.n Rising
+samples_along v Grid X = from_end_to_end v X v.nx Rising
+samples_along v Grid Y = from_end_to_end v Y v.ny Rising
+samples_along v Grid Z = from_end_to_end v Z v.nz Rising
 
 -- how many steps lie between the first and the last sample of an axis
 abbrev pub steps_of : Window → Lattice → Axis → ℕ

@@ -15,7 +15,7 @@ use Rattle.view_places.specs.Window.{Window}
 abbrev pub root_box_of : Window → Lattice → Indices
 root_box_of v Raster = record { x0 = 0; x1 = v.w; y0 = 0; y1 = v.h; z0 = 0; z1 = 1 }
 root_box_of v Height = record { x0 = 0; x1 = v.w; y0 = 0; y1 = v.h; z0 = 0; z1 = v.d }
-root_box_of v Grid = record { x0 = 0; x1 = v.n; y0 = 0; y1 = v.n; z0 = 0; z1 = v.n }
+root_box_of v Grid = record { x0 = 0; x1 = v.nx; y0 = 0; y1 = v.ny; z0 = 0; z1 = v.nz }
 
 -- a box lies in the root box
 pub record IsInRoot (v : Window) (lattice : Lattice) (b : Indices) : Type 0 where

@@ -79,6 +79,7 @@ impl Default for IndexBox {
 /// The halves of a box, by z, then by y, then by x, the lower ones first: each side that is longer
 /// than `leaf` is halved, and the lower half has the odd index. It is the box alone where no side is
 /// longer.
+#[inline]
 pub fn split(b: IndexBox, leaf: u32) -> ArrayVec<IndexBox, 8>
     requires { 0 < leaf }
     ensures { result.items ≡ halves_of leaf b }
@@ -95,6 +96,7 @@ pub fn split(b: IndexBox, leaf: u32) -> ArrayVec<IndexBox, 8>
 }
 
 // Adds the halves of a box by y, then by x.
+#[inline]
 fn push_by_rows(b: IndexBox, leaf: u32, halves: &mut ArrayVec<IndexBox, 8>)
     requires leaf { 0 < leaf }
     requires room { array_vec_len halves.old ≤ 4 }
@@ -112,6 +114,7 @@ fn push_by_rows(b: IndexBox, leaf: u32, halves: &mut ArrayVec<IndexBox, 8>)
 }
 
 // Adds the halves of a box by x.
+#[inline]
 fn push_by_columns(b: IndexBox, leaf: u32, halves: &mut ArrayVec<IndexBox, 8>)
     requires leaf { 0 < leaf }
     requires room { array_vec_len halves.old ≤ 6 }

@@ -18,6 +18,6 @@ pub enum Lattice {
     Raster,
     /// w columns, h rows and d layers, row 0 on top and layer 0 lowest.
     Height,
-    /// The corners of n cells along each axis.
+    /// The corners of nx by ny by nz cells.
     Grid,
 }

@@ -32,7 +32,9 @@ pub fn samples_along(view: &View, lattice: Lattice, axis: Axis) -> AxisSamples
             };
         }
         (Lattice::Height, Axis::Z) => (view.d - 1, Course::Rising),
-        (Lattice::Grid, _) => (view.n, Course::Rising),
+        (Lattice::Grid, Axis::X) => (view.nx, Course::Rising),
+        (Lattice::Grid, Axis::Y) => (view.ny, Course::Rising),
+        (Lattice::Grid, Axis::Z) => (view.nz, Course::Rising),
     };
     AxisSamples {
         low,
@@ -49,7 +51,7 @@ pub fn root(view: &View, lattice: Lattice) -> IndexBox
     let (x1, y1, z1) = match lattice {
         Lattice::Raster => (view.w, view.h, 1),
         Lattice::Height => (view.w, view.h, view.d),
-        Lattice::Grid => (view.n, view.n, view.n),
+        Lattice::Grid => (view.nx, view.ny, view.nz),
     };
     IndexBox {
         x0: 0,

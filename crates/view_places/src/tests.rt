@@ -5,6 +5,7 @@ ghost use Rattle.view_places.specs.Places.{steps_of};
 use super::*;
 use fixed_ops::Fx;
 use interval_ops::Region;
+use kuhn_cells::GridSize;
 use std::test::Fail;
 
 const ONE: i64 = 1 << 32;
@@ -27,7 +28,9 @@ fn view_of(low: i64, high: i64, count: u32) -> Option<View> {
         w: count,
         h: count,
         d: count.min(1024),
-        n: count.min(256),
+        nx: count.min(512),
+        ny: count.min(512),
+        nz: count.min(512),
     })
 }
 
@@ -40,7 +43,9 @@ fn steps(view: &View, lattice: Lattice, axis: Axis) -> u32
         (Lattice::Raster | Lattice::Height, Axis::Y) => view.h - 1,
         (Lattice::Raster, Axis::Z) => 0,
         (Lattice::Height, Axis::Z) => view.d - 1,
-        (Lattice::Grid, _) => view.n,
+        (Lattice::Grid, Axis::X) => view.nx,
+        (Lattice::Grid, Axis::Y) => view.ny,
+        (Lattice::Grid, Axis::Z) => view.nz,
     }
 }
 
@@ -199,19 +204,86 @@ fn sample_is_the_number_at_its_place(rt: HostRuntime) -> Result<(), Fail> {
 }
 
 #[test]
-fn views_tell_what_they_fit(rt: HostRuntime) -> Result<(), Fail> {
-    for (low, high, count, height, mesh) in [
-        (0, 16_777_216, 256, true, true),
-        (0, 16_777_215, 256, true, false),
-        (0, ONE, 1024, true, true),
-        (0, ONE, 1025, false, true),
+fn views_tell_whether_they_fit_a_height_map(rt: HostRuntime) -> Result<(), Fail> {
+    for (count, fits) in [(1, true), (1024, true), (1025, false)] {
+        let view = view_of(0, ONE, count).ok_or("a view")?;
+        assert_eq!(rt; view.fits_height(), fits, "{count}");
+    }
+    Ok(())
+}
+
+// A view whose axes begin at 0 and have these lengths and these numbers of cells.
+fn mesh_view(x1: i64, y1: i64, z1: i64, nx: u32, ny: u32, nz: u32) -> Option<View> {
+    if x1 < 0 || y1 < 0 || z1 < 0 || x1 > ONE || y1 > ONE || z1 > ONE {
+        return None;
+    }
+    if nx == 0 || ny == 0 || nz == 0 || nx > 512 || ny > 512 || nz > 512 {
+        return None;
+    }
+    Some(View {
+        x0: 0,
+        x1,
+        y0: 0,
+        y1,
+        z0: 0,
+        z1,
+        z: 0,
+        w: 1,
+        h: 1,
+        d: 1,
+        nx,
+        ny,
+        nz,
+    })
+}
+
+#[test]
+fn views_tell_whether_they_fit_a_mesh(rt: HostRuntime) -> Result<(), Fail> {
+    // As far as 512 cells of 65536 raw units each.
+    let room = 512 << 16;
+    for (lengths, cells, fits) in [
+        ([ONE, ONE, ONE], [512, 512, 64], true),
+        ([ONE, ONE, ONE], [64, 512, 512], true),
+        ([ONE, ONE, ONE], [512, 64, 512], true),
+        ([ONE, ONE, ONE], [256, 256, 256], true),
+        // 16777225 cells, the next number that three counts make.
+        ([ONE, ONE, ONE], [145, 317, 365], false),
+        ([ONE, ONE, ONE], [365, 145, 317], false),
+        ([ONE, ONE, ONE], [512, 512, 512], false),
+        // Each axis has its own room.
+        ([room, ONE, ONE], [512, 1, 1], true),
+        ([ONE, room, ONE], [1, 512, 1], true),
+        ([ONE, ONE, room], [1, 1, 512], true),
+        ([room - 1, ONE, ONE], [512, 1, 1], false),
+        ([ONE, room - 1, ONE], [1, 512, 1], false),
+        ([ONE, ONE, room - 1], [1, 1, 512], false),
+        ([room - 1, room - 1, room - 1], [511, 511, 64], true),
     ] {
-        let view = view_of(low, high, count).ok_or("a view")?;
-        assert_eq!(rt;
-            (view.fits_height(), view.fits_mesh()),
-            (height, mesh),
-            "{high} {count}"
-        );
+        let ([x1, y1, z1], [nx, ny, nz]) = (lengths, cells);
+        let view = mesh_view(x1, y1, z1, nx, ny, nz).ok_or("a view")?;
+        assert_eq!(rt; view.fits_mesh(), fits, "{lengths:?} {cells:?}");
+    }
+    Ok(())
+}
+
+// The raw place of point 1 of a view's grid along an axis.
+fn first_step(view: &View, axis: Axis) -> Option<i64> {
+    if steps(view, Lattice::Grid, axis) == 0 {
+        return None;
+    }
+    Some(raw_place(view, Lattice::Grid, axis, 1))
+}
+
+#[test]
+fn each_axis_of_a_mesh_has_its_own_cells(rt: HostRuntime) -> Result<(), Fail> {
+    let view = mesh_view(ONE, ONE, ONE, 2, 3, 4).ok_or("a view")?;
+    assert_eq!(rt; view.grid(), GridSize { x: 2, y: 3, z: 4 });
+    let cells = root(&view, Lattice::Grid);
+    assert_eq!(rt; (cells.x0, cells.y0, cells.z0), (0, 0, 0));
+    assert_eq!(rt; (cells.x1, cells.y1, cells.z1), (2, 3, 4));
+    // The first point behind the lower end of each axis.
+    for (axis, expected) in [(Axis::X, ONE / 2), (Axis::Y, ONE / 3), (Axis::Z, ONE / 4)] {
+        assert_eq!(rt; first_step(&view, axis), Some(expected), "{axis:?}");
     }
     Ok(())
 }
@@ -268,7 +340,7 @@ fn spanned(view: &View, lattice: Lattice, b: IndexBox) -> Option<Region> {
         Lattice::Height if b.x1 <= view.w && b.y1 <= view.h && b.z1 <= view.d => {
             Some(span_of(view, Lattice::Height, b))
         }
-        Lattice::Grid if b.x1 <= view.n && b.y1 <= view.n && b.z1 <= view.n => {
+        Lattice::Grid if b.x1 <= view.nx && b.y1 <= view.ny && b.z1 <= view.nz => {
             Some(span_of(view, Lattice::Grid, b))
         }
         _ => None,

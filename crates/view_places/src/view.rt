@@ -2,11 +2,12 @@
 ghost use Rattle.std.specs.Prelude.{◌≡◌, ◌↔◌, IsTrue};
 ghost use Rattle.view_places.specs.Window.{AreEnds, IsCount, has_room as has_room_for};
 
+use kuhn_cells::GridSize;
 use std::marker::Model;
 
 /// A window onto a solid, and how finely it is sampled. Ends and height are raw numbers, of 2^-32.
 /// They are numbers of the modeller, and the ends of an axis are in order. w and h are 1 to 4096, d
-/// is 1 to 1024, and n is 1 to 256.
+/// is 1 to 1024, and nx, ny and nz are 1 to 512.
 #[derive(Clone, Copy, Debug, PartialEq, Eq)]
 pub struct View {
     /// The lower end along x.
@@ -29,8 +30,12 @@ pub struct View {
     pub h: u32,
     /// The layers of a height map.
     pub d: u32,
-    /// The cells of a mesh along each axis.
-    pub n: u32,
+    /// The cells of a mesh along x.
+    pub nx: u32,
+    /// The cells of a mesh along y.
+    pub ny: u32,
+    /// The cells of a mesh along z.
+    pub nz: u32,
 }
 
 impl Model for View {
@@ -49,7 +54,9 @@ impl Model for View {
       w = v.w;
       h = v.h;
       d = v.d;
-      n = v.n;
+      nx = v.nx;
+      ny = v.ny;
+      nz = v.nz;
     } };
 
     ghost invariant = { λ v. IsWindow (record {
@@ -63,7 +70,9 @@ impl Model for View {
       w = v.w;
       h = v.h;
       d = v.d;
-      n = v.n;
+      nx = v.nx;
+      ny = v.ny;
+      nz = v.nz;
     }) };
 
     ghost inverse = { λ v. record {
@@ -77,12 +86,16 @@ impl Model for View {
       w = v.w;
       h = v.h;
       d = v.d;
-      n = v.n;
+      nx = v.nx;
+      ny = v.ny;
+      nz = v.nz;
     } };
 }
 
 impl View {
-    ghost use Rattle.view_places.specs.Window.{FitsHeight, FitsMesh, IsWindow, fits_mesh};
+    ghost use Rattle.kuhn_cells.specs.Sizes.{IsBounded};
+    ghost use Rattle.view_places.specs.Window.{FitsHeight, FitsMesh, IsWindow, cells_are_few, cells_have_room};
+    ghost use Rattle.view_places.specs.Window.{fits_mesh, size_of};
 
     /// Whether a height map may be drawn of it: w and h are at most 1024.
     #[inline]
@@ -93,16 +106,46 @@ impl View {
         self.w <= 1024 && self.h <= 1024
     }
 
-    /// Whether a mesh may be made of it: along no axis are the ends nearer than 65536 raw units a
-    /// cell.
+    /// How many cells the grid of its mesh has.
+    #[inline]
+    pub fn grid(&self) -> GridSize
+        ensures size { result ≡ size_of self.now }
+        ensures bounded { FitsMesh self.now → IsBounded result }
+        ensures window { IsWindow self.now }
+    {
+        GridSize {
+            x: self.nx,
+            y: self.ny,
+            z: self.nz,
+        }
+    }
+
+    /// Whether a mesh may be made of it: its cells have room along each axis, and they are few.
     #[inline]
     pub fn fits_mesh(&self) -> bool
         ensures value { result ≡ fits_mesh self.now }
         ensures fits { IsTrue result ↔ FitsMesh self.now }
         ensures window { IsWindow self.now }
     {
-        has_room(self.x0, self.x1, self.n)
-            && (has_room(self.y0, self.y1, self.n) && has_room(self.z0, self.z1, self.n))
+        self.cells_have_room() && self.cells_are_few()
+    }
+
+    /// Whether along no axis the ends are nearer than 65536 raw units a cell of a mesh.
+    #[inline]
+    pub fn cells_have_room(&self) -> bool
+        ensures value { result ≡ cells_have_room self.now }
+        ensures window { IsWindow self.now }
+    {
+        has_room(self.x0, self.x1, self.nx)
+            && (has_room(self.y0, self.y1, self.ny) && has_room(self.z0, self.z1, self.nz))
+    }
+
+    /// Whether a mesh has at most 16777216 cells.
+    #[inline]
+    pub fn cells_are_few(&self) -> bool
+        ensures { result ≡ cells_are_few self.now }
+    {
+        self.nx * (self.ny * self.nz) <= 16_777_216
     }
 }
 
@@ -111,7 +154,7 @@ impl View {
 #[tactic(auto, unfolding(crate::specs::Window::has_room))]
 fn has_room(low: i64, high: i64, cells: u32) -> bool
     requires ends { AreEnds low high }
-    requires cells { IsCount 256 cells }
+    requires cells { IsCount 512 cells }
     ensures { result ≡ has_room_for low high cells }
 {
     high - low >= i64::from(cells) * 65536

@@ -6,7 +6,7 @@ use Rattle.view_settings.specs.declared.forge.Forge.{Forge as Forged}
 use Rattle.view_settings.specs.declared.job.Job.TheVariants as jobs
 use Rattle.view_settings.specs.declared.kind.Kind.TheVariants as kinds
 use Rattle.view_settings.specs.declared.name.Name.{Name}
-use Rattle.view_settings.specs.declared.name.Name.TheVariants.{X0, X1, Y0, Y1, Z0, Z1, Z, W, H, D, N, Seed, Solids}
+use Rattle.view_settings.specs.declared.name.Name.TheVariants.{X0, X1, Y0, Y1, Z0, Z1, Z, W, H, D, N, Nx, Ny, Nz, Seed, Solids}
 use Rattle.view_settings.specs.declared.setting.Setting.{Setting}
 use Rattle.view_settings.specs.declared.setting.Value.TheVariants.{Raw, Count}
 use Rattle.view_settings.specs.declared.verb.Verb.TheVariants.{Render, Count as Counts, Height as Heights, Mesh, Text, Replay, Forge}
@@ -41,6 +41,15 @@ columns_of_counts = refl
 
 cells_of_a_mesh : kind_of Mesh N ≡ Some (kinds.Count 1 256)
 cells_of_a_mesh = refl
+
+cells_along_x : kind_of Mesh Nx ≡ Some (kinds.Count 1 512)
+cells_along_x = refl
+
+cells_along_y : kind_of Mesh Ny ≡ Some (kinds.Count 1 512)
+cells_along_y = refl
+
+cells_along_z : kind_of Mesh Nz ≡ Some (kinds.Count 1 512)
+cells_along_z = refl
 
 discs : kind_of Forge Solids ≡ Some (kinds.Count 1 5000)
 discs = refl
@@ -94,13 +103,13 @@ a_count name n = record { name = name; value = Count n }
 -- each setting by a value of its own, the last name first
 abbrev every_setting : List Setting
 every_setting =
-    a_count Solids 22 ∷ a_count Seed 21 ∷ a_count N 20 ∷ a_count D 19 ∷ a_count H 18 ∷
-    a_count W 17 ∷ a_number Z 16 ∷ a_number Z1 15 ∷ a_number Z0 14 ∷ a_number Y1 13 ∷
+    a_count Solids 25 ∷ a_count Seed 24 ∷ a_count Nz 23 ∷ a_count Ny 22 ∷ a_count Nx 21 ∷
+    a_count N 20 ∷ a_count D 19 ∷ a_count H 18 ∷ a_count W 17 ∷ a_number Z 16 ∷ a_number Z1 15 ∷ a_number Z0 14 ∷ a_number Y1 13 ∷
     a_number Y0 12 ∷ a_number X1 11 ∷ a_number X0 10 ∷ []
 
 each_setting_sets_its_own : forge_of every_setting ≡ record {
-  seed = 21;
-  solids = 22;
+  seed = 24;
+  solids = 25;
   view = record {
     x0 = pos 10;
     x1 = pos 11;
@@ -112,10 +121,26 @@ each_setting_sets_its_own : forge_of every_setting ≡ record {
     w = 17;
     h = 18;
     d = 19;
-    n = 20;
+    nx = 21;
+    ny = 22;
+    nz = 23;
   };
 }
 each_setting_sets_its_own = refl
+
+-- an axis without a count of its own has that of all axes, wherever this was given
+abbrev cells_along : List Setting → ℕ × ℕ × ℕ
+cells_along settings =
+    let v = window_of settings in (v.nx, v.ny, v.nz)
+
+cells_of_other_axes : cells_along (a_count Ny 3 ∷ a_count N 5 ∷ []) ≡ (5, 3, 5)
+cells_of_other_axes = refl
+
+in_the_other_order : cells_along (a_count N 5 ∷ a_count Ny 3 ∷ []) ≡ (5, 3, 5)
+in_the_other_order = refl
+
+cells_of_one_axis : cells_along (a_count Nz 7 ∷ []) ≡ (64, 64, 7)
+cells_of_one_axis = refl
 
 -- a window whose axes differ
 abbrev uneven : Window

@@ -91,19 +91,19 @@ AreSettings-push verb settings setting are is new = record {
   distinct = rw (map-push (λ s. number_of s.name) settings setting) (IsDistinct-push nat_eq_equiv (map (λ s. number_of s.name) settings) (number_of setting.name) are.distinct (list_any-map (nat_eq (number_of setting.name)) (λ s. number_of s.name) settings ∙ new));
 }
 
-numbers_below : (settings : List Setting) (n : ℕ) → list_any (nat_eq n) (map (λ s. number_of s.name) settings) ≡ true → n < 13
+numbers_below : (settings : List Setting) (n : ℕ) → list_any (nat_eq n) (map (λ s. number_of s.name) settings) ≡ true → n < 16
 numbers_below [] n e = absurd cc
 numbers_below (setting ∷ settings) n e = by (nat_eq n (number_of setting.name)) refl e (numbers_below settings n)
   where
     by : (b : Bool) → nat_eq n (number_of setting.name) ≡ b → (b || list_any (nat_eq n) (map (λ s. number_of s.name) settings)) ≡ true
-        → (list_any (nat_eq n) (map (λ s. number_of s.name) settings) ≡ true → n < 13) → n < 13
+        → (list_any (nat_eq n) (map (λ s. number_of s.name) settings) ≡ true → n < 16) → n < 16
     by true same e later = omega (arith, (Decides-eqb n (number_of setting.name)).0 same, number_of-below setting.name)
     by false other e later = later e
 
 -- there are at most as many settings as names
-pub settings_few : (given : Given) → AreSettings given → length given.settings ≤ 13
+pub settings_few : (given : Given) → AreSettings given → length given.settings ≤ 16
 settings_few given are =
-    omega (arith, length-le_from_distinct_below (map (λ s. number_of s.name) given.settings) 13 are.distinct (numbers_below given.settings), length-map given.settings (λ (s : Setting). number_of s.name))
+    omega (arith, length-le_from_distinct_below (map (λ s. number_of s.name) given.settings) 16 are.distinct (numbers_below given.settings), length-map given.settings (λ (s : Setting). number_of s.name))
 
 -- The ranges of counts, whatever the verb: of each verb, whose table computes.
 columns_range : (verb : Verb) (n : ℕ) → IsCountOf (kind_of verb names.W) n → IsCount 4096 n
@@ -121,6 +121,18 @@ layers_range other n is = record { some = grind arith; few = grind arith }
 cells_range : (verb : Verb) (n : ℕ) → IsCountOf (kind_of verb names.N) n → IsCount 256 n
 cells_range verbs.Render n is = absurd is
 cells_range other n is = record { some = grind arith; few = grind arith }
+
+cells_along_x : (verb : Verb) (n : ℕ) → IsCountOf (kind_of verb names.Nx) n → IsCount 512 n
+cells_along_x verbs.Render n is = absurd is
+cells_along_x other n is = record { some = grind arith; few = grind arith }
+
+cells_along_y : (verb : Verb) (n : ℕ) → IsCountOf (kind_of verb names.Ny) n → IsCount 512 n
+cells_along_y verbs.Render n is = absurd is
+cells_along_y other n is = record { some = grind arith; few = grind arith }
+
+cells_along_z : (verb : Verb) (n : ℕ) → IsCountOf (kind_of verb names.Nz) n → IsCount 512 n
+cells_along_z verbs.Render n is = absurd is
+cells_along_z other n is = record { some = grind arith; few = grind arith }
 
 solids_range : (verb : Verb) (n : ℕ) → IsCountOf (kind_of verb names.Solids) n → IsCount 5000 n
 solids_range verbs.Render n is = absurd is
@@ -140,6 +152,9 @@ count_range verb names.W n some is = columns_range verb n is
 count_range verb names.H n some is = rows_range verb n is
 count_range verb names.D n some is = layers_range verb n is
 count_range verb names.N n some is = cells_range verb n is
+count_range verb names.Nx n some is = cells_along_x verb n is
+count_range verb names.Ny n some is = cells_along_y verb n is
+count_range verb names.Nz n some is = cells_along_z verb n is
 count_range verb names.Solids n some is = solids_range verb n is
 
 -- a height map has at most 1024 columns and rows
@@ -171,5 +186,8 @@ greatest_small names.W = omega arith
 greatest_small names.H = omega arith
 greatest_small names.D = omega arith
 greatest_small names.N = omega arith
+greatest_small names.Nx = omega arith
+greatest_small names.Ny = omega arith
+greatest_small names.Nz = omega arith
 greatest_small names.Seed = omega arith
 greatest_small names.Solids = omega arith

@@ -20,14 +20,15 @@ use Rattle.view_settings.specs.declared.verb.Verb.{Verb}
 use Rattle.view_settings.specs.declared.verb.Verb.TheVariants as verbs
 use Rattle.view_settings.specs.declared.word_fault.WordFault.{WordFault}
 use Rattle.view_settings.specs.declared.word_fault.WordReason.{WordReason}
+use Rattle.view_settings.specs.declared.word_fault.WordReason.TheVariants.{EmptySpan}
 use Rattle.view_settings.specs.Grammar.{JobsHold}
 use Rattle.view_settings.specs.Kinds.{greatest_of}
 use Rattle.view_settings.specs.Names.{name_called}
 use Rattle.view_settings.specs.Setting.{IsSetting, IsValue, is_given, known, parts_of, setting_of, value_read}
 use Rattle.view_settings.specs.Settings.{Given, begun, finished, settled}
 use Rattle.view_settings.specs.Verbs.{IsJob, job_with, kind_of, mesh_job}
-use Rattle.view_settings.specs.Views.{count_or, is_empty, minus_one, one, raw_or, value_given, window_of}
-use Rattle.view_places.specs.Window.{AreEnds, FitsMesh, IsCount, IsWindow, Window, fits_mesh, has_room}
+use Rattle.view_settings.specs.Views.{cells_of, count_or, is_empty, minus_one, one, raw_or, value_given, window_of}
+use Rattle.view_places.specs.Window.{AreEnds, FitsMesh, IsCount, IsWindow, Window, cells_are_few, cells_have_room, has_room}
 use Rattle.view_settings.specs.Words.{after_words}
 use Rattle.view_settings.proofs.GivenLaws.{count_range, each-push, given_count, given_raw, height_fits}
 
@@ -207,6 +208,14 @@ neither true b c e = absurd cc
 ones-are_raw : IsRaw minus_one × IsRaw one
 ones-are_raw = ((omega (arith, ints), omega (arith, ints)), (omega (arith, ints), omega (arith, ints)))
 
+-- the cells of an axis for which none were given are few enough for each
+cells-given : (verb : Verb) (settings : List Setting) → AllByRecursion (IsSetting verb) settings
+    → IsCount 512 (cells_of settings)
+cells-given verb settings each =
+    let cells = count-given verb settings each names.N 64
+    (record { some = omega arith; few = omega arith }) in
+    record { some = omega (arith, cells.some); few = omega (arith, cells.few) }
+
 window-is : (verb : Verb) (settings : List Setting) → AllByRecursion (IsSetting verb) settings
     → is_empty (window_of settings) ≡ false → IsWindow (window_of settings)
 window-is verb settings each order =
@@ -214,6 +223,7 @@ window-is verb settings each order =
     let axes = neither (int_lt v.x1 v.x0) (int_lt v.y1 v.y0) (int_lt v.z1 v.z0) order in
     let low = ones-are_raw.0 in
     let high = ones-are_raw.1 in
+    let cells = cells-given verb settings each in
     record {
       x = ends-given verb settings each names.X0 names.X1 minus_one one low high axes.0;
       y = ends-given verb settings each names.Y0 names.Y1 minus_one one low high axes.1;
@@ -225,9 +235,21 @@ window-is verb settings each order =
           (record { some = omega arith; few = omega arith });
       d = count-given verb settings each names.D 255
           (record { some = omega arith; few = omega arith });
-      n = count-given verb settings each names.N 64
-          (record { some = omega arith; few = omega arith });
+      nx = count-given verb settings each names.Nx (cells_of settings) cells;
+      ny = count-given verb settings each names.Ny (cells_of settings) cells;
+      nz = count-given verb settings each names.Nz (cells_of settings) cells;
     }
+
+-- where a window was made, the job is that of its verb
+pub settled-made : (verb : Verb) (settings : List Setting) (v : Window)
+    → Some v ≡ cond (is_empty (window_of settings)) None (Some (window_of settings))
+    → job_with verb settings ≡ settled verb settings
+settled-made verb settings v made = by (is_empty (window_of settings)) made
+  where
+    by : (t : Bool) → Some v ≡ cond t None (Some (window_of settings))
+        → job_with verb settings ≡ cond t (Err EmptySpan) (job_with verb settings)
+    by true e = absurd cc
+    by false e = refl
 
 -- The test of whether a mesh may be made.
 
@@ -240,25 +262,27 @@ room-is : (low high : ℤ) (cells : ℕ) → has_room low high cells ≡ true
 unfolding has_room
 room-is low high cells e = le_z_yes (from-true _ e)
 
-fits-is : (v : Window) → fits_mesh v ≡ true → FitsMesh v
-fits-is v e =
-    let x = within-both (has_room v.x0 v.x1 v.n)
-    (has_room v.y0 v.y1 v.n && has_room v.z0 v.z1 v.n) e in
-    let others = within-both (has_room v.y0 v.y1 v.n) (has_room v.z0 v.z1 v.n) x.1 in
+fits-is : (v : Window) → cells_have_room v ≡ true → cells_are_few v ≡ true → FitsMesh v
+fits-is v room few =
+    let x = within-both (has_room v.x0 v.x1 v.nx)
+    (has_room v.y0 v.y1 v.ny && has_room v.z0 v.z1 v.nz) room in
+    let others = within-both (has_room v.y0 v.y1 v.ny) (has_room v.z0 v.z1 v.nz) x.1 in
     record {
-      x = room-is v.x0 v.x1 v.n x.0;
-      y = room-is v.y0 v.y1 v.n others.0;
-      z = room-is v.z0 v.z1 v.n others.1;
+      x = room-is v.x0 v.x1 v.nx x.0;
+      y = room-is v.y0 v.y1 v.ny others.0;
+      z = room-is v.z0 v.z1 v.nz others.1;
+      all = grind (arith, nat_tests, few);
     }
 
 -- The job of settings.
 
-mesh-is : (v : Window) → IsWindow v → IfOk (mesh_job v) IsJob
-mesh-is v window = by (fits_mesh v) refl
+pub mesh-is : (v : Window) → IsWindow v → IfOk (mesh_job v) IsJob
+mesh-is v window = by (cells_have_room v) (cells_are_few v) refl refl
   where
-    by : (t : Bool) → fits_mesh v ≡ t → IfOk (mesh_job v) IsJob
-    by false f = rw f tt
-    by true f = rw f (window, fits-is v f)
+    by : (room few : Bool) → cells_have_room v ≡ room → cells_are_few v ≡ few → IfOk (mesh_job v) IsJob
+    by false few r f = rw r tt
+    by true false r f = rw (r, f) tt
+    by true true r f = rw (r, f) (window, fits-is v r f)
 
 -- a mesh asks for its cells, and a model that is made for its discs
 made-is : (verb : Verb) (settings : List Setting) → AllByRecursion (IsSetting verb) settings

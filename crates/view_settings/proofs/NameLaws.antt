@@ -27,6 +27,9 @@ name_called-written names.W = refl
 name_called-written names.H = refl
 name_called-written names.D = refl
 name_called-written names.N = refl
+name_called-written names.Nx = refl
+name_called-written names.Ny = refl
+name_called-written names.Nz = refl
 name_called-written names.Seed = refl
 name_called-written names.Solids = refl
 
@@ -52,7 +55,7 @@ verb_found word None is none = sym (verb_missing word all_verbs none)
 pub name_found : (text : List ℕ) (found : Option Name) → IfSome found (λ name. text ≡ name_text name) → IfNone found ((name : Name) → text ≢ name_text name) → found ≡ name_called text
 name_found text (Some name) is none = rw is (sym (name_called-written name))
 name_found text None is none =
-    rw (told_apart _ _ (none names.X0), told_apart _ _ (none names.X1), told_apart _ _ (none names.Y0), told_apart _ _ (none names.Y1), told_apart _ _ (none names.Z0), told_apart _ _ (none names.Z1), told_apart _ _ (none names.Z)) (rw (told_apart _ _ (none names.W), told_apart _ _ (none names.H), told_apart _ _ (none names.D), told_apart _ _ (none names.N), told_apart _ _ (none names.Seed), told_apart _ _ (none names.Solids)) refl)
+    rw (told_apart _ _ (none names.X0), told_apart _ _ (none names.X1), told_apart _ _ (none names.Y0), told_apart _ _ (none names.Y1), told_apart _ _ (none names.Z0), told_apart _ _ (none names.Z1), told_apart _ _ (none names.Z)) (rw (told_apart _ _ (none names.W), told_apart _ _ (none names.H), told_apart _ _ (none names.D), told_apart _ _ (none names.N), told_apart _ _ (none names.Nx), told_apart _ _ (none names.Ny), told_apart _ _ (none names.Nz), told_apart _ _ (none names.Seed), told_apart _ _ (none names.Solids)) refl)
 
 -- the name of a number
 abbrev name_at : ℕ → Name
@@ -70,6 +73,9 @@ name_at-number_of names.W = refl
 name_at-number_of names.H = refl
 name_at-number_of names.D = refl
 name_at-number_of names.N = refl
+name_at-number_of names.Nx = refl
+name_at-number_of names.Ny = refl
+name_at-number_of names.Nz = refl
 name_at-number_of names.Seed = refl
 name_at-number_of names.Solids = refl
 
@@ -77,7 +83,7 @@ name_at-number_of names.Solids = refl
 pub same_names : (a b : Name) → is_same a b ≡ true → a ≡ b
 same_names a b same = sym (name_at-number_of a) ∙ ap name_at ((Decides-eqb (number_of a) (number_of b)).0 same) ∙ name_at-number_of b
 
-pub number_of-below : (name : Name) → number_of name < 13
+pub number_of-below : (name : Name) → number_of name < 16
 number_of-below names.X0 = omega arith
 number_of-below names.X1 = omega arith
 number_of-below names.Y0 = omega arith
@@ -89,5 +95,8 @@ number_of-below names.W = omega arith
 number_of-below names.H = omega arith
 number_of-below names.D = omega arith
 number_of-below names.N = omega arith
+number_of-below names.Nx = omega arith
+number_of-below names.Ny = omega arith
+number_of-below names.Nz = omega arith
 number_of-below names.Seed = omega arith
 number_of-below names.Solids = omega arith

@@ -6,11 +6,11 @@ use Rattle.fixed_ops.specs.Numerals.{cut_magnitude, is_unsigned_numeral, nearest
 use Rattle.view_settings.specs.declared.job.Job.TheVariants as jobs
 use Rattle.view_settings.specs.declared.kind.Kind.TheVariants as kinds
 use Rattle.view_settings.specs.declared.name.Name.{Name}
-use Rattle.view_settings.specs.declared.name.Name.TheVariants.{X0, X1, Y0, Y1, Z0, Z1, Z, W, H, D, N, Seed, Solids}
+use Rattle.view_settings.specs.declared.name.Name.TheVariants.{X0, X1, Y0, Y1, Z0, Z1, Z, W, H, D, N, Nx, Ny, Nz, Seed, Solids}
 use Rattle.view_settings.specs.declared.setting.Value.TheVariants.{Count, Raw}
 use Rattle.view_settings.specs.declared.verb.Verb.{Verb}
 use Rattle.view_settings.specs.declared.verb.Verb.TheVariants as verbs
-use Rattle.view_settings.specs.declared.word_fault.WordReason.TheVariants.{NoVerb, UnknownVerb, NotASetting, UnknownSetting, Twice, BadValue, OutOfRange, EmptySpan, CellTooSmall}
+use Rattle.view_settings.specs.declared.word_fault.WordReason.TheVariants.{NoVerb, UnknownVerb, NotASetting, UnknownSetting, Twice, BadValue, OutOfRange, EmptySpan, CellTooSmall, TooManyCells}
 use Rattle.view_settings.specs.Kinds.{greatest_of}
 use Rattle.view_settings.specs.Verbs.{kind_of}
 use Rattle.view_settings.specs.Names.{name_called, names, number_of}
@@ -21,9 +21,9 @@ use Rattle.view_settings.specs.Words.{job_of}
 
 each_name_is_read : map name_called (codes "x0" ∷ codes "x1" ∷ codes "y0" ∷ codes "y1"
     ∷ codes "z0" ∷ codes "z1" ∷ codes "z" ∷ codes "w" ∷ codes "h" ∷ codes "d" ∷ codes "n"
-    ∷ codes "seed" ∷ codes "solids" ∷ codes "x" ∷ [])
+    ∷ codes "nx" ∷ codes "ny" ∷ codes "nz" ∷ codes "seed" ∷ codes "solids" ∷ codes "x" ∷ [])
     ≡ Some X0 ∷ Some X1 ∷ Some Y0 ∷ Some Y1 ∷ Some Z0 ∷ Some Z1 ∷ Some Z ∷ Some W ∷ Some H
-    ∷ Some D ∷ Some N ∷ Some Seed ∷ Some Solids ∷ None ∷ []
+    ∷ Some D ∷ Some N ∷ Some Nx ∷ Some Ny ∷ Some Nz ∷ Some Seed ∷ Some Solids ∷ None ∷ []
 each_name_is_read = refl
 
 each_verb_is_read : map verb_named (codes "render" ∷ codes "height" ∷ codes "mesh" ∷ codes "count"
@@ -33,7 +33,7 @@ each_verb_is_read : map verb_named (codes "render" ∷ codes "height" ∷ codes 
 each_verb_is_read = refl
 
 -- no two names have one number
-names_are_numbered : map number_of names ≡ range_with_len 0 13
+names_are_numbered : map number_of names ≡ range_with_len 0 16
 names_are_numbered = refl
 
 -- the settings that a verb has
@@ -46,7 +46,8 @@ images_are_flat = refl
 height_maps_are_deep : settings_of verbs.Height ≡ X0 ∷ X1 ∷ Y0 ∷ Y1 ∷ Z0 ∷ Z1 ∷ W ∷ H ∷ D ∷ []
 height_maps_are_deep = refl
 
-meshes_have_cells : settings_of verbs.Mesh ≡ X0 ∷ X1 ∷ Y0 ∷ Y1 ∷ Z0 ∷ Z1 ∷ N ∷ []
+meshes_have_cells :
+    settings_of verbs.Mesh ≡ X0 ∷ X1 ∷ Y0 ∷ Y1 ∷ Z0 ∷ Z1 ∷ N ∷ Nx ∷ Ny ∷ Nz ∷ []
 meshes_have_cells = refl
 
 counts_are_of_images : settings_of verbs.Count ≡ X0 ∷ X1 ∷ Y0 ∷ Y1 ∷ Z ∷ W ∷ H ∷ []
@@ -61,7 +62,8 @@ scripts_have_none = refl
 models_are_made_of_a_seed : settings_of verbs.Forge ≡ X0 ∷ X1 ∷ Y0 ∷ Y1 ∷ Z ∷ W ∷ H ∷ Seed ∷ Solids ∷ []
 models_are_made_of_a_seed = refl
 
-greatest_counts : map greatest_of (W ∷ H ∷ D ∷ N ∷ Solids ∷ []) ≡ 4096 ∷ 4096 ∷ 1024 ∷ 256 ∷ 5000 ∷ []
+greatest_counts : map greatest_of (W ∷ H ∷ D ∷ N ∷ Nx ∷ Ny ∷ Nz ∷ Solids ∷ [])
+    ≡ 4096 ∷ 4096 ∷ 1024 ∷ 256 ∷ 512 ∷ 512 ∷ 512 ∷ 5000 ∷ []
 greatest_counts = refl
 
 no_count : value_read (kinds.Count 1 1024) (codes "0") ≡ Err OutOfRange
@@ -96,7 +98,9 @@ untold = record {
   w = 512;
   h = 512;
   d = 255;
-  n = 64;
+  nx = 64;
+  ny = 64;
+  nz = 64;
 }
 
 image_alone : job_of (codes "render" ∷ []) ≡ Ok (jobs.Render untold)
@@ -179,6 +183,36 @@ ends_exchanged = refl
 no_room : job_of (codes "mesh" ∷ codes "y0=1" ∷ []) ≡ Err (record { at = 0; reason = CellTooSmall })
 unfolding setting_of has_room cut_magnitude is_unsigned_numeral nearest_raw unsigned_raw
 no_room = refl
+
+too_many : job_of (codes "mesh" ∷ codes "nx=512" ∷ codes "ny=512" ∷ codes "nz=65" ∷ [])
+    ≡ Err (record { at = 0; reason = TooManyCells })
+unfolding setting_of has_room
+too_many = refl
+
+-- all three reasons hold, then the last two
+ends_are_asked_first :
+    job_of (codes "mesh" ∷ codes "nx=512" ∷ codes "ny=512" ∷ codes "nz=65" ∷ codes "x0=2" ∷ [])
+    ≡ Err (record { at = 0; reason = EmptySpan })
+unfolding setting_of has_room cut_magnitude is_unsigned_numeral nearest_raw unsigned_raw
+ends_are_asked_first = refl
+
+room_is_asked_next :
+    job_of (codes "mesh" ∷ codes "nx=512" ∷ codes "ny=512" ∷ codes "nz=65" ∷ codes "x0=1" ∷ [])
+    ≡ Err (record { at = 0; reason = CellTooSmall })
+unfolding setting_of has_room cut_magnitude is_unsigned_numeral nearest_raw unsigned_raw
+room_is_asked_next = refl
+
+-- a count that all axes share is asked for its own range, though no axis uses it
+unused_count :
+    job_of (codes "mesh" ∷ codes "nx=4" ∷ codes "ny=4" ∷ codes "nz=4" ∷ codes "n=257" ∷ [])
+    ≡ Err (record { at = 5; reason = OutOfRange })
+unfolding setting_of
+unused_count = refl
+
+flat_mesh : job_of (codes "mesh" ∷ codes "nz=2" ∷ codes "n=9" ∷ [])
+    ≡ Ok (jobs.Mesh (record untold { nx = 9; ny = 9; nz = 2 }))
+unfolding setting_of has_room
+flat_mesh = refl
 
 line_of_samples : job_of (codes "render" ∷ codes "y0=1" ∷ [])
     ≡ Ok (jobs.Render (record untold { y0 = pos 4294967296 }))

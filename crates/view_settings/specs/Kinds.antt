@@ -3,7 +3,7 @@ use Rattle.std.specs.Prelude.{◌≡◌, ℕ, ◌-◌, ◌^◌, Option, Some, No
 use Rattle.view_settings.specs.declared.kind.Kind.{Kind}
 use Rattle.view_settings.specs.declared.kind.Kind.TheVariants as kinds
 use Rattle.view_settings.specs.declared.name.Name.{Name}
-use Rattle.view_settings.specs.declared.name.Name.TheVariants.{X0, X1, Y0, Y1, Z0, Z1, Z, W, H, D, N, Seed, Solids}
+use Rattle.view_settings.specs.declared.name.Name.TheVariants.{X0, X1, Y0, Y1, Z0, Z1, Z, W, H, D, N, Nx, Ny, Nz, Seed, Solids}
 
 -- a count from 1 to the greatest one
 abbrev pub count_to : ℕ → Option Kind
@@ -22,6 +22,9 @@ window_kind W = None
 window_kind H = None
 window_kind D = None
 window_kind N = None
+window_kind Nx = None
+window_kind Ny = None
+window_kind Nz = None
 window_kind Seed = None
 window_kind Solids = None
 
@@ -49,9 +52,12 @@ height_kind name = solid_kind name
 abbrev pub HasHeightSides : (Name → Option Kind) → Type 0
 HasHeightSides kind = (kind W ≡ count_to 1024) × (kind H ≡ count_to 1024)
 
--- or cells along each axis
+-- or cells, along all axes alike and along each
 abbrev pub mesh_kind : Name → Option Kind
 mesh_kind N = count_to 256
+mesh_kind Nx = count_to 512
+mesh_kind Ny = count_to 512
+mesh_kind Nz = count_to 512
 mesh_kind name = solid_kind name
 
 -- an image, and where the generator starts and how many discs it makes
@@ -73,5 +79,8 @@ greatest_of W = 4096
 greatest_of H = 4096
 greatest_of D = 1024
 greatest_of N = 256
+greatest_of Nx = 512
+greatest_of Ny = 512
+greatest_of Nz = 512
 greatest_of Seed = 0
 greatest_of Solids = 5000

@@ -2,7 +2,7 @@
 use Rattle.std.specs.Prelude.{ℕ, List, [], ◌∷◌, ◌==◌, Bool, Option, codes, find}
 use Rattle.std.specs.Str.{bytes_eq}
 use Rattle.view_settings.specs.declared.name.Name.{Name}
-use Rattle.view_settings.specs.declared.name.Name.TheVariants.{X0, X1, Y0, Y1, Z0, Z1, Z, W, H, D, N, Seed, Solids}
+use Rattle.view_settings.specs.declared.name.Name.TheVariants.{X0, X1, Y0, Y1, Z0, Z1, Z, W, H, D, N, Nx, Ny, Nz, Seed, Solids}
 
 -- the bytes of a name
 abbrev pub name_text : Name → List ℕ
@@ -17,11 +17,15 @@ name_text W = codes "w"
 name_text H = codes "h"
 name_text D = codes "d"
 name_text N = codes "n"
+name_text Nx = codes "nx"
+name_text Ny = codes "ny"
+name_text Nz = codes "nz"
 name_text Seed = codes "seed"
 name_text Solids = codes "solids"
 
 abbrev pub names : List Name
-names = X0 ∷ X1 ∷ Y0 ∷ Y1 ∷ Z0 ∷ Z1 ∷ Z ∷ W ∷ H ∷ D ∷ N ∷ Seed ∷ Solids ∷ []
+names =
+    X0 ∷ X1 ∷ Y0 ∷ Y1 ∷ Z0 ∷ Z1 ∷ Z ∷ W ∷ H ∷ D ∷ N ∷ Nx ∷ Ny ∷ Nz ∷ Seed ∷ Solids ∷ []
 
 -- the name that is written so
 abbrev pub name_called : List ℕ → Option Name
@@ -40,8 +44,11 @@ number_of W = 7
 number_of H = 8
 number_of D = 9
 number_of N = 10
-number_of Seed = 11
-number_of Solids = 12
+number_of Nx = 11
+number_of Ny = 12
+number_of Nz = 13
+number_of Seed = 14
+number_of Solids = 15
 
 -- two names are one
 abbrev pub is_same : Name → Name → Bool

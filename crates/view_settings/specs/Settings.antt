@@ -28,7 +28,7 @@ after_word given word =
     >>= λ setting. Ok (record given { settings = given.settings ++ setting ∷ [] })
 
 -- The job that the settings make. First is asked whether the ends of each axis are in order, then
--- whether the cells of a mesh are large enough.
+-- whether the cells of a mesh are large enough, and then whether they are too many.
 abbrev pub settled : Verb → List Setting → Result Job WordReason
 settled verb settings =
     if is_empty (window_of settings) then Err EmptySpan else job_with verb settings

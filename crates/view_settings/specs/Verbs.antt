@@ -12,10 +12,10 @@ use Rattle.view_settings.specs.declared.setting.Setting.{Setting}
 use Rattle.view_settings.specs.declared.verb.Verb.{Verb}
 use Rattle.view_settings.specs.declared.verb.Verb.TheVariants.{Render, Height, Mesh, Count, Text, Replay, Forge}
 use Rattle.view_settings.specs.declared.word_fault.WordReason.{WordReason}
-use Rattle.view_settings.specs.declared.word_fault.WordReason.TheVariants.{CellTooSmall}
+use Rattle.view_settings.specs.declared.word_fault.WordReason.TheVariants.{CellTooSmall, TooManyCells}
 use Rattle.view_settings.specs.Kinds.{forge_kind, height_kind, image_kind, mesh_kind}
 use Rattle.view_settings.specs.Views.{forge_of, window_of}
-use Rattle.view_places.specs.Window.{Window, IsWindow, IsCount, FitsHeight, FitsMesh, fits_mesh}
+use Rattle.view_places.specs.Window.{Window, IsWindow, IsCount, FitsHeight, FitsMesh, cells_are_few, cells_have_room}
 
 -- the bytes of a verb
 abbrev pub verb_text : Verb → List ℕ
@@ -44,9 +44,11 @@ kind_of Text name = None
 kind_of Replay name = None
 kind_of Forge name = forge_kind name
 
--- a mesh of this window
+-- a mesh of this window: first is asked whether its cells are large enough, then whether they are too many
 abbrev pub mesh_job : Window → Result Job WordReason
-mesh_job v = if fits_mesh v then Ok (jobs.Mesh v) else Err CellTooSmall
+mesh_job v =
+    if cells_have_room v then (if cells_are_few v then Ok (jobs.Mesh v) else Err TooManyCells)
+    else Err CellTooSmall
 
 -- the job of a verb with these settings, where the ends of its axes are in order
 abbrev pub job_with : Verb → List Setting → Result Job WordReason

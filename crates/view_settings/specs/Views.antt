@@ -4,7 +4,7 @@ use Rattle.std.specs.Option.{option_map}
 use lib.IntN.{neg_ℤ}
 use Rattle.view_settings.specs.declared.forge.Forge.{Forge}
 use Rattle.view_settings.specs.declared.name.Name.{Name}
-use Rattle.view_settings.specs.declared.name.Name.TheVariants.{X0, X1, Y0, Y1, Z0, Z1, Z, W, H, D, N, Seed, Solids}
+use Rattle.view_settings.specs.declared.name.Name.TheVariants.{X0, X1, Y0, Y1, Z0, Z1, Z, W, H, D, N, Nx, Ny, Nz, Seed, Solids}
 use Rattle.view_settings.specs.declared.setting.Setting.{Setting}
 use Rattle.view_settings.specs.declared.setting.Value.{Value}
 use Rattle.view_settings.specs.declared.setting.Value.TheVariants as values
@@ -33,6 +33,10 @@ one = pos (2 ^ 32)
 abbrev pub minus_one : ℤ
 minus_one = neg_ℤ one
 
+-- the cells of a mesh along an axis for which no count of its own was given
+abbrev pub cells_of : List Setting → ℕ
+cells_of settings = count_or (value_given N settings) 64
+
 -- the window that the settings make, with the defaults where they are silent
 abbrev pub window_of : List Setting → Window
 window_of settings = record {
@@ -46,7 +50,9 @@ window_of settings = record {
   w = count_or (value_given W settings) 512;
   h = count_or (value_given H settings) 512;
   d = count_or (value_given D settings) 255;
-  n = count_or (value_given N settings) 64;
+  nx = count_or (value_given Nx settings) (cells_of settings);
+  ny = count_or (value_given Ny settings) (cells_of settings);
+  nz = count_or (value_given Nz settings) (cells_of settings);
 }
 
 -- the model that the settings have made

@@ -45,6 +45,7 @@ fn view_given(verb: Verb, taken: &[Setting]) -> Option<View>
     if x0 > x1 || y0 > y1 || z0 > z1 {
         return None;
     }
+    let n = small_count_or(verb, taken, Name::N, 64);
     Some(View {
         x0,
         x1,
@@ -56,7 +57,9 @@ fn view_given(verb: Verb, taken: &[Setting]) -> Option<View>
         w: small_count_or(verb, taken, Name::W, 512),
         h: small_count_or(verb, taken, Name::H, 512),
         d: small_count_or(verb, taken, Name::D, 255),
-        n: small_count_or(verb, taken, Name::N, 64),
+        nx: small_count_or(verb, taken, Name::Nx, n),
+        ny: small_count_or(verb, taken, Name::Ny, n),
+        nz: small_count_or(verb, taken, Name::Nz, n),
     })
 }
 

@@ -42,12 +42,13 @@ pub(crate) fn height_kind(name: Name) -> Option<Kind>
     }
 }
 
-/// What a mesh takes: a window, a span along z, and cells along each axis.
+/// What a mesh takes: a window, a span along z, and cells, along all axes alike and along each.
 pub(crate) fn mesh_kind(name: Name) -> Option<Kind>
     ensures { result ≡ mesh_taken name }
 {
     match name {
         Name::N => count_to(256),
+        Name::Nx | Name::Ny | Name::Nz => count_to(512),
         other => solid_kind(other),
     }
 }
@@ -90,6 +91,9 @@ fn window_kind(name: Name) -> Option<Kind>
         | Name::H
         | Name::D
         | Name::N
+        | Name::Nx
+        | Name::Ny
+        | Name::Nz
         | Name::Seed
         | Name::Solids => None,
     }

@@ -14,7 +14,7 @@ use std::marker::Model;
 #[derive(Debug, Drop)]
 pub struct Settings {
     verb: Verb,
-    taken: ArrayVec<Setting, 13>,
+    taken: ArrayVec<Setting, 16>,
 }
 
 impl Model for Settings {
@@ -57,7 +57,8 @@ impl Settings {
     /// The job of the verb with the settings that were taken, and the defaults elsewhere.
     ///
     /// `EmptySpan`: the ends of an axis are not in order. `CellTooSmall`: they are, the verb is
-    /// `mesh`, and the ends of an axis are nearer than 65536 raw units a cell.
+    /// `mesh`, and the ends of an axis are nearer than 65536 raw units a cell. `TooManyCells`: they
+    /// are not, the verb is `mesh`, and the mesh has more than 16777216 cells.
     pub fn finish(self) -> Result<Job, WordReason>
         ensures job { result ≡ finished self }
         ensures keeps { IfOk result IsJob }
@@ -68,7 +69,7 @@ impl Settings {
     // How many settings were taken.
     pub(crate) fn len(&self) -> u32
         ensures len { result ≡ length self.now.settings }
-        ensures few { result ≤ 13 }
+        ensures few { result ≤ 16 }
     {
         self.taken.len() as u32
     }

@@ -27,7 +27,9 @@ fn words_without_settings_give_the_defaults(rt: HostRuntime) -> Result<(), Fail>
         w: 512,
         h: 512,
         d: 255,
-        n: 64,
+        nx: 64,
+        ny: 64,
+        nz: 64,
     };
     let forge = Forge {
         seed: 0,
@@ -63,7 +65,9 @@ fn settings_are_taken_in_any_order(rt: HostRuntime) -> Result<(), Fail> {
         w: 4096,
         h: 7,
         d: 255,
-        n: 64,
+        nx: 64,
+        ny: 64,
+        nz: 64,
     };
     let forge = Forge {
         seed: u64::MAX,
@@ -100,6 +104,9 @@ fn words_are_refused_by_the_lowest_reason_of_the_first_bad_word(
         ("height w=1025", 2, WordReason::OutOfRange),
         ("height d=1025", 2, WordReason::OutOfRange),
         ("mesh n=257", 2, WordReason::OutOfRange),
+        ("mesh nx=513", 2, WordReason::OutOfRange),
+        ("mesh n=2 nx=3 nx=3", 4, WordReason::Twice),
+        ("mesh nx=4 ny=4 nz=4 n=257", 5, WordReason::OutOfRange),
         ("forge solids=0", 2, WordReason::OutOfRange),
         ("forge solids=5001", 2, WordReason::OutOfRange),
         ("forge seed=18446744073709551616", 2, WordReason::OutOfRange),
@@ -107,12 +114,141 @@ fn words_are_refused_by_the_lowest_reason_of_the_first_bad_word(
         ("render x0=1 x1=-1", 0, WordReason::EmptySpan),
         ("mesh z1=-2", 0, WordReason::EmptySpan),
         ("mesh n=256 x0=0 x1=0.001", 0, WordReason::CellTooSmall),
+        ("mesh nx=512 ny=512 nz=65", 0, WordReason::TooManyCells),
     ] {
         assert_eq!(rt;
             read(rt.alloc(), text)?,
             Err(WordFault { at, reason }),
             "{text}"
         );
+    }
+    Ok(())
+}
+
+// The view of a mesh of so many cells along x, y and z, all else by default.
+fn mesh_of(nx: u32, ny: u32, nz: u32) -> Option<View> {
+    if nx == 0 || ny == 0 || nz == 0 || nx > 512 || ny > 512 || nz > 512 {
+        return None;
+    }
+    Some(View {
+        x0: -ONE,
+        x1: ONE,
+        y0: -ONE,
+        y1: ONE,
+        z0: -ONE,
+        z1: ONE,
+        z: 0,
+        w: 512,
+        h: 512,
+        d: 255,
+        nx,
+        ny,
+        nz,
+    })
+}
+
+#[test]
+fn axes_without_a_count_have_that_of_all(rt: HostRuntime) -> Result<(), Fail> {
+    for (text, (nx, ny, nz)) in [
+        ("mesh n=5", (5, 5, 5)),
+        ("mesh nx=3", (3, 64, 64)),
+        ("mesh ny=3", (64, 3, 64)),
+        ("mesh nz=3", (64, 64, 3)),
+        ("mesh nx=3 n=5", (3, 5, 5)),
+        ("mesh n=5 nx=3", (3, 5, 5)),
+        ("mesh n=5 ny=3", (5, 3, 5)),
+        ("mesh ny=3 n=5", (5, 3, 5)),
+        ("mesh n=5 nz=3", (5, 5, 3)),
+        ("mesh nz=3 n=5", (5, 5, 3)),
+        ("mesh nz=4 nx=2 ny=3", (2, 3, 4)),
+        ("mesh nz=4 n=256 nx=2 ny=3", (2, 3, 4)),
+        ("mesh ny=512 nx=64 nz=512", (64, 512, 512)),
+        ("mesh n=256", (256, 256, 256)),
+    ] {
+        let view = mesh_of(nx, ny, nz).ok_or("a view")?;
+        assert_eq!(rt; read(rt.alloc(), text)?, Ok(Job::Mesh(view)), "{text}");
+    }
+    Ok(())
+}
+
+// The view of a mesh whose axes begin at 0 and have these lengths and these numbers of cells.
+fn mesh_view(lengths: [i64; 3], cells: [u32; 3]) -> Option<View> {
+    let [x1, y1, z1] = lengths;
+    let [nx, ny, nz] = cells;
+    if x1 < 0 || y1 < 0 || z1 < 0 || x1 > ONE || y1 > ONE || z1 > ONE {
+        return None;
+    }
+    if nx == 0 || ny == 0 || nz == 0 || nx > 512 || ny > 512 || nz > 512 {
+        return None;
+    }
+    Some(View {
+        x0: 0,
+        x1,
+        y0: 0,
+        y1,
+        z0: 0,
+        z1,
+        z: 0,
+        w: 512,
+        h: 512,
+        d: 255,
+        nx,
+        ny,
+        nz,
+    })
+}
+
+#[test]
+fn words_of_a_mesh_are_taken_where_its_view_fits(rt: HostRuntime) -> Result<(), Fail> {
+    // As far as 512 cells of 65536 raw units each.
+    let room = 512 << 16;
+    let small = WordReason::CellTooSmall;
+    let many = WordReason::TooManyCells;
+    for (text, lengths, cells, refused) in [
+        ("nx=512 ny=512 nz=64", [ONE, ONE, ONE], [512, 512, 64], None),
+        ("n=256", [ONE, ONE, ONE], [256, 256, 256], None),
+        (
+            "nx=145 ny=317 nz=365",
+            [ONE, ONE, ONE],
+            [145, 317, 365],
+            Some(many),
+        ),
+        ("nx=512 x1=0.0078125", [room, ONE, ONE], [512, 64, 64], None),
+        ("ny=512 y1=0.0078125", [ONE, room, ONE], [64, 512, 64], None),
+        ("nz=512 z1=0.0078125", [ONE, ONE, room], [64, 64, 512], None),
+        (
+            "nx=512 x1=0.00781249976716935634613037109375",
+            [room - 1, ONE, ONE],
+            [512, 64, 64],
+            Some(small),
+        ),
+        (
+            "ny=512 y1=0.00781249976716935634613037109375",
+            [ONE, room - 1, ONE],
+            [64, 512, 64],
+            Some(small),
+        ),
+        (
+            "nz=512 z1=0.00781249976716935634613037109375",
+            [ONE, ONE, room - 1],
+            [64, 64, 512],
+            Some(small),
+        ),
+        (
+            "nx=512 ny=512 nz=512 z1=0.00781249976716935634613037109375",
+            [ONE, ONE, room - 1],
+            [512, 512, 512],
+            Some(small),
+        ),
+    ] {
+        let words = format!(in rt.alloc(); "mesh x0=0 y0=0 z0=0 {text}")?;
+        let view = mesh_view(lengths, cells).ok_or("a view")?;
+        let expected = match refused {
+            None => Ok(Job::Mesh(view)),
+            Some(reason) => Err(WordFault { at: 0, reason }),
+        };
+        assert_eq!(rt; read(rt.alloc(), &words)?, expected, "{text}");
+        assert_eq!(rt; view.fits_mesh(), refused.is_none(), "{text}");
     }
     Ok(())
 }

@@ -93,9 +93,11 @@ fn mesh_job(view: View) -> Result<Job, WordReason>
     ensures job { result ≡ mesh_job view }
     ensures keeps { IfOk result IsJob }
 {
-    if view.fits_mesh() {
-        Ok(Job::Mesh(view))
-    } else {
-        Err(WordReason::CellTooSmall)
+    if !view.cells_have_room() {
+        return Err(WordReason::CellTooSmall);
     }
+    if !view.cells_are_few() {
+        return Err(WordReason::TooManyCells);
+    }
+    Ok(Job::Mesh(view))
 }

@@ -42,4 +42,7 @@ pub enum WordReason {
     /// The ends of an axis are nearer than 65536 raw units a cell.
     #[error("cells are too small")]
     CellTooSmall,
+    /// A mesh has more than 16777216 cells.
+    #[error("too many cells")]
+    TooManyCells,
 }

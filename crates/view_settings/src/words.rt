@@ -10,7 +10,7 @@ use crate::{Job, Settings, WordFault, WordReason};
 /// order.
 ///
 /// The first word that is refused is answered, and of its reasons the lowest, in the order in which
-/// `WordReason` has them. `EmptySpan` and `CellTooSmall` are asked after all words.
+/// `WordReason` has them. `EmptySpan`, `CellTooSmall` and `TooManyCells` are asked after all words.
 pub fn read_words(words: &[String]) -> Result<Job, WordFault>
     ensures job { result ≡ job_of (bytes_of words.now) }
     ensures keeps { IfOk result IsJob }

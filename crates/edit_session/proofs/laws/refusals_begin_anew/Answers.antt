@@ -18,4 +18,5 @@ returns c = record {
   other_image = λ state refused view. refl;
   clauses = λ state refused. (refl, refl);
   cost = λ state refused. (refl, refl);
+  others = λ state refused. (refl, refl);
 }

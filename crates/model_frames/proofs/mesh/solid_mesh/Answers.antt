@@ -24,8 +24,8 @@ returns-in_err-cells-clause-plain c =
     (subst IsTape c.list.view_is c.list.invariant) c.grid_work_is_bounded.ensures.points
     (mesh_within c.args.tally.now c.mixed_cells.new.tally c.args.view.now c.args.model.now c.in_ok-list.list c.in_ok-list.ensures.live c.in_err-cells.ensures.at_most)
 
-pub build_from-requires : goal.build_from-requires
-build_from-requires c = (grid_of c.args.view.now (λ p. tape_value p c.in_ok-list.list), c.in_ok-cells.ensures.cells)
+pub build_from-requires-clause-cells : goal.build_from-requires-clause-cells
+build_from-requires-clause-cells c = (grid_of c.args.view.now (λ p. tape_value p c.in_ok-list.list), c.in_ok-cells.ensures.cells)
 
 pub returns-clause-mesh : goal.returns-clause-mesh
 returns-clause-mesh c =
@@ -51,14 +51,14 @@ returns-clause-vertices c =
     of_mesh c.build_from.result (mesh_of (grid_of c.args.view.now (λ p. solid_value p c.args.model.now))) (λ mesh. length mesh.vertices < 2 ^ 31)
     (mesh_same c.build_from.result c.args.view.now c.args.model.now c.in_ok-list.list c.in_ok-list.ensures.value
     (c.build_from.ensures.mesh (grid_of c.args.view.now (λ p. tape_value p c.in_ok-list.list)) c.in_ok-cells.ensures.cells))
-    (solid_vertices c.args.view.now (λ p. solid_value p c.args.model.now) c.window_holds.ensures.n.few)
+    (solid_vertices c.args.view.now (λ p. solid_value p c.args.model.now) c.window_holds.ensures)
 
 pub returns-clause-faces : goal.returns-clause-faces
 returns-clause-faces c =
     of_mesh c.build_from.result (mesh_of (grid_of c.args.view.now (λ p. solid_value p c.args.model.now))) (λ mesh. length mesh.faces < 2 ^ 31)
     (mesh_same c.build_from.result c.args.view.now c.args.model.now c.in_ok-list.list c.in_ok-list.ensures.value
     (c.build_from.ensures.mesh (grid_of c.args.view.now (λ p. tape_value p c.in_ok-list.list)) c.in_ok-cells.ensures.cells))
-    (solid_faces c.args.view.now (λ p. solid_value p c.args.model.now) c.window_holds.ensures.n.few)
+    (solid_faces c.args.view.now (λ p. solid_value p c.args.model.now) c.window_holds.ensures)
 
 pub returns-clause-at_most : goal.returns-clause-at_most
 returns-clause-at_most c =

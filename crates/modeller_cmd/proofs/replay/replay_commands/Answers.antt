@@ -1,5 +1,6 @@
 use Rattle.std.proofs.Common.{Err, sym, ap, subst, ◌∙◌}
 use Rattle.std.specs.Vec.Iter.{into_iter_items}
+use Rattle.modeller_cmd.specs.Endings.{IsHalt}
 use Rattle.modeller_cmd.specs.Writing.{Halted, Written}
 use Rattle.modeller_cmd.specs.Replays.{parts_at, replayed, standing, state_after}
 use Rattle.modeller_cmd.specs.Halting.{HaltsAt, HaltsIn}
@@ -29,6 +30,10 @@ loop-command-preserved g c =
           (subst (λ state. Written g.K.Sink.held g.K.Sink.faults c.loop-command.out c.step.new.out c.loop-command.tally c.step.new.tally (parts_at state command)) so_far.stands
           c.in_ok-step.ensures.written));
     }
+
+pub returns-in_err-step-clause-stop : goal.returns-in_err-step-clause-stop
+returns-in_err-step-clause-stop g c =
+    ends-with c.from_residual.result c.in_err-step.field-0.0 IsHalt c.from_residual.ensures.1 c.in_err-step.ensures.stop
 
 pub returns-in_err-step-clause-halted : goal.returns-in_err-step-clause-halted
 returns-in_err-step-clause-halted g c =

@@ -12,7 +12,7 @@ use Rattle.oct_descent.specs.Desks.{PaysHalves, longer}
 use Rattle.oct_descent.specs.GridValues.{list_grid_value}
 use Rattle.oct_descent.specs.KeptBoxes.{halves_places}
 use Rattle.oct_descent.specs.OldBoxes.{AreOldHalves, behind_halves, received_by}
-use Rattle.oct_descent.specs.Sizes.{size_of}
+use Rattle.view_places.specs.Window.{size_of}
 use Rattle.oct_descent.specs.Tables.{AreSettled, AreWorked, Charges, Grows}
 use Rattle.oct_descent.specs.Ways.{gridded}
 use Rattle.oct_descent.proofs.AfterLooks.{halves_below_after, halves_long_below_after}

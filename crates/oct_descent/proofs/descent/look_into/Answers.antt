@@ -10,7 +10,7 @@ use Rattle.oct_descent.specs.Bound.{CountsHullsAtLeast}
 use Rattle.oct_descent.specs.GridValues.{list_grid_value}
 use Rattle.oct_descent.specs.KeptBoxes.{places_of}
 use Rattle.oct_descent.specs.OldBoxes.{visit_before}
-use Rattle.oct_descent.specs.Sizes.{size_of}
+use Rattle.view_places.specs.Window.{size_of}
 use Rattle.oct_descent.specs.Tables.{AreRight, AreSettled, AreWorked, Grows, PaysBox}
 use Rattle.oct_descent.specs.Ways.{gridded}
 use Rattle.oct_descent.proofs.Added.{adds-none, adds-same}

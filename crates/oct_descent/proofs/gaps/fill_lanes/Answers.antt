@@ -4,7 +4,7 @@ use Rattle.kuhn_cells.specs.Grids.{bordered}
 use Rattle.live_clauses.specs.Steps.{tape_value}
 use Rattle.oct_descent.specs.Gaps.{StandsIn, lies_at, nth, spot}
 use Rattle.oct_descent.specs.GridValues.{list_grid_value}
-use Rattle.oct_descent.specs.Sizes.{size_of}
+use Rattle.view_places.specs.Window.{size_of}
 use Rattle.oct_descent.proofs.Bricks.{keeps-then, within-from}
 use Rattle.oct_descent.proofs.GapLaws.{fills-one, nth-stands, stands-kept}
 use Rattle.oct_descent.proofs.Sizes.{size-is}

@@ -4,7 +4,7 @@ use Rattle.std.proofs.lemmas.Int.{ints}
 use Rattle.fixed_ops.specs.NumberTexts.{number_text}
 use Rattle.view_places.specs.Places.{sample_place}
 use Rattle.view_places.specs.Samples.{place_on}
-use Rattle.view_places.specs.Window.{Window}
+use Rattle.view_places.specs.declared.axis_samples.AxisSamples.{AxisSamples}
 use Rattle.view_places.specs.declared.lattice.Lattice.TheVariants.{Grid}
 use Rattle.ply_writer.specs.PointTexts.{IsTextOf}
 use Rattle.ply_writer.proofs.TextLaws.{texts_more}
@@ -24,7 +24,8 @@ loop-i-preserved c =
 pub returns : goal.returns
 returns c =
     let inv = c.loop-i.invariant in
+    let steps = ap (λ (s : AxisSamples). s.steps) c.samples_along-samples.ensures.samples in
     record {
-      room = omega (arith, inv.room, c.loop-i-test.false, ap (λ (v : Window). v.n) c.view.view_is);
-      each = λ k d within. inv.each k d (omega (arith, within, c.loop-i-test.false, ap (λ (v : Window). v.n) c.view.view_is));
+      room = omega (arith, inv.room, c.loop-i-test.false, steps);
+      each = λ k d within. inv.each k d (omega (arith, within, c.loop-i-test.false, steps));
     }

@@ -1,6 +1,6 @@
 -- The parts of the cells are those of the grid's mixed cells.
 use Rattle.std.proofs.Common.{ap, arith, length}
-use Rattle.tetra_mesh.specs.Sizes.{size_of}
+use Rattle.view_places.specs.Window.{size_of}
 use Rattle.tetra_mesh.proofs.GridLaws.{parts_of_grid}
 use Rattle.tetra_mesh.proofs.building.build.Goals as goal
 
@@ -10,10 +10,10 @@ parts-requires c =
     let listed = ap length c.deref.ensures.value in
     omega (arith, few, listed)
 
-pub mesh_of_parts-requires : goal.mesh_of_parts-requires
-mesh_of_parts-requires c =
+pub mesh_of_parts-requires-clause-parts : goal.mesh_of_parts-requires-clause-parts
+mesh_of_parts-requires-clause-parts c =
     let have = c.in_ok-vertices.ensures in
-    (c.requires.0, parts_of_grid (size_of c.args.view.now) c.args.cells.now _ c.requires.0 _ _ c.requires.1 c.deref.ensures.value have.vertices have.sides)
+    (c.requires.cells.0, parts_of_grid (size_of c.args.view.now) c.args.cells.now _ c.requires.cells.0 _ _ c.requires.cells.1 c.deref.ensures.value have.vertices have.sides)
 
 pub returns-clause-mesh : goal.returns-clause-mesh
 returns-clause-mesh c g is =

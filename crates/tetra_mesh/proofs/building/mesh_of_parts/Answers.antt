@@ -2,7 +2,7 @@
 use Rattle.std.proofs.Common.{subst, sym}
 use Rattle.kuhn_cells.specs.Cells.{mixed_cells}
 use Rattle.kuhn_cells.specs.Sizes.{IsBounded}
-use Rattle.tetra_mesh.specs.Sizes.{size_of}
+use Rattle.view_places.specs.Window.{size_of}
 use Rattle.tetra_mesh.specs.Sound.{IsSound, LieApart}
 use Rattle.tetra_mesh.proofs.GridLaws.{are_cells, mesh_is}
 use Rattle.tetra_mesh.proofs.SideLaws.{sides_as}
@@ -12,21 +12,21 @@ pub faces_of-requires : goal.faces_of-requires
 faces_of-requires c =
     let laws = c.mixed_cells_suffice.ensures in
     let n = size_of c.args.view.now in
-    let g = c.requires.0 in
-    let is = c.requires.1 in
-    let size = c.mesh_size.ensures.size in
-    let bounded = subst IsBounded size c.mesh_size.ensures.bounded in
+    let g = c.requires.parts.0 in
+    let is = c.requires.parts.1 in
+    let size = c.grid.ensures.size in
+    let bounded = subst IsBounded size (c.grid.ensures.bounded c.requires.fits) in
     let cells = are_cells laws.cells laws.order laws.few laws.edges n g c.args.vertices.items c.args.sided.items bounded is in
-    (mixed_cells g, sides_as (mixed_cells g) c.args.sided.items n c.mesh_size.result (sym size) (record { mixed = cells; sides = is.sides }))
+    (mixed_cells g, sides_as (mixed_cells g) c.args.sided.items n c.grid.result (sym size) (record { mixed = cells; sides = is.sides }))
 
 pub returns-clause-mesh : goal.returns-clause-mesh
 returns-clause-mesh c g is =
     let laws = c.mixed_cells_suffice.ensures in
     let n = size_of c.args.view.now in
-    let size = c.mesh_size.ensures.size in
-    let bounded = subst IsBounded size c.mesh_size.ensures.bounded in
+    let size = c.grid.ensures.size in
+    let bounded = subst IsBounded size (c.grid.ensures.bounded c.requires.fits) in
     let cells = are_cells laws.cells laws.order laws.few laws.edges n g c.args.vertices.items c.args.sided.items bounded is in
-    let are = sides_as (mixed_cells g) c.args.sided.items n c.mesh_size.result (sym size) (record { mixed = cells; sides = is.sides }) in
+    let are = sides_as (mixed_cells g) c.args.sided.items n c.grid.result (sym size) (record { mixed = cells; sides = is.sides }) in
     mesh_is laws.cells laws.vertices laws.triangles n g c.args.vertices.items c.args.sided.items c.in_ok-faces.faces.items is (c.in_ok-faces.ensures (mixed_cells g) are)
 
 pub returns-clause-sound : goal.returns-clause-sound
@@ -34,8 +34,8 @@ returns-clause-sound c g is =
     subst (IsSound g) (sym (returns-clause-mesh c g is)) (c.meshes_are_sound.ensures.sound g is.border)
 
 pub returns-clause-apart : goal.returns-clause-apart
-returns-clause-apart c fits =
-    let g = c.requires.0 in
-    let is = c.requires.1 in
+returns-clause-apart c =
+    let g = c.requires.parts.0 in
+    let is = c.requires.parts.1 in
     subst (λ m. LieApart c.args.view.now m.vertices) (sym (returns-clause-mesh c g is))
-    (c.meshes_are_sound.ensures.apart c.args.view.now g c.mesh_size.ensures.window fits (record { x = is.x; y = is.y; z = is.z }) is.border)
+    (c.meshes_are_sound.ensures.apart c.args.view.now g c.grid.ensures.window c.requires.fits (record { x = is.x; y = is.y; z = is.z }) is.border)

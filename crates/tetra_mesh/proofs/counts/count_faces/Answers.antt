@@ -2,15 +2,22 @@
 use Rattle.std.proofs.Common.{◌≡◌, ◌≤◌, ap, arith, length, refl, ◌∙◌}
 use Rattle.std.specs.Prelude.{flat_map}
 use Rattle.std.proofs.lemmas.List.{length-map, take_all}
+use Rattle.std.proofs.lemmas.List.Elements.{All-get_or}
 use Rattle.kuhn_cells.specs.Cells.{triangles_of_cell}
+use Rattle.tetra_mesh.specs.Shapes.{IsMade}
 use Rattle.tetra_mesh.specs.Sides.{sided_of}
+use Rattle.tetra_mesh.specs.declared.sided_cell.SidedCell.{SidedCell}
 use Rattle.tetra_mesh.proofs.EdgeLaws.{as_many}
-use Rattle.tetra_mesh.proofs.SideLaws.{behind, count_more}
+use Rattle.tetra_mesh.proofs.SideLaws.{behind, count_more, no_sides}
 use Rattle.tetra_mesh.proofs.TriangleLaws.{shape_long}
 use Rattle.tetra_mesh.proofs.counts.count_faces.Goals as goal
 
 pub loop-cell-init : goal.loop-cell-init
 loop-cell-init c = record { exact = λ cells same. refl; few = omega arith }
+
+pub shape-requires-clause-this : goal.shape-requires-clause-this
+shape-requires-clause-this c =
+    All-get_or (λ (s : SidedCell). IsMade c.args.shapes.now s.signs) c.args.sided.now c.loop-cell.cell-index no_sides c.loop-cell-test.true c.requires.shapes.each
 
 pub loop-cell-preserved : goal.loop-cell-preserved
 loop-cell-preserved c =

@@ -1,12 +1,12 @@
 -- One cell after another.
 use Rattle.std.proofs.Common.{◌++◌, arith, ap, length, refl, sym, ◌∙◌}
 use Rattle.std.specs.Prelude.{drop, get_or, map}
-use Rattle.std.proofs.lemmas.List.Elements.{All-same}
+use Rattle.std.proofs.lemmas.List.Elements.{All-get_or, All-same}
 use Rattle.kuhn_cells.specs.Cells.{triangles_of_cell}
 use Rattle.kuhn_cells.specs.Laws.{OfEdges}
 use Rattle.tetra_mesh.specs.declared.sided_cell.SidedCell.{SidedCell}
 use Rattle.tetra_mesh.specs.Numbering.{IsKept, all_faces, face_in}
-use Rattle.tetra_mesh.specs.Shapes.{sided_triangles}
+use Rattle.tetra_mesh.specs.Shapes.{IsMade, sided_triangles}
 use Rattle.tetra_mesh.proofs.FaceLaws.{all_kept, below_at, faces_here, faces_next, numbered_as, reached_more, slots_of}
 use Rattle.tetra_mesh.proofs.SideLaws.{behind, lower_z, no_sides, sides_as, upper_z}
 use Rattle.tetra_mesh.proofs.ReachLaws.{in_at}
@@ -62,6 +62,10 @@ push_faces-requires-clause-slots c =
     let now = sides_as cells c.args.sided.now n c.loop-at.numbering.n (sym c.loop-at.invariant.width) are in
     let is = numbered_as cells c.loop-at.numbering.n n s c.loop-at.invariant.width (c.reach.ensures.numbered cells now) in
     slots_of cells n s.n s c.deref.result.now are.mixed is is.width c.deref.ensures.value
+
+pub push_faces-requires-clause-made : goal.push_faces-requires-clause-made
+push_faces-requires-clause-made c =
+    All-get_or (λ (s : SidedCell). IsMade c.args.shapes.now s.signs) c.args.sided.now c.loop-at.at no_sides c.loop-at-test.true c.requires.shapes.each
 
 pub push_faces-requires-clause-kept : goal.push_faces-requires-clause-kept
 push_faces-requires-clause-kept c =

@@ -15,7 +15,7 @@ returns-in_default c =
     let told = subst (λ (d : Gridding). IsTold d.view d.list c.self.inside.values) c.self.view_is c.self.invariant in
     sym (append-nil c.args.cells.now.items)
     ∙ ap (λ l. c.args.cells.now.items ++ l)
-    (eight-none d.view d.list c.self.inside.values c.args.first (min d.view.n (c.args.first + 8)) c.args.y c.args.z told c.requires.eighth (omega arith) (omega arith) c.requires.y c.requires.z
+    (eight-none d.view d.list c.self.inside.values c.args.first (min d.view.nx (c.args.first + 8)) c.args.y c.args.z told c.requires.eighth (omega arith) (omega arith) c.requires.y c.requires.z
     (c.in_default.ensures.none refl))
 
 pub loop-x-preserved : goal.loop-x-preserved
@@ -23,7 +23,7 @@ loop-x-preserved c =
     let d = c.args.self.now in
     let told = subst (λ (d : Gridding). IsTold d.view d.list c.self.inside.values) c.self.view_is c.self.invariant in
     let f : ℕ → List CellValues = λ x. cells_at d.view d.list (point x c.args.y c.args.z) in
-    let n = ap (λ (s : GridSize). s.x) c.mesh_size.ensures.size ∙ ap (λ t. t.view.n) c.self.view_is in
+    let n = ap (λ (s : GridSize). s.x) c.n.ensures.size in
     elim c.if-is_known.branch [
       | then-is_known+in_ok-push_cell w ↦
           next-part f c.args.first c.args.cells.now.items c.loop-x.cells.items c.if-is_known.cells.items c.loop-x.x (omega (arith, c.loop-x.auto.x)) c.loop-x.invariant (ap (λ v. v.items) w.cells-is ∙ w.in_ok-push_cell.ensures)

@@ -1,4 +1,5 @@
 -- What takes the edit back comes before the others, which lead back from where it leads.
+use Rattle.solid_model.proofs.ChangeLemmas.{not-undo}
 use Rattle.solid_model.proofs.ReversalLemmas.{kept-allow, kept-opening, kept-undo}
 use Rattle.solid_model.proofs.edited_model.EditedModel.edit.Goals as goal
 
@@ -21,3 +22,6 @@ returns-clause-opening c =
     rw (← c.self.view_is)
     (kept-opening c.self.inside.model c.apply_and_keep.new.self c.args.edit.now c.self.inside.backs.items c.apply_and_keep.new.backs.items c.apply_and_keep.result
     c.apply_and_keep.ensures.kept c.apply_and_keep.ensures.err c.apply_and_keep.ensures.others)
+
+pub returns-clause-not_undo : goal.returns-clause-not_undo
+returns-clause-not_undo c = not-undo c.self.inside.model c.args.edit.now _ c.apply_and_keep.ensures.fault

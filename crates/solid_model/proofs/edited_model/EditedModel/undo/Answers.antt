@@ -1,9 +1,9 @@
 -- The latest is allowed, and leads to where the others are.
-use Rattle.std.proofs.Common.{◌≡◌, ◌-◌, List, Some, length, take, reverse, slice_get, ap, refl, sym, ◌∙◌}
+use Rattle.std.proofs.Common.{◌≡◌, ◌-◌, List, Result, Ok, Err, OnErr, Some, length, take, reverse, slice_get, ap, refl, sym, ◌∙◌}
 use Rattle.std.specs.Option.{option_copied}
 use Rattle.solid_model.specs.declared.reversal.Reversal.{Reversal}
 use Rattle.solid_model.specs.Reversals.{edits_back}
-use Rattle.solid_model.proofs.ReversalLemmas.{latest-allowed, latest-undone, none-left, others-allowed, undone-opening}
+use Rattle.solid_model.proofs.ReversalLemmas.{latest-allowed, latest-stands, latest-undone, none-left, others-allowed, undone-opening}
 use Rattle.solid_model.proofs.edited_model.EditedModel.undo.Goals as goal
 
 pub returns-in_default-clause-none : goal.returns-in_default-clause-none
@@ -12,6 +12,16 @@ returns-in_default-clause-none c = λ h.
     let empty = none-left c.self.inside.backs.items
     (ap (λ (xs : List Reversal). slice_get xs (length xs - 1)) (sym c.deref.ensures.value) ∙ sym c.last.ensures.value ∙ ap option_copied c.in_default.is) in
     (rw (← c.self.view_is) (ap (λ (xs : List Reversal). edits_back c.self.inside.model (reverse xs)) empty), refl)
+
+pub returns-in_err-revert-clause-memory : goal.returns-in_err-revert-clause-memory
+returns-in_err-revert-clause-memory c =
+    let latest : slice_get c.self.inside.backs.items (length c.self.inside.backs.items - 1) ≡ Some c.in-Some.back.now =
+    ap (λ (xs : List Reversal). slice_get xs (length xs - 1)) (sym c.deref.ensures.value) ∙ sym c.last.ensures.value ∙ ap option_copied c.in-Some.is in
+    on-err c.from_residual.result (rw (← c.self.view_is) (latest-stands c.self.inside.model c.self.inside.backs.items c.in-Some.back.now latest))
+  where
+    on-err : {A E P : Type 0} (r : Result A E) → P → OnErr r P
+    on-err (Ok done) p = tt
+    on-err (Err fault) p = p
 
 pub revert-requires : goal.revert-requires
 revert-requires c =

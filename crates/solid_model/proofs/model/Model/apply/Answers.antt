@@ -1,5 +1,5 @@
 -- A table that was a model is one after the edit, and after a refusal; and the edit by places is the edit by names.
-use Rattle.solid_model.proofs.ChangeLemmas.{edited-surgery, models-surgery}
+use Rattle.solid_model.proofs.ChangeLemmas.{edited-surgery, models-surgery, not-undo}
 use Rattle.solid_model.proofs.SurgeryModels.{stays}
 use Rattle.solid_model.proofs.model.Model.apply.Goals as goal
 use Rattle.solid_model.specs.Tables.{clauses_in}
@@ -21,3 +21,8 @@ returns-clause-fault c =
 pub returns-clause-no_memory : goal.returns-clause-no_memory
 returns-clause-no_memory c =
     rw (← c.self.view_is, edited-surgery (clauses_in c.self.inside.table) c.args.edit c.self.invariant.clauses_are c.apply.ensures.edit) c.apply.ensures.no_memory
+
+pub returns-clause-not_undo : goal.returns-clause-not_undo
+returns-clause-not_undo c =
+    not-undo (clauses_in c.self.inside.table) c.args.edit _
+    (rw (edited-surgery (clauses_in c.self.inside.table) c.args.edit c.self.invariant.clauses_are c.apply.ensures.edit) c.apply.ensures.fault)

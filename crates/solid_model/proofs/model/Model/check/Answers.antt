@@ -2,7 +2,7 @@
 use Rattle.std.proofs.Common.{◌≡◌, Ok, Err, refl, sym, ◌∙◌, ap}
 use Rattle.solid_model.specs.Changes.{done}
 use Rattle.solid_model.specs.Edits.{edited}
-use Rattle.solid_model.proofs.ChangeLemmas.{edited-surgery}
+use Rattle.solid_model.proofs.ChangeLemmas.{edited-not-undo, edited-surgery}
 use Rattle.solid_model.proofs.model.Model.check.Goals as goal
 use Rattle.solid_model.specs.Tables.{clauses_in}
 
@@ -17,4 +17,10 @@ pub returns-in-Err-clause-fault : goal.returns-in-Err-clause-fault
 returns-in-Err-clause-fault c =
     let clauses = clauses_in c.self.inside.table in
     rw (← c.self.view_is)
+    (edited-surgery clauses c.args.edit.now c.self.invariant.clauses_are c.in-Err.ensures.edit ∙ c.in-Err.ensures.change ∙ ap Err (sym c.fault.ensures))
+
+pub returns-in-Err-clause-not_undo : goal.returns-in-Err-clause-not_undo
+returns-in-Err-clause-not_undo c =
+    let clauses = clauses_in c.self.inside.table in
+    edited-not-undo clauses c.args.edit.now _
     (edited-surgery clauses c.args.edit.now c.self.invariant.clauses_are c.in-Err.ensures.edit ∙ c.in-Err.ensures.change ∙ ap Err (sym c.fault.ensures))

@@ -1,8 +1,9 @@
 -- The table of one clause is a model, its form has no argument, and adding by places is the edit by names.
 use Rattle.std.proofs.Common.{◌≡◌, [], Ok, Err, IsOk, subst, ◌∙◌, arith}
 use Rattle.std.proofs.lemmas.Grind.{common_steps}
+use Rattle.solid_model.specs.declared.edit.Edit.TheVariants.{Add}
 use Rattle.solid_model.specs.Adding.{added}
-use Rattle.solid_model.proofs.ChangeLemmas.{first-fault}
+use Rattle.solid_model.proofs.ChangeLemmas.{edited-not-undo, first-fault}
 use Rattle.solid_model.proofs.ModelLemmas.{AreClauses-nil, IsModel-added, no_argument}
 use Rattle.solid_model.proofs.NamedLemmas.{edited-added}
 use Rattle.solid_model.proofs.model.Model.first.Goals as goal
@@ -37,3 +38,9 @@ pub returns-in-Err-clause-argument : goal.returns-in-Err-clause-argument
 returns-in-Err-clause-argument c =
     λ h. first-fault c.args.name c.args.form c.in-Err.fault
     (subst (λ before. added before c.args.name c.args.form ≡ Err c.in-Err.fault) c.new-table.ensures (c.in-Err.ensures.fault h))
+
+pub returns-in-Err-clause-not_undo : goal.returns-in-Err-clause-not_undo
+returns-in-Err-clause-not_undo c =
+    λ is. edited-not-undo [] (Add c.args.name c.args.form) c.in-Err.fault
+    (edited-added [] c.args.name c.args.form AreClauses-nil c.apply.ensures.edit.1
+    ∙ subst (λ before. added before c.args.name c.args.form ≡ Err c.in-Err.fault) c.new-table.ensures (c.in-Err.ensures.fault (λ memory. (cc)))) is

@@ -1,18 +1,38 @@
--- One more shape, of twelve triangles at most.
-use Rattle.std.proofs.Common.{[], ◌∷◌, ◌∙◌, ap, arith, length, length-append, subst}
-use Rattle.tetra_mesh.specs.Edges.{HasTriangles}
-use Rattle.tetra_mesh.proofs.TriangleLaws.{few_triangles, shapes_more}
+-- One cell after another, whose shape is made.
+use Rattle.std.proofs.Common.{arith, sym}
+use Rattle.std.specs.Prelude.{take}
+use Rattle.std.proofs.lemmas.List.{take_all}
+use Rattle.std.proofs.lemmas.List.Elements.{All-more, All-same, All-weaker}
+use Rattle.tetra_mesh.specs.Shapes.{IsMade}
+use Rattle.tetra_mesh.specs.declared.sided_cell.SidedCell.{SidedCell}
+use Rattle.tetra_mesh.proofs.ShapeLaws.{none_made}
+use Rattle.tetra_mesh.proofs.SideLaws.{no_sides}
 use Rattle.tetra_mesh.proofs.shapes.Shapes.new.Goals as goal
 
-pub new-requires : goal.new-requires
-new-requires c = omega (arith, ap length c.deref.ensures.value, ap length c.in_ok-put_triples.ensures, few_triangles c.loop-signs.signs)
+pub loop-cell-init : goal.loop-cell-init
+loop-cell-init c = record {
+  made = none_made _ (c.in_ok-vec.ensures.items_if_clones_equal (λ y h. h)) c.in_ok-ranks.ensures;
+  each = λ k d less. absurd (omega (arith, less));
+}
 
-pub loop-signs-preserved : goal.loop-signs-preserved
-loop-signs-preserved c =
-    let inv = c.loop-signs.invariant in
-    let made = c.new.result in
+pub loop-cell-preserved : goal.loop-cell-preserved
+loop-cell-preserved c =
+    let made = c.in_ok-make.ensures in
+    let before = c.loop-cell.shapes in
+    let after = c.make.new.self in
+    let sided = c.args.sided.now in
+    let at = c.loop-cell.cell-index in
     record {
-      room = omega (arith, inv.room, ap length c.in_ok-push.ensures.items, length-append c.loop-signs.shapes.items (made ∷ []));
-      each = shapes_more c.loop-signs.signs c.loop-signs.shapes.items c.push.new.self.items made inv.room inv.each c.in_ok-push.ensures.items
-          (subst (λ ts. HasTriangles ts made) (c.deref.ensures.value ∙ c.in_ok-put_triples.ensures) c.new.ensures);
+      made = made.made;
+      each = All-more (λ (c : SidedCell). IsMade after c.signs) sided at no_sides c.loop-cell-test.true
+          (All-weaker (λ (c : SidedCell). IsMade before c.signs) (λ (c : SidedCell). IsMade after c.signs) (λ cell is. made.others cell.signs is) (take at sided) c.loop-cell.invariant.each)
+          made.this;
+    }
+
+pub returns : goal.returns
+returns c =
+    let inv = c.loop-cell.invariant in
+    record {
+      made = inv.made;
+      each = All-same (λ (cell : SidedCell). IsMade c.loop-cell.shapes cell.signs) _ _ (sym (take_all c.loop-cell.cell-index c.args.sided.now (omega (arith, c.loop-cell-test.false)))) inv.each;
     }

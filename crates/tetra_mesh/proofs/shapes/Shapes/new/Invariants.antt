@@ -1,12 +1,10 @@
-use Rattle.std.proofs.Common.{◌≡◌, ℕ, ◌<◌, length}
-use Rattle.std.specs.Prelude.{get_or}
-use Rattle.tetra_mesh.specs.declared.shape.Shape.{Shape}
-use Rattle.tetra_mesh.specs.Edges.{HasTriangles}
-use Rattle.tetra_mesh.specs.Shapes.{shape_of}
+use Rattle.std.specs.Prelude.{All, take}
+use Rattle.tetra_mesh.specs.Shapes.{AreMade, IsMade}
+use Rattle.tetra_mesh.specs.declared.sided_cell.SidedCell.{SidedCell}
 use Rattle.tetra_mesh.proofs.shapes.Shapes.new.Given as goal
 
-abbrev pub invariant-loop-signs : goal.invariant-loop-signs
-invariant-loop-signs l = record {
-  room : length l.shapes.items ≡ l.signs;
-  each : (k : ℕ) (d : Shape) → k < l.signs → HasTriangles (shape_of k) (get_or l.shapes.items k d);
+abbrev pub invariant-loop-cell : goal.invariant-loop-cell
+invariant-loop-cell l = record {
+  made : AreMade l.shapes;
+  each : All (λ (c : SidedCell). IsMade l.shapes c.signs) (take l.cell-index l.sided);
 }
