@@ -1,5 +1,5 @@
-//! Tests that cross crates below whole runs: lists of steps, evaluated, differentiated and traced, and
-//! the grids of their meshes.
+//! Tests that cross crates below whole runs: lists of steps, evaluated, differentiated and traced, the
+//! shading of their height maps, and the grids of their meshes.
 #![tactic(auto)]
 
 #[cfg(test)]
@@ -8,5 +8,7 @@ mod gradients;
 mod grids;
 #[cfg(test)]
 mod regrids;
+#[cfg(test)]
+mod shades;
 #[cfg(test)]
 mod tapes;

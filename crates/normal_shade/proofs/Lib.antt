@@ -1,2 +1,13 @@
 pub mod Choices
 pub mod Taken
+pub mod Sums
+pub mod Lit
+pub mod Visits
+pub mod Held
+pub mod Work
+pub mod Rows
+pub mod Longest
+pub mod Descents
+pub mod Pictures
+pub mod Bounds
+mod Examples

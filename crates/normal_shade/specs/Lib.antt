@@ -1,1 +1,5 @@
 pub mod Laws
+pub mod Marks
+pub mod Received
+pub mod Shades
+pub mod Shading

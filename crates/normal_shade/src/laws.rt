@@ -1,8 +1,10 @@
-// What always holds of the slopes of lists that are shortened.
+// What always holds of the slopes of lists that are shortened, and of the work of shading.
 ghost use Rattle.interval_laws.specs.Laws.{ChosenWins};
+ghost use Rattle.normal_shade.specs.Laws.{ShadePointsAreBounded, ShadeSpansAreBounded};
 ghost use Rattle.normal_shade.specs.Laws.{SlopeIsTaken, SlopesAreKept};
 
 use crate::Dual;
+use box_chains::layers_hold;
 use choice_trace::traces_are_right;
 use fixed_ops::{Fx, Op};
 use interval_laws::choice_kept;
@@ -30,4 +32,14 @@ pub fn live_lists_keep_slopes()
     live_lists_keep_meanings::<Dual>();
     values_have_slopes();
     traces_are_right();
+}
+
+/// A shaded height map takes no more evaluations than ten for each step of the list in each column, and
+/// no more steps are traced for it than for a height map. So neither count stands still at its last
+/// value.
+pub fn shade_work_is_bounded()
+    ensures points { ShadePointsAreBounded }
+    ensures spans { ShadeSpansAreBounded }
+{
+    layers_hold();
 }
