@@ -24,6 +24,8 @@ mod replays;
 #[cfg(test)]
 mod scripts;
 #[cfg(test)]
+mod shades;
+#[cfg(test)]
 mod sure;
 #[cfg(test)]
 mod texts;

@@ -51,6 +51,20 @@ impl Trial {
         ))
     }
 
+    /// Runs the modeller on these words, and asserts that it is done and writes these bytes.
+    pub fn assert_draws(
+        &mut self,
+        rt: &impl Abort,
+        alloc: Global,
+        words: &[&str],
+        out: &[u8],
+    ) -> Result<(), AllocError> {
+        let status = self.run(alloc, words)?;
+        assert_eq!(rt; status, Status::Done, "{words:?}");
+        self.assert_holds(rt, out, b"");
+        Ok(())
+    }
+
     /// Asserts what the outputs hold.
     pub fn assert_holds(&self, rt: &impl Abort, out: &[u8], note: &[u8]) {
         assert_eq!(rt; self.out.held(), Some(out), "written to out");

@@ -5,7 +5,7 @@ use modeller_io::Source;
 use std::test::Fail;
 
 // Words, the number of the one that is noted, and the reason.
-const CASES: [(&[&str], u32, &str); 70] = [
+const CASES: [(&[&str], u32, &str); 75] = [
     (&[], 0, "NoVerb"),
     (&["draw"], 1, "UnknownVerb"),
     (&["Render", "w"], 1, "UnknownVerb"),
@@ -120,6 +120,12 @@ const CASES: [(&[&str], u32, &str); 70] = [
     (&["height", "x0=1", "x1=-1"], 0, "EmptySpan"),
     (&["height", "y1=-2"], 0, "EmptySpan"),
     (&["height", "z0=0.5", "z1=0.25"], 0, "EmptySpan"),
+    // Words of a shaded height map.
+    (&["shade", "n=3"], 2, "UnknownSetting"),
+    (&["shade", "z=0"], 2, "UnknownSetting"),
+    (&["shade", "w=1025"], 2, "OutOfRange"),
+    (&["shade", "d=1025"], 2, "OutOfRange"),
+    (&["shade", "x0=2"], 0, "EmptySpan"),
     // Words of a model that is made.
     (&["forge", "seed=18446744073709551616"], 2, "OutOfRange"),
     (&["forge", "seed=0", "solids=0"], 3, "OutOfRange"),

@@ -70,7 +70,7 @@ fn has_comment(operands: Operands<'_>) -> bool
     }
 }
 
-// The names of operands.
+// The names of operands, in room for no more than these.
 fn names(alloc: Global, operands: Operands<'_>) -> Result<Vec<Name>, AllocError>
     ensures names { IfOk result (λ names. names.items ≡ names_in operands.entry) }
     ensures none { names_in operands.entry ≡ [] → IsOk result }
@@ -78,9 +78,12 @@ fn names(alloc: Global, operands: Operands<'_>) -> Result<Vec<Name>, AllocError>
     let mut names = Vec::new(alloc);
     match operands {
         Operands::Zero => {}
-        Operands::One(first) => names.push(name(alloc, first)?)?,
+        Operands::One(first) => {
+            names.reserve_exact(1)?;
+            names.push(name(alloc, first)?)?;
+        }
         Operands::Two(first, second) => {
-            names.reserve(2)?;
+            names.reserve_exact(2)?;
             names.push(name(alloc, first)?)?;
             names.push(name(alloc, second)?)?;
         }

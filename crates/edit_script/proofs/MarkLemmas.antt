@@ -1,11 +1,16 @@
 -- How the first mark line is found among the lines.
-use Rattle.std.proofs.Common.{◌≡◌, ℕ, ◌+◌, ◌<◌, ◌≤◌, Bool, true, false, cond, List, [], ◌∷◌, length, Some, None, refl, ap, sym, ◌∙◌, arith, nat_lt}
+use Rattle.std.proofs.Common.{◌≡◌, ℕ, suc, ◌+◌, ◌<◌, ◌≤◌, Bool, true, false, cond, not, ◌&&◌, ◌||◌, List, [], ◌∷◌, length, drop, get_or, Some, None, refl, ap, sym, ◌∙◌, arith, nat_lt}
+use Rattle.memchr.specs.Find.{IsFirstByte, is_byte}
 use Rattle.std.specs.List.{position_or_len}
+use Rattle.std.proofs.lemmas.List.{drop_all}
+use Rattle.std.proofs.lemmas.List.Sums.{position_or_len_is}
 use Rattle.std.proofs.lemmas.Bool.Decides.{nat_tests}
+use Rattle.std.specs.Prelude.{◌==◌}
+use Rattle.solid_model.specs.Names.{is_blank}
 use Rattle.clause_reader.specs.FirstLines.{TextsBeginWithLines}
-use Rattle.clause_reader.specs.Lines.{lines_of, tokens_of}
+use Rattle.clause_reader.specs.Lines.{is_feed, line_of, lines_of, onto_first, tokens_of}
 use Rattle.clause_reader.specs.Scan.{after_line, line_tokens}
-use Rattle.edit_script.specs.Marks.{is_mark, mark_place}
+use Rattle.edit_script.specs.Marks.{begins_other, is_mark, mark_place}
 use Rattle.edit_script.proofs.LineStarts.{from_line, from_line-next, from_line-zero}
 
 abbrev marks : List ℕ → Bool
@@ -61,3 +66,57 @@ passed-all input n rest passed none =
     let total : length (lines_of input) ≡ n = omega (arith, passed.total, ap length nothing) in
     let more : length (lines_of input) ≤ position_or_len marks (lines_of input) = omega (arith, passed.place, total) in
     sym (place_none (position_or_len marks (lines_of input)) (length (lines_of input)) more)
+
+-- tokens of which the first begins with another byte than the sign of a mark
+other-token : (byte : ℕ) (token : List ℕ) (others : List (List ℕ)) → (byte == 37) ≡ false → is_mark ((byte ∷ token) ∷ others) ≡ false
+other-token byte token [] other = rw other refl
+other-token byte token (next ∷ others) other = refl
+
+onto_first-other : (byte : ℕ) (tokens : List (List ℕ)) → (byte == 37) ≡ false → is_mark (onto_first byte tokens) ≡ false
+onto_first-other byte [] other = other-token byte [] [] other
+onto_first-other byte (first ∷ others) other = other-token byte first others other
+
+-- a line that begins with such a byte
+tokens_of-other : (byte : ℕ) (line : List ℕ) → is_blank byte ≡ false → (byte == 37) ≡ false → is_mark (tokens_of (byte ∷ line)) ≡ false
+tokens_of-other byte [] solid other = rw solid (other-token byte [] [] other)
+tokens_of-other byte (next ∷ rest) solid other = rw solid (by (is_blank next))
+  where
+    by : (b : Bool) → is_mark (cond b ((byte ∷ []) ∷ tokens_of (next ∷ rest)) (onto_first byte (tokens_of (next ∷ rest)))) ≡ false
+    by true = other-token byte [] (tokens_of (next ∷ rest)) other
+    by false = onto_first-other byte (tokens_of (next ∷ rest)) other
+
+-- a text that begins with another byte of a token than the sign of a mark begins with no mark line
+pub other_line : (text : List ℕ) → begins_other text ≡ true → is_mark (line_tokens text) ≡ false
+other_line [] begins = cc
+other_line (byte ∷ rest) begins = by (is_blank byte) (is_feed byte) (byte == 37) refl refl refl begins
+  where
+    by : (b f o : Bool) → is_blank byte ≡ b → is_feed byte ≡ f → (byte == 37) ≡ o → (not (b || f) && not o) ≡ true → is_mark (line_tokens (byte ∷ rest)) ≡ false
+    by true f o blank feed other h = cc
+    by false true o blank feed other h = cc
+    by false false true blank feed other h = cc
+    by false false false blank feed other h =
+        let one : 1 + position_or_len is_feed rest ≡ suc (position_or_len is_feed rest) = omega arith in
+        let line : line_of (byte ∷ rest) ≡ byte ∷ line_of rest = rw (feed, one) refl in
+        ap (λ (l : List ℕ). is_mark (tokens_of l)) line ∙ tokens_of-other byte (line_of rest) blank other
+
+-- the first line feed, as a search finds it
+not_true : (b : Bool) → ¬ (b ≡ true) → b ≡ false
+not_true true other = absurd (other refl)
+not_true false other = refl
+
+feed_place : (text : List ℕ) (k : ℕ) → IsFirstByte (is_byte 10) text (Some k) → position_or_len is_feed text ≡ k
+feed_place text k found =
+    position_or_len_is is_feed text k 0 (omega (arith, found.0.high)) (λ j less. not_true (is_feed (get_or text j 0)) (found.0.before j (omega arith) less)) (λ _. found.1)
+
+no_feed_place : (text : List ℕ) → IsFirstByte (is_byte 10) text None → position_or_len is_feed text ≡ length text
+no_feed_place text none =
+    position_or_len_is is_feed text (length text) 0 (omega arith) (λ j less. not_true (is_feed (get_or text j 0)) (none j (omega arith) less)) (λ more. absurd (omega arith))
+
+-- what stands after the first line
+pub after_feed : (text : List ℕ) (k : ℕ) → IsFirstByte (is_byte 10) text (Some k) → drop (k + 1) text ≡ after_line text
+after_feed text k found = ap (λ n. drop (n + 1) text) (sym (feed_place text k found))
+
+pub after_all : (text : List ℕ) → IsFirstByte (is_byte 10) text None → [] ≡ after_line text
+after_all text none =
+    let all : length text ≤ position_or_len is_feed text + 1 = omega (arith, no_feed_place text none) in
+    sym (drop_all (position_or_len is_feed text + 1) text all)

@@ -1,7 +1,8 @@
 -- Where the mark stands between the text of a model and the commands.
-use Rattle.std.specs.Prelude.{ℕ, ◌+◌, min, Bool, false, List, [], ◌∷◌, length, take, position, Option, codes}
+use Rattle.std.specs.Prelude.{ℕ, ◌+◌, ◌==◌, ◌&&◌, min, Bool, false, not, List, [], ◌∷◌, length, take, position, Option, codes}
 use Rattle.std.specs.Option.{option_map, option_map_or}
 use Rattle.std.specs.Str.{bytes_eq}
+use Rattle.solid_model.specs.Names.{is_token_byte}
 use Rattle.clause_reader.specs.LineLaws.{ended}
 use Rattle.clause_reader.specs.Lines.{lines_of, tokens_of}
 
@@ -14,6 +15,11 @@ abbrev pub is_mark : List (List ℕ) → Bool
 is_mark [] = false
 is_mark (token ∷ []) = is_sign token
 is_mark (token ∷ next ∷ others) = false
+
+-- a text begins with a byte of a token other than that of a mark line
+abbrev pub begins_other : List ℕ → Bool
+begins_other [] = false
+begins_other (byte ∷ rest) = is_token_byte byte && not (byte == 37)
 
 -- the place of the first mark line among the lines, counted from 0
 abbrev pub mark_place : List ℕ → Option ℕ

@@ -1,10 +1,12 @@
 // The mark between the text of a model and the commands.
 ghost use Rattle.std.specs.Prelude.{◌≡◌, ◌≤◌, ◌+◌, length, IfSome};
 ghost use Rattle.std.specs.Option.{option_map};
-ghost use Rattle.clause_reader.specs.Scan.{line_tokens};
-ghost use Rattle.edit_script.specs.Marks.{is_mark, is_sign, line_start, mark_ends, mark_place};
+ghost use Rattle.clause_reader.specs.Scan.{after_line, line_tokens};
+ghost use Rattle.solid_model.specs.Names.{is_token_byte};
+ghost use Rattle.edit_script.specs.Marks.{begins_other, is_mark, is_sign, line_start, mark_ends, mark_place};
 
-use clause_reader::{Tokens, after_line, texts_begin_with_lines};
+use clause_reader::{Tokens, texts_begin_with_lines};
+use memchr::memchr;
 
 /// A mark line.
 #[derive(Clone, Copy, Debug)]
@@ -53,15 +55,50 @@ pub(crate) fn find_mark(input: &[u8]) -> Option<Mark>
     None
 }
 
-// Whether the line with which a text begins is a mark line.
+// What stands after the line with which a text begins, and its line feed. A long line is passed many
+// bytes at a time.
+fn after_line(text: &[u8]) -> &[u8]
+    ensures { result.now ≡ after_line text.now }
+{
+    match memchr(b'\n', text) {
+        None => &[],
+        Some(end) => &text[end + 1..],
+    }
+}
+
+// Whether the line with which a text begins is a mark line. Its first byte tells most lines apart,
+// so that their tokens are not looked for.
+#[tactic(auto, using(crate::proofs::MarkLemmas::other_line))]
 fn is_mark(text: &[u8]) -> bool
     ensures { result ≡ is_mark (line_tokens text.now) }
 {
+    if begins_other(text) {
+        return false;
+    }
     let mut tokens = Tokens::new(text);
     match tokens.next() {
         None => false,
         Some(token) => is_sign(token) && tokens.is_empty(),
     }
+}
+
+// Whether a text begins with a byte of a token other than that of a mark line.
+#[inline]
+fn begins_other(text: &[u8]) -> bool
+    ensures { result ≡ begins_other text.now }
+{
+    match text {
+        [] => false,
+        [first, ..] => is_token_byte(*first) && *first != b'%',
+    }
+}
+
+// Whether a byte may stand in a token: neither a blank nor a line feed.
+#[inline]
+fn is_token_byte(byte: u8) -> bool
+    ensures { result ≡ is_token_byte byte }
+{
+    !matches!(byte, b' ' | b'\t' | b'\r' | b'\n')
 }
 
 // Whether a token is that of a mark line.

@@ -37,7 +37,7 @@ fn expect_refusal(rt: &impl Abort, alloc: Global, input: &[u8], fault: ScriptFau
 
 #[test]
 fn refuses_the_first_bad_line(rt: HostRuntime) {
-    let cases: [(&[u8], u32, ScriptReason); 18] = [
+    let cases: [(&[u8], u32, ScriptReason); 19] = [
         (b"", 0, ScriptReason::NoMark),
         (b"x var-x\nrender\n", 0, ScriptReason::NoMark),
         (b"x var-x\n%% render\n", 0, ScriptReason::NoMark),
@@ -55,6 +55,7 @@ fn refuses_the_first_bad_line(rt: HostRuntime) {
         (b"%%\nCost", 2, ScriptReason::UnknownCommand),
         (b"%%\ncost#", 2, ScriptReason::UnknownCommand),
         (b"%%\nRender", 2, ScriptReason::UnknownCommand),
+        (b"%%\nshade", 2, ScriptReason::UnknownCommand),
         (
             b"%%\ntext\n\n# cut\n \t\r\nset\nadd",
             6,

@@ -107,7 +107,7 @@ heights_within before after view clauses list is h =
     record { by = root.by; within = root.few; rises = root.rises }
 
 -- counts are those of which each is
-counts-same : (counts : Counts) (points spans corners : ℕ) → counts.points ≡ points → counts.spans ≡ spans → counts.corners ≡ corners
+pub counts-same : (counts : Counts) (points spans corners : ℕ) → counts.points ≡ points → counts.spans ≡ spans → counts.corners ≡ corners
     → counts ≡ work_of points spans corners
 counts-same counts points spans corners p s c = λ k. record { points = p k; spans = s k; corners = c k }
 

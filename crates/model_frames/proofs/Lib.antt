@@ -7,5 +7,6 @@ mod LeastWork
 mod MeshLaws
 mod MeshesAfter
 mod SoundTexts
+mod Shades
 pub mod Views
 pub mod WorkLaws

@@ -2,11 +2,12 @@
 use Rattle.std.specs.Prelude.{ℕ, List, codes, ⊤}
 use Rattle.clause_reader.specs.ModelText.{model_text}
 use Rattle.solid_model.specs.declared.clause.Clause.{Clause}
-use Rattle.view_places.specs.Window.{FitsHeight, FitsMesh}
+use Rattle.view_places.specs.Window.{FitsHeight, FitsMesh, Window}
 use Rattle.model_frames.specs.Heights.{heights_of}
 use Rattle.model_frames.specs.Images.{image_of}
 use Rattle.model_frames.specs.Meshes.{mesh_text}
-use Rattle.model_frames.specs.Work.{Work, frame_work, height_work, mesh_work, no_work}
+use Rattle.model_frames.specs.Shades.{shaded_of}
+use Rattle.model_frames.specs.Work.{Work, frame_work, height_work, mesh_work, no_work, shade_work}
 use Rattle.model_frames.specs.declared.frame.Frame.{Frame}
 use Rattle.model_frames.specs.declared.frame.Frame.TheVariants.{Render, Height, Mesh, Text}
 
@@ -14,6 +15,11 @@ use Rattle.model_frames.specs.declared.frame.Frame.TheVariants.{Render, Height, 
 pub record Part : Type 0 where
   pub bytes : List ℕ
   pub work : Work
+
+-- a shaded height map of a solid
+abbrev pub shade_part : Window → List Clause → Part
+shade_part view clauses =
+    record { bytes = shaded_of view clauses; work = shade_work view clauses }
 
 -- a frame of a solid
 abbrev pub frame_part : Frame → List Clause → Part

@@ -5,5 +5,6 @@ pub mod Images
 pub mod Laws
 pub mod Meshes
 pub mod Pieces
+pub mod Shades
 pub mod SoundTexts
 pub mod Work

@@ -8,12 +8,14 @@ use Rattle.box_chains.specs.Tallied.{work_of}
 use Rattle.oct_descent.specs.After.{mesh_long_spans_after, mesh_points_after, mesh_spans_after}
 use Rattle.oct_descent.specs.Bound.{mesh_least, mesh_long_spans, mesh_points, mesh_spans}
 use Rattle.oct_descent.specs.Trees.{Gridding}
+use Rattle.normal_shade.specs.Shades.{shade_points, shade_spans}
 use Rattle.quad_descent.specs.Raster.{Drawing, frame_points, frame_spans, fresh_points, fresh_spans}
 use Rattle.solid_model.specs.declared.clause.Clause.{Clause}
 use Rattle.view_places.specs.Window.{Window}
 use Rattle.model_frames.specs.Heights.{plain_depths}
 use Rattle.model_frames.specs.Images.{list_before, plain_points}
 use Rattle.model_frames.specs.Meshes.{grid_before, plain_grid}
+use Rattle.model_frames.specs.Shades.{plain_shades}
 
 -- What a frame takes: where it is drawn, at least and at most so many evaluations, traced steps and
 -- corners of hulls, and no more than so many whatever stops it; and the evaluations that evaluating
@@ -74,6 +76,27 @@ height_work view clauses =
       most = work_of points near (4 * spans);
       bound = work_of points spans (4 * spans);
       plain = plain_depths view (length clauses);
+    }
+
+-- The work of the slopes of a shaded height map: at most ten evaluations for each step of the list that the
+-- last box on the way to a top sample receives, and exactly the steps traced over the boxes on the ways to
+-- these; and beside it ten evaluations of each clause in each column.
+abbrev pub slopes_work : Window → List Clause → Work
+slopes_work view clauses =
+    let points = shade_points view (root_of clauses) in
+    let spans = shade_spans view (root_of clauses) in
+    record {
+      least = work_of 0 spans 0;
+      most = work_of points spans (4 * spans);
+      bound = work_of points spans (4 * spans);
+      plain = 10 * (view.h * view.w * length clauses);
+    }
+
+-- the work of a shaded height map: that of the height map, and then that of the slopes
+abbrev pub shade_work : Window → List Clause → Work
+shade_work view clauses =
+    record (both (height_work view clauses) (slopes_work view clauses)) {
+      plain = plain_shades view (length clauses);
     }
 
 -- The work of a mesh of a list over a view, and beside it what all clauses would take. Of a fresh one it

@@ -1,4 +1,5 @@
-//! What can be drawn of a model over a view: its image, its height map, its mesh and its text.
+//! What can be drawn of a model over a view: its image, its height map, plain and shaded, its mesh and its
+//! text.
 #![tactic(auto)]
 
 mod drawn;
@@ -10,6 +11,7 @@ mod pieces;
 mod redrawn;
 mod remeshed;
 mod render;
+mod shading;
 
 pub use drawn::Drawn;
 pub use frame::Frame;
@@ -19,6 +21,7 @@ pub use pieces::Pieces;
 pub use redrawn::redraw_image;
 pub use remeshed::{mesh_text_in, redraw_mesh};
 pub use render::{draw_image, image_text};
+pub use shading::shade_pixels;
 
 #[cfg(test)]
 mod tests;

@@ -7,7 +7,7 @@ use Rattle.edit_script.specs.Scripts.{script_read}
 use Rattle.edit_script.specs.declared.command.Command.{Command}
 use Rattle.edit_script.specs.declared.script_fault.ScriptFault.{ScriptFault}
 use Rattle.edit_session.specs.Sessions.{started}
-use Rattle.model_frames.specs.Frames.{Part, frame_part}
+use Rattle.model_frames.specs.Frames.{Part, frame_part, shade_part}
 use Rattle.model_frames.specs.Work.{frame_work}
 use Rattle.model_frames.specs.declared.frame.Frame.TheVariants as frames
 use Rattle.solid_model.specs.declared.clause.Clause.{Clause}
@@ -67,6 +67,7 @@ made jobs.Text input = of_model input (frame_part frames.Text)
 made jobs.Replay input =
     of_solid input (before_mark input) (λ clauses. parts_replayed clauses (script_read input))
 made (jobs.Forge forge) input = Ok (forge_part forge ∷ [])
+made (jobs.Shade view) input = of_model input (shade_part view)
 
 -- the parts that a run writes, or why it writes none
 abbrev pub outcome : List (List ℕ) → List ℕ → Result (List Part) Refusal

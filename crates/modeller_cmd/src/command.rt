@@ -23,6 +23,7 @@ use crate::drawing::{draw, render};
 use crate::forge::forge;
 use crate::note::note_of;
 use crate::replay::replay;
+use crate::shading::shade;
 use crate::stop::Stop;
 use edit_script::draws_may_be_drawn;
 use fixed_ops::Tally;
@@ -300,5 +301,6 @@ fn execute<K: Sink>(
         Job::Count(view) => count(alloc, view, input, out, tally),
         Job::Forge(wanted) => forge(alloc, wanted, out, tally),
         Job::Replay => replay(alloc, input, out, tally),
+        Job::Shade(view) => shade(alloc, view, input, out, tally),
     }
 }

@@ -15,6 +15,7 @@ mod note;
 mod refusal;
 mod replay;
 mod send;
+mod shading;
 mod status;
 mod stop;
 mod sure;

@@ -167,6 +167,9 @@ images_have_windows v = (λ is. is, λ is. is)
 height_map_fits : (v : Window) → IsJob (jobs.Height v) → IsWindow v × FitsHeight v
 height_map_fits v is = is
 
+shade_fits : (v : Window) → IsJob (jobs.Shade v) → IsWindow v × FitsHeight v
+shade_fits v is = is
+
 mesh_fits : (v : Window) → IsJob (jobs.Mesh v) → IsWindow v × FitsMesh v
 mesh_fits v is = is
 

@@ -27,9 +27,9 @@ each_name_is_read : map name_called (codes "x0" ∷ codes "x1" ∷ codes "y0" �
 each_name_is_read = refl
 
 each_verb_is_read : map verb_named (codes "render" ∷ codes "height" ∷ codes "mesh" ∷ codes "count"
-    ∷ codes "text" ∷ codes "replay" ∷ codes "forge" ∷ codes "forges" ∷ [])
+    ∷ codes "text" ∷ codes "replay" ∷ codes "forge" ∷ codes "shade" ∷ codes "forges" ∷ [])
     ≡ Some verbs.Render ∷ Some verbs.Height ∷ Some verbs.Mesh ∷ Some verbs.Count ∷ Some verbs.Text
-    ∷ Some verbs.Replay ∷ Some verbs.Forge ∷ None ∷ []
+    ∷ Some verbs.Replay ∷ Some verbs.Forge ∷ Some verbs.Shade ∷ None ∷ []
 each_verb_is_read = refl
 
 -- no two names have one number
@@ -61,6 +61,9 @@ scripts_have_none = refl
 
 models_are_made_of_a_seed : settings_of verbs.Forge ≡ X0 ∷ X1 ∷ Y0 ∷ Y1 ∷ Z ∷ W ∷ H ∷ Seed ∷ Solids ∷ []
 models_are_made_of_a_seed = refl
+
+shades_take_what_height_maps_take : settings_of verbs.Shade ≡ settings_of verbs.Height
+shades_take_what_height_maps_take = refl
 
 greatest_counts : map greatest_of (W ∷ H ∷ D ∷ N ∷ Nx ∷ Ny ∷ Nz ∷ Solids ∷ [])
     ≡ 4096 ∷ 4096 ∷ 1024 ∷ 256 ∷ 512 ∷ 512 ∷ 512 ∷ 5000 ∷ []
@@ -108,6 +111,9 @@ image_alone = refl
 
 height_map_alone : job_of (codes "height" ∷ []) ≡ Ok (jobs.Height untold)
 height_map_alone = refl
+
+shade_alone : job_of (codes "shade" ∷ []) ≡ Ok (jobs.Shade untold)
+shade_alone = refl
 
 mesh_alone : job_of (codes "mesh" ∷ []) ≡ Ok (jobs.Mesh untold)
 unfolding has_room

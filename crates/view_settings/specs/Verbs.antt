@@ -10,7 +10,7 @@ use Rattle.view_settings.specs.declared.reads.Reads.{Reads}
 use Rattle.view_settings.specs.declared.reads.Reads.TheVariants.{Nothing, Model, Script}
 use Rattle.view_settings.specs.declared.setting.Setting.{Setting}
 use Rattle.view_settings.specs.declared.verb.Verb.{Verb}
-use Rattle.view_settings.specs.declared.verb.Verb.TheVariants.{Render, Height, Mesh, Count, Text, Replay, Forge}
+use Rattle.view_settings.specs.declared.verb.Verb.TheVariants.{Render, Height, Mesh, Count, Text, Replay, Forge, Shade}
 use Rattle.view_settings.specs.declared.word_fault.WordReason.{WordReason}
 use Rattle.view_settings.specs.declared.word_fault.WordReason.TheVariants.{CellTooSmall, TooManyCells}
 use Rattle.view_settings.specs.Kinds.{forge_kind, height_kind, image_kind, mesh_kind}
@@ -26,9 +26,10 @@ verb_text Count = codes "count"
 verb_text Text = codes "text"
 verb_text Replay = codes "replay"
 verb_text Forge = codes "forge"
+verb_text Shade = codes "shade"
 
 abbrev pub verbs : List Verb
-verbs = Render ∷ Height ∷ Mesh ∷ Count ∷ Text ∷ Replay ∷ Forge ∷ []
+verbs = Render ∷ Height ∷ Mesh ∷ Count ∷ Text ∷ Replay ∷ Forge ∷ Shade ∷ []
 
 -- the verb that is written so
 abbrev pub verb_named : List ℕ → Option Verb
@@ -43,6 +44,7 @@ kind_of Count name = image_kind name
 kind_of Text name = None
 kind_of Replay name = None
 kind_of Forge name = forge_kind name
+kind_of Shade name = height_kind name
 
 -- a mesh of this window: first is asked whether its cells are large enough, then whether they are too many
 abbrev pub mesh_job : Window → Result Job WordReason
@@ -59,6 +61,7 @@ job_with Count settings = Ok (jobs.Count (window_of settings))
 job_with Text settings = Ok jobs.Text
 job_with Replay settings = Ok jobs.Replay
 job_with Forge settings = Ok (jobs.Forge (forge_of settings))
+job_with Shade settings = Ok (jobs.Shade (window_of settings))
 
 -- what a job always keeps
 abbrev pub IsJob : Job → Type 0
@@ -69,6 +72,7 @@ IsJob (jobs.Count v) = IsWindow v
 IsJob jobs.Text = ⊤
 IsJob jobs.Replay = ⊤
 IsJob (jobs.Forge f) = IsWindow f.view × IsCount 5000 f.solids
+IsJob (jobs.Shade v) = IsWindow v × FitsHeight v
 
 -- what a job reads
 abbrev pub reads : Job → Reads
@@ -79,3 +83,4 @@ reads (jobs.Count v) = Model
 reads jobs.Text = Model
 reads jobs.Replay = Script
 reads (jobs.Forge f) = Nothing
+reads (jobs.Shade v) = Model

@@ -22,6 +22,8 @@ pub enum Job {
     Replay,
     /// A model that is made, and drawn.
     Forge(Forge),
+    /// A shaded height map of this view.
+    Shade(View),
 }
 
 impl Job {
@@ -30,9 +32,12 @@ impl Job {
         ensures { result ≡ reads self.now }
     {
         match self {
-            Job::Render(_) | Job::Height(_) | Job::Mesh(_) | Job::Count(_) | Job::Text => {
-                Reads::Model
-            }
+            Job::Render(_)
+            | Job::Height(_)
+            | Job::Mesh(_)
+            | Job::Count(_)
+            | Job::Text
+            | Job::Shade(_) => Reads::Model,
             Job::Replay => Reads::Script,
             Job::Forge(_) => Reads::Nothing,
         }

@@ -44,6 +44,7 @@ fn words_without_settings_give_the_defaults(rt: HostRuntime) -> Result<(), Fail>
         ("text", Job::Text),
         ("replay", Job::Replay),
         ("forge", Job::Forge(forge)),
+        ("shade", Job::Shade(view)),
     ] {
         assert_eq!(rt; read(rt.alloc(), text)?, Ok(job), "{text}");
     }
@@ -103,6 +104,11 @@ fn words_are_refused_by_the_lowest_reason_of_the_first_bad_word(
         ("count h=4097", 2, WordReason::OutOfRange),
         ("height w=1025", 2, WordReason::OutOfRange),
         ("height d=1025", 2, WordReason::OutOfRange),
+        ("shade w=1025", 2, WordReason::OutOfRange),
+        ("shade d=1025", 2, WordReason::OutOfRange),
+        ("shade n=3", 2, WordReason::UnknownSetting),
+        ("shade z=0", 2, WordReason::UnknownSetting),
+        ("shade x0=2", 0, WordReason::EmptySpan),
         ("mesh n=257", 2, WordReason::OutOfRange),
         ("mesh nx=513", 2, WordReason::OutOfRange),
         ("mesh n=2 nx=3 nx=3", 4, WordReason::Twice),

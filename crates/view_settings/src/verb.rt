@@ -32,6 +32,8 @@ pub enum Verb {
     Replay,
     /// Make a model of its own and draw it.
     Forge,
+    /// Draw a height map, shaded.
+    Shade,
 }
 
 // The verb that is written so.
@@ -47,6 +49,7 @@ pub(crate) fn read_verb(word: &[u8]) -> Option<Verb>
         b"text" => Some(Verb::Text),
         b"replay" => Some(Verb::Replay),
         b"forge" => Some(Verb::Forge),
+        b"shade" => Some(Verb::Shade),
         _ => None,
     }
 }
@@ -59,7 +62,7 @@ impl Verb {
     {
         match self {
             Verb::Render | Verb::Count => image_kind(name),
-            Verb::Height => height_kind(name),
+            Verb::Height | Verb::Shade => height_kind(name),
             Verb::Mesh => mesh_kind(name),
             Verb::Text | Verb::Replay => None,
             Verb::Forge => forge_kind(name),
@@ -83,6 +86,7 @@ impl Verb {
             Verb::Text => Ok(Job::Text),
             Verb::Replay => Ok(Job::Replay),
             Verb::Forge => Ok(Job::Forge(forge_given(self, taken, view))),
+            Verb::Shade => Ok(Job::Shade(view)),
         }
     }
 }

@@ -34,6 +34,11 @@ returns-in-Forge g c =
     executed-at-once g.K.Sink.held g.K.Sink.faults c.args.out.now c.forge.new.out c.args.tally.now c.forge.new.tally c.args.job.now (jobs.Forge c.in-Forge.wanted) c.args.input.now c.forge.result
     c.in-Forge.is (λ is. cc) c.forge.ensures
 
+pub returns-in-Shade : goal.returns-in-Shade
+returns-in-Shade g c =
+    executed-at-once g.K.Sink.held g.K.Sink.faults c.args.out.now c.shade.new.out c.args.tally.now c.shade.new.tally c.args.job.now (jobs.Shade c.in-Shade.view) c.args.input.now c.shade.result
+    c.in-Shade.is (λ is. cc) c.shade.ensures
+
 pub returns-in-Replay : goal.returns-in-Replay
 returns-in-Replay g c =
     let r = c.replay.ensures in
