@@ -7,7 +7,7 @@ use Rattle.view_places.specs.declared.lattice.Lattice.TheVariants.{Raster, Heigh
 use Rattle.view_places.specs.Boxes.{Indices, IsBox, middle, one_sample}
 use Rattle.view_places.specs.Places.{sample_place, point_of, raster_point, steps_of}
 use Rattle.view_places.specs.Spans.{IsInRoot, IsPlaceAmong, region_of, root_box_of}
-use Rattle.view_places.specs.Window.{AreEnds, FitsHeight, IsCount, IsWindow, Window, fits_mesh, has_room}
+use Rattle.view_places.specs.Window.{AreEnds, FitsHeight, IsCount, IsWindow, Window, fits_contour, fits_mesh, has_room}
 
 -- from -1 to 1, with this count along each axis
 abbrev counted : ℕ → Window
@@ -47,6 +47,35 @@ lone_sample = refl
 
 last_sample : raster_point (counted 2) 1 1 ≡ record { x = pos 4294967296; y = negsuc 4294967295; z = pos 0 }
 last_sample = refl
+
+-- a contour needs room along x and along y, but none along z
+contour_needs_no_depth : fits_contour (record (counted 4) { z0 = pos 5; z1 = pos 5 }) ≡ true
+unfolding has_room
+contour_needs_no_depth = refl
+
+contour_without_room_along_x : fits_contour (record (counted 4) { x0 = pos 5; x1 = pos 262148 }) ≡ false
+unfolding has_room
+contour_without_room_along_x = refl
+
+contour_without_room_along_y : fits_contour (record (counted 4) { y0 = pos 5; y1 = pos 262148 }) ≡ false
+unfolding has_room
+contour_without_room_along_y = refl
+
+just_room_for_a_contour : fits_contour (record (counted 4) { x0 = pos 5; x1 = pos 262149; y0 = pos 7; y1 = pos 262151 }) ≡ true
+unfolding has_room
+just_room_for_a_contour = refl
+
+contour_of_oblong_grid : fits_contour (record (counted 4) { ny = 5 }) ≡ false
+unfolding has_room
+contour_of_oblong_grid = refl
+
+most_cells_of_a_contour : fits_contour (counted 256) ≡ true
+unfolding has_room
+most_cells_of_a_contour = refl
+
+too_many_cells_of_a_contour : fits_contour (counted 257) ≡ false
+unfolding has_room
+too_many_cells_of_a_contour = refl
 
 -- a mesh needs room along each axis
 room_everywhere : fits_mesh (counted 4) ≡ true

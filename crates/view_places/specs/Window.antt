@@ -1,5 +1,5 @@
 -- A window onto a solid, and how finely it is sampled.
-use Rattle.std.specs.Prelude.{ℕ, ◌*◌, ◌≤◌, ℤ, pos, ◌-ℤ◌, ◌≤ℤ◌, int_le, nat_le, Bool, ◌&&◌}
+use Rattle.std.specs.Prelude.{◌≡◌, ℕ, ◌*◌, ◌≤◌, ◌==◌, ℤ, pos, ◌-ℤ◌, ◌≤ℤ◌, int_le, nat_le, Bool, ◌&&◌}
 use Rattle.fixed_ops.specs.Raw.{IsRaw}
 use Rattle.kuhn_cells.specs.declared.grid_size.GridSize.{GridSize}
 
@@ -61,6 +61,14 @@ pub record FitsMesh (v : Window) : Type 0 where
   pub z : pos (v.nz * 65536) ≤ℤ (v.z1 -ℤ v.z0)
   pub all : v.nx * (v.ny * v.nz) ≤ 16777216
 
+-- a contour may be drawn of it: its plane grid has as many cells along x as along y, at most 256, and a cell has
+-- at least 65536 raw units along each of these axes
+pub record FitsContour (v : Window) : Type 0 where
+  pub square : v.nx ≡ v.ny
+  pub few : v.nx ≤ 256
+  pub x : pos (v.nx * 65536) ≤ℤ (v.x1 -ℤ v.x0)
+  pub y : pos (v.ny * 65536) ≤ℤ (v.y1 -ℤ v.y0)
+
 -- ends of an axis lie at least 65536 raw units a cell from each other
 unfoldable pub has_room : ℤ → ℤ → ℕ → Bool
 has_room low high cells = int_le (pos (cells * 65536)) (high -ℤ low)
@@ -77,3 +85,11 @@ cells_are_few v = nat_le (v.nx * (v.ny * v.nz)) 16777216
 -- the test of whether a mesh may be made
 abbrev pub fits_mesh : Window → Bool
 fits_mesh v = cells_have_room v && cells_are_few v
+
+-- the cells of a plane grid have that room along x and along y
+abbrev pub plane_cells_have_room : Window → Bool
+plane_cells_have_room v = has_room v.x0 v.x1 v.nx && has_room v.y0 v.y1 v.ny
+
+-- the test of whether a contour may be drawn
+abbrev pub fits_contour : Window → Bool
+fits_contour v = plane_cells_have_room v && (v.nx == v.ny && nat_le v.nx 256)

@@ -17,7 +17,7 @@ use Rattle.view_settings.specs.Setting.{IsSetting, value_read}
 use Rattle.view_settings.specs.Settings.{AreSettings}
 use Rattle.view_settings.specs.Verbs.{IsJob}
 use Rattle.view_settings.specs.Views.{forge_of, is_empty, window_of}
-use Rattle.view_places.specs.Window.{FitsHeight, FitsMesh, IsWindow, Window}
+use Rattle.view_places.specs.Window.{FitsContour, FitsHeight, FitsMesh, IsWindow, Window}
 
 -- the ends of a range of counts belong to it
 least_count : value_read (kinds.Count 1 1024) (codes "1") ≡ Ok (Count 1)
@@ -169,6 +169,9 @@ height_map_fits v is = is
 
 shade_fits : (v : Window) → IsJob (jobs.Shade v) → IsWindow v × FitsHeight v
 shade_fits v is = is
+
+contour_fits : (v : Window) → IsJob (jobs.Contour v) → IsWindow v × FitsContour v
+contour_fits v is = is
 
 mesh_fits : (v : Window) → IsJob (jobs.Mesh v) → IsWindow v × FitsMesh v
 mesh_fits v is = is

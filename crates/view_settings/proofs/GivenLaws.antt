@@ -1,5 +1,5 @@
 -- Each value that was given is one of its setting's kind, and so is each default.
-use Rattle.std.proofs.Common.{◌≡◌, ℕ, ◌<◌, ◌≤◌, Bool, true, false, cond, List, [], ◌∷◌, ◌++◌, length, map, Option, Some, None, refl, ap, ◌∙◌, subst, arith, nat_eq, ℤ}
+use Rattle.std.proofs.Common.{◌≡◌, ℕ, ◌<◌, ◌≤◌, Bool, true, false, cond, List, [], ◌∷◌, ◌++◌, length, map, Option, Some, None, refl, sym, ap, ◌∙◌, subst, arith, nat_eq, ℤ}
 use Rattle.std.specs.Prelude.{IfSome, find, ◌||◌}
 use Rattle.std.specs.List.{AllByRecursion, list_any}
 use Rattle.std.specs.Option.{option_map}
@@ -18,12 +18,12 @@ use Rattle.view_settings.specs.declared.setting.Value.TheVariants as values
 use Rattle.view_settings.specs.declared.verb.Verb.{Verb}
 use Rattle.view_settings.specs.declared.verb.Verb.TheVariants as verbs
 use Rattle.fixed_ops.specs.Raw.{IsRaw}
-use Rattle.view_settings.specs.Kinds.{HasHeightSides, count_to, greatest_of}
+use Rattle.view_settings.specs.Kinds.{HasHeightSides, HasOneCount, count_to, greatest_of}
 use Rattle.view_settings.specs.Names.{is_same, number_of}
 use Rattle.view_settings.specs.Setting.{IsSetting, IsValue, is_given}
 use Rattle.view_settings.specs.Settings.{Given, AreSettings}
 use Rattle.view_settings.specs.Verbs.{kind_of}
-use Rattle.view_settings.specs.Views.{value_given, count_or, window_of}
+use Rattle.view_settings.specs.Views.{cells_of, value_given, count_or, window_of}
 use Rattle.view_places.specs.Window.{FitsHeight, IsCount}
 use Rattle.view_settings.proofs.NameLaws.{same_names, number_of-below}
 
@@ -173,6 +173,30 @@ height_fits verb settings each sides = record {
   w = side_given verb names.W settings sides.0 each;
   h = side_given verb names.H settings sides.1 each;
 }
+
+-- a name that the verb does not have gave no count
+count_untold : (verb : Verb) (name : Name) (settings : List Setting) (default : ℕ) → kind_of verb name ≡ None → AllByRecursion (IsSetting verb) settings
+    → count_or (value_given name settings) default ≡ default
+count_untold verb name settings default none each = by (value_given name settings) (value_given_is verb name settings each)
+  where
+    by : (given : Option Value) → IfSome given (IsValueOf verb name) → count_or given default ≡ default
+    by None is = refl
+    by (Some value) is = let taken = is.taken in absurd (cc)
+
+-- the cells of all axes are at most 256, where a count of them is
+few_cells : (given : Option Value) → ((n : ℕ) → given ≡ Some (values.Count n) → n ≤ 256) → count_or given 64 ≤ 256
+few_cells None few = omega arith
+few_cells (Some (values.Raw v)) few = omega arith
+few_cells (Some (values.Count n)) few = few n refl
+
+-- the window of settings of which one count says how many cells there are along x and along y
+pub square_fits : (verb : Verb) (settings : List Setting) → AllByRecursion (IsSetting verb) settings → HasOneCount (kind_of verb)
+    → ((window_of settings).nx ≡ (window_of settings).ny) × ((window_of settings).nx ≤ 256)
+square_fits verb settings each one =
+    let x = count_untold verb names.Nx settings (cells_of settings) one.1 each in
+    let y = count_untold verb names.Ny settings (cells_of settings) one.2 each in
+    let few = few_cells (value_given names.N settings) (λ n given. (subst (λ k. IsCountOf k n) one.0 (given_count verb names.N settings n each given)).1) in
+    (x ∙ sym y, subst (λ n. n ≤ 256) (sym x) few)
 
 pub greatest_small : (name : Name) → greatest_of name ≤ 5000
 greatest_small names.X0 = omega arith

@@ -26,11 +26,11 @@ use Rattle.view_settings.specs.Kinds.{greatest_of}
 use Rattle.view_settings.specs.Names.{name_called}
 use Rattle.view_settings.specs.Setting.{IsSetting, IsValue, is_given, known, parts_of, setting_of, value_read}
 use Rattle.view_settings.specs.Settings.{Given, begun, finished, settled}
-use Rattle.view_settings.specs.Verbs.{IsJob, job_with, kind_of, mesh_job}
+use Rattle.view_settings.specs.Verbs.{IsJob, contour_job, job_with, kind_of, mesh_job}
 use Rattle.view_settings.specs.Views.{cells_of, count_or, is_empty, minus_one, one, raw_or, value_given, window_of}
-use Rattle.view_places.specs.Window.{AreEnds, FitsMesh, IsCount, IsWindow, Window, cells_are_few, cells_have_room, has_room}
+use Rattle.view_places.specs.Window.{AreEnds, FitsContour, FitsMesh, IsCount, IsWindow, Window, cells_are_few, cells_have_room, has_room, plane_cells_have_room}
 use Rattle.view_settings.specs.Words.{after_words}
-use Rattle.view_settings.proofs.GivenLaws.{count_range, each-push, given_count, given_raw, height_fits}
+use Rattle.view_settings.proofs.GivenLaws.{count_range, each-push, given_count, given_raw, height_fits, square_fits}
 
 -- Numerals mean raw numbers.
 
@@ -284,7 +284,24 @@ mesh-is v window = by (cells_have_room v) (cells_are_few v) refl refl
     by true false r f = rw (r, f) tt
     by true true r f = rw (r, f) (window, fits-is v r f)
 
--- a mesh asks for its cells, and a model that is made for its discs
+plane-is : (v : Window) → v.nx ≡ v.ny → v.nx ≤ 256 → plane_cells_have_room v ≡ true → FitsContour v
+plane-is v square few room =
+    let both = within-both (has_room v.x0 v.x1 v.nx) (has_room v.y0 v.y1 v.ny) room in
+    record {
+      square = square;
+      few = few;
+      x = room-is v.x0 v.x1 v.nx both.0;
+      y = room-is v.y0 v.y1 v.ny both.1;
+    }
+
+pub contour-is : (v : Window) → IsWindow v → v.nx ≡ v.ny → v.nx ≤ 256 → IfOk (contour_job v) IsJob
+contour-is v window square few = by (plane_cells_have_room v) refl
+  where
+    by : (room : Bool) → plane_cells_have_room v ≡ room → IfOk (contour_job v) IsJob
+    by false r = rw r tt
+    by true r = rw r (window, plane-is v square few r)
+
+-- a mesh and a contour ask for their cells, and a model that is made for its discs
 made-is : (verb : Verb) (settings : List Setting) → AllByRecursion (IsSetting verb) settings
     → IsWindow (window_of settings) → IfOk (job_with verb settings) IsJob
 made-is verbs.Mesh settings each window = mesh-is (window_of settings) window
@@ -293,6 +310,9 @@ made-is verbs.Forge settings each window = (
   count-given verbs.Forge settings each names.Solids 16
       (record { some = omega arith; few = omega arith }),
 )
+made-is verbs.Contour settings each window =
+    let square = square_fits verbs.Contour settings each (refl, refl, refl) in
+    contour-is (window_of settings) window square.0 square.1
 made-is other settings each window =
     search (rules, window, height_fits other settings each)
 

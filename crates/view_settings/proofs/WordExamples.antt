@@ -27,9 +27,10 @@ each_name_is_read : map name_called (codes "x0" ∷ codes "x1" ∷ codes "y0" �
 each_name_is_read = refl
 
 each_verb_is_read : map verb_named (codes "render" ∷ codes "height" ∷ codes "mesh" ∷ codes "count"
-    ∷ codes "text" ∷ codes "replay" ∷ codes "forge" ∷ codes "shade" ∷ codes "forges" ∷ [])
+    ∷ codes "text" ∷ codes "replay" ∷ codes "forge" ∷ codes "shade" ∷ codes "contour"
+    ∷ codes "solid" ∷ codes "forges" ∷ [])
     ≡ Some verbs.Render ∷ Some verbs.Height ∷ Some verbs.Mesh ∷ Some verbs.Count ∷ Some verbs.Text
-    ∷ Some verbs.Replay ∷ Some verbs.Forge ∷ Some verbs.Shade ∷ None ∷ []
+    ∷ Some verbs.Replay ∷ Some verbs.Forge ∷ Some verbs.Shade ∷ Some verbs.Contour ∷ Some verbs.Solid ∷ None ∷ []
 each_verb_is_read = refl
 
 -- no two names have one number
@@ -64,6 +65,12 @@ models_are_made_of_a_seed = refl
 
 shades_take_what_height_maps_take : settings_of verbs.Shade ≡ settings_of verbs.Height
 shades_take_what_height_maps_take = refl
+
+contours_are_flat : settings_of verbs.Contour ≡ X0 ∷ X1 ∷ Y0 ∷ Y1 ∷ Z ∷ N ∷ []
+contours_are_flat = refl
+
+forms_have_none : settings_of verbs.Solid ≡ []
+forms_have_none = refl
 
 greatest_counts : map greatest_of (W ∷ H ∷ D ∷ N ∷ Nx ∷ Ny ∷ Nz ∷ Solids ∷ [])
     ≡ 4096 ∷ 4096 ∷ 1024 ∷ 256 ∷ 512 ∷ 512 ∷ 512 ∷ 5000 ∷ []
@@ -114,6 +121,17 @@ height_map_alone = refl
 
 shade_alone : job_of (codes "shade" ∷ []) ≡ Ok (jobs.Shade untold)
 shade_alone = refl
+
+contour_alone : job_of (codes "contour" ∷ []) ≡ Ok (jobs.Contour untold)
+unfolding has_room
+contour_alone = refl
+
+no_room_in_the_plane : job_of (codes "contour" ∷ codes "y0=1" ∷ []) ≡ Err (record { at = 0; reason = CellTooSmall })
+unfolding setting_of has_room cut_magnitude is_unsigned_numeral nearest_raw unsigned_raw
+no_room_in_the_plane = refl
+
+forms_alone : job_of (codes "solid" ∷ []) ≡ Ok jobs.Solid
+forms_alone = refl
 
 mesh_alone : job_of (codes "mesh" ∷ []) ≡ Ok (jobs.Mesh untold)
 unfolding has_room

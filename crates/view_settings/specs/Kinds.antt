@@ -60,6 +60,16 @@ mesh_kind Ny = count_to 512
 mesh_kind Nz = count_to 512
 mesh_kind name = solid_kind name
 
+-- a window, a height, and cells along x and y alike
+abbrev pub contour_kind : Name → Option Kind
+contour_kind Z = Some kinds.Numeral
+contour_kind N = count_to 256
+contour_kind name = window_kind name
+
+-- one count says how many cells there are along x and along y
+abbrev pub HasOneCount : (Name → Option Kind) → Type 0
+HasOneCount kind = (kind N ≡ count_to 256) × (kind Nx ≡ None) × (kind Ny ≡ None)
+
 -- an image, and where the generator starts and how many discs it makes
 abbrev pub forge_kind : Name → Option Kind
 forge_kind Seed = Some (kinds.Count 0 (2 ^ 64 - 1))

@@ -1,8 +1,8 @@
 // What the settings that were taken say.
-ghost use Rattle.std.specs.Prelude.{◌≡◌, Some, None, IfOk, IfSome, if◌then◌else◌};
+ghost use Rattle.std.specs.Prelude.{◌≡◌, ◌≤◌, Some, None, IfOk, IfSome, if◌then◌else◌};
 ghost use Rattle.std.specs.List.{AllByRecursion};
 ghost use Rattle.fixed_ops.specs.Raw.{IsRaw};
-ghost use Rattle.view_settings.specs.Kinds.{HasHeightSides, greatest_of};
+ghost use Rattle.view_settings.specs.Kinds.{HasHeightSides, HasOneCount, greatest_of};
 ghost use Rattle.view_settings.specs.Setting.{IsSetting};
 ghost use Rattle.view_settings.specs.Settings.{settled};
 ghost use Rattle.view_settings.specs.Verbs.{IsJob, kind_of};
@@ -35,6 +35,8 @@ fn view_given(verb: Verb, taken: &[Setting]) -> Option<View>
     ensures view { let v = window_of taken.now in result ≡ (if is_empty v then None else Some v) }
     ensures window { IfSome result IsWindow }
     ensures height { HasHeightSides (kind_of verb) → IfSome result FitsHeight }
+    ensures square { HasOneCount (kind_of verb)
+        → IfSome result (λ v. (v.nx ≡ v.ny) × (v.nx ≤ 256)) }
 {
     let x0 = raw_or(verb, taken, Name::X0, -ONE);
     let x1 = raw_or(verb, taken, Name::X1, ONE);

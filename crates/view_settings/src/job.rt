@@ -24,6 +24,10 @@ pub enum Job {
     Forge(Forge),
     /// A shaded height map of this view.
     Shade(View),
+    /// The outline of the solid at the height of this view.
+    Contour(View),
+    /// The model of a solid that is written as forms, as a text.
+    Solid,
 }
 
 impl Job {
@@ -37,9 +41,11 @@ impl Job {
             | Job::Mesh(_)
             | Job::Count(_)
             | Job::Text
-            | Job::Shade(_) => Reads::Model,
+            | Job::Shade(_)
+            | Job::Contour(_) => Reads::Model,
             Job::Replay => Reads::Script,
             Job::Forge(_) => Reads::Nothing,
+            Job::Solid => Reads::Solid,
         }
     }
 }

@@ -1,6 +1,6 @@
 // The lists of settings that verbs take, and the values that each setting may have.
 ghost use Rattle.std.specs.Prelude.{◌≡◌, Some};
-ghost use Rattle.view_settings.specs.Kinds.{forge_kind as forge_taken, height_kind as height_taken, image_kind as image_taken, mesh_kind as mesh_taken, solid_kind as solid_taken, window_kind as window_taken};
+ghost use Rattle.view_settings.specs.Kinds.{contour_kind as contour_taken, forge_kind as forge_taken, height_kind as height_taken, image_kind as image_taken, mesh_kind as mesh_taken, solid_kind as solid_taken, window_kind as window_taken};
 
 use crate::name::Name;
 
@@ -50,6 +50,17 @@ pub(crate) fn mesh_kind(name: Name) -> Option<Kind>
         Name::N => count_to(256),
         Name::Nx | Name::Ny | Name::Nz => count_to(512),
         other => solid_kind(other),
+    }
+}
+
+/// What a contour takes: a window, a height, and cells, along both axes alike.
+pub(crate) fn contour_kind(name: Name) -> Option<Kind>
+    ensures { result ≡ contour_taken name }
+{
+    match name {
+        Name::Z => Some(Kind::Numeral),
+        Name::N => count_to(256),
+        other => window_kind(other),
     }
 }
 

@@ -9,4 +9,6 @@ pub enum Reads {
     Model,
     /// The text of a model, and a script after it.
     Script,
+    /// The text of a solid, written as forms.
+    Solid,
 }

@@ -56,9 +56,10 @@ impl Settings {
 
     /// The job of the verb with the settings that were taken, and the defaults elsewhere.
     ///
-    /// `EmptySpan`: the ends of an axis are not in order. `CellTooSmall`: they are, the verb is
-    /// `mesh`, and the ends of an axis are nearer than 65536 raw units a cell. `TooManyCells`: they
-    /// are not, the verb is `mesh`, and the mesh has more than 16777216 cells.
+    /// `EmptySpan`: the ends of an axis are not in order. `CellTooSmall`: they are, and the ends of an
+    /// axis are nearer than 65536 raw units a cell, where the verb is `mesh`, or the axis is x or y and
+    /// the verb is `contour`. `TooManyCells`: they are not, the verb is `mesh`, and the mesh has more
+    /// than 16777216 cells.
     pub fn finish(self) -> Result<Job, WordReason>
         ensures job { result ≡ finished self }
         ensures keeps { IfOk result IsJob }

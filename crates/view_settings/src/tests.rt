@@ -45,6 +45,8 @@ fn words_without_settings_give_the_defaults(rt: HostRuntime) -> Result<(), Fail>
         ("replay", Job::Replay),
         ("forge", Job::Forge(forge)),
         ("shade", Job::Shade(view)),
+        ("contour", Job::Contour(view)),
+        ("solid", Job::Solid),
     ] {
         assert_eq!(rt; read(rt.alloc(), text)?, Ok(job), "{text}");
     }
@@ -109,6 +111,25 @@ fn words_are_refused_by_the_lowest_reason_of_the_first_bad_word(
         ("shade n=3", 2, WordReason::UnknownSetting),
         ("shade z=0", 2, WordReason::UnknownSetting),
         ("shade x0=2", 0, WordReason::EmptySpan),
+        ("contour n=0", 2, WordReason::OutOfRange),
+        ("contour n=257", 2, WordReason::OutOfRange),
+        ("contour nx=3", 2, WordReason::UnknownSetting),
+        ("contour z0=1", 2, WordReason::UnknownSetting),
+        ("contour w=3", 2, WordReason::UnknownSetting),
+        ("contour n=64 n=64", 3, WordReason::Twice),
+        ("contour x0=1 x1=0", 0, WordReason::EmptySpan),
+        (
+            "contour n=256 x0=0 x1=0.003906249",
+            0,
+            WordReason::CellTooSmall,
+        ),
+        (
+            "contour n=256 y0=0 y1=0.003906249",
+            0,
+            WordReason::CellTooSmall,
+        ),
+        ("solid foo", 2, WordReason::NotASetting),
+        ("solid x0=1", 2, WordReason::UnknownSetting),
         ("mesh n=257", 2, WordReason::OutOfRange),
         ("mesh nx=513", 2, WordReason::OutOfRange),
         ("mesh n=2 nx=3 nx=3", 4, WordReason::Twice),

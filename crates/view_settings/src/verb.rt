@@ -1,15 +1,15 @@
 // What a run is asked to do: the verbs, with all that is said of each.
-ghost use Rattle.std.specs.Prelude.{◌≡◌, ◌≢◌, IfOk, IfSome, IfNone};
+ghost use Rattle.std.specs.Prelude.{◌≡◌, ◌≢◌, ◌≤◌, IfOk, IfSome, IfNone};
 ghost use Rattle.std.specs.List.{AllByRecursion};
 ghost use Rattle.view_settings.specs.declared.verb.Verb.{Verb};
-ghost use Rattle.view_settings.specs.Kinds.{HasHeightSides};
+ghost use Rattle.view_settings.specs.Kinds.{HasHeightSides, HasOneCount};
 ghost use Rattle.view_settings.specs.Setting.{IsSetting};
-ghost use Rattle.view_settings.specs.Verbs.{IsJob, job_with, kind_of, mesh_job, verb_text};
+ghost use Rattle.view_settings.specs.Verbs.{IsJob, contour_job, job_with, kind_of, mesh_job, verb_text};
 ghost use Rattle.view_settings.specs.Views.{window_of};
 ghost use Rattle.view_places.specs.Window.{FitsHeight, IsWindow};
 
 use crate::given::forge_given;
-use crate::kind::{Kind, forge_kind, height_kind, image_kind, mesh_kind};
+use crate::kind::{Kind, contour_kind, forge_kind, height_kind, image_kind, mesh_kind};
 use crate::name::Name;
 use crate::setting::Setting;
 use crate::{Job, WordReason};
@@ -34,6 +34,10 @@ pub enum Verb {
     Forge,
     /// Draw a height map, shaded.
     Shade,
+    /// Draw the outline of a solid at one height.
+    Contour,
+    /// Make a model of a solid that is written as forms.
+    Solid,
 }
 
 // The verb that is written so.
@@ -50,6 +54,8 @@ pub(crate) fn read_verb(word: &[u8]) -> Option<Verb>
         b"replay" => Some(Verb::Replay),
         b"forge" => Some(Verb::Forge),
         b"shade" => Some(Verb::Shade),
+        b"contour" => Some(Verb::Contour),
+        b"solid" => Some(Verb::Solid),
         _ => None,
     }
 }
@@ -64,8 +70,9 @@ impl Verb {
             Verb::Render | Verb::Count => image_kind(name),
             Verb::Height | Verb::Shade => height_kind(name),
             Verb::Mesh => mesh_kind(name),
-            Verb::Text | Verb::Replay => None,
+            Verb::Text | Verb::Replay | Verb::Solid => None,
             Verb::Forge => forge_kind(name),
+            Verb::Contour => contour_kind(name),
         }
     }
 
@@ -75,6 +82,7 @@ impl Verb {
         requires view { view ≡ window_of taken.now }
         requires window { IsWindow view }
         requires height { HasHeightSides (kind_of self) → FitsHeight view }
+        requires square { HasOneCount (kind_of self) → (view.nx ≡ view.ny) × (view.nx ≤ 256) }
         ensures job { result ≡ job_with self taken.now }
         ensures keeps { IfOk result IsJob }
     {
@@ -87,6 +95,8 @@ impl Verb {
             Verb::Replay => Ok(Job::Replay),
             Verb::Forge => Ok(Job::Forge(forge_given(self, taken, view))),
             Verb::Shade => Ok(Job::Shade(view)),
+            Verb::Contour => contour_job(view),
+            Verb::Solid => Ok(Job::Solid),
         }
     }
 }
@@ -104,4 +114,18 @@ fn mesh_job(view: View) -> Result<Job, WordReason>
         return Err(WordReason::TooManyCells);
     }
     Ok(Job::Mesh(view))
+}
+
+// A contour of this view.
+fn contour_job(view: View) -> Result<Job, WordReason>
+    requires window { IsWindow view }
+    requires square { view.nx ≡ view.ny }
+    requires few { view.nx ≤ 256 }
+    ensures job { result ≡ contour_job view }
+    ensures keeps { IfOk result IsJob }
+{
+    if !view.plane_cells_have_room() {
+        return Err(WordReason::CellTooSmall);
+    }
+    Ok(Job::Contour(view))
 }
