@@ -1,0 +1,23 @@
+pub mod BuildLemmas
+pub mod BuildSteps
+mod CompiledExamples
+pub mod EachStep
+pub mod Filling
+pub mod FitLemmas
+pub mod FormLemmas
+pub mod Giving
+pub mod Joining
+pub mod Judging
+pub mod JudgingLemmas
+pub mod LineLemmas
+pub mod MeaningLemmas
+pub mod ModelLemmas
+pub mod NameLemmas
+pub mod Passing
+pub mod PushLemmas
+pub mod RawLemmas
+pub mod RawReads
+pub mod ReasonLemmas
+pub mod SolidExamples
+pub mod Translations
+pub mod ValueLemmas
