@@ -1,0 +1,81 @@
+-- The least work of a contour is no more than its most.
+use Rattle.std.proofs.Common.{ℕ, ◌-◌, ◌≤◌, Bool, true, false, List, [], ◌∷◌, ◌++◌, ◌≡◌, length, max, if◌then◌else◌, arith}
+use Rattle.std.specs.Prelude.{◌&&◌}
+use Rattle.std.specs.List.{flat_map, range_with_len, sum_by}
+use Rattle.std.proofs.lemmas.List.Sums.{sum_by-le-sum_by}
+use Rattle.box_chains.specs.Sums.{Sample, maximum, sum_in}
+use Rattle.contour_lines.specs.Bound.{contour_least, contour_points, flat_least, flat_points, plane_lengths, plane_working_lengths, points_of_plane}
+use Rattle.contour_lines.specs.Planes.{laid_flat}
+use Rattle.contour_lines.specs.Ways.{planar, plane_root}
+use Rattle.kuhn_cells.specs.Grids.{over_block}
+use Rattle.kuhn_cells.specs.Triangles.{GridPoint, point}
+use Rattle.live_clauses.specs.declared.step.Step.{Step}
+use Rattle.oct_descent.specs.Bound.{has_point, least, sample_of}
+use Rattle.oct_descent.specs.Ways.{is_working, way_end}
+use Rattle.view_places.specs.Boxes.{Indices}
+use Rattle.view_places.specs.Window.{Window, size_of}
+
+-- sums over a box of what is nowhere more
+sum-less : (b : Indices) (f g : Sample → ℕ) → ((s : Sample) → f s ≤ g s) → sum_in b f ≤ sum_in b g
+sum-less b f g less =
+    sum_by-le-sum_by (λ k. sum_by (λ j. sum_by (λ i. f (record { i = i; j = j; k = k })) (range_with_len b.x0 (b.x1 - b.x0))) (range_with_len b.y0 (b.y1 - b.y0)))
+    (λ k. sum_by (λ j. sum_by (λ i. g (record { i = i; j = j; k = k })) (range_with_len b.x0 (b.x1 - b.x0))) (range_with_len b.y0 (b.y1 - b.y0)))
+    (range_with_len b.z0 (b.z1 - b.z0))
+    (λ k. sum_by-le-sum_by (λ j. sum_by (λ i. f (record { i = i; j = j; k = k })) (range_with_len b.x0 (b.x1 - b.x0)))
+    (λ j. sum_by (λ i. g (record { i = i; j = j; k = k })) (range_with_len b.x0 (b.x1 - b.x0)))
+    (range_with_len b.y0 (b.y1 - b.y0))
+    (λ j. sum_by-le-sum_by (λ i. f (record { i = i; j = j; k = k })) (λ i. g (record { i = i; j = j; k = k })) (range_with_len b.x0 (b.x1 - b.x0))
+    (λ i. less (record { i = i; j = j; k = k }))))
+
+-- the least of some numbers is no more than the greatest
+least-greatest : (ns : List ℕ) → least ns ≤ maximum ns
+least-greatest [] = omega arith
+least-greatest (n ∷ []) = omega arith
+least-greatest (n ∷ m ∷ ns) = omega arith
+
+-- the greatest of two lists
+greatest-append : (ms ns : List ℕ) → maximum (ms ++ ns) ≡ max (maximum ms) (maximum ns)
+greatest-append [] ns = omega arith
+greatest-append (m ∷ ms) ns = omega (arith, greatest-append ms ns)
+
+-- where each item has no more, neither has the whole
+greatest-flat : {X : Type 0} (f g : X → List ℕ) → ((x : X) → maximum (f x) ≤ maximum (g x)) → (xs : List X) → maximum (flat_map f xs) ≤ maximum (flat_map g xs)
+greatest-flat f g less [] = omega arith
+greatest-flat f g less (x ∷ xs) =
+    omega (arith, less x, greatest-flat f g less xs, greatest-append (f x) (flat_map f xs), greatest-append (g x) (flat_map g xs))
+
+greatest-block : (nx ny nz : ℕ) (f g : GridPoint → List ℕ) → ((p : GridPoint) → maximum (f p) ≤ maximum (g p))
+    → maximum (over_block nx ny nz f) ≤ maximum (over_block nx ny nz g)
+greatest-block nx ny nz f g less =
+    greatest-flat (λ z. flat_map (λ y. flat_map (λ x. f (point x y z)) (range_with_len 0 nx)) (range_with_len 0 ny))
+    (λ z. flat_map (λ y. flat_map (λ x. g (point x y z)) (range_with_len 0 nx)) (range_with_len 0 ny))
+    (λ z. greatest-flat (λ y. flat_map (λ x. f (point x y z)) (range_with_len 0 nx)) (λ y. flat_map (λ x. g (point x y z)) (range_with_len 0 nx))
+    (λ y. greatest-flat (λ x. f (point x y z)) (λ x. g (point x y z)) (λ x. less (point x y z)) (range_with_len 0 nx)) (range_with_len 0 ny))
+    (range_with_len 0 nz)
+
+-- a working cell that has a point as a corner is a cell that has it
+cell-less : (has works : Bool) (n : ℕ)
+    → maximum (if has && works then n ∷ [] else []) ≤ maximum (if has then (if works then n else 0) ∷ [] else [])
+cell-less true true n = omega arith
+cell-less true false n = omega arith
+cell-less false works n = omega arith
+
+flat-least : (view : Window) (list : List Step) → flat_least view list ≤ flat_points view list
+unfolding flat_least flat_points
+flat-least view list =
+    sum-less (points_of_plane (size_of view)) (λ s. least (plane_working_lengths view list (point s.i s.j s.k))) (λ s. maximum (plane_lengths view list (point s.i s.j s.k)))
+    (λ s. at (point s.i s.j s.k))
+  where
+    at : (p : GridPoint) → least (plane_working_lengths view list p) ≤ maximum (plane_lengths view list p)
+    at p =
+        let n = size_of view in
+        let d = planar view in
+        let v = plane_root view list in
+        let few = greatest-block n.x n.y n.z
+        (λ cell. if has_point (d.cell (sample_of cell)) p && is_working d v (sample_of cell) then length (way_end d v (sample_of cell)).list ∷ [] else [])
+        (λ cell. if has_point (d.cell (sample_of cell)) p then (if is_working d v (sample_of cell) then length (way_end d v (sample_of cell)).list else 0) ∷ [] else [])
+        (λ cell. cell-less (has_point (d.cell (sample_of cell)) p) (is_working d v (sample_of cell)) (length (way_end d v (sample_of cell)).list)) in
+        omega (arith, least-greatest (plane_working_lengths view list p), few)
+
+pub least-most : (view : Window) (list : List Step) → contour_least view list ≤ contour_points view list
+least-most view list = flat-least (laid_flat view) list

@@ -1,0 +1,3 @@
+mod Closed
+mod ContourWork
+mod LeastWork

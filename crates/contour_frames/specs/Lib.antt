@@ -1,0 +1,2 @@
+pub mod ClosedTexts
+pub mod Contours

@@ -1,0 +1,19 @@
+// What always holds of the contours of models.
+ghost use Rattle.contour_frames.specs.ClosedTexts.{ContourTextsAreClosed};
+
+use contour_lines::borders_are_outside;
+use path_writer::contours_have_paths;
+use plane_loops::{loops_are_long, one_contour, one_segment_each_way};
+
+/// The paths of the contour of each solid are closed loops, over each view of which a contour may be
+/// drawn: exactly one segment leaves each vertex and exactly one arrives there, each vertex stands on
+/// one loop, once, and every loop has at least three.
+pub fn contour_texts_are_closed()
+    ensures { ContourTextsAreClosed }
+{
+    borders_are_outside();
+    one_contour();
+    one_segment_each_way();
+    loops_are_long();
+    contours_have_paths();
+}

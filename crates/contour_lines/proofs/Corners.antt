@@ -1,0 +1,187 @@
+-- The corners of a cell, one after another.
+use Rattle.std.proofs.Common.{◌≡◌, ℕ, zero, suc, ◌+◌, ◌-◌, ◌/◌, ◌%◌, ◌<◌, ◌≤◌, ℤ, Bool, true, false, refl, sym, ap, subst, ◌∙◌, ◌⊎◌, inl, inr, arith}
+use Rattle.std.specs.Prelude.{Option, Some, None, is_some, nat_lt, not, ◌||◌}
+use Rattle.std.proofs.lemmas.Bool.{cases_lt, false≢true}
+use Rattle.std.proofs.lemmas.Bool.Decides.{nat_tests}
+use Rattle.kuhn_cells.specs.Triangles.{GridPoint, further, point}
+use Rattle.view_places.specs.Boxes.{Indices, IsBox}
+use Rattle.view_places.specs.Spans.{IsInRoot}
+use Rattle.view_places.specs.Window.{Window}
+use Rattle.view_places.specs.declared.lattice.Lattice.TheVariants as lattices
+use Rattle.box_chains.specs.Chains.{is_long}
+use Rattle.box_chains.specs.Sums.{LiesIn, Sample}
+use Rattle.fixed_ops.specs.Raw.{is_inside}
+use Rattle.oct_descent.specs.Tables.{is_known}
+use Rattle.oct_descent.specs.Ways.{Covers}
+use Rattle.contour_lines.specs.Corners.{IsSeen, ShowsCorner, side_seen}
+use Rattle.contour_lines.specs.Fills.{floor_of}
+use Rattle.contour_lines.specs.Tables.{AllKnown, PlaneValues, known_at}
+use Rattle.contour_lines.specs.Ways.{cell_square}
+use Rattle.contour_lines.specs.declared.seen.Seen.{Seen}
+use Rattle.contour_lines.proofs.Covered.{or-false}
+
+pub none-is : (o : Option ℤ) (t : Bool) → is_some o ≡ not t → t ≡ true → o ≡ None
+none-is None t told e = refl
+none-is (Some v) t told e = absurd (false≢true (sym (told ∙ ap not e)))
+
+pub known-is : (o : Option ℤ) (t : Bool) → is_some o ≡ not t → t ≡ false → is_known o ≡ true
+known-is None t told e = absurd (false≢true (told ∙ ap not e))
+known-is (Some v) t told e = refl
+
+-- a box of one cell
+pub record IsOne (b : Indices) : Type 0 where
+  pub x : b.x1 ≡ b.x0 + 1
+  pub y : b.y1 ≡ b.y0 + 1
+  pub z : b.z1 ≡ b.z0 + 1
+
+-- a box of cells none of whose sides is longer than 1 is one cell
+pub short-one : (b : Indices) → IsBox b → is_long 1 b ≡ false → IsOne b
+short-one b is e =
+    let x = or-false (nat_lt 1 (b.x1 - b.x0)) _ e in
+    let yz = or-false (nat_lt 1 (b.y1 - b.y0)) (nat_lt 1 (b.z1 - b.z0)) x.1 in
+    record { x = side b.x0 b.x1 is.x x.0; y = side b.y0 b.y1 is.y yz.0; z = side b.z0 b.z1 is.z yz.1 }
+  where
+    side : (low high : ℕ) → low < high → nat_lt 1 (high - low) ≡ false → high ≡ low + 1
+    side low high some short = grind (arith, nat_tests, some, short)
+
+-- a box of the lowest cells, whose floor is the plane
+pub record IsLow (b : Indices) : Type 0 where
+  pub one : IsOne b
+  pub low : b.z0 ≡ 0
+
+-- a corner of a cell, by its mask
+pub record IsCorner (b : Indices) (p : GridPoint) : Type 0 where
+  pub mask : ℕ
+  pub few : mask < 4
+  pub at : further (point b.x0 b.y0 0) mask ≡ p
+
+one-or-two : (low i : ℕ) → low ≤ i → i ≤ low + 1 → (i ≡ low + 0) ⊎ (i ≡ low + 1)
+one-or-two low i a b = by (i - low) refl
+  where
+    by : (n : ℕ) → i - low ≡ n → (i ≡ low + 0) ⊎ (i ≡ low + 1)
+    by zero e = inl (omega (arith, e, a))
+    by (suc n) e = inr (omega (arith, e, a, b))
+
+pub corner-mask : (b : Indices) (p : GridPoint) → IsLow b → Covers (floor_of b) p → IsCorner b p
+corner-mask b p is covers =
+    by (one-or-two b.x0 p.x covers.x.0 (omega (arith, covers.x.1, is.one.x))) (one-or-two b.y0 p.y covers.y.0 (omega (arith, covers.y.1, is.one.y)))
+  where
+    low : p.z ≡ 0 + 0
+    low = omega (arith, covers.z.1, is.low)
+
+    same : (x y z : ℕ) → p.x ≡ x → p.y ≡ y → p.z ≡ z → point x y z ≡ p
+    same x y z ex ey ez = sym (ap (λ (i : ℕ). point i p.y p.z) ex ∙ ap (λ (j : ℕ). point x j p.z) ey ∙ ap (λ (k : ℕ). point x y k) ez)
+
+    by : (p.x ≡ b.x0 + 0) ⊎ (p.x ≡ b.x0 + 1) → (p.y ≡ b.y0 + 0) ⊎ (p.y ≡ b.y0 + 1) → IsCorner b p
+    by (inl x) (inl y) = record { mask = 0; few = omega arith; at = same _ _ _ x y low }
+    by (inr x) (inl y) = record { mask = 1; few = omega arith; at = same _ _ _ x y low }
+    by (inl x) (inr y) = record { mask = 2; few = omega arith; at = same _ _ _ x y low }
+    by (inr x) (inr y) = record { mask = 3; few = omega arith; at = same _ _ _ x y low }
+
+-- a corner of a cell is covered
+pub mask-covered : (b : Indices) (c : ℕ) → c < 4 → IsLow b → Covers (floor_of b) (further (point b.x0 b.y0 0) c)
+mask-covered b c few is = record {
+  x = (omega arith, omega (arith, is.one.x));
+  y = (omega arith, omega (arith, is.one.y));
+  z = (omega (arith, is.low), omega (arith, is.low, few));
+}
+
+-- what the floor of a cell covers the box of the cell does
+pub floor-covers : (b : Indices) (p : GridPoint) → IsOne b → Covers (floor_of b) p → Covers b p
+floor-covers b p one covers = record { x = covers.x; y = covers.y; z = (covers.z.0, omega (arith, covers.z.1, one.z)) }
+
+-- where all four corners are known, all points of the floor are
+pub all-known : (b : Indices) (t : PlaneValues) → IsLow b → ((c : ℕ) → c < 4 → is_known (known_at t (further (point b.x0 b.y0 0) c)) ≡ true) → AllKnown t (floor_of b)
+all-known b t is known p covers =
+    let corner = corner-mask b p is covers in
+    subst (λ q. is_known (known_at t q) ≡ true) corner.at (known corner.mask corner.few)
+
+-- what the first known corners of a cell show
+pub record IsSeenTo (t : PlaneValues) (p : GridPoint) (n : ℕ) (seen : Seen) : Type 0 where
+  pub all : seen.all ≡ true → (c : ℕ) → c < n → is_known (known_at t (further p c)) ≡ true
+  pub inside : seen.inside ≡ true → ShowsCorner t p true
+  pub outside : seen.outside ≡ true → ShowsCorner t p false
+
+-- no corner shows that all are known
+pub seen-none : (t : PlaneValues) (p : GridPoint) → IsSeenTo t p 0 (record { all = true; inside = false; outside = false })
+seen-none t p = record {
+  all = λ e c less. absurd (omega (arith, less));
+  inside = λ e. absurd (false≢true e);
+  outside = λ e. absurd (false≢true e);
+}
+
+-- and all four of them show what the cell shows
+pub seen-all : (t : PlaneValues) (p : GridPoint) (n : ℕ) (seen : Seen) → 4 ≤ n → IsSeenTo t p n seen → IsSeen t p seen
+seen-all t p n seen most so = record {
+  all = λ e c few. so.all e c (omega (arith, few, most));
+  inside = so.inside;
+  outside = so.outside;
+}
+
+or-parts : (a b : Bool) → (a || b) ≡ true → (a ≡ true) ⊎ (b ≡ true)
+or-parts true b e = inl refl
+or-parts false b e = inr e
+
+not-true : (a : Bool) → not a ≡ true → a ≡ false
+not-true true e = sym e
+not-true false e = refl
+
+-- and with one more
+pub seen-more : (t : PlaneValues) (p : GridPoint) (n : ℕ) (seen : Seen) (o : Option ℤ) → n < 4 → o ≡ known_at t (further p n) → IsSeenTo t p n seen → IsSeenTo t p (n + 1) (side_seen seen o)
+seen-more t p n seen None few is so = record {
+  all = λ e. absurd (false≢true e);
+  inside = so.inside;
+  outside = so.outside;
+}
+seen-more t p n seen (Some v) few is so = record {
+  all = λ e c less. by e c less (cases_lt c n);
+  inside = λ e. inner (or-parts seen.inside (is_inside v) e);
+  outside = λ e. outer (or-parts seen.outside (not (is_inside v)) e);
+}
+  where
+    by : seen.all ≡ true → (c : ℕ) → c < n + 1 → (c < n) ⊎ (n ≤ c) → is_known (known_at t (further p c)) ≡ true
+    by e c less (inl below) = so.all e c below
+    by e c less (inr above) =
+        let same : n ≡ c = omega (arith, above, less) in
+        ap (λ k. is_known (known_at t (further p k))) (sym same) ∙ ap is_known (sym is)
+
+    inner : (seen.inside ≡ true) ⊎ (is_inside v ≡ true) → ShowsCorner t p true
+    inner (inl e) = so.inside e
+    inner (inr e) = record { corner = n; few = few; value = v; known = sym is; side = e }
+
+    outer : (seen.outside ≡ true) ⊎ (not (is_inside v) ≡ true) → ShowsCorner t p false
+    outer (inl e) = so.outside e
+    outer (inr e) = record { corner = n; few = few; value = v; known = sym is; side = not-true (is_inside v) e }
+
+-- the cell of a box of one cell
+abbrev pub low_cell : Indices → Sample
+low_cell b = record { i = b.x0; j = b.y0; k = b.z0 }
+
+pub low-lies : (b : Indices) → IsOne b → LiesIn b (low_cell b)
+low-lies b one = record { x = (omega arith, omega (arith, one.x)); y = (omega arith, omega (arith, one.y)); z = (omega arith, omega (arith, one.z)) }
+
+-- its floor has exactly the corners of the cell
+pub square-floor : (b : Indices) (s : Sample) (p : GridPoint) → IsOne b → LiesIn b s → Covers (cell_square s) p → Covers (floor_of b) p
+square-floor b s p one lies covers = record {
+  x = (omega (arith, lies.x, covers.x), omega (arith, lies.x, covers.x));
+  y = (omega (arith, lies.y, covers.y), omega (arith, lies.y, covers.y));
+  z = (omega (arith, lies.z, covers.z), omega (arith, lies.z, covers.z, one.z));
+}
+
+pub floor-square : (b : Indices) (p : GridPoint) → IsOne b → Covers (floor_of b) p → Covers (cell_square (low_cell b)) p
+floor-square b p one covers = record {
+  x = (covers.x.0, omega (arith, covers.x.1, one.x));
+  y = (covers.y.0, omega (arith, covers.y.1, one.y));
+  z = covers.z;
+}
+
+-- a cell of a grid that is one cell high is one of the lowest
+pub low-is : (view : Window) (b : Indices) → IsBox b → IsInRoot view lattices.Grid b → view.nz ≡ 1 → is_long 1 b ≡ false → IsLow b
+low-is view b is within flat short = record { one = short-one b is short; low = omega (arith, is.z, within.z, flat) }
+
+-- a corner of a cell of the plane, by its mask
+pub corner-is : (x y c : ℕ) → c < 4 → point (x + c % 2) (y + c / 2) 0 ≡ further (point x y 0) c
+corner-is x y c few =
+    let high : y + c / 2 ≡ y + c / 2 % 2 = omega (arith, few) in
+    let low : 0 ≡ 0 + c / 4 % 2 = omega (arith, few) in
+    ap (λ (j : ℕ). point (x + c % 2) j 0) high ∙ ap (λ (k : ℕ). point (x + c % 2) (y + c / 2 % 2) k) low

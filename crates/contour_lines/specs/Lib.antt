@@ -1,0 +1,12 @@
+pub mod Bound
+pub mod Corners
+pub mod Desks
+pub mod Fills
+pub mod Gaps
+pub mod Laws
+pub mod PlaneGrids
+pub mod Planes
+pub mod Signs
+pub mod Tables
+pub mod Trees
+pub mod Ways

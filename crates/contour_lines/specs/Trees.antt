@@ -1,0 +1,20 @@
+-- What is known of a plane grid once its boxes are looked into.
+use Rattle.std.specs.Prelude.{◌≡◌, List, true, Some}
+use Rattle.kuhn_cells.specs.Triangles.{GridPoint}
+use Rattle.kuhn_cells.specs.Sizes.{SameSize}
+use Rattle.live_clauses.specs.declared.step.Step.{Step}
+use Rattle.view_places.specs.Spans.{root_box_of}
+use Rattle.view_places.specs.Window.{Window, size_of}
+use Rattle.view_places.specs.declared.lattice.Lattice.TheVariants as lattices
+use Rattle.oct_descent.specs.Tables.{is_known}
+use Rattle.contour_lines.specs.Planes.{flat_value}
+use Rattle.contour_lines.specs.Tables.{AreSettled, PlaneValues, known_at}
+use Rattle.contour_lines.specs.Ways.{planar}
+
+-- what is known are the list's values, and the corners of each cell are known that has some inside and some
+-- outside
+pub record IsTold (view : Window) (list : List Step) (t : PlaneValues) : Type 0 where
+  pub n : SameSize t.n (size_of view)
+  pub right : (p : GridPoint) → is_known (known_at t p) ≡ true
+      → known_at t p ≡ Some (flat_value view list p)
+  pub settled : AreSettled (planar view) (flat_value view list) (root_box_of view lattices.Grid) t

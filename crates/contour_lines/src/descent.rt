@@ -1,0 +1,313 @@
+// Boxes of a plane grid that are looked into.
+ghost use Rattle.std.specs.Prelude.{◌≡◌, ◌*◌, ◌<◌, ◌≤◌, IfOk, OnErr, OnOk, IsTrue, length, false};
+ghost use Rattle.std.specs.List.{All};
+ghost use Rattle.box_chains.specs.Chains.{is_long as is_long_for, visit};
+ghost use Rattle.box_chains.specs.Desks.{HasMore, list_of, samples};
+ghost use Rattle.box_chains.specs.Outcomes.{HandsOn, all_seen, asked_outcomes};
+ghost use Rattle.box_chains.specs.Tallied.{CountsAtMost};
+ghost use Rattle.interval_ops.specs.HullCounts.{CountsHulls};
+ghost use Rattle.kuhn_cells.specs.Sizes.{SameSize};
+ghost use Rattle.kuhn_cells.specs.Triangles.{point};
+ghost use Rattle.live_clauses.specs.Live.{IsWhole};
+ghost use Rattle.oct_descent.specs.Ways.{is_open as is_open_for, is_open_by};
+ghost use Rattle.view_places.specs.Boxes.{halves_of};
+ghost use Rattle.view_places.specs.Spans.{IsInRoot};
+ghost use Rattle.view_places.specs.Window.{size_of};
+ghost use Rattle.contour_lines.specs.Corners.{IsSeen};
+ghost use Rattle.contour_lines.specs.Desks.{ChargesBelow, ChargesHalves, IsToldAt, MayLook, PaysHalves, asked_of, longer};
+ghost use Rattle.contour_lines.specs.Planes.{flat_value};
+ghost use Rattle.contour_lines.specs.Tables.{AreSettled, AreWorked, ChargesBox, Grows, PaysBox, PlaneValues};
+ghost use Rattle.contour_lines.specs.Ways.{meets_sides as meets_sides_of, planar};
+
+use crate::corner_values::seen;
+use crate::filling::fill_cell;
+use crate::known_values::KnownValues;
+use crate::seen::Seen;
+use arrayvec::ArrayVec;
+use box_chains::{AskedBox, Desk, Outcome, is_long, layers_hold};
+use fixed_ops::Tally;
+use kuhn_cells::GridSize;
+use std::alloc::AllocError;
+use view_places::{IndexBox, split};
+
+/// The longest side of a box that is not split.
+const LEAF: u32 = 1;
+
+/// Looks into a box, which receives a list: evaluates the corners of its working cells that are not known.
+/// AllocError: there is no memory for a shorter list, or for evaluating one.
+pub fn look_into(
+    desk: &mut Desk,
+    b: IndexBox,
+    received: usize,
+    values: &mut KnownValues,
+    tally: &mut Tally,
+) -> Result<(), AllocError>
+    requires may { MayLook desk.old b received values.old }
+    ensures settled { OnOk result
+        (AreSettled (planar desk.old.view) (flat_value desk.old.view (list_of desk.old received)) b
+        values.new) }
+    ensures worked { OnOk result
+        (AreWorked (planar desk.old.view) (visit b (list_of desk.old received)) values.new) }
+    ensures grows { Grows (flat_value desk.old.view (list_of desk.old received)) b values.old values.new }
+    ensures counted { ChargesBox (planar desk.old.view) (visit b (list_of desk.old received)) values.old
+        values.new tally.old tally.new }
+    ensures paid { PaysBox (planar desk.old.view) (visit b (list_of desk.old received)) values.old
+        values.new tally.old tally.new }
+    ensures more { HasMore desk.old desk.new }
+{
+    layers_hold();
+    if !is_long(b, LEAF) {
+        return look_into_cell(desk, b, received, values, tally);
+    }
+    let asked = asked_box(values.n(), b);
+    let told = desk.trace_asked_box(received, asked, tally)?;
+    look_into_told(desk, b, received, &[told], 0, values, tally)
+}
+
+// Looks into a box. What tracing the list over it told, where it is longer than a cell, stands at a
+// place among some outcomes.
+#[cycle(looking)]
+fn look_into_told(
+    desk: &mut Desk,
+    b: IndexBox,
+    received: usize,
+    outcomes: &[Outcome<usize>],
+    at: usize,
+    values: &mut KnownValues,
+    tally: &mut Tally,
+) -> Result<(), AllocError>
+    requires may { MayLook desk.old b received values.old }
+    requires told { IsToldAt (samples desk.old) (list_of desk.old received) b desk.old.lists
+        outcomes.now at }
+    ensures settled { OnOk result
+        (AreSettled (planar desk.old.view) (flat_value desk.old.view (list_of desk.old received)) b
+        values.new) }
+    ensures worked { OnOk result
+        (AreWorked (planar desk.old.view) (visit b (list_of desk.old received)) values.new) }
+    ensures grows { Grows (flat_value desk.old.view (list_of desk.old received)) b values.old values.new }
+    ensures counted { ChargesBelow (planar desk.old.view) (visit b (list_of desk.old received)) values.old
+        values.new tally.old tally.new }
+    ensures paid { PaysBox (planar desk.old.view) (visit b (list_of desk.old received)) values.old
+        values.new tally.old tally.new }
+    ensures kept { desk.new ≡ desk.old }
+{
+    layers_hold();
+    if !is_long(b, LEAF) {
+        return look_into_cell(desk, b, received, values, tally);
+    }
+    match &outcomes[at] {
+        Outcome::Open(live) => look_into_halves(desk, b, *live, values, tally),
+        Outcome::Inside | Outcome::Outside => Ok(()),
+    }
+}
+
+// Looks into the halves of a box that is split and hands on a list. The lists that they hand on are
+// given up then.
+#[cycle(looking)]
+fn look_into_halves(
+    desk: &mut Desk,
+    b: IndexBox,
+    live: usize,
+    values: &mut KnownValues,
+    tally: &mut Tally,
+) -> Result<(), AllocError>
+    requires may { MayLook desk.old b live values.old }
+    requires whole { IsWhole (list_of desk.old live) }
+    requires long { IsTrue (is_long_for 1 b) }
+    ensures settled { OnOk result
+        (AreSettled (planar desk.old.view) (flat_value desk.old.view (list_of desk.old live)) b
+        values.new) }
+    ensures worked { OnOk result
+        (All (λ half. AreWorked (planar desk.old.view) (visit half (list_of desk.old live)) values.new)
+        (halves_of 1 b)) }
+    ensures grows { Grows (flat_value desk.old.view (list_of desk.old live)) b values.old values.new }
+    ensures counted { ChargesHalves (planar desk.old.view) (list_of desk.old live) (halves_of 1 b)
+        values.old values.new tally.old tally.new }
+    ensures paid { PaysHalves (planar desk.old.view) (list_of desk.old live) (halves_of 1 b) values.old
+        values.new tally.old tally.new }
+    ensures kept { desk.new ≡ desk.old }
+{
+    let count = desk.lists.len();
+    let looked = look_into_each_half(desk, b, live, values, tally);
+    desk.cut(count);
+    looked
+}
+
+// Looks into the halves of a box that is split: those longer than a cell are traced together, and
+// then all are looked into one by one. The lists that they hand on stay behind the others.
+#[cycle(looking)]
+fn look_into_each_half(
+    desk: &mut Desk,
+    b: IndexBox,
+    live: usize,
+    values: &mut KnownValues,
+    tally: &mut Tally,
+) -> Result<(), AllocError>
+    requires may { MayLook desk.old b live values.old }
+    requires whole { IsWhole (list_of desk.old live) }
+    requires long { IsTrue (is_long_for 1 b) }
+    ensures settled { OnOk result
+        (AreSettled (planar desk.old.view) (flat_value desk.old.view (list_of desk.old live)) b
+        values.new) }
+    ensures worked { OnOk result
+        (All (λ half. AreWorked (planar desk.old.view) (visit half (list_of desk.old live)) values.new)
+        (halves_of 1 b)) }
+    ensures grows { Grows (flat_value desk.old.view (list_of desk.old live)) b values.old values.new }
+    ensures counted { ChargesHalves (planar desk.old.view) (list_of desk.old live) (halves_of 1 b)
+        values.old values.new tally.old tally.new }
+    ensures paid { PaysHalves (planar desk.old.view) (list_of desk.old live) (halves_of 1 b) values.old
+        values.new tally.old tally.new }
+    ensures more { HasMore desk.old desk.new }
+{
+    layers_hold();
+    let halves = split(b, LEAF);
+    let outcomes = trace_longer(desk, halves.as_slice(), live, values.n(), tally)?;
+    let outcomes = outcomes.as_slice();
+    let mut at = 0;
+    for half in halves.as_slice() {
+        look_into_told(desk, *half, live, outcomes, at, values, tally)?;
+        at += usize::from(is_long(*half, LEAF));
+    }
+    Ok(())
+}
+
+// What tracing a list tells over those of some boxes that are longer than a cell. AllocError: there
+// is no memory for a shorter list, and no more was traced than that.
+#[inline]
+fn trace_longer(
+    desk: &mut Desk,
+    boxes: &[IndexBox],
+    received: usize,
+    n: GridSize,
+    tally: &mut Tally,
+) -> Result<ArrayVec<Outcome<usize>, 8>, AllocError>
+    requires among { received < length desk.old.lists }
+    requires whole { IsWhole (list_of desk.old received) }
+    requires room { length (list_of desk.old received) ≤ desk.old.room }
+    requires few { length boxes.now ≤ 8 }
+    requires within { All (IsInRoot desk.old.view desk.old.lattice) boxes.now }
+    ensures outcomes { IfOk result (λ outcomes. all_seen desk.new.lists outcomes.items
+        ≡ asked_outcomes (samples desk.old) (list_of desk.old received) (longer n boxes.now)) }
+    ensures hand { IfOk result (λ outcomes.
+        All (HandsOn (length (list_of desk.old received)) desk.new.lists) outcomes.items) }
+    ensures counted { OnOk result
+        (CountsHulls (length (longer n boxes.now) * length (list_of desk.old received))
+        tally.old tally.new) }
+    ensures at_most { OnErr result
+        (CountsAtMost 0 (length (longer n boxes.now) * length (list_of desk.old received))
+        tally.old tally.new) }
+    ensures more { HasMore desk.old desk.new }
+{
+    let asked = longer_boxes(n, boxes);
+    desk.trace_asked_boxes(received, asked.as_slice(), tally)
+}
+
+// Those of some boxes that are longer than a cell.
+#[inline]
+fn longer_boxes(n: GridSize, boxes: &[IndexBox]) -> ArrayVec<AskedBox, 8>
+    requires { length boxes.now ≤ 8 }
+    ensures items { result.items ≡ longer n boxes.now }
+{
+    let mut asked = ArrayVec::new();
+    for b in boxes {
+        if is_long(*b, LEAF) {
+            asked.push(asked_box(n, *b));
+        }
+    }
+    asked
+}
+
+// A box that is held open where it covers a point of the border.
+#[inline]
+fn asked_box(n: GridSize, b: IndexBox) -> AskedBox
+    ensures { result ≡ asked_of n b }
+{
+    AskedBox {
+        range: b,
+        held: meets_sides(n, b),
+    }
+}
+
+// Looks into a cell. Nothing is traced where its known corners show how it lies.
+#[inline(always)]
+fn look_into_cell(
+    desk: &mut Desk,
+    b: IndexBox,
+    received: usize,
+    values: &mut KnownValues,
+    tally: &mut Tally,
+) -> Result<(), AllocError>
+    requires may { MayLook desk.old b received values.old }
+    requires one { is_long_for 1 b ≡ false }
+    ensures settled { OnOk result
+        (AreSettled (planar desk.old.view) (flat_value desk.old.view (list_of desk.old received)) b
+        values.new) }
+    ensures worked { OnOk result
+        (AreWorked (planar desk.old.view) (visit b (list_of desk.old received)) values.new) }
+    ensures grows { Grows (flat_value desk.old.view (list_of desk.old received)) b values.old values.new }
+    ensures counted { ChargesBox (planar desk.old.view) (visit b (list_of desk.old received))
+        values.old values.new tally.old tally.new }
+    ensures paid { PaysBox (planar desk.old.view) (visit b (list_of desk.old received)) values.old
+        values.new tally.old tally.new }
+    ensures kept { desk.new ≡ desk.old }
+{
+    layers_hold();
+    values.holds();
+    let seen = seen(values, b.x0, b.y0);
+    if seen.all {
+        return Ok(());
+    }
+    if !is_working(desk, b, received, values.n(), seen, tally) {
+        return Ok(());
+    }
+    fill_cell(desk, b, received, values, tally)
+}
+
+// Whether a cell is a working one, by what its known corners show. Nothing is traced where they lie
+// on both sides.
+#[inline]
+fn is_working(
+    desk: &mut Desk,
+    b: IndexBox,
+    received: usize,
+    n: GridSize,
+    seen: Seen,
+    tally: &mut Tally,
+) -> bool
+    requires may { (t : PlaneValues) × MayLook desk.old b received t × IsSeen t
+        (point b.x0 b.y0 0) seen }
+    requires one { is_long_for 1 b ≡ false }
+    requires n { SameSize n (size_of desk.old.view) }
+    ensures open { result
+        ≡ is_open_for (planar desk.old.view) (visit b (list_of desk.old received)) }
+    ensures counted { CountsAtMost 0 (length (list_of desk.old received)) tally.old tally.new }
+    ensures untraced { IsTrue seen.inside → IsTrue seen.outside → tally.new ≡ tally.old }
+    ensures kept { desk.new ≡ desk.old }
+{
+    layers_hold();
+    if seen.inside && seen.outside {
+        return true;
+    }
+    let told = desk.look_apart(received, b, tally);
+    is_open(told, n, b)
+}
+
+// Whether a box stays open, by what a look told.
+#[inline]
+fn is_open(told: Option<bool>, n: GridSize, b: IndexBox) -> bool
+    ensures { result ≡ is_open_by (meets_sides_of n) b told }
+{
+    match told {
+        None => true,
+        Some(true) => meets_sides(n, b),
+        Some(false) => false,
+    }
+}
+
+// Whether a box covers a point of the border.
+#[inline]
+fn meets_sides(n: GridSize, b: IndexBox) -> bool
+    ensures { result ≡ meets_sides_of n b }
+{
+    b.x0 == 0 || b.x1 == n.x || b.y0 == 0 || b.y1 == n.y
+}

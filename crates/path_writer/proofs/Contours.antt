@@ -1,0 +1,131 @@
+-- The contours of grids have paths.
+use Rattle.std.proofs.Common.{◌≡◌, ℕ, suc, ◌+◌, ◌-◌, ◌*◌, ◌/◌, ◌<◌, ◌≤◌, ℤ, Bool, true, false, List, [], ◌∷◌, ◌++◌, length, map, take, drop, refl, ap, sym, subst, ◌∙◌, append_assoc, length-append, arith}
+use Rattle.std.specs.Prelude.{All, flat_map, get_or, if◌then◌else◌, max, min, nat_le, unsigned_abs, ◌&&◌}
+use Rattle.std.specs.List.{concat, range_with_len}
+use Rattle.std.proofs.Math.Seq.{drop-append_seam, take-append_seam}
+use Rattle.std.proofs.lemmas.Bool.Decides.{nat_tests}
+use Rattle.std.proofs.lemmas.List.{length-map}
+use Rattle.std.proofs.lemmas.List.Elements.{All-append, All-cons, All-filter, All-map, All-nil, filter_passes}
+use Rattle.fixed_ops.specs.Cut.{cut_of}
+use Rattle.fixed_ops.specs.Raw.{is_inside}
+use Rattle.kuhn_cells.specs.Corners.{along_x, along_y}
+use Rattle.mesh_laws.specs.Places.{way_up}
+use Rattle.plane_loops.specs.Contours.{AreJoined, AreLoops, StartsLowest, ends_from}
+use Rattle.plane_loops.specs.Planes.{PlaneEdge, PlaneGrid, PlanePoint, directions, edge_from, edges, is_inside_at, is_mixed, is_point, mixed_edges, over_square, point, upper, value_at, lower, vertex_on}
+use Rattle.view_places.specs.Window.{Window}
+use Rattle.path_writer.specs.Laws.{ContoursHavePaths, HasItsPaths}
+use Rattle.path_writer.specs.Paths.{pieces_from}
+use Rattle.path_writer.specs.Written.{ArePiecesTo, IsInPlane}
+
+-- ---- the loops are the pieces of the order
+
+pieces_whole : (before : List ℕ) (loops : List (List ℕ)) → pieces_from (length before) (before ++ concat loops) (ends_from (length before) loops) ≡ loops
+pieces_whole before [] = refl
+pieces_whole before (loop ∷ loops) =
+    let n = length before in
+    let count : (n + length loop) - n ≡ length loop = omega arith in
+    let first : take ((n + length loop) - n) (drop n (before ++ (loop ++ concat loops))) ≡ loop =
+    ap (λ k. take k (drop n (before ++ (loop ++ concat loops)))) count
+    ∙ ap (take (length loop)) (drop-append_seam before (loop ++ concat loops)) ∙ take-append_seam loop (concat loops) in
+    let others : pieces_from (n + length loop) (before ++ (loop ++ concat loops)) (ends_from (n + length loop) loops) ≡ loops =
+    subst (λ k. pieces_from k (before ++ (loop ++ concat loops)) (ends_from k loops) ≡ loops) (length-append before loop)
+    (subst (λ (xs : List ℕ). pieces_from (length (before ++ loop)) xs (ends_from (length (before ++ loop)) loops) ≡ loops) (append_assoc before loop (concat loops))
+    (pieces_whole (before ++ loop) loops)) in
+    ap (λ l. l ∷ pieces_from (n + length loop) (before ++ (loop ++ concat loops)) (ends_from (n + length loop) loops)) first ∙ ap (λ ls. loop ∷ ls) others
+
+starts_some : (loop : List ℕ) → StartsLowest loop → 1 ≤ length loop
+starts_some [] starts = absurd starts
+starts_some (v ∷ vs) starts = omega arith
+
+ends_are : (n : ℕ) (loops : List (List ℕ)) → All StartsLowest loops → ArePiecesTo n (n + length (concat loops)) (ends_from n loops)
+ends_are n [] lowest = omega arith
+ends_are n (loop ∷ loops) lowest =
+    let some = starts_some loop (lowest 0 loop (omega arith)) in
+    let all : (n + length loop) + length (concat loops) ≡ n + length (loop ++ concat loops) = omega (arith, length-append loop (concat loops)) in (
+      omega (arith, some),
+      subst (λ last. ArePiecesTo (n + length loop) last (ends_from (n + length loop) loops)) all
+          (ends_are (n + length loop) loops (λ k d less. lowest (suc k) d (omega (arith, less)))),
+    )
+
+-- ---- the vertices lie in the plane
+
+cut_least : (q : ℕ) → 1 ≤ max 1 (min 65535 q)
+cut_least q = omega arith
+
+cut_most : (q : ℕ) → max 1 (min 65535 q) ≤ 65535
+cut_most q = omega arith
+
+turned : (t : Bool) (s r : ℕ) → 1 ≤ s → s ≤ 65535 → 1 ≤ r → r ≤ 65535 → let way = if t then s else 65536 - r in (1 ≤ way) × (way ≤ 65535)
+turned true s r some few least most = (some, few)
+turned false s r some few least most = (omega (arith, most), omega (arith, least))
+
+way_within : (a b : ℤ) → (1 ≤ way_up a b) × (way_up a b ≤ 65535)
+way_within a b =
+    let m = unsigned_abs a in
+    let n = unsigned_abs b in
+    turned (is_inside a) (cut_of a b) (cut_of b a) (cut_least (65536 * m / (m + n))) (cut_most (65536 * m / (m + n))) (cut_least (65536 * n / (n + m))) (cut_most (65536 * n / (n + m)))
+
+all_flat : {X A : Type 0} (P : A → Type 0) (f : X → List A) → ((x : X) → All P (f x)) → (xs : List X) → All P (flat_map f xs)
+all_flat P f each [] = All-nil P
+all_flat P f each (x ∷ xs) = All-append P (f x) (flat_map f xs) (each x) (all_flat P f each xs)
+
+abbrev HasSteps : PlaneEdge → Type 0
+HasSteps e = (1 ≤ e.dir) × (e.dir ≤ 3)
+
+steps_at : (p : PlanePoint) → All HasSteps (map (edge_from p) directions)
+steps_at p =
+    All-cons HasSteps (edge_from p 1) (edge_from p 2 ∷ edge_from p 3 ∷ []) (omega arith, omega arith)
+    (All-cons HasSteps (edge_from p 2) (edge_from p 3 ∷ []) (omega arith, omega arith)
+    (All-cons HasSteps (edge_from p 3) [] (omega arith, omega arith) (All-nil HasSteps)))
+
+steps_over : (n : ℕ) → All HasSteps (over_square n (λ p. map (edge_from p) directions))
+steps_over n =
+    all_flat HasSteps (λ y. flat_map (λ x. map (edge_from (point x y)) directions) (range_with_len 0 n))
+    (λ y. all_flat HasSteps (λ x. map (edge_from (point x y)) directions) (λ x. steps_at (point x y)) (range_with_len 0 n))
+    (range_with_len 0 n)
+
+both_true : (a b : Bool) → (a && b) ≡ true → (a ≡ true) × (b ≡ true)
+both_true true true e = (refl, refl)
+both_true true false e = absurd cc
+both_true false b e = absurd cc
+
+le_yes : (a b : ℕ) → nat_le a b ≡ true → a ≤ b
+le_yes a b e = grind (arith, nat_tests, e)
+
+in_plane : (w : Window) (g : PlaneGrid) (e : PlaneEdge) → g.n ≡ w.nx → g.n ≡ w.ny → HasSteps e → is_point g (upper e) ≡ true → IsInPlane w (vertex_on g e)
+in_plane w g e across along steps point =
+    let ends = both_true (nat_le (e.x + along_x e.dir) g.n) (nat_le (e.y + along_y e.dir) g.n) point in
+    let way = way_within (value_at g (lower e)) (value_at g (upper e)) in
+    record {
+      some_steps = steps.0;
+      few_steps = steps.1;
+      x = subst (λ n. e.x + along_x e.dir ≤ n) across (le_yes (e.x + along_x e.dir) g.n ends.0);
+      y = subst (λ n. e.y + along_y e.dir ≤ n) along (le_yes (e.y + along_y e.dir) g.n ends.1);
+      some = way.0;
+      few = way.1;
+    }
+
+placed : (w : Window) (g : PlaneGrid) → g.n ≡ w.nx → g.n ≡ w.ny → All (λ e. IsInPlane w (vertex_on g e)) (mixed_edges g)
+unfolding mixed_edges
+placed w g across along =
+    let every = over_square (g.n + 1) (λ p. map (edge_from p) directions) in
+    let steps = All-filter (λ e. is_point g (upper e)) HasSteps every (steps_over (g.n + 1)) in
+    let points = filter_passes (λ e. is_point g (upper e)) every in
+    All-filter (is_mixed (is_inside_at g)) (λ e. IsInPlane w (vertex_on g e)) (edges g)
+    (λ k d less. in_plane w g (get_or (edges g) k d) across along (steps k d less) (points k d less))
+
+-- ---- so they have paths
+
+pub contours_have_paths : ContoursHavePaths
+contours_have_paths w g c across along contour =
+    let loops = contour.loops in
+    let follow = contour.follow in
+    let same = pieces_whole [] loops in
+    subst (HasItsPaths w g) (sym contour.is) (record {
+      written = record {
+        placed = All-map (IsInPlane w) (vertex_on g) (mixed_edges g) (placed w g across along);
+        known = λ k d less. subst (λ n. get_or (concat loops) k d < n) (sym (length-map (mixed_edges g) (vertex_on g))) (follow.within k d less);
+        pieces = subst (λ last. ArePiecesTo 0 last (ends_from 0 loops)) (omega arith) (ends_are 0 loops follow.lowest);
+      };
+      follow = subst (AreLoops (length (mixed_edges g)) (AreJoined g)) (sym same) follow;
+    })

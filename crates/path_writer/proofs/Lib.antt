@@ -1,0 +1,3 @@
+mod Contours
+mod Examples
+mod PathLaws

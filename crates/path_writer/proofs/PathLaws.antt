@@ -1,0 +1,40 @@
+-- How the parts of paths come together.
+use Rattle.std.proofs.Common.{◌≡◌, ℕ, suc, ◌+◌, ◌-◌, ◌<◌, ◌≤◌, List, [], ◌∷◌, ◌++◌, length, map, take, drop, ap, sym, subst, ◌∙◌, append_assoc, add-one, drop-cons, take_all, arith}
+use Rattle.std.specs.Prelude.{codes, get_or, if◌then◌else◌, is_ok, OnOk, Result, Ok, Err}
+use Rattle.std.specs.List.{flat_map}
+use Rattle.std.proofs.lemmas.List.{append-nil, flat_map_more, length-drop, map-append, take_more}
+use Rattle.path_writer.specs.Written.{ArePiecesTo}
+
+-- the place of a vertex, behind its mark
+pub place_pieces : (text mark x y : List ℕ) → (text ++ mark) ++ (x ++ 32 ∷ (y ++ [])) ≡ text ++ (mark ++ (x ++ codes " " ++ y))
+place_pieces text mark x y = simp (append_assoc, append-nil)
+
+-- the lists of the first elements, seen by something, and that of the next
+pub lines_next : {V : Type 0} (f : V → List ℕ) (g : ℕ → V) (xs : List ℕ) (i : ℕ) (d : ℕ) (before text new : List ℕ) → i < length xs
+    → text ≡ before ++ flat_map f (map g (take i xs)) → new ≡ text ++ f (g (get_or xs i d)) → new ≡ before ++ flat_map f (map g (take (i + 1) xs))
+lines_next f g xs i d before text new within so_far next =
+    let parts : map g (take (i + 1) xs) ≡ map g (take i xs) ++ g (get_or xs i d) ∷ [] =
+    ap (map g) (take_more xs i d within) ∙ map-append g (take i xs) (get_or xs i d ∷ []) in
+    next ∙ ap (λ l. l ++ f (g (get_or xs i d))) so_far ∙ flat_map_more f before (map g (take i xs)) (g (get_or xs i d))
+    ∙ sym (ap (λ l. before ++ flat_map f l) parts)
+
+-- pieces end no later than the last of them
+pub pieces_within : (start last : ℕ) (ends : List ℕ) → ArePiecesTo start last ends → start ≤ last
+pieces_within start last [] are = omega (arith, are)
+pieces_within start last (end ∷ ends) are = omega (arith, are.0, pieces_within end last ends are.1)
+
+-- the next piece starts before it ends, ends no later than the last, and others follow it
+pub next_piece : (start last : ℕ) (ends : List ℕ) (i : ℕ) → i < length ends → ArePiecesTo start last (drop i ends)
+    → (start < get_or ends i 0) × (get_or ends i 0 ≤ last) × ArePiecesTo (get_or ends i 0) last (drop (i + 1) ends)
+next_piece start last ends i within are =
+    let split : ArePiecesTo start last (get_or ends i 0 ∷ drop (suc i) ends) = subst (ArePiecesTo start last) (drop-cons ends i 0 within) are in
+    (split.0, pieces_within (get_or ends i 0) last (drop (suc i) ends) split.1, rw add-one split.1)
+
+-- what stands after a list was put behind another one
+pub put_behind : {T E : Type 0} (r : Result T E) (new old xs whole : List ℕ) → new ≡ (if is_ok r then old ++ xs else old) → old ++ xs ≡ whole → OnOk r (new ≡ whole)
+put_behind (Ok done) new old xs whole «is» same = «is» ∙ same
+put_behind (Err error) new old xs whole «is» same = tt
+
+-- a line of some length, from its start on
+pub from_start : (length_of start : ℕ) (line parts : List ℕ) → length line ≡ length_of → drop start line ≡ parts → take (length_of - start) (drop start line) ≡ parts
+from_start n start line parts long «is» = take_all (n - start) (drop start line) (omega (arith, length-drop start line, long)) ∙ «is»

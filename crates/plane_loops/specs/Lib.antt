@@ -1,0 +1,9 @@
+pub mod Contours
+pub mod Following
+pub mod Laws
+pub mod Planes
+pub mod Segments
+pub mod Sides
+pub mod Steps
+pub mod Tables
+pub mod WorkedOut

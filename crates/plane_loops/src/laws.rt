@@ -1,0 +1,30 @@
+// What always holds of the definitions that the contracts cite. The functions compute nothing: what
+// they ensure is the law.
+ghost use Rattle.plane_loops.specs.Sides.{InsideIsLeft};
+ghost use Rattle.plane_loops.specs.Laws.{ContoursAreWorkedOut, LoopsAreLong, OneContour, OneSegmentEachWay, SegmentsJoinVertices};
+
+/// Each plane grid whose border is outside has exactly one contour: exactly one list of loops along
+/// its segments has each vertex on one loop, once, where each loop starts at its lowest vertex and the
+/// starts rise. It is the one that is worked out from which corners of each cell are inside.
+pub fn one_contour()
+    ensures one { OneContour }
+    ensures worked_out { ContoursAreWorkedOut }
+{}
+
+/// The segments of such a grid run from vertices to vertices. Exactly one of them leaves each vertex,
+/// and exactly one arrives there.
+pub fn one_segment_each_way()
+    ensures vertices { SegmentsJoinVertices }
+    ensures once { OneSegmentEachWay }
+{}
+
+/// Every loop of a contour has at least three vertices.
+pub fn loops_are_long()
+    ensures { LoopsAreLong }
+{}
+
+/// The inside ends of the two edges between which a segment runs lie on its left, on the lattice of
+/// 65536 steps a cell.
+pub fn inside_is_left()
+    ensures { InsideIsLeft }
+{}
