@@ -2,6 +2,8 @@
 #![tactic(auto)]
 
 #[cfg(test)]
+mod contours;
+#[cfg(test)]
 mod counts;
 #[cfg(test)]
 mod edited_meshes;
@@ -25,6 +27,8 @@ mod replays;
 mod scripts;
 #[cfg(test)]
 mod shades;
+#[cfg(test)]
+mod solids;
 #[cfg(test)]
 mod sure;
 #[cfg(test)]

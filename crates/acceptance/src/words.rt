@@ -5,7 +5,7 @@ use modeller_io::Source;
 use std::test::Fail;
 
 // Words, the number of the one that is noted, and the reason.
-const CASES: [(&[&str], u32, &str); 75] = [
+const CASES: [(&[&str], u32, &str); 84] = [
     (&[], 0, "NoVerb"),
     (&["draw"], 1, "UnknownVerb"),
     (&["Render", "w"], 1, "UnknownVerb"),
@@ -126,6 +126,21 @@ const CASES: [(&[&str], u32, &str); 75] = [
     (&["shade", "w=1025"], 2, "OutOfRange"),
     (&["shade", "d=1025"], 2, "OutOfRange"),
     (&["shade", "x0=2"], 0, "EmptySpan"),
+    // Words of a contour.
+    (&["contour", "n=0"], 2, "OutOfRange"),
+    (&["contour", "n=257"], 2, "OutOfRange"),
+    (&["contour", "n=2", "z0=1"], 3, "UnknownSetting"),
+    (&["contour", "nx=3"], 2, "UnknownSetting"),
+    (&["contour", "n=64", "n=64"], 3, "Twice"),
+    (&["contour", "x0=1", "x1=0"], 0, "EmptySpan"),
+    (
+        &["contour", "n=256", "x0=0", "x1=0.003906249"],
+        0,
+        "CellTooSmall",
+    ),
+    // Words of a solid that is written as forms.
+    (&["solid", "foo"], 2, "NotASetting"),
+    (&["solid", "x0=1"], 2, "UnknownSetting"),
     // Words of a model that is made.
     (&["forge", "seed=18446744073709551616"], 2, "OutOfRange"),
     (&["forge", "seed=0", "solids=0"], 3, "OutOfRange"),

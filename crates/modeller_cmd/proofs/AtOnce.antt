@@ -11,21 +11,25 @@ use Rattle.model_frames.specs.Laws.{FramesAddUp}
 use Rattle.model_frames.specs.Work.{CountsWithin, CountsWork, PointsRiseAtMost}
 use Rattle.modeller_io.specs.Count.{RoseBy}
 use Rattle.modeller_io.specs.Held.{GainsPrefix}
+use Rattle.solid_lang.specs.Translated.{translated}
+use Rattle.solid_lang.specs.declared.solid_fault.SolidFault.{SolidFault}
+use Rattle.solid_lang.specs.declared.solid_reason.SolidReason.{SolidReason}
+use Rattle.solid_lang.specs.declared.solid_reason.SolidReason.TheVariants as forms
 use Rattle.solid_model.specs.declared.clause.Clause.{Clause}
 use Rattle.view_settings.specs.declared.job.Job.{Job}
 use Rattle.view_settings.specs.declared.job.Job.TheVariants.{Replay}
 use Rattle.modeller_cmd.specs.Endings.{Ends, IsRefusal, IsExecutionStop}
-use Rattle.modeller_cmd.specs.Output.{input_limit, made, of_model, output_as}
+use Rattle.modeller_cmd.specs.Output.{input_limit, made, of_forms, of_model, output_as}
 use Rattle.modeller_cmd.specs.Parts.{work_of_parts}
 use Rattle.modeller_cmd.specs.Execution.{Sent, Executed, ExecutedAtOnce}
-use Rattle.modeller_cmd.specs.Stops.{status_at, stop_of_text}
+use Rattle.modeller_cmd.specs.Stops.{status_at, stop_of_forms, stop_of_text}
 use Rattle.modeller_cmd.specs.declared.bad_text.BadText.TheVariants as bad
 use Rattle.modeller_cmd.specs.declared.refusal.Refusal.{Refusal}
 use Rattle.modeller_cmd.specs.declared.refusal.Refusal.TheVariants as refusal
 use Rattle.modeller_cmd.specs.declared.status.Status.TheVariants.{BadScript}
 use Rattle.modeller_cmd.specs.declared.stop.Stop.{Stop}
 use Rattle.modeller_cmd.specs.declared.stop.Stop.TheVariants.{Refused, ReadFault, WriteFault, NoMemory}
-use Rattle.modeller_cmd.proofs.Outcomes.{solid_refused, work_of_one}
+use Rattle.modeller_cmd.proofs.Outcomes.{forms_refused, solid_refused, work_of_one}
 use Rattle.modeller_cmd.proofs.Writing.{part-counted, part-written, part-halted, halted-before}
 
 -- bytes that were sent, where they did not all go out
@@ -87,6 +91,22 @@ module _ {K T : Type 0} (held : K → Option (List ℕ)) (faults : K → ℕ) wh
       (unexecuted out counts counts (of_model input part) (Refused (refusal.Text (bad.Model fault)))
       (solid_refused input input (λ clauses. Ok (part clauses ∷ [])) fault few (reads (λ memory. cc))) tt (λ write. cc) (λ script. cc) (λ refused. refl)
       (frames.within_none counts (work_of_parts (output_as (of_model input part)).parts)) (frames.plain_none counts (work_of_parts (output_as (of_model input part)).parts).plain))
+
+  -- the text of a solid, written as forms, was refused, or memory to read it in and to write what it means
+  pub forms-refused : (frames : FramesAddUp) (out : K) (counts : Counts) (input : List ℕ) (line : ℕ) (reason : SolidReason) (r : Result T Stop)
+      → length input ≤ input_limit → (reason ≢ forms.NoMemory → translated input ≡ Err (record { line = line; reason = reason }))
+      → IsErrAnd r (λ stop. stop ≡ stop_of_forms (record { line = line; reason = reason })) → ExecutedAtOnce held faults out out counts counts (of_forms input) r
+  forms-refused frames out counts input line reason (Ok x) few reads is = absurd is
+  forms-refused frames out counts input line forms.NoMemory (Err stop) few reads is =
+      subst (λ s. ExecutedAtOnce {T = T} held faults out out counts counts (of_forms input) (Err s)) (sym is)
+      (unexecuted out counts counts (of_forms input) NoMemory tt tt (λ fault. cc) (λ script. cc) (λ refused. refl)
+      (frames.within_none counts (work_of_parts (output_as (of_forms input)).parts)) (frames.plain_none counts (work_of_parts (output_as (of_forms input)).parts).plain))
+  forms-refused frames out counts input line other (Err stop) few reads is =
+      let fault : SolidFault = record { line = line; reason = other } in
+      subst (λ s. ExecutedAtOnce {T = T} held faults out out counts counts (of_forms input) (Err s)) (sym is)
+      (unexecuted out counts counts (of_forms input) (Refused (refusal.Text (bad.Solid fault)))
+      (forms_refused input fault few (reads (λ memory. cc))) tt (λ write. cc) (λ script. cc) (λ refused. refl)
+      (frames.within_none counts (work_of_parts (output_as (of_forms input)).parts)) (frames.plain_none counts (work_of_parts (output_as (of_forms input)).parts).plain))
 
   -- memory was refused while its one part was made
   pub undrawn-at-once : (out : K) (s t : Counts) (outcome : Result (List Part) Refusal) (part : Part) (r : Result T Stop) → outcome ≡ Ok (part ∷ [])

@@ -1,18 +1,23 @@
 -- The input of a job, and what the words say of it.
-use Rattle.std.proofs.Common.{◌≡◌, ℕ, ◌<◌, Bool, true, false, List, [], length, Option, Some, None, Result, Ok, Err, IfSome, refl, sym, subst, ◌∙◌, arith}
+use Rattle.std.proofs.Common.{◌≡◌, ℕ, ◌<◌, Bool, true, false, List, [], length, Option, Some, None, Result, Ok, Err, IfSome, refl, sym, subst, ap, ◌∙◌, arith}
 use Rattle.std.specs.Prelude.{IsErrAnd}
 use Rattle.std.specs.Io.KnownBytes.{Consumes}
 use Rattle.modeller_io.specs.Count.{RoseBy}
 use Rattle.modeller_io.specs.Took.{LosesAtMost}
 use Rattle.modeller_io.specs.declared.read_end.ReadEnd.{ReadEnd}
 use Rattle.modeller_io.specs.declared.read_end.ReadEnd.TheVariants as end
+use Rattle.view_settings.specs.Words.{job_of}
 use Rattle.view_settings.specs.declared.job.Job.{Job}
+use Rattle.view_settings.specs.declared.word_fault.WordFault.{WordFault}
 use Rattle.modeller_cmd.specs.Asking.{asked, asks_nothing, input_told, reads_nothing}
 use Rattle.modeller_cmd.specs.Endings.{Ends}
 use Rattle.modeller_cmd.specs.Output.{input_limit, outcome}
 use Rattle.modeller_cmd.specs.Stops.{stop_of_end}
+use Rattle.modeller_cmd.specs.declared.refusal.Refusal.{Refusal}
 use Rattle.modeller_cmd.specs.declared.refusal.Refusal.TheVariants as refusal
+use Rattle.modeller_cmd.specs.declared.refusal.Refusal.TheVariants.{Words}
 use Rattle.modeller_cmd.specs.declared.stop.Stop.{Stop}
+use Rattle.modeller_cmd.specs.declared.stop.Stop.TheVariants.{Refused}
 use Rattle.modeller_cmd.proofs.Outcomes.{asked_made, made_long, some_all, some_follows}
 
 -- what is so of the input of a job is so of the input of the words that ask for it
@@ -68,3 +73,23 @@ loses_none rest taken source most stands = record {
   lost = consumes_none (rest source);
   counted = stands;
 }
+
+ended : {T : Type 0} (r : Result T Stop) (stop : Stop) → IsErrAnd r (λ e. e ≡ stop) → r ≡ Err stop
+ended (Ok done) stop is = absurd is
+ended (Err e) stop is = ap (λ s. Err s) is
+
+--- a run whose words are refused ends with their refusal
+pub words-refused : {T : Type 0} (words : List (List ℕ)) (r : Result T Stop) (why : Refusal) → Err why ≡ asked words → IsErrAnd r (λ e. e ≡ Refused why)
+    → (P : Result T Stop → Type 0) → ((fault : WordFault) → asked words ≡ Err (Words fault) → P (Err (Refused (Words fault)))) → P r
+words-refused words r why refused ends P so = by (job_of words) refl
+  where
+    by : (o : Result Job WordFault) → job_of words ≡ o → P r
+    by (Ok job) is =
+        let asks : asked words ≡ Ok job = rw is refl in
+        let both : Err why ≡ Ok job = refused ∙ asks in
+        absurd cc
+    by (Err fault) is =
+        let asks : asked words ≡ Err (Words fault) = rw is refl in
+        let same : Err why ≡ Err (Words fault) = refused ∙ asks in
+        let one : why ≡ Words fault = cc in
+        subst P (sym (ended r (Refused why) ends ∙ ap (λ w. Err (Refused w)) one)) (so fault asks)

@@ -5,10 +5,11 @@ use Rattle.clause_reader.specs.declared.text_reason.TextReason.TheVariants as te
 use Rattle.edit_script.specs.declared.script_reason.ScriptReason.TheVariants as script
 use Rattle.modeller_io.specs.declared.read_end.ReadEnd.TheVariants as end
 use Rattle.solid_model.specs.declared.edit.EditFault.TheVariants as fault
+use Rattle.solid_lang.specs.declared.solid_reason.SolidReason.TheVariants as forms
 use Rattle.view_settings.specs.declared.word_fault.WordReason.TheVariants as word
 use Rattle.modeller_cmd.specs.Frames.{fault_name}
-use Rattle.modeller_cmd.specs.Notes.{script_reason_name, text_reason_name, word_reason_name}
-use Rattle.modeller_cmd.specs.Stops.{stop_of_end, stop_of_script, stop_of_text}
+use Rattle.modeller_cmd.specs.Notes.{script_reason_name, solid_reason_name, text_reason_name, word_reason_name}
+use Rattle.modeller_cmd.specs.Stops.{stop_of_end, stop_of_forms, stop_of_script, stop_of_text}
 use Rattle.modeller_cmd.specs.declared.bad_text.BadText.TheVariants as bad
 use Rattle.modeller_cmd.specs.declared.refusal.Refusal.TheVariants as refusal
 use Rattle.modeller_cmd.specs.declared.stop.Stop.TheVariants.{NoMemory, ReadFault, Refused}
@@ -33,6 +34,12 @@ refused_models : map text_reason_name (text.NoOperation ∷ text.UnknownOperatio
     ∷ codes "UnknownName" ∷ codes "DoubleName" ∷ codes "TooMany" ∷ codes "Empty" ∷ []
 refused_models = refl
 
+refused_solids : map solid_reason_name (forms.UnknownForm ∷ forms.TooDeep ∷ forms.BadNumeral
+    ∷ forms.NotPositive ∷ forms.Unended ∷ forms.Trailing ∷ forms.TooMany ∷ forms.Empty ∷ [])
+    ≡ codes "UnknownForm" ∷ codes "TooDeep" ∷ codes "BadNumeral" ∷ codes "NotPositive"
+    ∷ codes "Unended" ∷ codes "Trailing" ∷ codes "TooMany" ∷ codes "Empty" ∷ []
+refused_solids = refl
+
 refused_scripts : map script_reason_name (script.NoMark ∷ script.UnknownCommand ∷ script.TooShort
     ∷ script.BadName ∷ script.UnknownOperation ∷ script.WrongArity ∷ script.BadNumeral
     ∷ script.BadSetting ∷ [])
@@ -49,6 +56,11 @@ faults_of_models : map stop_of_text (record { line = 3; reason = text.NoMemory }
     ∷ record { line = 4; reason = text.TooMany } ∷ [])
     ≡ NoMemory ∷ Refused (refusal.Text (bad.Model (record { line = 4; reason = text.TooMany }))) ∷ []
 faults_of_models = refl
+
+faults_of_solids : map stop_of_forms (record { line = 3; reason = forms.NoMemory }
+    ∷ record { line = 0; reason = forms.TooMany } ∷ [])
+    ≡ NoMemory ∷ Refused (refusal.Text (bad.Solid (record { line = 0; reason = forms.TooMany }))) ∷ []
+faults_of_solids = refl
 
 faults_of_scripts : map stop_of_script (record { line = 3; reason = script.NoMemory }
     ∷ record { line = 4; reason = script.BadName } ∷ [])

@@ -9,12 +9,14 @@ use Rattle.model_frames.specs.Laws.{FramesAddUp}
 use Rattle.fixed_ops.specs.Counts.{Counts}
 use Rattle.modeller_io.specs.Count.{RoseBy}
 use Rattle.modeller_io.specs.Took.{LosesAtMost}
+use Rattle.solid_lang.specs.Translated.{translated}
+use Rattle.solid_lang.specs.declared.solid_fault.SolidFault.{SolidFault}
 use Rattle.solid_model.specs.declared.clause.Clause.{Clause}
 use Rattle.view_settings.specs.declared.job.Job.{Job}
 use Rattle.view_settings.specs.declared.job.Job.TheVariants.{Forge}
 use Rattle.modeller_cmd.specs.Asking.{asked, asks_nothing, reads_nothing}
 use Rattle.modeller_cmd.specs.Endings.{CountsForSome, Ends, IsAnswer, Makes, status_after}
-use Rattle.modeller_cmd.specs.Output.{input_limit, made, of_model, of_solid, outcome, output_as, output_of}
+use Rattle.modeller_cmd.specs.Output.{input_limit, made, of_forms, of_model, of_solid, outcome, output_as, output_of, text_part}
 use Rattle.model_frames.specs.Frames.{Part}
 use Rattle.modeller_cmd.specs.Parts.{bytes_of_parts, work_of_parts}
 use Rattle.modeller_cmd.specs.Statuses.{status_of}
@@ -139,6 +141,17 @@ pub solid_refused : (input solid : List ℕ) (makes : List Clause → Result (Li
 solid_refused input solid makes fault few reads =
     let short : nat_lt input_limit (length input) ≡ false = le-ltb input_limit (length input) few in
     rw (short, reads) refl
+
+-- what is made of the text of a solid that is translated, and of one that is refused
+pub forms_translated : (input text : List ℕ) → length input ≤ input_limit → translated input ≡ Ok text → of_forms input ≡ Ok (text_part text ∷ [])
+forms_translated input text few means =
+    let short : nat_lt input_limit (length input) ≡ false = le-ltb input_limit (length input) few in
+    rw (short, means) refl
+
+pub forms_refused : (input : List ℕ) (fault : SolidFault) → length input ≤ input_limit → translated input ≡ Err fault → of_forms input ≡ Err (refusal.Text (bad.Solid fault))
+forms_refused input fault few refuses =
+    let short : nat_lt input_limit (length input) ≡ false = le-ltb input_limit (length input) few in
+    rw (short, refuses) refl
 
 -- and of one that is too long
 pub made_long : (job : Job) (input : List ℕ) → reads_nothing job ≡ false → input_limit < length input → made job input ≡ Err refusal.TooLong

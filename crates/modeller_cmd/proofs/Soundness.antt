@@ -1,8 +1,10 @@
 -- What a run writes of a mesh is the text of a sound one.
-use Rattle.std.proofs.Common.{◌≡◌, ℕ, ◌≤◌, Bool, true, false, List, [], ◌∷◌, ◌++◌, length, append-nil, Result, Ok, refl, ap, sym, subst, ◌∙◌, arith}
+use Rattle.std.proofs.Common.{◌≡◌, ℕ, ◌≤◌, Bool, true, false, List, [], ◌∷◌, ◌++◌, length, append-nil, Result, Ok, Err, refl, ap, sym, subst, ◌∙◌, arith}
 use Rattle.std.specs.Prelude.{All, IfOk, nat_lt}
 use Rattle.std.proofs.lemmas.Bool.{ltb-false}
 use Rattle.clause_reader.specs.Reading.{text_read}
+use Rattle.contour_frames.specs.ClosedTexts.{ContourTextsAreClosed, IsClosedText}
+use Rattle.contour_frames.specs.Contours.{contour_part, contour_text}
 use Rattle.edit_script.specs.Commands.{MayBeDrawn}
 use Rattle.edit_script.specs.ScriptLaws.{DrawsMayBeDrawn}
 use Rattle.edit_script.specs.Marks.{before_mark}
@@ -12,21 +14,26 @@ use Rattle.edit_script.specs.declared.command.Command.TheVariants as commands
 use Rattle.edit_session.specs.Sessions.{started}
 use Rattle.model_frames.specs.Meshes.{mesh_text}
 use Rattle.model_frames.specs.SoundTexts.{IsSoundText, MeshTextsAreSound}
+use Rattle.solid_lang.specs.Reading.{SolidReads}
+use Rattle.solid_lang.specs.Solids.{SolidTree}
+use Rattle.solid_lang.specs.Translated.{translated}
+use Rattle.solid_lang.specs.TranslationLaws.{SaysValuesOf, TranslationsKeepValues}
+use Rattle.solid_lang.specs.declared.solid_fault.SolidFault.{SolidFault}
 use Rattle.view_settings.specs.Verbs.{IsJob}
 use Rattle.view_settings.specs.declared.job.Job.{Job}
-use Rattle.view_settings.specs.declared.job.Job.TheVariants.{Mesh, Replay}
+use Rattle.view_settings.specs.declared.job.Job.TheVariants.{Contour, Mesh, Replay, Solid}
 use Rattle.modeller_cmd.specs.Asking.{asked}
 use Rattle.view_places.specs.Window.{Window}
 use Rattle.solid_model.specs.declared.clause.Clause.{Clause}
-use Rattle.modeller_cmd.specs.Output.{input_limit, made, of_solid, outcome, output_as, parts_replayed}
+use Rattle.modeller_cmd.specs.Output.{input_limit, made, of_forms, of_solid, outcome, output_as, parts_replayed}
 use Rattle.model_frames.specs.Frames.{Part, frame_part}
 use Rattle.modeller_cmd.specs.Parts.{bytes_of_parts}
 use Rattle.modeller_cmd.specs.Replays.{framed, replayed, standing, state_after}
-use Rattle.modeller_cmd.specs.SoundTexts.{HasSoundFrame, MeshFramesAreSound, MeshesAreSound}
+use Rattle.modeller_cmd.specs.SoundTexts.{ContoursAreClosed, HasSoundFrame, MeshFramesAreSound, MeshesAreSound, SolidsKeepValues}
 use Rattle.model_frames.specs.declared.frame.Frame.TheVariants as frames
 use Rattle.modeller_cmd.specs.declared.refusal.Refusal.{Refusal}
 use Rattle.modeller_cmd.specs.declared.status.Status.TheVariants.{Done}
-use Rattle.modeller_cmd.proofs.Outcomes.{model_read, solid_read}
+use Rattle.modeller_cmd.proofs.Outcomes.{forms_refused, forms_translated, model_read, solid_read}
 use Rattle.modeller_cmd.proofs.ReplayLaws.{replayed-between}
 use Rattle.modeller_cmd.proofs.WorkSums.{All-between}
 
@@ -55,6 +62,42 @@ run_is_sound words input r is keeps texts view clauses asks reads done =
     let one : mesh_text view clauses ++ [] ≡ mesh_text view clauses = append-nil (mesh_text view clauses) in
     let bytes = ap bytes_of_parts parts ∙ one in
     subst (IsSoundText view clauses) (sym bytes) (texts view clauses job.0 job.1)
+
+-- and so it is of the paths of a contour
+pub run_is_closed : (words : List (List ℕ)) (input : List ℕ) (r : Result Job Refusal) → r ≡ asked words → IfOk r IsJob → ContourTextsAreClosed
+    → ContoursAreClosed words input
+run_is_closed words input r is keeps texts view clauses asks reads done =
+    let job = job_kept r (Contour view) (is ∙ asks) keeps in
+    let made_of = outcome_of words input (Contour view) asks in
+    let few = few_of input input (λ solid. Ok (contour_part view solid ∷ [])) (ap (λ o. (output_as o).status) (sym made_of) ∙ done) in
+    let parts = ap (λ o. (output_as o).parts) (made_of ∙ model_read input (contour_part view) clauses few reads) in
+    let one : contour_text view clauses ++ [] ≡ contour_text view clauses = append-nil (contour_text view clauses) in
+    let bytes = ap bytes_of_parts parts ∙ one in
+    subst (IsClosedText view clauses) (sym bytes) (texts view clauses job.1)
+
+-- and the model of a solid has its values
+run_keeps : (input : List ℕ) (solid : SolidTree) → TranslationsKeepValues → SolidReads input solid → (output_as (of_forms input)).status ≡ Done
+    → SaysValuesOf solid (bytes_of_parts (output_as (of_forms input)).parts)
+run_keeps input solid texts reads done = by (nat_lt input_limit (length input)) refl
+  where
+    written : length input ≤ input_limit → (r : Result (List ℕ) SolidFault) → translated input ≡ r → SaysValuesOf solid (bytes_of_parts (output_as (of_forms input)).parts)
+    written few (Ok text) means =
+        let made = forms_translated input text few means in
+        let bytes : bytes_of_parts (output_as (of_forms input)).parts ≡ text = ap (λ o. bytes_of_parts (output_as o).parts) made ∙ append-nil text in
+        subst (SaysValuesOf solid) (sym bytes) (texts input solid text reads means)
+    written few (Err fault) means =
+        let refused = subst (λ o. (output_as o).status ≡ Done) (forms_refused input fault few means) done in
+        absurd (grind (arith, refused))
+
+    by : (long : Bool) → nat_lt input_limit (length input) ≡ long → SaysValuesOf solid (bytes_of_parts (output_as (of_forms input)).parts)
+    by true is = let refused = rw is at done in absurd (grind (arith, refused))
+    by false is = written (ltb-false input_limit (length input) is) (translated input) refl
+
+pub run_keeps_values : (words : List (List ℕ)) (input : List ℕ) → TranslationsKeepValues → SolidsKeepValues words input
+run_keeps_values words input texts solid asks reads done =
+    let made_of = outcome_of words input Solid asks in
+    subst (λ o. SaysValuesOf solid (bytes_of_parts (output_as o).parts)) (sym made_of)
+    (run_keeps input solid texts reads (ap (λ o. (output_as o).status) (sym made_of) ∙ done))
 
 -- what the commands of a script write for a mesh is the frame of the text of a sound one
 script_frames : (clauses : List Clause) (before after : List Command) (view : Window) (input : List ℕ) → MeshTextsAreSound → length input ≤ input_limit

@@ -6,7 +6,7 @@ use Rattle.view_settings.specs.declared.job.Job.{Job}
 use Rattle.view_settings.specs.declared.job.Job.TheVariants.{Replay}
 use Rattle.view_settings.specs.declared.word_fault.WordFault.{WordFault}
 use Rattle.view_settings.specs.declared.reads.Reads.{Reads}
-use Rattle.view_settings.specs.declared.reads.Reads.TheVariants.{Nothing, Model, Script}
+use Rattle.view_settings.specs.declared.reads.Reads.TheVariants as reading
 use Rattle.modeller_cmd.specs.declared.refusal.Refusal.{Refusal}
 use Rattle.modeller_cmd.specs.declared.refusal.Refusal.TheVariants.{Words}
 
@@ -28,9 +28,10 @@ abbrev pub reads_nothing : Job → Bool
 reads_nothing job = by (reads job)
   where
     by : Reads → Bool
-    by Nothing = true
-    by Model = false
-    by Script = false
+    by reading.Nothing = true
+    by reading.Model = false
+    by reading.Script = false
+    by reading.Solid = false
 
 -- the words ask for nothing of the source
 abbrev pub asks_nothing : List (List ℕ) → Bool

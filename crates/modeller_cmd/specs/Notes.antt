@@ -4,10 +4,12 @@ use Rattle.clause_reader.specs.declared.text_reason.TextReason.{TextReason}
 use Rattle.clause_reader.specs.declared.text_reason.TextReason.TheVariants as text
 use Rattle.edit_script.specs.declared.script_reason.ScriptReason.{ScriptReason}
 use Rattle.edit_script.specs.declared.script_reason.ScriptReason.TheVariants as script
+use Rattle.solid_lang.specs.declared.solid_reason.SolidReason.{SolidReason}
+use Rattle.solid_lang.specs.declared.solid_reason.SolidReason.TheVariants as forms
 use Rattle.view_settings.specs.declared.word_fault.WordReason.{WordReason}
 use Rattle.view_settings.specs.declared.word_fault.WordReason.TheVariants as word
 use Rattle.modeller_cmd.specs.declared.bad_text.BadText.{BadText}
-use Rattle.modeller_cmd.specs.declared.bad_text.BadText.TheVariants.{Model}
+use Rattle.modeller_cmd.specs.declared.bad_text.BadText.TheVariants.{Model, Solid}
 use Rattle.modeller_cmd.specs.declared.refusal.Refusal.{Refusal}
 use Rattle.modeller_cmd.specs.declared.refusal.Refusal.TheVariants.{Words, TooLong, Text, Script}
 use Rattle.modeller_cmd.specs.declared.stop.Stop.{Stop}
@@ -38,6 +40,18 @@ text_reason_name text.TooMany = codes "TooMany"
 text_reason_name text.Empty = codes "Empty"
 text_reason_name text.NoMemory = codes "NoMemory"
 
+-- the name of a reason why the text of a solid, written as forms, is refused
+abbrev pub solid_reason_name : SolidReason → List ℕ
+solid_reason_name forms.UnknownForm = codes "UnknownForm"
+solid_reason_name forms.TooDeep = codes "TooDeep"
+solid_reason_name forms.BadNumeral = codes "BadNumeral"
+solid_reason_name forms.NotPositive = codes "NotPositive"
+solid_reason_name forms.Unended = codes "Unended"
+solid_reason_name forms.Trailing = codes "Trailing"
+solid_reason_name forms.TooMany = codes "TooMany"
+solid_reason_name forms.Empty = codes "Empty"
+solid_reason_name forms.NoMemory = codes "NoMemory"
+
 -- the name of a reason why a script is refused
 abbrev pub script_reason_name : ScriptReason → List ℕ
 script_reason_name script.NoMark = codes "NoMark"
@@ -59,6 +73,8 @@ fault_line place number reason =
 abbrev pub bad_text_line : BadText → List ℕ
 bad_text_line (Model fault) =
     fault_line (codes "line") fault.line (text_reason_name fault.reason)
+bad_text_line (Solid fault) =
+    fault_line (codes "line") fault.line (solid_reason_name fault.reason)
 
 -- the line that is written for a refusal
 abbrev pub refusal_line : Refusal → List ℕ

@@ -2,14 +2,16 @@
 -- line.
 use Rattle.std.specs.Prelude.{ℕ, nat_lt, List, [], ◌∷◌, length, Option, Result, Ok, Err, IfSome, if◌then◌else◌}
 use Rattle.clause_reader.specs.Reading.{on_result, text_read}
+use Rattle.contour_frames.specs.Contours.{contour_part}
 use Rattle.edit_script.specs.Marks.{before_mark}
 use Rattle.edit_script.specs.Scripts.{script_read}
 use Rattle.edit_script.specs.declared.command.Command.{Command}
 use Rattle.edit_script.specs.declared.script_fault.ScriptFault.{ScriptFault}
 use Rattle.edit_session.specs.Sessions.{started}
 use Rattle.model_frames.specs.Frames.{Part, frame_part, shade_part}
-use Rattle.model_frames.specs.Work.{frame_work}
+use Rattle.model_frames.specs.Work.{frame_work, no_work}
 use Rattle.model_frames.specs.declared.frame.Frame.TheVariants as frames
+use Rattle.solid_lang.specs.Translated.{translated}
 use Rattle.solid_model.specs.declared.clause.Clause.{Clause}
 use Rattle.view_places.specs.Window.{Window}
 use Rattle.view_settings.specs.declared.job.Job.{Job}
@@ -20,7 +22,7 @@ use Rattle.modeller_cmd.specs.Forging.{forge_part}
 use Rattle.modeller_cmd.specs.Notes.{refusal_line}
 use Rattle.modeller_cmd.specs.Replays.{replayed}
 use Rattle.modeller_cmd.specs.Statuses.{status_of}
-use Rattle.modeller_cmd.specs.declared.bad_text.BadText.TheVariants.{Model}
+use Rattle.modeller_cmd.specs.declared.bad_text.BadText.TheVariants.{Model, Solid}
 use Rattle.modeller_cmd.specs.declared.refusal.Refusal.{Refusal}
 use Rattle.modeller_cmd.specs.declared.refusal.Refusal.TheVariants.{Script, Text, TooLong}
 use Rattle.modeller_cmd.specs.declared.status.Status.{Status}
@@ -56,6 +58,19 @@ of_solid input solid makes =
 abbrev pub of_model : List ℕ → (List Clause → Part) → Result (List Part) Refusal
 of_model input part = of_solid input input (λ clauses. Ok (part clauses ∷ []))
 
+-- the part that is a text for which nothing is evaluated
+abbrev pub text_part : List ℕ → Part
+text_part text = record { bytes = text; work = no_work }
+
+-- What is made of an input that is the text of a solid, written as forms: it is refused where it is
+-- too long, and else where it is no such text or means too many clauses, and else the text of the
+-- model that it means is made.
+abbrev pub of_forms : List ℕ → Result (List Part) Refusal
+of_forms input =
+    if nat_lt input_limit (length input) then Err TooLong
+    else on_result (translated input) (λ text. Ok (text_part text ∷ []))
+    (λ fault. Err (Text (Solid fault)))
+
 -- The parts that a job makes of an input, or why it makes none. What is forged is the same for
 -- every input.
 abbrev pub made : Job → List ℕ → Result (List Part) Refusal
@@ -68,6 +83,8 @@ made jobs.Replay input =
     of_solid input (before_mark input) (λ clauses. parts_replayed clauses (script_read input))
 made (jobs.Forge forge) input = Ok (forge_part forge ∷ [])
 made (jobs.Shade view) input = of_model input (shade_part view)
+made (jobs.Contour view) input = of_model input (contour_part view)
+made jobs.Solid input = of_forms input
 
 -- the parts that a run writes, or why it writes none
 abbrev pub outcome : List (List ℕ) → List ℕ → Result (List Part) Refusal

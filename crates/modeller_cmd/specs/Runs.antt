@@ -10,7 +10,7 @@ use Rattle.modeller_cmd.specs.Asking.{asked, asks_nothing, input_told}
 use Rattle.modeller_cmd.specs.Endings.{CountsForSome, GainsParts, IsAnswer, IsRead, IsRefusal, IsUnwritten, IsWorked, NoFault, ReadsWhole, TakesLine, Tells}
 use Rattle.modeller_cmd.specs.Output.{Output, input_limit, output_of}
 use Rattle.modeller_cmd.specs.Parts.{bytes_of_parts, work_of_parts}
-use Rattle.modeller_cmd.specs.SoundTexts.{MeshFramesAreSound, MeshesAreSound}
+use Rattle.modeller_cmd.specs.SoundTexts.{ContoursAreClosed, MeshFramesAreSound, MeshesAreSound, SolidsKeepValues}
 use Rattle.modeller_cmd.specs.Halting.{HaltsRun}
 use Rattle.modeller_cmd.specs.declared.status.Status.{Status}
 use Rattle.modeller_cmd.specs.declared.status.Status.TheVariants.{Done, Usage, BadScript, TooLong, ReadFault, WriteFault, NoMemory}
@@ -52,6 +52,10 @@ pub record EndsSo {S K N : Type 0} (run : Run S K N) : Type 0 where
   -- the text of a mesh is that of a sound one
   pub sound : IfSome (run.rest run.source) (MeshesAreSound run.words)
   pub sound_frames : IfSome (run.rest run.source) (MeshFramesAreSound run.words)
+  -- and a contour is closed
+  pub closed : IfSome (run.rest run.source) (ContoursAreClosed run.words)
+  -- and the model of a solid has its values
+  pub values : IfSome (run.rest run.source) (SolidsKeepValues run.words)
   -- when each status comes
   pub answer : OfOutput run (λ output. IsAnswer output.status run.status)
   pub usage : (run.status ≡ Usage) ↔ IsErr (asked run.words)

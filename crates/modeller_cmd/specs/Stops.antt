@@ -7,6 +7,9 @@ use Rattle.edit_script.specs.declared.script_reason.ScriptReason.{ScriptReason}
 use Rattle.edit_script.specs.declared.script_reason.ScriptReason.TheVariants as script
 use Rattle.modeller_io.specs.declared.read_end.ReadEnd.{ReadEnd}
 use Rattle.modeller_io.specs.declared.read_end.ReadEnd.TheVariants as end
+use Rattle.solid_lang.specs.declared.solid_fault.SolidFault.{SolidFault}
+use Rattle.solid_lang.specs.declared.solid_reason.SolidReason.{SolidReason}
+use Rattle.solid_lang.specs.declared.solid_reason.SolidReason.TheVariants as forms
 use Rattle.modeller_cmd.specs.Statuses.{status_of}
 use Rattle.modeller_cmd.specs.declared.bad_text.BadText.TheVariants as bad
 use Rattle.modeller_cmd.specs.declared.refusal.Refusal.TheVariants as refusal
@@ -35,6 +38,14 @@ stop_of_text fault = by fault.reason
     by : TextReason → Stop
     by reason.NoMemory = NoMemory
     by reason = Refused (refusal.Text (bad.Model fault))
+
+-- why the text of a solid, written as forms, stops a run
+abbrev pub stop_of_forms : SolidFault → Stop
+stop_of_forms fault = by fault.reason
+  where
+    by : SolidReason → Stop
+    by forms.NoMemory = NoMemory
+    by reason = Refused (refusal.Text (bad.Solid fault))
 
 -- why a script stops a run
 abbrev pub stop_of_script : ScriptFault → Stop

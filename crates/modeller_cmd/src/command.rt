@@ -12,23 +12,27 @@ ghost use Rattle.modeller_cmd.specs.Parts.{bytes_of_parts, work_of_parts};
 ghost use Rattle.modeller_cmd.specs.Asking.{asked, asks_nothing, input_told, reads_nothing};
 ghost use Rattle.modeller_cmd.specs.Runs.{EndsSo};
 ghost use Rattle.modeller_cmd.specs.Execution.{Executed};
-ghost use Rattle.modeller_cmd.specs.SoundTexts.{MeshFramesAreSound, MeshesAreSound};
+ghost use Rattle.modeller_cmd.specs.SoundTexts.{ContoursAreClosed, MeshFramesAreSound, MeshesAreSound, SolidsKeepValues};
 ghost use Rattle.modeller_cmd.specs.Halting.{HaltsReplay, HaltsRun};
 ghost use Rattle.model_frames.specs.Work.{CountsWithin, CountsWork, PointsRiseAtMost};
 
 use crate::Status;
 use crate::asking::read_job;
+use crate::contouring::contour;
 use crate::count::count;
 use crate::drawing::{draw, render};
 use crate::forge::forge;
 use crate::note::note_of;
 use crate::replay::replay;
 use crate::shading::shade;
+use crate::solid::solid;
 use crate::stop::Stop;
+use contour_frames::contour_texts_are_closed;
 use edit_script::draws_may_be_drawn;
 use fixed_ops::Tally;
 use model_frames::{Frame, frames_add_up, mesh_texts_are_sound};
 use modeller_io::{ReadEnd, Sink, Source, read_all, write_all};
+use solid_lang::translation_is_exact;
 use std::alloc::Global;
 use view_settings::{Job, Reads};
 
@@ -61,6 +65,10 @@ pub fn run<S: Source, K: Sink, N: Sink>(
     // and where a command of a script asks for one, so is that of its frame.
     ensures sound { IfSome (S.rest source.old) (MeshesAreSound (bytes_of words.now)) }
     ensures sound_frames { IfSome (S.rest source.old) (MeshFramesAreSound (bytes_of words.now)) }
+    // Where a contour is asked for, that output is the paths of closed loops.
+    ensures closed { IfSome (S.rest source.old) (ContoursAreClosed (bytes_of words.now)) }
+    // Where the model of a solid is asked for, it has the value of the solid at every point.
+    ensures values { IfSome (S.rest source.old) (SolidsKeepValues (bytes_of words.now)) }
 
     // When each status comes.
     ensures answer { WithOutput S.rest source.old (bytes_of words.now) (λ output.
@@ -236,11 +244,15 @@ fn work<S: Source, K: Sink>(
     ensures gained { Grew K.held out.old out.new }
     ensures untold { CountsForSome (bytes_of words.now) tally.old tally.new }
     ensures sound { IfSome (S.rest source.old) (MeshesAreSound (bytes_of words.now)) }
+    ensures closed { IfSome (S.rest source.old) (ContoursAreClosed (bytes_of words.now)) }
+    ensures values { IfSome (S.rest source.old) (SolidsKeepValues (bytes_of words.now)) }
     ensures script { status_after result ≡ Status.BadScript
         → asked (bytes_of words.now) ≡ Ok Job.Replay }
 {
     frames_add_up();
     mesh_texts_are_sound();
+    contour_texts_are_closed();
+    translation_is_exact();
     let job = read_job(words)?;
     let input = read_input(alloc, &job, source)?;
     execute(alloc, &job, &input, out, tally)
@@ -271,7 +283,7 @@ fn read_input<S: Source>(alloc: Global, job: &Job, source: &mut S) -> Result<Vec
 {
     match job.reads() {
         Reads::Nothing => Ok(Vec::new(alloc)),
-        Reads::Model | Reads::Script => {
+        Reads::Model | Reads::Script | Reads::Solid => {
             let input = read_all(alloc, source, INPUT_LIMIT)?;
             Ok(input)
         }
@@ -302,5 +314,7 @@ fn execute<K: Sink>(
         Job::Forge(wanted) => forge(alloc, wanted, out, tally),
         Job::Replay => replay(alloc, input, out, tally),
         Job::Shade(view) => shade(alloc, view, input, out, tally),
+        Job::Contour(view) => contour(alloc, view, input, out, tally),
+        Job::Solid => solid(alloc, input, out),
     }
 }

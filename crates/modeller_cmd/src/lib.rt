@@ -4,6 +4,7 @@
 mod asking;
 mod bad_text;
 mod command;
+mod contouring;
 mod count;
 mod drawing;
 mod forge;
@@ -16,6 +17,7 @@ mod refusal;
 mod replay;
 mod send;
 mod shading;
+mod solid;
 mod status;
 mod stop;
 mod sure;

@@ -1,7 +1,7 @@
 // The one line that says why a run has not done its work.
 ghost use Rattle.std.specs.Prelude.{◌≡◌, ◌≤◌, length};
 ghost use Rattle.modeller_cmd.specs.declared.line.TheConstants.{LINE_LIMIT};
-ghost use Rattle.modeller_cmd.specs.Notes.{bad_text_line, fault_line, line_of, refusal_line, script_reason_name, text_reason_name, word_reason_name};
+ghost use Rattle.modeller_cmd.specs.Notes.{bad_text_line, fault_line, line_of, refusal_line, script_reason_name, solid_reason_name, text_reason_name, word_reason_name};
 
 use crate::bad_text::BadText;
 use crate::line::Line;
@@ -9,6 +9,7 @@ use crate::refusal::Refusal;
 use crate::stop::Stop;
 use clause_reader::TextReason;
 use edit_script::ScriptReason;
+use solid_lang::SolidReason;
 use view_settings::WordReason;
 
 /// The line that is written for a stop.
@@ -41,6 +42,7 @@ fn bad_text_note(bad: BadText) -> Line
 {
     match bad {
         BadText::Model(fault) => placed(b"line", fault.line, text_reason(fault.reason)),
+        BadText::Solid(fault) => placed(b"line", fault.line, solid_reason(fault.reason)),
     }
 }
 
@@ -105,6 +107,24 @@ fn text_reason(reason: TextReason) -> &'static [u8]
         TextReason::TooMany => b"TooMany",
         TextReason::Empty => b"Empty",
         TextReason::NoMemory => b"NoMemory",
+    }
+}
+
+// The name of a reason why the text of a solid is refused.
+fn solid_reason(reason: SolidReason) -> &'static [u8]
+    ensures name { result.now ≡ solid_reason_name reason }
+    ensures short { length result.now ≤ 16 }
+{
+    match reason {
+        SolidReason::UnknownForm => b"UnknownForm",
+        SolidReason::TooDeep => b"TooDeep",
+        SolidReason::BadNumeral => b"BadNumeral",
+        SolidReason::NotPositive => b"NotPositive",
+        SolidReason::Unended => b"Unended",
+        SolidReason::Trailing => b"Trailing",
+        SolidReason::TooMany => b"TooMany",
+        SolidReason::Empty => b"Empty",
+        SolidReason::NoMemory => b"NoMemory",
     }
 }
 

@@ -18,6 +18,13 @@ pub fn send<K: Sink>(alloc: Global, drawn: &Drawn, out: &mut K) -> Result<(), St
     Ok(write_pieces(out, pieces)?)
 }
 
+/// Writes a text.
+pub fn send_text<K: Sink>(out: &mut K, text: &[u8]) -> Result<(), Stop>
+    ensures { Sent K.held K.faults out.old out.new text.now result }
+{
+    Ok(write_all(out, text)?)
+}
+
 /// Writes pieces, one after the other. After `Failed` some of all this was taken, from its front.
 pub fn write_pieces<K: Sink>(out: &mut K, mut text: Pieces) -> Result<(), Failed>
     ensures ok { OnOk result (Gains K.held out.old out.new (text.entry.piece ++ text.entry.rest)) }

@@ -7,7 +7,7 @@ pub enum Status {
     Done = 0,
     /// The words are refused. Nothing was read.
     Usage = 2,
-    /// The model's text is refused.
+    /// The text of the job is refused.
     BadModel = 3,
     /// The script is refused.
     BadScript = 4,

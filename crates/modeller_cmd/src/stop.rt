@@ -6,6 +6,7 @@ use crate::refusal::Refusal;
 use clause_reader::{TextFault, TextReason};
 use edit_script::{ScriptFault, ScriptReason};
 use modeller_io::{Failed, ReadEnd};
+use solid_lang::{SolidFault, SolidReason};
 use std::alloc::AllocError;
 
 /// What ends a run before its work is written whole.
@@ -74,6 +75,20 @@ impl From<TextFault> for Stop {
         match fault.reason {
             TextReason::NoMemory => Stop::NoMemory,
             _ => Stop::Refused(Refusal::Text(BadText::Model(fault))),
+        }
+    }
+}
+
+impl From<SolidFault> for Stop {
+    ghost use Rattle.std.specs.Prelude.{◌≡◌};
+    ghost use Rattle.modeller_cmd.specs.Stops.{stop_of_forms};
+
+    ghost from_gives = { λ fault stop. stop ≡ stop_of_forms fault };
+
+    fn from(fault: SolidFault) -> Stop {
+        match fault.reason {
+            SolidReason::NoMemory => Stop::NoMemory,
+            _ => Stop::Refused(Refusal::Text(BadText::Solid(fault))),
         }
     }
 }

@@ -39,6 +39,16 @@ returns-in-Shade g c =
     executed-at-once g.K.Sink.held g.K.Sink.faults c.args.out.now c.shade.new.out c.args.tally.now c.shade.new.tally c.args.job.now (jobs.Shade c.in-Shade.view) c.args.input.now c.shade.result
     c.in-Shade.is (λ is. cc) c.shade.ensures
 
+pub returns-in-Contour : goal.returns-in-Contour
+returns-in-Contour g c =
+    executed-at-once g.K.Sink.held g.K.Sink.faults c.args.out.now c.contour.new.out c.args.tally.now c.contour.new.tally c.args.job.now (jobs.Contour c.in-Contour.view) c.args.input.now c.contour.result
+    c.in-Contour.is (λ is. cc) c.contour.ensures
+
+pub returns-in-Solid : goal.returns-in-Solid
+returns-in-Solid g c =
+    executed-at-once g.K.Sink.held g.K.Sink.faults c.args.out.now c.solid.new.out c.args.tally.now c.args.tally.now c.args.job.now jobs.Solid c.args.input.now c.solid.result
+    c.in-Solid.is (λ is. cc) (c.solid.ensures c.args.tally.now)
+
 pub returns-in-Replay : goal.returns-in-Replay
 returns-in-Replay g c =
     let r = c.replay.ensures in

@@ -23,6 +23,8 @@ returns-in-Ok g c =
       done = λ _. some_follows told _ _ (λ input. made_done (outcome words input) _) r.done;
       silent = λ _. refl;
       sound = r.sound;
+      closed = r.closed;
+      values = r.values;
       sound_frames = some_all (g.S.Source.rest c.args.source.now) _ (λ input. frames_are_sound words input c.mesh_texts_are_sound.ensures c.draws_may_be_drawn.ensures);
       answer = some_follows told _ _ (λ input. ok_done (outcome words input)) r.ends;
       usage = r.usage;
@@ -86,6 +88,8 @@ returns-in-Err g c =
       done = λ is. absurd (not_done stop is);
       silent = λ is. absurd (not_done stop is);
       sound = r.sound;
+      closed = r.closed;
+      values = r.values;
       sound_frames = some_all (g.S.Source.rest c.args.source.now) _ (λ input. frames_are_sound words input c.mesh_texts_are_sound.ensures c.draws_may_be_drawn.ensures);
       answer = some_follows told _ _ (λ input. answer_of {T = Unit {0}} (outcome words input) (Err stop)) r.ends;
       usage = r.usage;

@@ -1,20 +1,22 @@
-use Rattle.std.proofs.Common.{◌≡◌, Ok, Err, ap, ◌∙◌, arith}
+use Rattle.std.proofs.Common.{◌≡◌, ◌↔◌, Ok, Err, IfErr, IsErr, refl, sym, subst, ap, ◌∙◌, arith}
+use Rattle.modeller_io.specs.Count.{RoseBy}
 use Rattle.modeller_io.specs.Held.{Gains, GainsPrefix}
 use Rattle.model_frames.specs.Work.{CountsWithin, CountsWork, PointsRiseAtMost}
 use Rattle.view_settings.specs.Words.{bytes_of}
 use Rattle.modeller_cmd.specs.Asking.{asked, asks_nothing, input_told, reads_nothing}
-use Rattle.modeller_cmd.specs.Endings.{Ends, GainsParts}
+use Rattle.modeller_cmd.specs.Endings.{Ends, GainsParts, IsRead, IsTold, ReadsWhole, status_after}
 use Rattle.modeller_cmd.specs.Output.{made, output_as, output_of}
 use Rattle.modeller_cmd.specs.Parts.{bytes_of_parts, work_of_parts}
 use Rattle.modeller_cmd.specs.Writing.{Halted, Written}
 use Rattle.modeller_cmd.specs.Halting.{IsUnbegun}
 use Rattle.modeller_cmd.specs.Stops.{stop_of_end}
 use Rattle.modeller_cmd.specs.declared.stop.Stop.TheVariants.{NoMemory, Refused, WriteFault}
-use Rattle.modeller_cmd.proofs.Inputs.{read-ends, reads-some, told-by-words}
+use Rattle.modeller_cmd.specs.declared.status.Status.TheVariants.{Usage, BadScript, TooLong}
+use Rattle.modeller_cmd.proofs.Inputs.{read-ends, reads-some, told-by-words, words-refused}
 use Rattle.modeller_cmd.proofs.Outcomes.{some-none, some_all, some_follows}
 use Rattle.modeller_cmd.proofs.Writing.{parts-none, ends-with}
 use Rattle.modeller_cmd.proofs.Execution.{as-told, done-or-halted, err-follows, ok-follows, executed, executed-counted, executed-front, executed-told, executed-whole}
-use Rattle.modeller_cmd.proofs.Soundness.{run_is_sound}
+use Rattle.modeller_cmd.proofs.Soundness.{run_is_closed, run_keeps_values, run_is_sound}
 use Rattle.view_settings.specs.declared.job.Job.TheVariants.{Replay}
 use Rattle.modeller_cmd.proofs.Halting.{asks-none, executed-halts, unreplayed, unread}
 use Rattle.modeller_cmd.proofs.command.work.Goals as goal
@@ -165,3 +167,69 @@ returns-clause-halts g c =
     (told-by-words g.S.Source.rest c.args.source.now (reads_nothing c.in_ok-job.job) (asks_nothing (bytes_of c.args.words.now)) _ c.in_ok-job.ensures.nothing c.in_ok-input.ensures.all) in
     executed-halts g.K.Sink.held g.K.Sink.faults c.args.out.now c.execute.new.out c.args.tally.now c.execute.new.tally c.deref.result.now c.execute.result (bytes_of c.args.words.now) told all
     c.in_ok-job.job c.in_ok-job.ensures.job c.execute.ensures.halts
+
+pub returns-in_err-job-clause-closed : goal.returns-in_err-job-clause-closed
+returns-in_err-job-clause-closed g c =
+    some_all (g.S.Source.rest c.args.source.now) _ (λ input.
+    run_is_closed (bytes_of c.args.words.now) input c.read_job.result c.read_job.ensures.job c.read_job.ensures.keeps c.contour_texts_are_closed.ensures)
+
+pub returns-in_err-input-clause-closed : goal.returns-in_err-input-clause-closed
+returns-in_err-input-clause-closed g c =
+    some_all (g.S.Source.rest c.args.source.now) _ (λ input.
+    run_is_closed (bytes_of c.args.words.now) input c.read_job.result c.read_job.ensures.job c.read_job.ensures.keeps c.contour_texts_are_closed.ensures)
+
+pub returns-clause-closed : goal.returns-clause-closed
+returns-clause-closed g c =
+    some_all (g.S.Source.rest c.args.source.now) _ (λ input.
+    run_is_closed (bytes_of c.args.words.now) input c.read_job.result c.read_job.ensures.job c.read_job.ensures.keeps c.contour_texts_are_closed.ensures)
+
+pub returns-in_err-job-clause-values : goal.returns-in_err-job-clause-values
+returns-in_err-job-clause-values g c =
+    some_all (g.S.Source.rest c.args.source.now) _ (λ input.
+    run_keeps_values (bytes_of c.args.words.now) input c.translation_is_exact.ensures.values)
+
+pub returns-in_err-input-clause-values : goal.returns-in_err-input-clause-values
+returns-in_err-input-clause-values g c =
+    some_all (g.S.Source.rest c.args.source.now) _ (λ input.
+    run_keeps_values (bytes_of c.args.words.now) input c.translation_is_exact.ensures.values)
+
+pub returns-clause-values : goal.returns-clause-values
+returns-clause-values g c =
+    some_all (g.S.Source.rest c.args.source.now) _ (λ input.
+    run_keeps_values (bytes_of c.args.words.now) input c.translation_is_exact.ensures.values)
+
+pub returns-in_err-job-clause-usage : goal.returns-in_err-job-clause-usage
+returns-in_err-job-clause-usage g c =
+    let words = bytes_of c.args.words.now in
+    words-refused words c.from_residual.result c.in_err-job.field-0.0 c.in_err-job.ensures.job c.from_residual.ensures.1
+    (λ r. (status_after r ≡ Usage) ↔ IsErr (asked words))
+    (λ fault asks. (λ _. subst (λ o. IsErr o) (sym asks) refl, λ _. refl))
+
+pub returns-in_err-job-clause-refused : goal.returns-in_err-job-clause-refused
+returns-in_err-job-clause-refused g c =
+    let words = bytes_of c.args.words.now in
+    let told = input_told g.S.Source.rest c.args.source.now (asks_nothing words) in
+    words-refused words c.from_residual.result c.in_err-job.field-0.0 c.in_err-job.ensures.job c.from_residual.ensures.1
+    (λ r. IfErr r (λ stop. IsTold words told stop))
+    (λ fault asks. asks)
+
+pub returns-in_err-job-clause-read : goal.returns-in_err-job-clause-read
+returns-in_err-job-clause-read g c = λ asks.
+    let words = bytes_of c.args.words.now in
+    words-refused words c.from_residual.result c.in_err-job.field-0.0 c.in_err-job.ensures.job c.from_residual.ensures.1
+    (λ r. IsRead (status_after r) → ReadsWhole g.S.Source.rest c.args.source.now c.args.source.now)
+    (λ fault asks read. absurd read)
+
+pub returns-in_err-job-clause-too_long : goal.returns-in_err-job-clause-too_long
+returns-in_err-job-clause-too_long g c =
+    let words = bytes_of c.args.words.now in
+    words-refused words c.from_residual.result c.in_err-job.field-0.0 c.in_err-job.ensures.job c.from_residual.ensures.1
+    (λ r. status_after r ≡ TooLong → RoseBy g.S.Source.taken c.args.source.now c.args.source.now 8388609)
+    (λ fault asks is. cc)
+
+pub returns-in_err-job-clause-script : goal.returns-in_err-job-clause-script
+returns-in_err-job-clause-script g c =
+    let words = bytes_of c.args.words.now in
+    words-refused words c.from_residual.result c.in_err-job.field-0.0 c.in_err-job.ensures.job c.from_residual.ensures.1
+    (λ r. status_after r ≡ BadScript → asked words ≡ Ok Replay)
+    (λ fault asks is. cc)
