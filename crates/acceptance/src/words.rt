@@ -2,10 +2,15 @@
 use crate::trial::{DISC, Trial};
 use modeller_cmd::Status;
 use modeller_io::Source;
+use std::alloc::Global;
+use std::process::Abort;
 use std::test::Fail;
 
 // Words, the number of the one that is noted, and the reason.
-const CASES: [(&[&str], u32, &str); 84] = [
+type Case = (&'static [&'static str], u32, &'static str);
+
+// Words of all verbs, and of images.
+const IMAGES: [Case; 24] = [
     (&[], 0, "NoVerb"),
     (&["draw"], 1, "UnknownVerb"),
     (&["Render", "w"], 1, "UnknownVerb"),
@@ -31,6 +36,10 @@ const CASES: [(&[&str], u32, &str); 84] = [
     (&["render", "w=0"], 2, "OutOfRange"),
     (&["render", "h=3", "w=4097"], 3, "OutOfRange"),
     (&["mesh", "n=257"], 2, "OutOfRange"),
+];
+
+// Words of meshes.
+const MESHES: [Case; 27] = [
     // Cells along each axis.
     (&["render", "nx=3"], 2, "UnknownSetting"),
     (&["count", "ny=3"], 2, "UnknownSetting"),
@@ -104,6 +113,10 @@ const CASES: [(&[&str], u32, &str); 84] = [
         "CellTooSmall",
     ),
     (&["mesh", "n=256", "x0=1", "x1=0"], 0, "EmptySpan"),
+];
+
+// Words of the other verbs.
+const OTHERS: [Case; 33] = [
     // Words of a height map.
     (&["height", "w"], 2, "NotASetting"),
     (&["height", "n=3"], 2, "UnknownSetting"),
@@ -150,17 +163,44 @@ const CASES: [(&[&str], u32, &str); 84] = [
 ];
 
 #[test]
-fn words_that_are_refused_leave_the_source(rt: HostRuntime) -> Result<(), Fail> {
-    for (words, number, reason) in CASES {
-        let mut trial = Trial::new(rt.alloc(), DISC)?;
-        let status = trial.run(rt.alloc(), words)?;
-        assert_eq!(rt; status, Status::Usage, "{words:?}");
-        let note = format!(in rt.alloc(); "modeller: word {number}: {reason}\n")?;
-        trial.assert_holds(&rt, b"", note.as_bytes());
-        // The whole input is still there.
-        let mut left = [0; 80];
-        let count = trial.source.read(&mut left)?;
-        assert_eq!(rt; &left[..count], DISC);
+fn words_of_images_that_are_refused_leave_the_source(rt: HostRuntime) -> Result<(), Fail> {
+    for (words, number, reason) in IMAGES {
+        assert_refused(&rt, rt.alloc(), words, number, reason)?;
     }
+    Ok(())
+}
+
+#[test]
+fn words_of_meshes_that_are_refused_leave_the_source(rt: HostRuntime) -> Result<(), Fail> {
+    for (words, number, reason) in MESHES {
+        assert_refused(&rt, rt.alloc(), words, number, reason)?;
+    }
+    Ok(())
+}
+
+#[test]
+fn other_words_that_are_refused_leave_the_source(rt: HostRuntime) -> Result<(), Fail> {
+    for (words, number, reason) in OTHERS {
+        assert_refused(&rt, rt.alloc(), words, number, reason)?;
+    }
+    Ok(())
+}
+
+// Asserts that a run notes this word and reason, writes nothing, and leaves the whole input.
+fn assert_refused(
+    rt: &impl Abort,
+    alloc: Global,
+    words: &[&str],
+    number: u32,
+    reason: &str,
+) -> Result<(), Fail> {
+    let mut trial = Trial::new(alloc, DISC)?;
+    let status = trial.run(alloc, words)?;
+    assert_eq!(rt; status, Status::Usage, "{words:?}");
+    let note = format!(in alloc; "modeller: word {number}: {reason}\n")?;
+    trial.assert_holds(rt, b"", note.as_bytes());
+    let mut left = [0; 80];
+    let count = trial.source.read(&mut left)?;
+    assert_eq!(rt; &left[..count], DISC);
     Ok(())
 }
