@@ -65,11 +65,11 @@ way_within a b =
     let n = unsigned_abs b in
     turned (is_inside a) (cut_of a b) (cut_of b a) (cut_least (65536 * m / (m + n))) (cut_most (65536 * m / (m + n))) (cut_least (65536 * n / (n + m))) (cut_most (65536 * n / (n + m)))
 
-all_flat : {X A : Type 0} (P : A → Type 0) (f : X → List A) → ((x : X) → All P (f x)) → (xs : List X) → All P (flat_map f xs)
+pub all_flat : {X A : Type 0} (P : A → Type 0) (f : X → List A) → ((x : X) → All P (f x)) → (xs : List X) → All P (flat_map f xs)
 all_flat P f each [] = All-nil P
 all_flat P f each (x ∷ xs) = All-append P (f x) (flat_map f xs) (each x) (all_flat P f each xs)
 
-abbrev HasSteps : PlaneEdge → Type 0
+abbrev pub HasSteps : PlaneEdge → Type 0
 HasSteps e = (1 ≤ e.dir) × (e.dir ≤ 3)
 
 steps_at : (p : PlanePoint) → All HasSteps (map (edge_from p) directions)
@@ -78,18 +78,18 @@ steps_at p =
     (All-cons HasSteps (edge_from p 2) (edge_from p 3 ∷ []) (omega arith, omega arith)
     (All-cons HasSteps (edge_from p 3) [] (omega arith, omega arith) (All-nil HasSteps)))
 
-steps_over : (n : ℕ) → All HasSteps (over_square n (λ p. map (edge_from p) directions))
+pub steps_over : (n : ℕ) → All HasSteps (over_square n (λ p. map (edge_from p) directions))
 steps_over n =
     all_flat HasSteps (λ y. flat_map (λ x. map (edge_from (point x y)) directions) (range_with_len 0 n))
     (λ y. all_flat HasSteps (λ x. map (edge_from (point x y)) directions) (λ x. steps_at (point x y)) (range_with_len 0 n))
     (range_with_len 0 n)
 
-both_true : (a b : Bool) → (a && b) ≡ true → (a ≡ true) × (b ≡ true)
+pub both_true : (a b : Bool) → (a && b) ≡ true → (a ≡ true) × (b ≡ true)
 both_true true true e = (refl, refl)
 both_true true false e = absurd cc
 both_true false b e = absurd cc
 
-le_yes : (a b : ℕ) → nat_le a b ≡ true → a ≤ b
+pub le_yes : (a b : ℕ) → nat_le a b ≡ true → a ≤ b
 le_yes a b e = grind (arith, nat_tests, e)
 
 in_plane : (w : Window) (g : PlaneGrid) (e : PlaneEdge) → g.n ≡ w.nx → g.n ≡ w.ny → HasSteps e → is_point g (upper e) ≡ true → IsInPlane w (vertex_on g e)

@@ -6,6 +6,7 @@ use Rattle.fixed_ops.specs.NumberTexts.{size_text}
 use Rattle.plane_loops.specs.Contours.{Contour}
 use Rattle.plane_loops.specs.declared.plane_vertex.PlaneVertex.{PlaneVertex}
 use Rattle.view_places.specs.Window.{Window}
+use Rattle.path_writer.specs.Apart.{raw_of}
 use Rattle.path_writer.specs.Paths.{path_of, pieces_from}
 use Rattle.path_writer.specs.Written.{ArePiecesTo}
 
@@ -62,3 +63,13 @@ no_loop_is_empty are = omega (arith, are.1.0)
 
 no_number_is_left : ArePiecesTo 0 4 (3 ∷ []) → ⊥
 no_number_is_left are = omega (arith, are.1)
+
+-- where cells have less room than a contour asks for, two vertices may lie in one place
+abbrev narrow : Window
+narrow = record window { x0 = pos 0; x1 = pos 2; y0 = pos 0; y1 = pos 2 }
+
+one_place : raw_of narrow (vertex 0 0 1 1) ≡ raw_of narrow (vertex 0 0 2 1)
+one_place = refl
+
+two_places : raw_of window (vertex 0 0 1 1) ≡ record { x = negsuc 4294901759; y = negsuc 4294967295 }
+two_places = refl

@@ -5,5 +5,5 @@ mod laws;
 mod path;
 mod vertex_text;
 
-pub use laws::contours_have_paths;
+pub use laws::{contours_have_paths, contours_lie_apart};
 pub use path::path_text;
