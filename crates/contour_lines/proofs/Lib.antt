@@ -15,5 +15,6 @@ pub mod SideLaws
 pub mod Sizes
 pub mod TableLaws
 pub mod Together
+pub mod Turns
 pub mod WayLaws
 pub mod Whole

@@ -1,6 +1,7 @@
 // Boxes of a plane grid that are looked into.
-ghost use Rattle.std.specs.Prelude.{◌≡◌, ◌*◌, ◌<◌, ◌≤◌, IfOk, OnErr, OnOk, IsTrue, length, false};
+ghost use Rattle.std.specs.Prelude.{◌≡◌, ◌*◌, ◌<◌, ◌≤◌, IfOk, OnErr, OnOk, IsTrue, length, reverse, false};
 ghost use Rattle.std.specs.List.{All};
+ghost use Rattle.std.specs.List.Sorted.{IsPermutation};
 ghost use Rattle.box_chains.specs.Chains.{is_long as is_long_for, visit};
 ghost use Rattle.box_chains.specs.Desks.{HasMore, list_of, samples};
 ghost use Rattle.box_chains.specs.Outcomes.{HandsOn, all_seen, asked_outcomes};
@@ -160,7 +161,7 @@ fn look_into_each_half(
     ensures more { HasMore desk.old desk.new }
 {
     layers_hold();
-    let halves = split(b, LEAF);
+    let halves = in_turn(b);
     let outcomes = trace_longer(desk, halves.as_slice(), live, values.n(), tally)?;
     let outcomes = outcomes.as_slice();
     let mut at = 0;
@@ -169,6 +170,34 @@ fn look_into_each_half(
         at += usize::from(is_long(*half, LEAF));
     }
     Ok(())
+}
+
+// The halves of a box in the order in which they are looked into. Those that are cells come last first: the
+// last one has most of the corners that are not known, so that they are evaluated side by side, and the
+// others are seldom traced then.
+#[inline]
+fn in_turn(b: IndexBox) -> ArrayVec<IndexBox, 8>
+    ensures { IsPermutation (halves_of 1 b) result.items }
+{
+    let halves = split(b, LEAF);
+    if is_long(b, 2 * LEAF) {
+        halves
+    } else {
+        last_first(halves.as_slice())
+    }
+}
+
+// Some boxes from the last one to the first.
+#[inline]
+fn last_first(boxes: &[IndexBox]) -> ArrayVec<IndexBox, 8>
+    requires { length boxes.now ≤ 8 }
+    ensures { result.items ≡ reverse boxes.now }
+{
+    let mut turned = ArrayVec::new();
+    for at in (0..boxes.len()).rev() {
+        turned.push(boxes[at]);
+    }
+    turned
 }
 
 // What tracing a list tells over those of some boxes that are longer than a cell. AllocError: there

@@ -1,7 +1,9 @@
 use Rattle.std.proofs.Common.{◌+◌, ◌*◌, ℕ, Bool, cond, ap, arith, drop, get_or, length, refl, subst, sym, ◌∙◌}
 use Rattle.std.specs.List.{All}
+use Rattle.std.specs.List.Sorted.{IsPermutation}
 use Rattle.std.proofs.lemmas.List.{take_all}
 use Rattle.std.proofs.lemmas.List.Elements.{All-nil}
+use Rattle.std.proofs.lemmas.List.Sorted.{All-permutation, IsPermutation-sym}
 use Rattle.box_chains.specs.Desks.{HasMore, Tracing, list_of, samples}
 use Rattle.box_chains.specs.Chains.{visit}
 use Rattle.box_chains.specs.Outcomes.{HandsOn, all_seen, asked_outcomes}
@@ -9,15 +11,17 @@ use Rattle.box_chains.specs.Visits.{IsVisit}
 use Rattle.box_chains.specs.declared.outcome.Outcome.TheVariants.{Inside}
 use Rattle.interval_ops.specs.HullCounts.{CountsHulls}
 use Rattle.kuhn_cells.specs.Sizes.{SameSize}
+use Rattle.view_places.specs.Boxes.{halves_of}
 use Rattle.view_places.specs.Window.{size_of}
-use Rattle.contour_lines.specs.Desks.{ChargesBelow, ChargesHalves, IsToldAt, PaysHalves, longer}
+use Rattle.contour_lines.specs.Desks.{ChargesBelow, IsToldAt, longer}
 use Rattle.contour_lines.specs.Planes.{flat_value}
 use Rattle.contour_lines.specs.Tables.{AreRight, AreSettled, AreWorked, Grows, PaysBox}
 use Rattle.contour_lines.specs.Ways.{planar}
-use Rattle.contour_lines.proofs.Looks.{all-settled, begun-charged, begun-paid, cell-below, closed-settled, closed-worked, first-charged, half-grows, half-part, half-shorter, half-visit, halves-boxes, halves-charged, halves-in_root, halves-paid, halves-worked, handed-grows, handed-right, handed-settled, handed-tape, next-charged, next-paid, next-settled, next-worked, on_ok-then, part-covers, some-charged}
+use Rattle.contour_lines.proofs.Looks.{all-settled, begun-paid, cell-below, closed-settled, closed-worked, first-charged, half-grows, half-shorter, half-visit, halves-charged, halves-paid, halves-worked, handed-grows, handed-right, handed-settled, handed-tape, next-charged, next-paid, next-settled, next-worked, on_ok-then, part-covers, some-charged}
 use Rattle.contour_lines.proofs.Sizes.{size-is, size-then}
 use Rattle.contour_lines.proofs.TableLaws.{charges-none, grows-none, grows-then, pays-none, right-grows}
 use Rattle.contour_lines.proofs.Together.{among-stays, at-told, byte-is, byte-most, closed-told, list-stays, more-samples, opened-told, step-told}
+use Rattle.contour_lines.proofs.Turns.{turned-begun, turned-boxes, turned-charged, turned-in_root, turned-paid, turned-part}
 use Rattle.contour_lines.proofs.descent.+looking.Goals as goal
 
 pub look_into_told-returns-then-not-is_long-clause-counted : goal.look_into_told-returns-then-not-is_long-clause-counted
@@ -136,7 +140,8 @@ look_into_told-returns-in-Inside-clause-paid t c =
 
 pub look_into_each_half-trace_longer-requires-clause-within : goal.look_into_each_half-trace_longer-requires-clause-within
 look_into_each_half-trace_longer-requires-clause-within t c =
-    halves-in_root c.layers_hold.ensures c.args.desk.now.view c.args.desk.now.lattice (list_of c.args.desk.now c.args.live) c.args.b c.as_slice.result.now c.requires.may.lattice c.requires.may.visit_is (c.as_slice.ensures.value ∙ c.split-halves.ensures)
+    turned-in_root c.layers_hold.ensures c.args.desk.now.view c.args.desk.now.lattice (list_of c.args.desk.now c.args.live) c.args.b c.as_slice.result.now c.requires.may.lattice c.requires.may.visit_is
+    (subst (IsPermutation (halves_of 1 c.args.b)) (sym c.as_slice.ensures.value) c.in_turn-halves.ensures)
 
 pub look_into_each_half-returns-in_err-outcomes-clause-grows : goal.look_into_each_half-returns-in_err-outcomes-clause-grows
 look_into_each_half-returns-in_err-outcomes-clause-grows t c =
@@ -144,8 +149,8 @@ look_into_each_half-returns-in_err-outcomes-clause-grows t c =
 
 pub look_into_each_half-returns-in_err-outcomes-clause-counted : goal.look_into_each_half-returns-in_err-outcomes-clause-counted
 look_into_each_half-returns-in_err-outcomes-clause-counted t c =
-    begun-charged c.layers_hold.ensures c.args.desk.now.view (list_of c.args.desk.now c.args.live) c.args.b c.as_slice.result.now c.n.result c.args.values.now c.args.tally.now c.trace_longer.new.tally c.requires.may.visit_is.box
-    (c.as_slice.ensures.value ∙ c.split-halves.ensures) c.in_err-outcomes.ensures.at_most
+    turned-begun c.layers_hold.ensures c.args.desk.now.view (list_of c.args.desk.now c.args.live) c.args.b c.as_slice.result.now c.n.result c.args.values.now c.args.tally.now c.trace_longer.new.tally c.requires.may.visit_is.box
+    (subst (IsPermutation (halves_of 1 c.args.b)) (sym c.as_slice.ensures.value) c.in_turn-halves.ensures) c.in_err-outcomes.ensures.at_most
 
 pub look_into_each_half-returns-in_err-outcomes-clause-paid : goal.look_into_each_half-returns-in_err-outcomes-clause-paid
 look_into_each_half-returns-in_err-outcomes-clause-paid t c =
@@ -156,7 +161,6 @@ look_into_each_half-loop-half-init t c =
     let view = c.args.desk.now.view in
     let live = (list_of c.args.desk.now c.args.live) in
     let halves = c.as_slice-half-items.result.now in
-    let all = c.as_slice-half-items.ensures.value ∙ c.split-halves.ensures in
     let same = c.as_slice.ensures.value ∙ sym c.as_slice-half-items.ensures.value in
     let hulls = subst (λ hs. CountsHulls (length (longer c.n.result hs) * length live) c.args.tally.now c.trace_longer.new.tally) same c.in_ok-outcomes.ensures.counted in
     record {
@@ -174,10 +178,10 @@ look_into_each_half-loop-half-init t c =
 
 pub look_into_each_half-look_into_told-requires : goal.look_into_each_half-look_into_told-requires
 look_into_each_half-look_into_told-requires t c =
-    let all = c.as_slice-half-items.ensures.value ∙ c.split-halves.ensures in
+    let turned = subst (IsPermutation (halves_of 1 c.args.b)) (sym c.as_slice-half-items.ensures.value) c.in_turn-halves.ensures in
     let halves = c.as_slice-half-items.result.now in
     let half = c.half-item.result in
-    let part = half-part c.layers_hold.ensures c.args.b half halves c.loop-half.half-index c.requires.may.visit_is.box all c.loop-half-test.true c.half-item.is in
+    let part = turned-part c.layers_hold.ensures c.args.b half halves c.loop-half.half-index c.requires.may.visit_is.box turned c.loop-half-test.true c.half-item.is in
     let places = samples c.args.desk.now in
     let live = (list_of c.args.desk.now c.args.live) in
     let here = c.loop-half.desk.lists in
@@ -212,11 +216,11 @@ look_into_each_half-overflow_add-at t c =
 pub look_into_each_half-returns-in_err-look_into_told-clause-grows : goal.look_into_each_half-returns-in_err-look_into_told-clause-grows
 look_into_each_half-returns-in_err-look_into_told-clause-grows t c =
     let view = c.args.desk.now.view in
-    let all = c.as_slice-half-items.ensures.value ∙ c.split-halves.ensures in
+    let turned = subst (IsPermutation (halves_of 1 c.args.b)) (sym c.as_slice-half-items.ensures.value) c.in_turn-halves.ensures in
     let halves = c.as_slice-half-items.result.now in
     let half = c.half-item.result in
     let live = list_of c.args.desk.now c.args.live in
-    let part = half-part c.layers_hold.ensures c.args.b half halves c.loop-half.half-index c.requires.may.visit_is.box all c.loop-half-test.true c.half-item.is in
+    let part = turned-part c.layers_hold.ensures c.args.b half halves c.loop-half.half-index c.requires.may.visit_is.box turned c.loop-half-test.true c.half-item.is in
     let same = c.loop-half.invariant.more.view in
     grows-then (flat_value view live) c.args.b c.args.values.now c.loop-half.values c.look_into_told.new.values c.loop-half.invariant.grows
     (half-grows view c.loop-half.desk.view live c.args.b half c.loop-half.values c.look_into_told.new.values same part (subst (λ l. Grows (flat_value c.loop-half.desk.view l) half c.loop-half.values c.look_into_told.new.values) (list-stays c.args.desk.now c.loop-half.desk c.args.live c.loop-half.invariant.more c.requires.may.among) c.in_err-look_into_told.ensures.grows))
@@ -225,11 +229,11 @@ pub look_into_each_half-returns-in_err-look_into_told-clause-counted : goal.look
 look_into_each_half-returns-in_err-look_into_told-clause-counted t c =
     let view = c.args.desk.now.view in
     let live = list_of c.args.desk.now c.args.live in
-    let all = c.as_slice-half-items.ensures.value ∙ c.split-halves.ensures in
+    let turned = subst (IsPermutation (halves_of 1 c.args.b)) (sym c.as_slice-half-items.ensures.value) c.in_turn-halves.ensures in
     let halves = c.as_slice-half-items.result.now in
     let half = c.half-item.result in
-    subst (λ hs. ChargesHalves (planar view) live hs c.args.values.now c.look_into_told.new.values c.args.tally.now c.look_into_told.new.tally) all
-    (some-charged c.layers_hold.ensures view live halves (c.loop-half.half-index + 1) c.args.values.now c.look_into_told.new.values c.args.tally.now c.look_into_told.new.tally (halves-boxes c.layers_hold.ensures c.args.b halves c.requires.may.visit_is.box all)
+    turned-charged (planar view) live (halves_of 1 c.args.b) halves c.args.values.now c.look_into_told.new.values c.args.tally.now c.look_into_told.new.tally turned
+    (some-charged c.layers_hold.ensures view live halves (c.loop-half.half-index + 1) c.args.values.now c.look_into_told.new.values c.args.tally.now c.look_into_told.new.tally (turned-boxes c.layers_hold.ensures c.args.b halves c.requires.may.visit_is.box turned)
     (next-charged c.layers_hold.ensures view c.loop-half.desk.view live half halves c.loop-half.half-index _ c.args.values.now c.loop-half.values c.look_into_told.new.values c.args.tally.now c.loop-half.tally c.look_into_told.new.tally
     c.loop-half.invariant.more.view c.loop-half-test.true c.half-item.is c.loop-half.invariant.counted
     (subst (λ l. ChargesBelow (planar c.loop-half.desk.view) (visit half l) c.loop-half.values c.look_into_told.new.values c.loop-half.tally c.look_into_told.new.tally) (list-stays c.args.desk.now c.loop-half.desk c.args.live c.loop-half.invariant.more c.requires.may.among) c.in_err-look_into_told.ensures.counted)))
@@ -238,20 +242,20 @@ pub look_into_each_half-returns-in_err-look_into_told-clause-paid : goal.look_in
 look_into_each_half-returns-in_err-look_into_told-clause-paid t c =
     let view = c.args.desk.now.view in
     let live = list_of c.args.desk.now c.args.live in
-    let all = c.as_slice-half-items.ensures.value ∙ c.split-halves.ensures in
+    let turned = subst (IsPermutation (halves_of 1 c.args.b)) (sym c.as_slice-half-items.ensures.value) c.in_turn-halves.ensures in
     let halves = c.as_slice-half-items.result.now in
     let half = c.half-item.result in
     let same = c.loop-half.invariant.more.view in
-    subst (λ hs. PaysHalves (planar view) live hs c.args.values.now c.look_into_told.new.values c.args.tally.now c.look_into_told.new.tally) all
+    turned-paid (planar view) live (halves_of 1 c.args.b) halves c.args.values.now c.look_into_told.new.values c.args.tally.now c.look_into_told.new.tally turned
     (next-paid c.layers_hold.ensures view c.loop-half.desk.view live half halves c.loop-half.half-index c.args.values.now c.loop-half.values c.look_into_told.new.values c.args.tally.now c.loop-half.tally c.look_into_told.new.tally
     same c.loop-half-test.true c.half-item.is c.loop-half.invariant.paid (subst (λ l. PaysBox (planar c.loop-half.desk.view) (visit half l) c.loop-half.values c.look_into_told.new.values c.loop-half.tally c.look_into_told.new.tally) (list-stays c.args.desk.now c.loop-half.desk c.args.live c.loop-half.invariant.more c.requires.may.among) c.in_err-look_into_told.ensures.paid))
 
 pub look_into_each_half-loop-half-preserved : goal.look_into_each_half-loop-half-preserved
 look_into_each_half-loop-half-preserved t c =
-    let all = c.as_slice-half-items.ensures.value ∙ c.split-halves.ensures in
+    let turned = subst (IsPermutation (halves_of 1 c.args.b)) (sym c.as_slice-half-items.ensures.value) c.in_turn-halves.ensures in
     let halves = c.as_slice-half-items.result.now in
     let half = c.half-item.result in
-    let part = half-part c.layers_hold.ensures c.args.b half halves c.loop-half.half-index c.requires.may.visit_is.box all c.loop-half-test.true c.half-item.is in
+    let part = turned-part c.layers_hold.ensures c.args.b half halves c.loop-half.half-index c.requires.may.visit_is.box turned c.loop-half-test.true c.half-item.is in
     let view = c.args.desk.now.view in
     let places = samples c.args.desk.now in
     let live = (list_of c.args.desk.now c.args.live) in
@@ -283,31 +287,34 @@ pub look_into_each_half-returns-clause-settled : goal.look_into_each_half-return
 look_into_each_half-returns-clause-settled t c =
     let view = c.args.desk.now.view in
     let g = flat_value view (list_of c.args.desk.now c.args.live) in
-    let all = c.as_slice-half-items.ensures.value ∙ c.split-halves.ensures in
+    let turned = subst (IsPermutation (halves_of 1 c.args.b)) (sym c.as_slice-half-items.ensures.value) c.in_turn-halves.ensures in
     let halves = c.as_slice-half-items.result.now in
     all-settled c.layers_hold.ensures (planar view) g c.args.b c.loop-half.values
-    (subst (λ hs. All (λ h. AreSettled (planar view) g h c.loop-half.values) hs) (take_all c.loop-half.half-index halves (omega (arith, c.loop-half-test.false)) ∙ all) c.loop-half.invariant.settled)
+    (All-permutation (λ h. AreSettled (planar view) g h c.loop-half.values) halves (halves_of 1 c.args.b) (IsPermutation-sym (halves_of 1 c.args.b) halves turned)
+    (subst (λ hs. All (λ h. AreSettled (planar view) g h c.loop-half.values) hs) (take_all c.loop-half.half-index halves (omega (arith, c.loop-half-test.false))) c.loop-half.invariant.settled))
 
 pub look_into_each_half-returns-clause-worked : goal.look_into_each_half-returns-clause-worked
 look_into_each_half-returns-clause-worked t c =
-    let all = c.as_slice-half-items.ensures.value ∙ c.split-halves.ensures in
+    let turned = subst (IsPermutation (halves_of 1 c.args.b)) (sym c.as_slice-half-items.ensures.value) c.in_turn-halves.ensures in
     let halves = c.as_slice-half-items.result.now in
-    subst (λ hs. All (λ h. AreWorked (planar c.args.desk.now.view) (visit h (list_of c.args.desk.now c.args.live)) c.loop-half.values) hs) (take_all c.loop-half.half-index halves (omega (arith, c.loop-half-test.false)) ∙ all) c.loop-half.invariant.worked
+    All-permutation (λ h. AreWorked (planar c.args.desk.now.view) (visit h (list_of c.args.desk.now c.args.live)) c.loop-half.values) halves (halves_of 1 c.args.b) (IsPermutation-sym (halves_of 1 c.args.b) halves turned)
+    (subst (λ hs. All (λ h. AreWorked (planar c.args.desk.now.view) (visit h (list_of c.args.desk.now c.args.live)) c.loop-half.values) hs) (take_all c.loop-half.half-index halves (omega (arith, c.loop-half-test.false))) c.loop-half.invariant.worked)
 
 pub look_into_each_half-returns-clause-counted : goal.look_into_each_half-returns-clause-counted
 look_into_each_half-returns-clause-counted t c =
     let view = c.args.desk.now.view in
     let live = list_of c.args.desk.now c.args.live in
-    let all = c.as_slice-half-items.ensures.value ∙ c.split-halves.ensures in
+    let turned = subst (IsPermutation (halves_of 1 c.args.b)) (sym c.as_slice-half-items.ensures.value) c.in_turn-halves.ensures in
     let halves = c.as_slice-half-items.result.now in
-    subst (λ hs. ChargesHalves (planar view) live hs c.args.values.now c.loop-half.values c.args.tally.now c.loop-half.tally) all
-    (some-charged c.layers_hold.ensures view live halves c.loop-half.half-index c.args.values.now c.loop-half.values c.args.tally.now c.loop-half.tally (halves-boxes c.layers_hold.ensures c.args.b halves c.requires.may.visit_is.box all) c.loop-half.invariant.counted)
+    turned-charged (planar view) live (halves_of 1 c.args.b) halves c.args.values.now c.loop-half.values c.args.tally.now c.loop-half.tally turned
+    (some-charged c.layers_hold.ensures view live halves c.loop-half.half-index c.args.values.now c.loop-half.values c.args.tally.now c.loop-half.tally (turned-boxes c.layers_hold.ensures c.args.b halves c.requires.may.visit_is.box turned) c.loop-half.invariant.counted)
 
 pub look_into_each_half-returns-clause-paid : goal.look_into_each_half-returns-clause-paid
 look_into_each_half-returns-clause-paid t c =
     let view = c.args.desk.now.view in
-    let all = c.as_slice-half-items.ensures.value ∙ c.split-halves.ensures in
-    subst (λ hs. PaysHalves (planar view) (list_of c.args.desk.now c.args.live) hs c.args.values.now c.loop-half.values c.args.tally.now c.loop-half.tally) all c.loop-half.invariant.paid
+    let turned = subst (IsPermutation (halves_of 1 c.args.b)) (sym c.as_slice-half-items.ensures.value) c.in_turn-halves.ensures in
+    let halves = c.as_slice-half-items.result.now in
+    turned-paid (planar view) (list_of c.args.desk.now c.args.live) (halves_of 1 c.args.b) halves c.args.values.now c.loop-half.values c.args.tally.now c.loop-half.tally turned c.loop-half.invariant.paid
 
 pub look_into_halves-returns-clause-kept : goal.look_into_halves-returns-clause-kept
 look_into_halves-returns-clause-kept t c = c.cut.ensures.back c.args.desk.now c.look_into_each_half-looked.ensures.more (c.len-count.ensures ∙ ap (λ (d : Tracing). length d.lists) c.desk.view_is)
