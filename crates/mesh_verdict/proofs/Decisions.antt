@@ -10,27 +10,19 @@ use Rattle.mesh_laws.specs.Closed.{IsTriangle, directed_edges, occurrences}
 use Rattle.mesh_laws.specs.Manifold.{HasFan, arcs}
 use Rattle.mesh_verdict.specs.declared.finding.Finding.{Finding}
 use Rattle.mesh_verdict.specs.declared.finding.Finding.TheVariants.{Closed, Edge, Face, Vertex}
+use Rattle.mesh_verdict.specs.Findings.{after}
 use Rattle.mesh_verdict.specs.Lowest.{IsLowestFault}
 use Rattle.mesh_verdict.specs.Verdicts.{ArePaired, IsPaired, Verdict}
 use Rattle.mesh_verdict.proofs.EdgeLaws.{arcs_are_one_to_one, arcs_by_next, firsts_differ}
-use Rattle.mesh_verdict.proofs.FanLaws.{IsCycle, IsNotBack, cycle_is_as_long, cycle_keeps_away, walk_is_apart, walk_is_exact}
+use Rattle.mesh_verdict.specs.Walks.{GoesRound, IsNotBack, LeadsOn, first_of, stepped}
+use Rattle.mesh_verdict.proofs.FanLaws.{IsCycle, cycle_is_as_long, cycle_keeps_away, walk_is_apart, walk_is_exact}
 use Rattle.mesh_verdict.proofs.Lists.{Differ, all_in, in_head, in_map, pairs_head, pairs_tail}
-use Rattle.mesh_verdict.proofs.Walks.{length-walk, stepped, walk}
+use Rattle.mesh_verdict.proofs.Walks.{length-walk, walk}
 
 abbrev pub OrNot : Type 0 → Type 0
 OrNot P = P ⊎ (P → ⊥)
 
 -- ---- the way along the arcs at a vertex
-
--- where the first arc from a vertex leads
-abbrev pub after : List (ℕ × ℕ) → ℕ → ℕ
-after [] v = 0
-after (e ∷ es) v = if e.0 == v then e.1 else after es v
-
--- the vertex that the first arc leaves
-abbrev pub first_of : List (ℕ × ℕ) → ℕ
-first_of [] = 0
-first_of (e ∷ es) = e.0
 
 leads_on : (es : List (ℕ × ℕ)) → AllPairs Differ (map (λ (e : ℕ × ℕ). e.0) es) → All (λ (e : ℕ × ℕ). after es e.0 ≡ e.1) es
 leads_on [] apart = All-nil (λ (e : ℕ × ℕ). 0 ≡ e.1)
@@ -42,56 +34,50 @@ leads_on (e ∷ es) apart =
     rw (ne_eqb e.0 d.0 other)
     (All-contains (λ (a : ℕ × ℕ). after es a.0 ≡ a.1) es d (leads_on es (pairs_tail Differ e.0 (map (λ (a : ℕ × ℕ). a.0) es) apart)) at)))
 
--- There are three arcs at least, and the way along them does not come back in fewer steps than there are
--- arcs.
-pub record GoesRound (es : List (ℕ × ℕ)) : Type 0 where
-  pub long : 3 ≤ length es
-  pub away : IsNotBack (after es) (length es) (first_of es)
-
 starts_there : (es : List (ℕ × ℕ)) → 0 < length es → Contains (map (λ (e : ℕ × ℕ). e.0) es) (first_of es)
 starts_there [] some = absurd (omega (arith, some))
 starts_there (e ∷ es) some = in_head e.0 (map (λ (d : ℕ × ℕ). d.0) es)
 
-linked : (fs : List Triple) (u : ℕ) → All IsTriangle fs → ArePaired fs → All (λ (e : ℕ × ℕ). after (arcs fs u) e.0 ≡ e.1) (arcs fs u)
+pub linked : (fs : List Triple) (u : ℕ) → All IsTriangle fs → ArePaired fs → LeadsOn (after (arcs fs u)) (arcs fs u)
 linked fs u t paired = leads_on (arcs fs u) (firsts_differ fs u t paired)
 
 -- the way goes round exactly where the vertex has a fan
-pub round_is_fan : (fs : List Triple) (u : ℕ) → All IsTriangle fs → ArePaired fs → GoesRound (arcs fs u) → HasFan fs u
-round_is_fan fs u t paired round =
+pub round_is_fan : (fs : List Triple) (u : ℕ) (next : ℕ → ℕ) → All IsTriangle fs → ArePaired fs → LeadsOn next (arcs fs u) → GoesRound next (arcs fs u) → HasFan fs u
+round_is_fan fs u next t paired on round =
     let es = arcs fs u in
     let ys : List ℕ = map (λ (e : ℕ × ℕ). e.0) es in
     let many : length ys ≡ length es = length-map es (λ (e : ℕ × ℕ). e.0) in
-    let one = arcs_are_one_to_one fs u (after es) t paired (linked fs u t paired) in
+    let one = arcs_are_one_to_one fs u next t paired on in
     let start = starts_there es (omega (arith, round.long)) in
     let away = λ (i : ℕ) (some : 0 < i) (less : i < length ys). round.away i some (omega (arith, less, many)) in
     record {
-      cycle = walk (after es) (first_of es) (length ys);
-      long = omega (arith, length-walk (after es) (first_of es) (length ys), many, round.long);
-      differ = walk_is_apart (after es) ys one (first_of es) start away;
+      cycle = walk next (first_of es) (length ys);
+      long = omega (arith, length-walk next (first_of es) (length ys), many, round.long);
+      differ = walk_is_apart next ys one (first_of es) start away;
       exact = λ v w.
-          ap (λ (ds : List (ℕ × ℕ)). occurrences ds v w) (sym (arcs_by_next (after es) es (linked fs u t paired)))
-          ∙ walk_is_exact (after es) ys one (first_of es) start away v w;
+          ap (λ (ds : List (ℕ × ℕ)). occurrences ds v w) (sym (arcs_by_next next es on))
+          ∙ walk_is_exact next ys one (first_of es) start away v w;
     }
 
-pub fan_goes_round : (fs : List Triple) (u : ℕ) → All IsTriangle fs → ArePaired fs → HasFan fs u → GoesRound (arcs fs u)
-fan_goes_round fs u t paired fan = record { long = long; away = away }
+pub fan_goes_round : (fs : List Triple) (u : ℕ) (next : ℕ → ℕ) → All IsTriangle fs → ArePaired fs → LeadsOn next (arcs fs u) → HasFan fs u → GoesRound next (arcs fs u)
+fan_goes_round fs u next t paired on fan = record { long = long; away = away }
   where
-    is : IsCycle (after (arcs fs u)) (map (λ (e : ℕ × ℕ). e.0) (arcs fs u)) fan.cycle
+    is : IsCycle next (map (λ (e : ℕ × ℕ). e.0) (arcs fs u)) fan.cycle
     is =
         record {
           differ = fan.differ;
-          exact = λ v w. ap (λ (ds : List (ℕ × ℕ)). occurrences ds v w) (arcs_by_next (after (arcs fs u)) (arcs fs u) (linked fs u t paired)) ∙ fan.exact v w;
+          exact = λ v w. ap (λ (ds : List (ℕ × ℕ)). occurrences ds v w) (arcs_by_next next (arcs fs u) on) ∙ fan.exact v w;
         }
 
     many : length (map (λ (e : ℕ × ℕ). e.0) (arcs fs u)) ≡ length (arcs fs u)
     many = length-map (arcs fs u) (λ (e : ℕ × ℕ). e.0)
 
     long : 3 ≤ length (arcs fs u)
-    long = omega (arith, fan.long, many, cycle_is_as_long (after (arcs fs u)) (map (λ (e : ℕ × ℕ). e.0) (arcs fs u)) fan.cycle (firsts_differ fs u t paired) is)
+    long = omega (arith, fan.long, many, cycle_is_as_long next (map (λ (e : ℕ × ℕ). e.0) (arcs fs u)) fan.cycle (firsts_differ fs u t paired) is)
 
-    away : IsNotBack (after (arcs fs u)) (length (arcs fs u)) (first_of (arcs fs u))
+    away : IsNotBack next (length (arcs fs u)) (first_of (arcs fs u))
     away i some less =
-        cycle_keeps_away (after (arcs fs u)) (map (λ (e : ℕ × ℕ). e.0) (arcs fs u)) fan.cycle (firsts_differ fs u t paired) is (first_of (arcs fs u))
+        cycle_keeps_away next (map (λ (e : ℕ × ℕ). e.0) (arcs fs u)) fan.cycle (firsts_differ fs u t paired) is (first_of (arcs fs u))
         (starts_there (arcs fs u) (omega (arith, long))) i some (omega (arith, less, many))
 
 -- ---- a fan
@@ -118,10 +104,10 @@ away_or_not next (suc n) x =
     by away (inl same) (inr none) = inl (more away (λ some e. omega (arith, some, none)))
     by away (inr differ) least = inl (more away (λ some e. differ e))
 
-round_or_not : (es : List (ℕ × ℕ)) → OrNot (GoesRound es)
+round_or_not : (es : List (ℕ × ℕ)) → OrNot (GoesRound (after es) es)
 round_or_not es = by (cases_lt (length es) 3) (away_or_not (after es) (length es) (first_of es))
   where
-    by : (length es < 3) ⊎ (3 ≤ length es) → OrNot (IsNotBack (after es) (length es) (first_of es)) → OrNot (GoesRound es)
+    by : (length es < 3) ⊎ (3 ≤ length es) → OrNot (IsNotBack (after es) (length es) (first_of es)) → OrNot (GoesRound (after es) es)
     by (inl few) away = inr (λ round. omega (arith, few, round.long))
     by (inr long) (inl away) = inl (record { long = long; away = away })
     by (inr long) (inr back) = inr (λ round. back round.away)
@@ -129,9 +115,9 @@ round_or_not es = by (cases_lt (length es) 3) (away_or_not (after es) (length es
 fan_or_not : (fs : List Triple) (u : ℕ) → All IsTriangle fs → ArePaired fs → OrNot (HasFan fs u)
 fan_or_not fs u t paired = by (round_or_not (arcs fs u))
   where
-    by : OrNot (GoesRound (arcs fs u)) → OrNot (HasFan fs u)
-    by (inl round) = inl (round_is_fan fs u t paired round)
-    by (inr none) = inr (λ fan. none (fan_goes_round fs u t paired fan))
+    by : OrNot (GoesRound (after (arcs fs u)) (arcs fs u)) → OrNot (HasFan fs u)
+    by (inl round) = inl (round_is_fan fs u (after (arcs fs u)) t paired (linked fs u t paired) round)
+    by (inr none) = inr (λ fan. none (fan_goes_round fs u (after (arcs fs u)) t paired (linked fs u t paired) fan))
 
 -- ---- the lowest fault
 

@@ -7,16 +7,10 @@ use Rattle.std.proofs.lemmas.List.Sums.{sum_by-append}
 use Rattle.kuhn_cells.specs.Faces.{Face as Triple}
 use Rattle.mesh_laws.specs.Closed.{IsTriangle, directed_edges, directed_edges_of, goes, occurrences}
 use Rattle.mesh_laws.specs.Manifold.{arcs, arcs_at}
+use Rattle.mesh_verdict.specs.Degrees.{arriving, leaving}
 use Rattle.mesh_verdict.specs.Verdicts.{ArePaired, IsPaired}
 use Rattle.mesh_verdict.proofs.FanLaws.{IsOneToOne, arc}
 use Rattle.mesh_verdict.proofs.Lists.{Differ, count-cons, counted, differ_by_counts, found, from_map, in_map, one_alone}
-
--- how often a number is the first, or the second, of some pairs
-abbrev pub leaving : List (ℕ × ℕ) → ℕ → ℕ
-leaving es v = count_by (λ (e : ℕ × ℕ). e.0 == v) es
-
-abbrev pub arriving : List (ℕ × ℕ) → ℕ → ℕ
-arriving es v = count_by (λ (e : ℕ × ℕ). e.1 == v) es
 
 -- ---- of one face
 

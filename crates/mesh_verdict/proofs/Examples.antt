@@ -8,29 +8,13 @@ use Rattle.kuhn_cells.specs.Faces.{Face as Triple}
 use Rattle.mesh_laws.specs.Closed.{IsTriangle, directed_edges, occurrences}
 use Rattle.mesh_laws.specs.Manifold.{HasFan, arcs}
 use Rattle.mesh_verdict.specs.declared.finding.Finding.TheVariants.{Closed, Edge, Face, Vertex}
+use Rattle.mesh_verdict.specs.Findings.{after, is_paired, is_triangle}
 use Rattle.mesh_verdict.specs.Verdicts.{ArePaired, IsPaired, Verdict}
-use Rattle.mesh_verdict.proofs.Decisions.{GoesRound, after, fan_goes_round, round_is_fan}
-use Rattle.mesh_verdict.proofs.FanLaws.{IsNotBack}
+use Rattle.mesh_verdict.proofs.Decisions.{fan_goes_round, linked, round_is_fan}
+use Rattle.mesh_verdict.proofs.Worked.{paired_decides, triangle_decides}
+use Rattle.mesh_verdict.specs.Walks.{GoesRound, IsNotBack}
 
 -- ---- tests
-
-is_triangle : Triple → Bool
-is_triangle f = not (f.a == f.b) && (not (f.b == f.c) && not (f.c == f.a))
-
-triangle_decides : (f : Triple) → Decides (is_triangle f) (IsTriangle f)
-unfolding is_triangle
-triangle_decides f =
-    Decides-like (is_triangle f) (λ h. record { ab = h.0; bc = h.1.0; ca = h.1.1 }) (λ h. (h.ab, (h.bc, h.ca)))
-    (Decides-and _ _ (Decides-not _ (Decides-eqb f.a f.b)) (Decides-and _ _ (Decides-not _ (Decides-eqb f.b f.c)) (Decides-not _ (Decides-eqb f.c f.a))))
-
-is_paired : List (ℕ × ℕ) → ℕ × ℕ → Bool
-is_paired es e = occurrences es e.0 e.1 == 1 && occurrences es e.1 e.0 == 1
-
-paired_decides : (es : List (ℕ × ℕ)) (e : ℕ × ℕ) → Decides (is_paired es e) (IsPaired es e)
-unfolding is_paired
-paired_decides es e =
-    Decides-like (is_paired es e) (λ h. record { once = h.0; back = h.1 }) (λ h. (h.once, h.back))
-    (Decides-and _ _ (Decides-eqb _ _) (Decides-eqb _ _))
 
 all_decides : {A : Type 0} (p : A → Bool) (P : A → Type 0) → ((x : A) → Decides (p x) (P x)) → (xs : List A) → Decides (list_all p xs) (All P xs)
 all_decides p P each xs = Decides-by_and p P (list_all p) each refl (λ x xs. refl) xs
@@ -63,7 +47,7 @@ lone_vertex = (
   no_edges,
   record {
     within = omega arith;
-    fails = λ fan. let long = (fan_goes_round [] 0 no_triangles no_edges fan).long in absurd (omega (arith, long));
+    fails = λ fan. let long = (fan_goes_round [] 0 (after (arcs [] 0)) no_triangles no_edges (linked [] 0 no_triangles no_edges) fan).long in absurd (omega (arith, long));
     below = λ j less. absurd (omega (arith, less));
   },
 )
@@ -88,7 +72,7 @@ two_sided_verdict = (
   two_sided_paired,
   record {
     within = omega arith;
-    fails = λ fan. let long = (fan_goes_round two_sided 0 two_sided_triangles two_sided_paired fan).long in absurd (omega (arith, long));
+    fails = λ fan. let long = (fan_goes_round two_sided 0 (after (arcs two_sided 0)) two_sided_triangles two_sided_paired (linked two_sided 0 two_sided_triangles two_sided_paired) fan).long in absurd (omega (arith, long));
     below = λ j less. absurd (omega (arith, less));
   },
 )
@@ -113,8 +97,8 @@ three_back next start one two (suc zero) some less e = one e
 three_back next start one two (suc (suc zero)) some less e = two e
 three_back next start one two (suc (suc (suc i))) some less e = absurd (omega (arith, less))
 
-fan_at : (u : ℕ) → GoesRound (arcs tetrahedron u) → HasFan tetrahedron u
-fan_at u round = round_is_fan tetrahedron u tetrahedron_triangles tetrahedron_paired round
+fan_at : (u : ℕ) → GoesRound (after (arcs tetrahedron u)) (arcs tetrahedron u) → HasFan tetrahedron u
+fan_at u round = round_is_fan tetrahedron u (after (arcs tetrahedron u)) tetrahedron_triangles tetrahedron_paired (linked tetrahedron u tetrahedron_triangles tetrahedron_paired) round
 
 fans : (v : ℕ) → v < 4 → HasFan tetrahedron v
 fans zero less =
@@ -137,7 +121,7 @@ one_more_vertex = (
   tetrahedron_paired,
   record {
     within = omega arith;
-    fails = λ fan. let long = (fan_goes_round tetrahedron 4 tetrahedron_triangles tetrahedron_paired fan).long in absurd (omega (arith, long));
+    fails = λ fan. let long = (fan_goes_round tetrahedron 4 (after (arcs tetrahedron 4)) tetrahedron_triangles tetrahedron_paired (linked tetrahedron 4 tetrahedron_triangles tetrahedron_paired) fan).long in absurd (omega (arith, long));
     below = fans;
   },
 )
@@ -163,7 +147,7 @@ two_on_a_tip_verdict = (
   tip_paired,
   record {
     within = omega arith;
-    fails = λ fan. (fan_goes_round two_on_a_tip 0 tip_triangles tip_paired fan).away 3 (omega arith) (omega arith) refl;
+    fails = λ fan. (fan_goes_round two_on_a_tip 0 (after (arcs two_on_a_tip 0)) tip_triangles tip_paired (linked two_on_a_tip 0 tip_triangles tip_paired) fan).away 3 (omega arith) (omega arith) refl;
     below = λ j less. absurd (omega (arith, less));
   },
 )

@@ -6,7 +6,8 @@ use Rattle.std.proofs.lemmas.List.Elements.{All-cons, All-contains, All-nil}
 use Rattle.mesh_laws.specs.Closed.{goes, occurrences}
 use Rattle.mesh_laws.specs.Manifold.{arcs_on, cycle_arcs}
 use Rattle.mesh_verdict.proofs.Lists.{Differ, all_in, count-cons, count-none, count-once, counted, found, from_map, has_all, head_or_tail, in_head, in_map, in_or_not, in_tail, no_longer, not_in_none}
-use Rattle.mesh_verdict.proofs.Walks.{length-walk, on_walk, one_more, stepped, walk, walk_differs, walk_has}
+use Rattle.mesh_verdict.specs.Walks.{IsNotBack, stepped}
+use Rattle.mesh_verdict.proofs.Walks.{length-walk, on_walk, one_more, walk, walk_differs, walk_has}
 
 -- the arc from a number to the next
 abbrev pub arc : (ℕ → ℕ) → ℕ → ℕ × ℕ
@@ -39,10 +40,6 @@ comes_back next ys one x h (suc i) (suc j) less same =
     ∙ ap (λ (k : ℕ). stepped next k x) (sym e)
 comes_back next ys one x h zero zero less same = absurd (omega (arith, less))
 comes_back next ys one x h (suc i) zero less same = absurd (omega (arith, less))
-
--- a walk does not come back to its start before it has made so many steps
-abbrev pub IsNotBack : (ℕ → ℕ) → ℕ → ℕ → Type 0
-IsNotBack next n x = (i : ℕ) → 0 < i → i < n → Differ (stepped next i x) x
 
 goes_on : (next : ℕ → ℕ) (ys : List ℕ) → IsOneToOne next ys → (x : ℕ) → Contains ys x → (n : ℕ) → IsNotBack next n x → AllPairs Differ (walk next x n)
 goes_on next ys one x h n away =

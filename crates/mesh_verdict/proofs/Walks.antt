@@ -2,12 +2,8 @@
 use Rattle.std.proofs.Common.{◌≡◌, ℕ, zero, suc, ◌<◌, List, [], ◌∷◌, length, refl, sym, ap, arith, inl, inr, ◌∙◌}
 use Rattle.std.specs.Prelude.{AllPairs, Contains}
 use Rattle.std.proofs.lemmas.List.Kept.{AllPairs-cons}
+use Rattle.mesh_verdict.specs.Walks.{stepped}
 use Rattle.mesh_verdict.proofs.Lists.{Differ, all_in, head_or_tail, in_head, in_tail, not_in_none}
-
--- the number that so many steps lead to
-abbrev pub stepped : (ℕ → ℕ) → ℕ → ℕ → ℕ
-stepped next zero x = x
-stepped next (suc n) x = stepped next n (next x)
 
 -- the numbers on a walk of so many
 abbrev pub walk : (ℕ → ℕ) → ℕ → ℕ → List ℕ

@@ -7,6 +7,7 @@ use Rattle.mesh_laws.specs.Frames.{IsFramed}
 use Rattle.mesh_laws.specs.Manifold.{IsManifold}
 use Rattle.mesh_verdict.specs.declared.finding.Finding.{Finding}
 use Rattle.mesh_verdict.specs.declared.finding.Finding.TheVariants.{Closed}
+use Rattle.mesh_verdict.specs.Findings.{finding_of}
 use Rattle.mesh_verdict.specs.Verdicts.{Verdict}
 
 -- the verdict is Closed exactly where the faces are closed and a manifold
@@ -22,6 +23,10 @@ pub record HasOneVerdict (count : ℕ) (faces : List Triple) : Type 0 where
 
 abbrev pub OneFindingIsRight : Type 0
 OneFindingIsRight = (count : ℕ) (faces : List Triple) → HasOneVerdict count faces
+
+-- it is the one that is worked out
+abbrev pub FindingsAreWorkedOut : Type 0
+FindingsAreWorkedOut = (count : ℕ) (faces : List Triple) → Verdict count faces (finding_of count faces)
 
 -- the verdict on the mesh of each grid is Closed
 abbrev pub MeshesAreFoundClosed : Type 0

@@ -1,3 +1,10 @@
+pub mod Arcs
+pub mod Buckets
+pub mod Corners
+pub mod Degrees
+pub mod Faults
+pub mod Findings
 pub mod Laws
 pub mod Lowest
 pub mod Verdicts
+pub mod Walks

@@ -1,4 +1,5 @@
 pub mod Answered
+pub mod Bounds
 mod Examples
 pub mod Exact
 pub mod FaceRuns

@@ -15,7 +15,7 @@ mod stage;
 mod vertices;
 mod words;
 
-pub use laws::ply_reading_is_exact;
+pub use laws::{files_are_small, ply_reading_is_exact};
 pub use ply_fault::PlyFault;
 pub use ply_file::PlyFile;
 pub use ply_reason::PlyReason;
