@@ -116,7 +116,7 @@ const MESHES: [Case; 27] = [
 ];
 
 // Words of the other verbs.
-const OTHERS: [Case; 33] = [
+const OTHERS: [Case; 34] = [
     // Words of a height map.
     (&["height", "w"], 2, "NotASetting"),
     (&["height", "n=3"], 2, "UnknownSetting"),
@@ -154,6 +154,8 @@ const OTHERS: [Case; 33] = [
     // Words of a solid that is written as forms.
     (&["solid", "foo"], 2, "NotASetting"),
     (&["solid", "x0=1"], 2, "UnknownSetting"),
+    // Words of a check.
+    (&["check", "n=3"], 2, "UnknownSetting"),
     // Words of a model that is made.
     (&["forge", "seed=18446744073709551616"], 2, "OutOfRange"),
     (&["forge", "seed=0", "solids=0"], 3, "OutOfRange"),

@@ -11,6 +11,10 @@ use Rattle.model_frames.specs.Laws.{FramesAddUp}
 use Rattle.model_frames.specs.Work.{CountsWithin, CountsWork, PointsRiseAtMost}
 use Rattle.modeller_io.specs.Count.{RoseBy}
 use Rattle.modeller_io.specs.Held.{GainsPrefix}
+use Rattle.mesh_report.specs.Reports.{reported}
+use Rattle.ply_check.specs.declared.ply_fault.PlyFault.{PlyFault}
+use Rattle.ply_check.specs.declared.ply_reason.PlyReason.{PlyReason}
+use Rattle.ply_check.specs.declared.ply_reason.PlyReason.TheVariants as mesh
 use Rattle.solid_lang.specs.Translated.{translated}
 use Rattle.solid_lang.specs.declared.solid_fault.SolidFault.{SolidFault}
 use Rattle.solid_lang.specs.declared.solid_reason.SolidReason.{SolidReason}
@@ -19,17 +23,17 @@ use Rattle.solid_model.specs.declared.clause.Clause.{Clause}
 use Rattle.view_settings.specs.declared.job.Job.{Job}
 use Rattle.view_settings.specs.declared.job.Job.TheVariants.{Replay}
 use Rattle.modeller_cmd.specs.Endings.{Ends, IsRefusal, IsExecutionStop}
-use Rattle.modeller_cmd.specs.Output.{input_limit, made, of_forms, of_model, output_as}
+use Rattle.modeller_cmd.specs.Output.{input_limit, made, of_forms, of_mesh, of_model, output_as}
 use Rattle.modeller_cmd.specs.Parts.{work_of_parts}
 use Rattle.modeller_cmd.specs.Execution.{Sent, Executed, ExecutedAtOnce}
-use Rattle.modeller_cmd.specs.Stops.{status_at, stop_of_forms, stop_of_text}
+use Rattle.modeller_cmd.specs.Stops.{status_at, stop_of_forms, stop_of_mesh, stop_of_text}
 use Rattle.modeller_cmd.specs.declared.bad_text.BadText.TheVariants as bad
 use Rattle.modeller_cmd.specs.declared.refusal.Refusal.{Refusal}
 use Rattle.modeller_cmd.specs.declared.refusal.Refusal.TheVariants as refusal
 use Rattle.modeller_cmd.specs.declared.status.Status.TheVariants.{BadScript}
 use Rattle.modeller_cmd.specs.declared.stop.Stop.{Stop}
 use Rattle.modeller_cmd.specs.declared.stop.Stop.TheVariants.{Refused, ReadFault, WriteFault, NoMemory}
-use Rattle.modeller_cmd.proofs.Outcomes.{forms_refused, solid_refused, work_of_one}
+use Rattle.modeller_cmd.proofs.Outcomes.{forms_refused, mesh_refused, solid_refused, work_of_one}
 use Rattle.modeller_cmd.proofs.Writing.{part-counted, part-written, part-halted, halted-before}
 
 -- bytes that were sent, where they did not all go out
@@ -107,6 +111,22 @@ module _ {K T : Type 0} (held : K → Option (List ℕ)) (faults : K → ℕ) wh
       (unexecuted out counts counts (of_forms input) (Refused (refusal.Text (bad.Solid fault)))
       (forms_refused input fault few (reads (λ memory. cc))) tt (λ write. cc) (λ script. cc) (λ refused. refl)
       (frames.within_none counts (work_of_parts (output_as (of_forms input)).parts)) (frames.plain_none counts (work_of_parts (output_as (of_forms input)).parts).plain))
+
+  -- a mesh was refused, or memory to read it in and to look at its faces
+  pub mesh-refused : (frames : FramesAddUp) (out : K) (counts : Counts) (input : List ℕ) (line : ℕ) (reason : PlyReason) (r : Result T Stop)
+      → length input ≤ input_limit → (reason ≢ mesh.NoMemory → reported input ≡ Err (record { line = line; reason = reason }))
+      → IsErrAnd r (λ stop. stop ≡ stop_of_mesh (record { line = line; reason = reason })) → ExecutedAtOnce held faults out out counts counts (of_mesh input) r
+  mesh-refused frames out counts input line reason (Ok x) few reads is = absurd is
+  mesh-refused frames out counts input line mesh.NoMemory (Err stop) few reads is =
+      subst (λ s. ExecutedAtOnce {T = T} held faults out out counts counts (of_mesh input) (Err s)) (sym is)
+      (unexecuted out counts counts (of_mesh input) NoMemory tt tt (λ fault. cc) (λ script. cc) (λ refused. refl)
+      (frames.within_none counts (work_of_parts (output_as (of_mesh input)).parts)) (frames.plain_none counts (work_of_parts (output_as (of_mesh input)).parts).plain))
+  mesh-refused frames out counts input line other (Err stop) few reads is =
+      let fault : PlyFault = record { line = line; reason = other } in
+      subst (λ s. ExecutedAtOnce {T = T} held faults out out counts counts (of_mesh input) (Err s)) (sym is)
+      (unexecuted out counts counts (of_mesh input) (Refused (refusal.Text (bad.Mesh fault)))
+      (mesh_refused input fault few (reads (λ memory. cc))) tt (λ write. cc) (λ script. cc) (λ refused. refl)
+      (frames.within_none counts (work_of_parts (output_as (of_mesh input)).parts)) (frames.plain_none counts (work_of_parts (output_as (of_mesh input)).parts).plain))
 
   -- memory was refused while its one part was made
   pub undrawn-at-once : (out : K) (s t : Counts) (outcome : Result (List Part) Refusal) (part : Part) (r : Result T Stop) → outcome ≡ Ok (part ∷ [])

@@ -1,5 +1,6 @@
 mod AtOnce
 mod Bands
+mod Checks
 mod Counting
 mod Examples
 mod Execution

@@ -5,11 +5,12 @@ use Rattle.clause_reader.specs.declared.text_reason.TextReason.TheVariants as te
 use Rattle.edit_script.specs.declared.script_reason.ScriptReason.TheVariants as script
 use Rattle.modeller_io.specs.declared.read_end.ReadEnd.TheVariants as end
 use Rattle.solid_model.specs.declared.edit.EditFault.TheVariants as fault
+use Rattle.ply_check.specs.declared.ply_reason.PlyReason.TheVariants as mesh
 use Rattle.solid_lang.specs.declared.solid_reason.SolidReason.TheVariants as forms
 use Rattle.view_settings.specs.declared.word_fault.WordReason.TheVariants as word
 use Rattle.modeller_cmd.specs.Frames.{fault_name}
-use Rattle.modeller_cmd.specs.Notes.{script_reason_name, solid_reason_name, text_reason_name, word_reason_name}
-use Rattle.modeller_cmd.specs.Stops.{stop_of_end, stop_of_forms, stop_of_script, stop_of_text}
+use Rattle.modeller_cmd.specs.Notes.{ply_reason_name, script_reason_name, solid_reason_name, text_reason_name, word_reason_name}
+use Rattle.modeller_cmd.specs.Stops.{stop_of_end, stop_of_forms, stop_of_mesh, stop_of_script, stop_of_text}
 use Rattle.modeller_cmd.specs.declared.bad_text.BadText.TheVariants as bad
 use Rattle.modeller_cmd.specs.declared.refusal.Refusal.TheVariants as refusal
 use Rattle.modeller_cmd.specs.declared.stop.Stop.TheVariants.{NoMemory, ReadFault, Refused}
@@ -61,6 +62,17 @@ faults_of_solids : map stop_of_forms (record { line = 3; reason = forms.NoMemory
     ∷ record { line = 0; reason = forms.TooMany } ∷ [])
     ≡ NoMemory ∷ Refused (refusal.Text (bad.Solid (record { line = 0; reason = forms.TooMany }))) ∷ []
 faults_of_solids = refl
+
+refused_meshes : map ply_reason_name (mesh.NotPly ∷ mesh.BadHeader ∷ mesh.BadVertex ∷ mesh.BadFace
+    ∷ mesh.BadIndex ∷ mesh.TooShort ∷ mesh.TooLong ∷ [])
+    ≡ codes "NotPly" ∷ codes "BadHeader" ∷ codes "BadVertex" ∷ codes "BadFace" ∷ codes "BadIndex"
+    ∷ codes "TooShort" ∷ codes "TooLong" ∷ []
+refused_meshes = refl
+
+faults_of_meshes : map stop_of_mesh (record { line = 3; reason = mesh.NoMemory }
+    ∷ record { line = 0; reason = mesh.TooShort } ∷ [])
+    ≡ NoMemory ∷ Refused (refusal.Text (bad.Mesh (record { line = 0; reason = mesh.TooShort }))) ∷ []
+faults_of_meshes = refl
 
 faults_of_scripts : map stop_of_script (record { line = 3; reason = script.NoMemory }
     ∷ record { line = 4; reason = script.BadName } ∷ [])

@@ -9,6 +9,8 @@ use Rattle.model_frames.specs.Laws.{FramesAddUp}
 use Rattle.fixed_ops.specs.Counts.{Counts}
 use Rattle.modeller_io.specs.Count.{RoseBy}
 use Rattle.modeller_io.specs.Took.{LosesAtMost}
+use Rattle.mesh_report.specs.Reports.{reported}
+use Rattle.ply_check.specs.declared.ply_fault.PlyFault.{PlyFault}
 use Rattle.solid_lang.specs.Translated.{translated}
 use Rattle.solid_lang.specs.declared.solid_fault.SolidFault.{SolidFault}
 use Rattle.solid_model.specs.declared.clause.Clause.{Clause}
@@ -16,7 +18,7 @@ use Rattle.view_settings.specs.declared.job.Job.{Job}
 use Rattle.view_settings.specs.declared.job.Job.TheVariants.{Forge}
 use Rattle.modeller_cmd.specs.Asking.{asked, asks_nothing, reads_nothing}
 use Rattle.modeller_cmd.specs.Endings.{CountsForSome, Ends, IsAnswer, Makes, status_after}
-use Rattle.modeller_cmd.specs.Output.{input_limit, made, of_forms, of_model, of_solid, outcome, output_as, output_of, text_part}
+use Rattle.modeller_cmd.specs.Output.{input_limit, made, of_forms, of_mesh, of_model, of_solid, outcome, output_as, output_of, text_part}
 use Rattle.model_frames.specs.Frames.{Part}
 use Rattle.modeller_cmd.specs.Parts.{bytes_of_parts, work_of_parts}
 use Rattle.modeller_cmd.specs.Statuses.{status_of}
@@ -150,6 +152,17 @@ forms_translated input text few means =
 
 pub forms_refused : (input : List ℕ) (fault : SolidFault) → length input ≤ input_limit → translated input ≡ Err fault → of_forms input ≡ Err (refusal.Text (bad.Solid fault))
 forms_refused input fault few refuses =
+    let short : nat_lt input_limit (length input) ≡ false = le-ltb input_limit (length input) few in
+    rw (short, refuses) refl
+
+-- what is made of a mesh on which is reported, and of one that is refused
+pub mesh_reported : (input line : List ℕ) → length input ≤ input_limit → reported input ≡ Ok line → of_mesh input ≡ Ok (text_part line ∷ [])
+mesh_reported input line few says =
+    let short : nat_lt input_limit (length input) ≡ false = le-ltb input_limit (length input) few in
+    rw (short, says) refl
+
+pub mesh_refused : (input : List ℕ) (fault : PlyFault) → length input ≤ input_limit → reported input ≡ Err fault → of_mesh input ≡ Err (refusal.Text (bad.Mesh fault))
+mesh_refused input fault few refuses =
     let short : nat_lt input_limit (length input) ≡ false = le-ltb input_limit (length input) few in
     rw (short, refuses) refl
 

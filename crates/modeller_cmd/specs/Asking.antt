@@ -32,6 +32,7 @@ reads_nothing job = by (reads job)
     by reading.Model = false
     by reading.Script = false
     by reading.Solid = false
+    by reading.Mesh = false
 
 -- the words ask for nothing of the source
 abbrev pub asks_nothing : List (List ℕ) → Bool

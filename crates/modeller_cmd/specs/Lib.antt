@@ -1,5 +1,6 @@
 pub mod Asking
 pub mod Bands
+pub mod Checks
 pub mod CountTexts
 pub mod Endings
 pub mod Execution

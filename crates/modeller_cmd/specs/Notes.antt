@@ -4,12 +4,14 @@ use Rattle.clause_reader.specs.declared.text_reason.TextReason.{TextReason}
 use Rattle.clause_reader.specs.declared.text_reason.TextReason.TheVariants as text
 use Rattle.edit_script.specs.declared.script_reason.ScriptReason.{ScriptReason}
 use Rattle.edit_script.specs.declared.script_reason.ScriptReason.TheVariants as script
+use Rattle.ply_check.specs.declared.ply_reason.PlyReason.{PlyReason}
+use Rattle.ply_check.specs.declared.ply_reason.PlyReason.TheVariants as mesh
 use Rattle.solid_lang.specs.declared.solid_reason.SolidReason.{SolidReason}
 use Rattle.solid_lang.specs.declared.solid_reason.SolidReason.TheVariants as forms
 use Rattle.view_settings.specs.declared.word_fault.WordReason.{WordReason}
 use Rattle.view_settings.specs.declared.word_fault.WordReason.TheVariants as word
 use Rattle.modeller_cmd.specs.declared.bad_text.BadText.{BadText}
-use Rattle.modeller_cmd.specs.declared.bad_text.BadText.TheVariants.{Model, Solid}
+use Rattle.modeller_cmd.specs.declared.bad_text.BadText.TheVariants.{Mesh, Model, Solid}
 use Rattle.modeller_cmd.specs.declared.refusal.Refusal.{Refusal}
 use Rattle.modeller_cmd.specs.declared.refusal.Refusal.TheVariants.{Words, TooLong, Text, Script}
 use Rattle.modeller_cmd.specs.declared.stop.Stop.{Stop}
@@ -52,6 +54,17 @@ solid_reason_name forms.TooMany = codes "TooMany"
 solid_reason_name forms.Empty = codes "Empty"
 solid_reason_name forms.NoMemory = codes "NoMemory"
 
+-- the name of a reason why a mesh is refused
+abbrev pub ply_reason_name : PlyReason → List ℕ
+ply_reason_name mesh.NotPly = codes "NotPly"
+ply_reason_name mesh.BadHeader = codes "BadHeader"
+ply_reason_name mesh.BadVertex = codes "BadVertex"
+ply_reason_name mesh.BadFace = codes "BadFace"
+ply_reason_name mesh.BadIndex = codes "BadIndex"
+ply_reason_name mesh.TooShort = codes "TooShort"
+ply_reason_name mesh.TooLong = codes "TooLong"
+ply_reason_name mesh.NoMemory = codes "NoMemory"
+
 -- the name of a reason why a script is refused
 abbrev pub script_reason_name : ScriptReason → List ℕ
 script_reason_name script.NoMark = codes "NoMark"
@@ -75,6 +88,8 @@ bad_text_line (Model fault) =
     fault_line (codes "line") fault.line (text_reason_name fault.reason)
 bad_text_line (Solid fault) =
     fault_line (codes "line") fault.line (solid_reason_name fault.reason)
+bad_text_line (Mesh fault) =
+    fault_line (codes "line") fault.line (ply_reason_name fault.reason)
 
 -- the line that is written for a refusal
 abbrev pub refusal_line : Refusal → List ℕ

@@ -8,6 +8,7 @@ use Rattle.edit_script.specs.Scripts.{script_read}
 use Rattle.edit_script.specs.declared.command.Command.{Command}
 use Rattle.edit_script.specs.declared.script_fault.ScriptFault.{ScriptFault}
 use Rattle.edit_session.specs.Sessions.{started}
+use Rattle.mesh_report.specs.Reports.{reported}
 use Rattle.model_frames.specs.Frames.{Part, frame_part, shade_part}
 use Rattle.model_frames.specs.Work.{frame_work, no_work}
 use Rattle.model_frames.specs.declared.frame.Frame.TheVariants as frames
@@ -22,7 +23,7 @@ use Rattle.modeller_cmd.specs.Forging.{forge_part}
 use Rattle.modeller_cmd.specs.Notes.{refusal_line}
 use Rattle.modeller_cmd.specs.Replays.{replayed}
 use Rattle.modeller_cmd.specs.Statuses.{status_of}
-use Rattle.modeller_cmd.specs.declared.bad_text.BadText.TheVariants.{Model, Solid}
+use Rattle.modeller_cmd.specs.declared.bad_text.BadText.TheVariants.{Mesh, Model, Solid}
 use Rattle.modeller_cmd.specs.declared.refusal.Refusal.{Refusal}
 use Rattle.modeller_cmd.specs.declared.refusal.Refusal.TheVariants.{Script, Text, TooLong}
 use Rattle.modeller_cmd.specs.declared.status.Status.{Status}
@@ -71,6 +72,14 @@ of_forms input =
     else on_result (translated input) (λ text. Ok (text_part text ∷ []))
     (λ fault. Err (Text (Solid fault)))
 
+-- What is made of an input that is a mesh, in the ASCII form of PLY: it is refused where it is too long,
+-- and else where it is no such mesh, and else the line that says what is found of it is made.
+abbrev pub of_mesh : List ℕ → Result (List Part) Refusal
+of_mesh input =
+    if nat_lt input_limit (length input) then Err TooLong
+    else on_result (reported input) (λ line. Ok (text_part line ∷ []))
+    (λ fault. Err (Text (Mesh fault)))
+
 -- The parts that a job makes of an input, or why it makes none. What is forged is the same for
 -- every input.
 abbrev pub made : Job → List ℕ → Result (List Part) Refusal
@@ -85,6 +94,7 @@ made (jobs.Forge forge) input = Ok (forge_part forge ∷ [])
 made (jobs.Shade view) input = of_model input (shade_part view)
 made (jobs.Contour view) input = of_model input (contour_part view)
 made jobs.Solid input = of_forms input
+made jobs.Check input = of_mesh input
 
 -- the parts that a run writes, or why it writes none
 abbrev pub outcome : List (List ℕ) → List ℕ → Result (List Part) Refusal

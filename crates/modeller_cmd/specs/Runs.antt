@@ -7,6 +7,7 @@ use Rattle.modeller_io.specs.Held.{Gains, GainsPrefix, Grew}
 use Rattle.modeller_io.specs.Took.{LosesAtMost}
 use Rattle.view_settings.specs.declared.job.Job.TheVariants.{Replay}
 use Rattle.modeller_cmd.specs.Asking.{asked, asks_nothing, input_told}
+use Rattle.modeller_cmd.specs.Checks.{VerdictsAreWritten, WrittenMeshesPass}
 use Rattle.modeller_cmd.specs.Endings.{CountsForSome, GainsParts, IsAnswer, IsRead, IsRefusal, IsUnwritten, IsWorked, NoFault, ReadsWhole, TakesLine, Tells}
 use Rattle.modeller_cmd.specs.Output.{Output, input_limit, output_of}
 use Rattle.modeller_cmd.specs.Parts.{bytes_of_parts, work_of_parts}
@@ -56,6 +57,9 @@ pub record EndsSo {S K N : Type 0} (run : Run S K N) : Type 0 where
   pub closed : IfSome (run.rest run.source) (ContoursAreClosed run.words)
   -- and the model of a solid has its values
   pub values : IfSome (run.rest run.source) (SolidsKeepValues run.words)
+  -- and what a check of a mesh says is the verdict on it
+  pub verdicts : IfSome (run.rest run.source) (VerdictsAreWritten run.words)
+  pub passes : IfSome (run.rest run.source) (WrittenMeshesPass run.words)
   -- when each status comes
   pub answer : OfOutput run (λ output. IsAnswer output.status run.status)
   pub usage : (run.status ≡ Usage) ↔ IsErr (asked run.words)

@@ -7,6 +7,9 @@ use Rattle.edit_script.specs.declared.script_reason.ScriptReason.{ScriptReason}
 use Rattle.edit_script.specs.declared.script_reason.ScriptReason.TheVariants as script
 use Rattle.modeller_io.specs.declared.read_end.ReadEnd.{ReadEnd}
 use Rattle.modeller_io.specs.declared.read_end.ReadEnd.TheVariants as end
+use Rattle.ply_check.specs.declared.ply_fault.PlyFault.{PlyFault}
+use Rattle.ply_check.specs.declared.ply_reason.PlyReason.{PlyReason}
+use Rattle.ply_check.specs.declared.ply_reason.PlyReason.TheVariants as mesh
 use Rattle.solid_lang.specs.declared.solid_fault.SolidFault.{SolidFault}
 use Rattle.solid_lang.specs.declared.solid_reason.SolidReason.{SolidReason}
 use Rattle.solid_lang.specs.declared.solid_reason.SolidReason.TheVariants as forms
@@ -46,6 +49,14 @@ stop_of_forms fault = by fault.reason
     by : SolidReason → Stop
     by forms.NoMemory = NoMemory
     by reason = Refused (refusal.Text (bad.Solid fault))
+
+-- why a mesh stops a run
+abbrev pub stop_of_mesh : PlyFault → Stop
+stop_of_mesh fault = by fault.reason
+  where
+    by : PlyReason → Stop
+    by mesh.NoMemory = NoMemory
+    by reason = Refused (refusal.Text (bad.Mesh fault))
 
 -- why a script stops a run
 abbrev pub stop_of_script : ScriptFault → Stop

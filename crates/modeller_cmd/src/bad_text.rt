@@ -1,6 +1,7 @@
 // Why the text of a job is refused.
 
 use clause_reader::TextFault;
+use ply_check::PlyFault;
 use solid_lang::SolidFault;
 
 /// Why the text of a job is refused: a fault for each kind of text.
@@ -10,4 +11,6 @@ pub enum BadText {
     Model(TextFault),
     /// The text of a solid, written as forms.
     Solid(SolidFault),
+    /// A mesh, in the ASCII form of PLY.
+    Mesh(PlyFault),
 }

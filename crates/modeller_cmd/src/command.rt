@@ -5,6 +5,7 @@ ghost use Rattle.modeller_io.specs.Held.{Gains, GainsPrefix, Grew};
 ghost use Rattle.modeller_io.specs.Took.{LosesAtMost};
 ghost use Rattle.view_settings.specs.Verbs.{IsJob};
 ghost use Rattle.view_settings.specs.Words.{bytes_of};
+ghost use Rattle.modeller_cmd.specs.Checks.{VerdictsAreWritten, WrittenMeshesPass};
 ghost use Rattle.modeller_cmd.specs.Endings.{CountsForSome, Ends, GainsParts, IsAnswer, IsRead, IsRefusal, IsTold, IsUnwritten, IsWorked, Makes, NoFault, ReadsWhole, TakesLine, Tells, status_after};
 ghost use Rattle.modeller_cmd.specs.Notes.{line_of};
 ghost use Rattle.modeller_cmd.specs.Output.{WithOutput, input_limit, outcome};
@@ -18,10 +19,12 @@ ghost use Rattle.model_frames.specs.Work.{CountsWithin, CountsWork, PointsRiseAt
 
 use crate::Status;
 use crate::asking::read_job;
+use crate::checking::check;
 use crate::contouring::contour;
 use crate::count::count;
 use crate::drawing::{draw, render};
 use crate::forge::forge;
+use crate::laws::checks_are_exact;
 use crate::note::note_of;
 use crate::replay::replay;
 use crate::shading::shade;
@@ -69,6 +72,10 @@ pub fn run<S: Source, K: Sink, N: Sink>(
     ensures closed { IfSome (S.rest source.old) (ContoursAreClosed (bytes_of words.now)) }
     // Where the model of a solid is asked for, it has the value of the solid at every point.
     ensures values { IfSome (S.rest source.old) (SolidsKeepValues (bytes_of words.now)) }
+    // Where a mesh is to be checked, it is the line of the one verdict on its faces, and says of each mesh
+    // that is asked for above that it is closed and a manifold.
+    ensures verdicts { IfSome (S.rest source.old) (VerdictsAreWritten (bytes_of words.now)) }
+    ensures passes { IfSome (S.rest source.old) (WrittenMeshesPass (bytes_of words.now)) }
 
     // When each status comes.
     ensures answer { WithOutput S.rest source.old (bytes_of words.now) (λ output.
@@ -168,9 +175,10 @@ pub(crate) fn run_and_report<S: Source, K: Sink, N: Sink>(
       status = result;
     }) }
 {
-    // That the frames of meshes are sound hangs on no step of a run.
+    // That the frames of meshes are sound, and what checks say, hangs on no step of a run.
     mesh_texts_are_sound();
     draws_may_be_drawn();
+    checks_are_exact();
     match work(alloc, words, source, out, tally) {
         Ok(()) => Status::Done,
         Err(stop) => {
@@ -283,7 +291,7 @@ fn read_input<S: Source>(alloc: Global, job: &Job, source: &mut S) -> Result<Vec
 {
     match job.reads() {
         Reads::Nothing => Ok(Vec::new(alloc)),
-        Reads::Model | Reads::Script | Reads::Solid => {
+        Reads::Model | Reads::Script | Reads::Solid | Reads::Mesh => {
             let input = read_all(alloc, source, INPUT_LIMIT)?;
             Ok(input)
         }
@@ -316,5 +324,6 @@ fn execute<K: Sink>(
         Job::Shade(view) => shade(alloc, view, input, out, tally),
         Job::Contour(view) => contour(alloc, view, input, out, tally),
         Job::Solid => solid(alloc, input, out),
+        Job::Check => check(alloc, input, out),
     }
 }

@@ -1,6 +1,10 @@
 // What always holds of the definitions that the contracts cite.
+ghost use Rattle.modeller_cmd.specs.Checks.{ChecksAreExact};
 ghost use Rattle.modeller_cmd.specs.Undoing.{FramesShowWhatStands, UndosLeadBack};
 
+use checked_meshes::mesh_texts_check;
+use mesh_report::reports_are_exact;
+use mesh_verdict::verdicts_are_exact;
 use solid_model::{edits_are_taken_back, edits_give_models};
 
 /// Edits that a script makes, and then as many undos, lead back to the clauses before them, and each frame
@@ -11,4 +15,15 @@ pub fn undos_lead_back()
 {
     edits_are_taken_back();
     edits_give_models();
+}
+
+/// What a check of a mesh writes is the line of the one verdict on its faces; and of the text of each mesh
+/// that is made of a model, where it is no longer than an input may be, it is that the mesh is closed and
+/// a manifold.
+pub fn checks_are_exact()
+    ensures { ChecksAreExact }
+{
+    mesh_texts_check();
+    reports_are_exact();
+    verdicts_are_exact();
 }

@@ -3,6 +3,7 @@
 
 mod asking;
 mod bad_text;
+mod checking;
 mod command;
 mod contouring;
 mod count;
@@ -23,6 +24,6 @@ mod stop;
 mod sure;
 
 pub use command::run;
-pub use laws::undos_lead_back;
+pub use laws::{checks_are_exact, undos_lead_back};
 pub use status::Status;
 pub use sure::run_surely;

@@ -1,7 +1,7 @@
 // The one line that says why a run has not done its work.
 ghost use Rattle.std.specs.Prelude.{◌≡◌, ◌≤◌, length};
 ghost use Rattle.modeller_cmd.specs.declared.line.TheConstants.{LINE_LIMIT};
-ghost use Rattle.modeller_cmd.specs.Notes.{bad_text_line, fault_line, line_of, refusal_line, script_reason_name, solid_reason_name, text_reason_name, word_reason_name};
+ghost use Rattle.modeller_cmd.specs.Notes.{bad_text_line, fault_line, line_of, ply_reason_name, refusal_line, script_reason_name, solid_reason_name, text_reason_name, word_reason_name};
 
 use crate::bad_text::BadText;
 use crate::line::Line;
@@ -9,6 +9,7 @@ use crate::refusal::Refusal;
 use crate::stop::Stop;
 use clause_reader::TextReason;
 use edit_script::ScriptReason;
+use ply_check::PlyReason;
 use solid_lang::SolidReason;
 use view_settings::WordReason;
 
@@ -43,6 +44,7 @@ fn bad_text_note(bad: BadText) -> Line
     match bad {
         BadText::Model(fault) => placed(b"line", fault.line, text_reason(fault.reason)),
         BadText::Solid(fault) => placed(b"line", fault.line, solid_reason(fault.reason)),
+        BadText::Mesh(fault) => placed(b"line", fault.line, ply_reason(fault.reason)),
     }
 }
 
@@ -125,6 +127,23 @@ fn solid_reason(reason: SolidReason) -> &'static [u8]
         SolidReason::TooMany => b"TooMany",
         SolidReason::Empty => b"Empty",
         SolidReason::NoMemory => b"NoMemory",
+    }
+}
+
+// The name of a reason why a mesh is refused.
+fn ply_reason(reason: PlyReason) -> &'static [u8]
+    ensures name { result.now ≡ ply_reason_name reason }
+    ensures short { length result.now ≤ 16 }
+{
+    match reason {
+        PlyReason::NotPly => b"NotPly",
+        PlyReason::BadHeader => b"BadHeader",
+        PlyReason::BadVertex => b"BadVertex",
+        PlyReason::BadFace => b"BadFace",
+        PlyReason::BadIndex => b"BadIndex",
+        PlyReason::TooShort => b"TooShort",
+        PlyReason::TooLong => b"TooLong",
+        PlyReason::NoMemory => b"NoMemory",
     }
 }
 

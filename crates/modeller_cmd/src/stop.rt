@@ -6,6 +6,7 @@ use crate::refusal::Refusal;
 use clause_reader::{TextFault, TextReason};
 use edit_script::{ScriptFault, ScriptReason};
 use modeller_io::{Failed, ReadEnd};
+use ply_check::{PlyFault, PlyReason};
 use solid_lang::{SolidFault, SolidReason};
 use std::alloc::AllocError;
 
@@ -89,6 +90,20 @@ impl From<SolidFault> for Stop {
         match fault.reason {
             SolidReason::NoMemory => Stop::NoMemory,
             _ => Stop::Refused(Refusal::Text(BadText::Solid(fault))),
+        }
+    }
+}
+
+impl From<PlyFault> for Stop {
+    ghost use Rattle.std.specs.Prelude.{◌≡◌};
+    ghost use Rattle.modeller_cmd.specs.Stops.{stop_of_mesh};
+
+    ghost from_gives = { λ fault stop. stop ≡ stop_of_mesh fault };
+
+    fn from(fault: PlyFault) -> Stop {
+        match fault.reason {
+            PlyReason::NoMemory => Stop::NoMemory,
+            _ => Stop::Refused(Refusal::Text(BadText::Mesh(fault))),
         }
     }
 }

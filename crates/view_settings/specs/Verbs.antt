@@ -10,7 +10,7 @@ use Rattle.view_settings.specs.declared.reads.Reads.{Reads}
 use Rattle.view_settings.specs.declared.reads.Reads.TheVariants as reading
 use Rattle.view_settings.specs.declared.setting.Setting.{Setting}
 use Rattle.view_settings.specs.declared.verb.Verb.{Verb}
-use Rattle.view_settings.specs.declared.verb.Verb.TheVariants.{Render, Height, Mesh, Count, Text, Replay, Forge, Shade, Contour, Solid}
+use Rattle.view_settings.specs.declared.verb.Verb.TheVariants.{Render, Height, Mesh, Count, Text, Replay, Forge, Shade, Contour, Solid, Check}
 use Rattle.view_settings.specs.declared.word_fault.WordReason.{WordReason}
 use Rattle.view_settings.specs.declared.word_fault.WordReason.TheVariants.{CellTooSmall, TooManyCells}
 use Rattle.view_settings.specs.Kinds.{contour_kind, forge_kind, height_kind, image_kind, mesh_kind}
@@ -29,9 +29,10 @@ verb_text Forge = codes "forge"
 verb_text Shade = codes "shade"
 verb_text Contour = codes "contour"
 verb_text Solid = codes "solid"
+verb_text Check = codes "check"
 
 abbrev pub verbs : List Verb
-verbs = Render ∷ Height ∷ Mesh ∷ Count ∷ Text ∷ Replay ∷ Forge ∷ Shade ∷ Contour ∷ Solid ∷ []
+verbs = Render ∷ Height ∷ Mesh ∷ Count ∷ Text ∷ Replay ∷ Forge ∷ Shade ∷ Contour ∷ Solid ∷ Check ∷ []
 
 -- the verb that is written so
 abbrev pub verb_named : List ℕ → Option Verb
@@ -49,6 +50,7 @@ kind_of Forge name = forge_kind name
 kind_of Shade name = height_kind name
 kind_of Contour name = contour_kind name
 kind_of Solid name = None
+kind_of Check name = None
 
 -- a mesh of this window: first is asked whether its cells are large enough, then whether they are too many
 abbrev pub mesh_job : Window → Result Job WordReason
@@ -72,6 +74,7 @@ job_with Forge settings = Ok (jobs.Forge (forge_of settings))
 job_with Shade settings = Ok (jobs.Shade (window_of settings))
 job_with Contour settings = contour_job (window_of settings)
 job_with Solid settings = Ok jobs.Solid
+job_with Check settings = Ok jobs.Check
 
 -- what a job always keeps
 abbrev pub IsJob : Job → Type 0
@@ -85,6 +88,7 @@ IsJob (jobs.Forge f) = IsWindow f.view × IsCount 5000 f.solids
 IsJob (jobs.Shade v) = IsWindow v × FitsHeight v
 IsJob (jobs.Contour v) = IsWindow v × FitsContour v
 IsJob jobs.Solid = ⊤
+IsJob jobs.Check = ⊤
 
 -- what a job reads
 abbrev pub reads : Job → Reads
@@ -98,3 +102,4 @@ reads (jobs.Forge f) = reading.Nothing
 reads (jobs.Shade v) = reading.Model
 reads (jobs.Contour v) = reading.Model
 reads jobs.Solid = reading.Solid
+reads jobs.Check = reading.Mesh

@@ -28,6 +28,8 @@ pub enum Job {
     Contour(View),
     /// The model of a solid that is written as forms, as a text.
     Solid,
+    /// What is found of a mesh: that it is closed and a manifold, or what breaks it.
+    Check,
 }
 
 impl Job {
@@ -46,6 +48,7 @@ impl Job {
             Job::Replay => Reads::Script,
             Job::Forge(_) => Reads::Nothing,
             Job::Solid => Reads::Solid,
+            Job::Check => Reads::Mesh,
         }
     }
 }

@@ -11,4 +11,6 @@ pub enum Reads {
     Script,
     /// The text of a solid, written as forms.
     Solid,
+    /// A mesh, in the ASCII form of PLY.
+    Mesh,
 }

@@ -47,6 +47,7 @@ fn words_without_settings_give_the_defaults(rt: HostRuntime) -> Result<(), Fail>
         ("shade", Job::Shade(view)),
         ("contour", Job::Contour(view)),
         ("solid", Job::Solid),
+        ("check", Job::Check),
     ] {
         assert_eq!(rt; read(rt.alloc(), text)?, Ok(job), "{text}");
     }

@@ -38,6 +38,8 @@ pub enum Verb {
     Contour,
     /// Make a model of a solid that is written as forms.
     Solid,
+    /// Check whether a mesh is closed and a manifold.
+    Check,
 }
 
 // The verb that is written so.
@@ -56,6 +58,7 @@ pub(crate) fn read_verb(word: &[u8]) -> Option<Verb>
         b"shade" => Some(Verb::Shade),
         b"contour" => Some(Verb::Contour),
         b"solid" => Some(Verb::Solid),
+        b"check" => Some(Verb::Check),
         _ => None,
     }
 }
@@ -70,7 +73,7 @@ impl Verb {
             Verb::Render | Verb::Count => image_kind(name),
             Verb::Height | Verb::Shade => height_kind(name),
             Verb::Mesh => mesh_kind(name),
-            Verb::Text | Verb::Replay | Verb::Solid => None,
+            Verb::Text | Verb::Replay | Verb::Solid | Verb::Check => None,
             Verb::Forge => forge_kind(name),
             Verb::Contour => contour_kind(name),
         }
@@ -97,6 +100,7 @@ impl Verb {
             Verb::Shade => Ok(Job::Shade(view)),
             Verb::Contour => contour_job(view),
             Verb::Solid => Ok(Job::Solid),
+            Verb::Check => Ok(Job::Check),
         }
     }
 }

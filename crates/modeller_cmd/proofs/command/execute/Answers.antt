@@ -49,6 +49,11 @@ returns-in-Solid g c =
     executed-at-once g.K.Sink.held g.K.Sink.faults c.args.out.now c.solid.new.out c.args.tally.now c.args.tally.now c.args.job.now jobs.Solid c.args.input.now c.solid.result
     c.in-Solid.is (λ is. cc) (c.solid.ensures c.args.tally.now)
 
+pub returns-in-Check : goal.returns-in-Check
+returns-in-Check g c =
+    executed-at-once g.K.Sink.held g.K.Sink.faults c.args.out.now c.check.new.out c.args.tally.now c.args.tally.now c.args.job.now jobs.Check c.args.input.now c.check.result
+    c.in-Check.is (λ is. cc) (c.check.ensures c.args.tally.now)
+
 pub returns-in-Replay : goal.returns-in-Replay
 returns-in-Replay g c =
     let r = c.replay.ensures in

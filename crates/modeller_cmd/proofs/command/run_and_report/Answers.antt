@@ -25,6 +25,8 @@ returns-in-Ok g c =
       sound = r.sound;
       closed = r.closed;
       values = r.values;
+      verdicts = some_all (g.S.Source.rest c.args.source.now) _ (λ input. c.checks_are_exact.ensures.verdicts words input);
+      passes = some_all (g.S.Source.rest c.args.source.now) _ (λ input. c.checks_are_exact.ensures.passes words input);
       sound_frames = some_all (g.S.Source.rest c.args.source.now) _ (λ input. frames_are_sound words input c.mesh_texts_are_sound.ensures c.draws_may_be_drawn.ensures);
       answer = some_follows told _ _ (λ input. ok_done (outcome words input)) r.ends;
       usage = r.usage;
@@ -90,6 +92,8 @@ returns-in-Err g c =
       sound = r.sound;
       closed = r.closed;
       values = r.values;
+      verdicts = some_all (g.S.Source.rest c.args.source.now) _ (λ input. c.checks_are_exact.ensures.verdicts words input);
+      passes = some_all (g.S.Source.rest c.args.source.now) _ (λ input. c.checks_are_exact.ensures.passes words input);
       sound_frames = some_all (g.S.Source.rest c.args.source.now) _ (λ input. frames_are_sound words input c.mesh_texts_are_sound.ensures c.draws_may_be_drawn.ensures);
       answer = some_follows told _ _ (λ input. answer_of {T = Unit {0}} (outcome words input) (Err stop)) r.ends;
       usage = r.usage;
