@@ -11,14 +11,14 @@ use Rattle.view_places.specs.declared.lattice.Lattice.TheVariants as lattices
 use Rattle.box_chains.specs.Chains.{is_long}
 use Rattle.box_chains.specs.Sums.{LiesIn, Sample}
 use Rattle.fixed_ops.specs.Raw.{is_inside}
+use Rattle.oct_descent.specs.Kinds.{low_cell}
+use Rattle.oct_descent.specs.Known.{AllKnown, Known}
 use Rattle.oct_descent.specs.Tables.{is_known}
 use Rattle.oct_descent.specs.Ways.{Covers}
 use Rattle.contour_lines.specs.Corners.{IsSeen, ShowsCorner, side_seen}
-use Rattle.contour_lines.specs.Fills.{floor_of}
-use Rattle.contour_lines.specs.Tables.{AllKnown, PlaneValues, known_at}
-use Rattle.contour_lines.specs.Ways.{cell_square}
+use Rattle.contour_lines.specs.Ways.{cell_square, floor_of}
 use Rattle.contour_lines.specs.declared.seen.Seen.{Seen}
-use Rattle.contour_lines.proofs.Covered.{or-false}
+use Rattle.contour_lines.proofs.Borders.{or-false}
 
 pub none-is : (o : Option ℤ) (t : Bool) → is_some o ≡ not t → t ≡ true → o ≡ None
 none-is None t told e = refl
@@ -91,19 +91,19 @@ pub floor-covers : (b : Indices) (p : GridPoint) → IsOne b → Covers (floor_o
 floor-covers b p one covers = record { x = covers.x; y = covers.y; z = (covers.z.0, omega (arith, covers.z.1, one.z)) }
 
 -- where all four corners are known, all points of the floor are
-pub all-known : (b : Indices) (t : PlaneValues) → IsLow b → ((c : ℕ) → c < 4 → is_known (known_at t (further (point b.x0 b.y0 0) c)) ≡ true) → AllKnown t (floor_of b)
+pub all-known : (b : Indices) (t : Known) → IsLow b → ((c : ℕ) → c < 4 → is_known (t.at (further (point b.x0 b.y0 0) c)) ≡ true) → AllKnown t (floor_of b)
 all-known b t is known p covers =
     let corner = corner-mask b p is covers in
-    subst (λ q. is_known (known_at t q) ≡ true) corner.at (known corner.mask corner.few)
+    subst (λ q. is_known (t.at q) ≡ true) corner.at (known corner.mask corner.few)
 
 -- what the first known corners of a cell show
-pub record IsSeenTo (t : PlaneValues) (p : GridPoint) (n : ℕ) (seen : Seen) : Type 0 where
-  pub all : seen.all ≡ true → (c : ℕ) → c < n → is_known (known_at t (further p c)) ≡ true
+pub record IsSeenTo (t : Known) (p : GridPoint) (n : ℕ) (seen : Seen) : Type 0 where
+  pub all : seen.all ≡ true → (c : ℕ) → c < n → is_known (t.at (further p c)) ≡ true
   pub inside : seen.inside ≡ true → ShowsCorner t p true
   pub outside : seen.outside ≡ true → ShowsCorner t p false
 
 -- no corner shows that all are known
-pub seen-none : (t : PlaneValues) (p : GridPoint) → IsSeenTo t p 0 (record { all = true; inside = false; outside = false })
+pub seen-none : (t : Known) (p : GridPoint) → IsSeenTo t p 0 (record { all = true; inside = false; outside = false })
 seen-none t p = record {
   all = λ e c less. absurd (omega (arith, less));
   inside = λ e. absurd (false≢true e);
@@ -111,7 +111,7 @@ seen-none t p = record {
 }
 
 -- and all four of them show what the cell shows
-pub seen-all : (t : PlaneValues) (p : GridPoint) (n : ℕ) (seen : Seen) → 4 ≤ n → IsSeenTo t p n seen → IsSeen t p seen
+pub seen-all : (t : Known) (p : GridPoint) (n : ℕ) (seen : Seen) → 4 ≤ n → IsSeenTo t p n seen → IsSeen t p seen
 seen-all t p n seen most so = record {
   all = λ e c few. so.all e c (omega (arith, few, most));
   inside = so.inside;
@@ -127,7 +127,7 @@ not-true true e = sym e
 not-true false e = refl
 
 -- and with one more
-pub seen-more : (t : PlaneValues) (p : GridPoint) (n : ℕ) (seen : Seen) (o : Option ℤ) → n < 4 → o ≡ known_at t (further p n) → IsSeenTo t p n seen → IsSeenTo t p (n + 1) (side_seen seen o)
+pub seen-more : (t : Known) (p : GridPoint) (n : ℕ) (seen : Seen) (o : Option ℤ) → n < 4 → o ≡ t.at (further p n) → IsSeenTo t p n seen → IsSeenTo t p (n + 1) (side_seen seen o)
 seen-more t p n seen None few is so = record {
   all = λ e. absurd (false≢true e);
   inside = so.inside;
@@ -139,11 +139,11 @@ seen-more t p n seen (Some v) few is so = record {
   outside = λ e. outer (or-parts seen.outside (not (is_inside v)) e);
 }
   where
-    by : seen.all ≡ true → (c : ℕ) → c < n + 1 → (c < n) ⊎ (n ≤ c) → is_known (known_at t (further p c)) ≡ true
+    by : seen.all ≡ true → (c : ℕ) → c < n + 1 → (c < n) ⊎ (n ≤ c) → is_known (t.at (further p c)) ≡ true
     by e c less (inl below) = so.all e c below
     by e c less (inr above) =
         let same : n ≡ c = omega (arith, above, less) in
-        ap (λ k. is_known (known_at t (further p k))) (sym same) ∙ ap is_known (sym is)
+        ap (λ k. is_known (t.at (further p k))) (sym same) ∙ ap is_known (sym is)
 
     inner : (seen.inside ≡ true) ⊎ (is_inside v ≡ true) → ShowsCorner t p true
     inner (inl e) = so.inside e
@@ -153,14 +153,7 @@ seen-more t p n seen (Some v) few is so = record {
     outer (inl e) = so.outside e
     outer (inr e) = record { corner = n; few = few; value = v; known = sym is; side = not-true (is_inside v) e }
 
--- the cell of a box of one cell
-abbrev pub low_cell : Indices → Sample
-low_cell b = record { i = b.x0; j = b.y0; k = b.z0 }
-
-pub low-lies : (b : Indices) → IsOne b → LiesIn b (low_cell b)
-low-lies b one = record { x = (omega arith, omega (arith, one.x)); y = (omega arith, omega (arith, one.y)); z = (omega arith, omega (arith, one.z)) }
-
--- its floor has exactly the corners of the cell
+-- the floor of a box of one cell has exactly the corners of the cell
 pub square-floor : (b : Indices) (s : Sample) (p : GridPoint) → IsOne b → LiesIn b s → Covers (cell_square s) p → Covers (floor_of b) p
 square-floor b s p one lies covers = record {
   x = (omega (arith, lies.x, covers.x), omega (arith, lies.x, covers.x));

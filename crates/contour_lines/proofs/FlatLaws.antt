@@ -2,7 +2,7 @@
 use Rattle.std.proofs.Common.{◌≡◌, ℕ, ℤ, pos, ◌+ℤ◌, ◌-ℤ◌, ◌*ℤ◌, ap, ◌∙◌, arith}
 use Rattle.std.proofs.lemmas.Int.{ints}
 use Rattle.fixed_ops.specs.Raw.{floor_div}
-use Rattle.view_places.specs.Places.{point_of, sample_place}
+use Rattle.view_places.specs.Places.{sample_place}
 use Rattle.view_places.specs.Samples.{place_up}
 use Rattle.view_places.specs.declared.lattice.Axis.TheVariants.{X, Y}
 use Rattle.view_places.specs.declared.lattice.Lattice.TheVariants.{Grid}

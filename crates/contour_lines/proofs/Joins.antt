@@ -1,6 +1,6 @@
 -- The tables that are found of a plane grid are those of the grid over the view.
-use Rattle.std.proofs.Common.{◌≡◌, ◌≢◌, ℕ, zero, suc, ◌+◌, ◌*◌, ◌/◌, ◌%◌, ◌<◌, ◌≤◌, ◌==◌, ℤ, pos, Bool, true, false, List, [], ◌∷◌, ◌++◌, get_or, length, map, refl, sym, ap, subst, ◌∙◌, length-append, arith}
-use Rattle.std.specs.Prelude.{nat_le, ◌&&◌, ◌||◌, if◌then◌else◌}
+use Rattle.std.proofs.Common.{◌≡◌, ◌≢◌, ℕ, zero, suc, ◌+◌, ◌*◌, ◌/◌, ◌%◌, ◌<◌, ◌≤◌, ◌==◌, ℤ, pos, Bool, true, false, List, ◌++◌, get_or, length, map, refl, sym, ap, subst, ◌∙◌, length-append, arith}
+use Rattle.std.specs.Prelude.{nat_le, ◌&&◌, ◌||◌}
 use Rattle.std.specs.List.{flat_map, range_with_len}
 use Rattle.std.proofs.lemmas.Bool.Decides.{nat_tests}
 use Rattle.std.proofs.lemmas.List.{get_or-append-add, get_or_append_left}
@@ -17,7 +17,7 @@ use Rattle.view_places.specs.Window.{Window, size_of}
 use Rattle.contour_lines.specs.Laws.{PlanesAreBordered}
 use Rattle.contour_lines.specs.PlaneGrids.{plane_over, value_over}
 use Rattle.contour_lines.specs.Planes.{is_on_border, plane_point, plane_value}
-use Rattle.contour_lines.proofs.Covered.{bordered-outside}
+use Rattle.contour_lines.proofs.Borders.{bordered-outside}
 use Rattle.contour_lines.specs.Signs.{AreMixed, HasCorners, HasSigns, bit_of, is_inside_at, signs_at}
 
 -- ---- rows of one length

@@ -5,11 +5,12 @@ use Rattle.std.proofs.lemmas.Bool.{and_parts, cases_order, eqb-true, false≢tru
 use Rattle.std.proofs.lemmas.Grind.{get_or-set_at}
 use Rattle.std.proofs.lemmas.List.{get_or-set_other}
 use Rattle.kuhn_cells.specs.Triangles.{GridPoint, point}
+use Rattle.oct_descent.specs.GridLaws.{LawsOf}
+use Rattle.oct_descent.specs.Known.{Sets}
 use Rattle.oct_descent.specs.Tables.{Marks, read, same_point}
-use Rattle.contour_lines.specs.Tables.{PlaneValues, Sets, is_in_plane, known_at}
+use Rattle.contour_lines.specs.Tables.{PlaneValues, is_in_plane, known_at, known_of}
+use Rattle.contour_lines.specs.Ways.{plane}
 use Rattle.contour_lines.proofs.RowLaws.{row-before}
-use Rattle.contour_lines.proofs.Sizes.{size-none}
-use Rattle.contour_lines.proofs.TableLaws.{same-is, same-self}
 
 -- where the value of a point stands
 abbrev pub place : PlaneValues → GridPoint → ℕ
@@ -48,10 +49,10 @@ apart t p q wide other same = by (cases_order p.y q.y)
     by (inr (inr more)) = absurd (omega (arith, same, row-before w q.x q.y p.y (omega (arith, other)) more))
 
 -- a point whose value is kept
-pub plane-sets : (t : PlaneValues) (x y : ℕ) (v : ℤ) (at : ℕ) → x ≤ t.n.x → y ≤ t.n.y → at ≡ y * (t.n.x + 1) + x → at < length t.kept.known → at < length t.kept.values
-    → Sets (point x y 0) v t (record { n = t.n; kept = record { known = set t.kept.known at true; values = set t.kept.values at v } })
+pub plane-sets : (laws : LawsOf plane) (t : PlaneValues) (x y : ℕ) (v : ℤ) (at : ℕ) → x ≤ t.n.x → y ≤ t.n.y → at ≡ y * (t.n.x + 1) + x → at < length t.kept.known → at < length t.kept.values
+    → Sets (point x y 0) v (known_of t) (known_of (record { n = t.n; kept = record { known = set t.kept.known at true; values = set t.kept.values at v } }))
 unfolding known_at
-plane-sets t x y v at wide high is known values = record { n = size-none t.n; each = λ q. by q (same_point p q) refl (is_in_plane t.n q) refl }
+plane-sets laws t x y v at wide high is known values = record { n = (refl, (refl, refl)); each = λ q. by q (same_point p q) refl (is_in_plane t.n q) refl }
   where
     p : GridPoint
     p = point x y 0
@@ -72,15 +73,15 @@ plane-sets t x y v at wide high is known values = record { n = size-none t.n; ea
         let parts = apart t q p (leb-true q.x t.n.x wide_q.0) wide (same ∙ is) in
         let low : q.z ≡ 0 = eqb-true q.z 0 rest.1 in
         let one : q ≡ p = ap (λ (i : ℕ). point i q.y q.z) parts.0 ∙ ap (λ (j : ℕ). point x j q.z) parts.1 ∙ ap (λ (k : ℕ). point x y k) low in
-        false≢true (sym other ∙ ap (same_point p) one ∙ same-self p)
+        false≢true (sym other ∙ ap (same_point p) one ∙ laws.work.itself p)
 
     by : (q : GridPoint) (s : Bool) → same_point p q ≡ s → (i : Bool) → is_in_plane t.n q ≡ i → known_at after q ≡ cond s (Some v) (known_at t q)
     by q true e true within =
-        let one = same-is p q e in
+        let one = laws.work.same p q e in
         let there : place t q ≡ at = ap (place t) (sym one) ∙ sym is in
         ap (λ b. cond b (read after.kept (place t q)) None) within ∙ ap (read after.kept) there ∙ set-here
     by q true e false without =
-        absurd (false≢true (sym without ∙ ap (is_in_plane t.n) (sym (same-is p q e)) ∙ in-plane t x y wide high))
+        absurd (false≢true (sym without ∙ ap (is_in_plane t.n) (sym (laws.work.same p q e)) ∙ in-plane t x y wide high))
     by q false e true within =
         ap (λ b. cond b (read after.kept (place t q)) None) within ∙ set-other (place t q) (differ q e within) ∙ sym (ap (λ b. cond b (read t.kept (place t q)) None) within)
     by q false e false without =

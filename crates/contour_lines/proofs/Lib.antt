@@ -1,20 +1,12 @@
-pub mod Blocks
-pub mod Bounds
+pub mod Borders
 pub mod Corners
-pub mod Covered
 mod Examples
 pub mod FlatLaws
 pub mod GapLaws
 pub mod Joins
 pub mod KnownLaws
 pub mod Looks
-pub mod Members
 pub mod PlaneLaws
 pub mod RowLaws
 pub mod SideLaws
-pub mod Sizes
-pub mod TableLaws
-pub mod Together
-pub mod Turns
-pub mod WayLaws
-pub mod Whole
+pub mod Work

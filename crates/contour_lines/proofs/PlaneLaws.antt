@@ -8,16 +8,17 @@ use Rattle.kuhn_cells.specs.Triangles.{point}
 use Rattle.kuhn_cells.specs.declared.grid_size.GridSize.{GridSize}
 use Rattle.live_clauses.specs.Steps.{tape_value}
 use Rattle.live_clauses.specs.declared.step.Step.{Step}
+use Rattle.oct_descent.specs.Known.{AllKnown}
 use Rattle.oct_descent.specs.Tables.{IsUniform, Marks, read}
 use Rattle.oct_descent.specs.Ways.{Covers}
 use Rattle.view_places.specs.Spans.{root_box_of}
 use Rattle.view_places.specs.Window.{Window, size_of}
 use Rattle.view_places.specs.declared.lattice.Lattice.TheVariants as lattices
-use Rattle.contour_lines.specs.Planes.{flat_value, laid_flat, plane_value, within_border}
+use Rattle.contour_lines.specs.Planes.{laid_flat, plane_value, within_border}
 use Rattle.contour_lines.specs.Signs.{AreMixed, AreRows, HasCorners, HasSigns, bit_of, is_inside_at, side_of, signs_at, signs_by}
-use Rattle.contour_lines.specs.Tables.{AllKnown, PlaneValues}
+use Rattle.contour_lines.specs.Tables.{PlaneValues, known_of}
 use Rattle.contour_lines.specs.Trees.{IsTold}
-use Rattle.contour_lines.specs.Ways.{cell_square}
+use Rattle.contour_lines.specs.Ways.{cell_square, flat_value}
 use Rattle.contour_lines.proofs.FlatLaws.{flat_views_are_planes_is}
 use Rattle.contour_lines.proofs.KnownLaws.{known-is}
 
@@ -83,7 +84,7 @@ bit-few : (c : ℕ) → c < 4 → (c % 2 ≤ 1) × (c / 2 ≤ 1)
 bit-few c few = (omega arith, omega (arith, few))
 
 -- the corners of mixed cells are known, with their values
-pub has-corners : (view : Window) (list : List Step) (t : PlaneValues) → t.n ≡ size_of (laid_flat view) → length t.kept.values ≡ (t.n.y + 1) * (t.n.x + 1) → IsTold (laid_flat view) list t → HasCorners view list t.kept.values
+pub has-corners : (view : Window) (list : List Step) (t : PlaneValues) → t.n ≡ size_of (laid_flat view) → length t.kept.values ≡ (t.n.y + 1) * (t.n.x + 1) → IsTold (laid_flat view) list (known_of t) → HasCorners view list t.kept.values
 has-corners view list t n long told = record {
   all = long ∙ ap (λ (m : GridSize). (m.y + 1) * (m.x + 1)) n;
   each = λ i j c wide high few mixed. corner i j c wide high few (by i j wide high mixed (told.settled (record { i = i; j = j; k = 0 }) (lies i j wide high)));
@@ -95,7 +96,7 @@ has-corners view list t n long told = record {
     covers : (i j a b : ℕ) → a ≤ 1 → b ≤ 1 → Covers (cell_square (record { i = i; j = j; k = 0 })) (point (i + a) (j + b) 0)
     covers i j a b wide high = record { x = (omega arith, omega (arith, wide)); y = (omega arith, omega (arith, high)); z = (omega arith, omega arith) }
 
-    by : (i j : ℕ) → i < view.nx → j < view.ny → AreMixed (signs_at view list i j) → AllKnown t (cell_square (record { i = i; j = j; k = 0 })) ⊎ IsUniform (flat_value (laid_flat view) list) (cell_square (record { i = i; j = j; k = 0 })) → AllKnown t (cell_square (record { i = i; j = j; k = 0 }))
+    by : (i j : ℕ) → i < view.nx → j < view.ny → AreMixed (signs_at view list i j) → AllKnown (known_of t) (cell_square (record { i = i; j = j; k = 0 })) ⊎ IsUniform (flat_value (laid_flat view) list) (cell_square (record { i = i; j = j; k = 0 })) → AllKnown (known_of t) (cell_square (record { i = i; j = j; k = 0 }))
     by i j wide high mixed (inl known) = known
     by i j wide high mixed (inr uniform) =
         let side : (a b : ℕ) → a ≤ 1 → b ≤ 1 → is_inside_at view list (i + a) (j + b) ≡ uniform.inside = λ a b x y. sym (side-is view list (i + a) (j + b)) ∙ uniform.each (point (i + a) (j + b) 0) (covers i j a b x y) in
@@ -107,7 +108,7 @@ has-corners view list t n long told = record {
         (ap (λ n. is_inside_at view list n (j + 1)) (sym right) ∙ side 0 1 (omega arith) (omega arith))
         (side 1 1 (omega arith) (omega arith)) mixed)
 
-    corner : (i j c : ℕ) → i < view.nx → j < view.ny → c < 4 → AllKnown t (cell_square (record { i = i; j = j; k = 0 }))
+    corner : (i j c : ℕ) → i < view.nx → j < view.ny → c < 4 → AllKnown (known_of t) (cell_square (record { i = i; j = j; k = 0 }))
         → get_or t.kept.values ((j + c / 2) * (view.nx + 1) + (i + c % 2)) (pos 0) ≡ plane_value view list (i + c % 2) (j + c / 2)
     corner i j c wide high few known =
         let p = point (i + c % 2) (j + c / 2) 0 in

@@ -7,17 +7,16 @@ use Rattle.fixed_ops.specs.Raw.{is_inside}
 use Rattle.kuhn_cells.specs.Triangles.{point}
 use Rattle.live_clauses.specs.declared.step.Step.{Step}
 use Rattle.oct_descent.specs.GridValues.{value_on}
+use Rattle.oct_descent.specs.Known.{AllKnown, Known}
 use Rattle.oct_descent.specs.Tables.{IsUniform, is_known}
 use Rattle.oct_descent.specs.Ways.{Covers}
 use Rattle.view_places.specs.Spans.{root_box_of}
 use Rattle.view_places.specs.Window.{Window, IsWindow, size_of}
 use Rattle.view_places.specs.declared.lattice.Lattice.TheVariants as lattices
-use Rattle.contour_lines.specs.Planes.{flat_value}
 use Rattle.contour_lines.specs.Signs.{AreRows, side_after, side_of}
-use Rattle.contour_lines.specs.Tables.{AllKnown, PlaneValues, known_at}
 use Rattle.contour_lines.specs.Trees.{IsTold}
-use Rattle.contour_lines.specs.Ways.{cell_square}
-use Rattle.contour_lines.proofs.Covered.{bordered-outside}
+use Rattle.contour_lines.specs.Ways.{cell_square, flat_value}
+use Rattle.contour_lines.proofs.Borders.{bordered-outside}
 
 -- the side of the point before one in its row, and outside before the first
 pub record IsBefore (view : Window) (list : List Step) (x y : ℕ) (side : Bool) : Type 0 where
@@ -34,13 +33,13 @@ before-next view list x y side is = record {
 }
 
 -- a known point lies on the side of its value
-pub known-side : (view : Window) (list : List Step) (t : PlaneValues) (x y : ℕ) (v : ℤ) → IsTold view list t → known_at t (point x y 0) ≡ Some v → is_inside v ≡ side_of view list x y
+pub known-side : (view : Window) (list : List Step) (t : Known) (x y : ℕ) (v : ℤ) → IsTold view list t → t.at (point x y 0) ≡ Some v → is_inside v ≡ side_of view list x y
 known-side view list t x y v told e =
     ap (λ o. is_inside (unwrap_or o v)) (sym e ∙ told.right (point x y 0) (ap is_known e))
 
 -- and one that is not on that of the one before it
-pub unknown-side : (view : Window) (list : List Step) (t : PlaneValues) (x y : ℕ) (side : Bool) → IsWindow view → IsTold view list t → x ≤ t.n.x → y ≤ t.n.y → IsBefore view list x y side
-    → known_at t (point x y 0) ≡ None → side ≡ side_of view list x y
+pub unknown-side : (view : Window) (list : List Step) (t : Known) (x y : ℕ) (side : Bool) → IsWindow view → IsTold view list t → x ≤ t.n.x → y ≤ t.n.y → IsBefore view list x y side
+    → t.at (point x y 0) ≡ None → side ≡ side_of view list x y
 unknown-side view list t zero y side window told wide high before none =
     before.first refl ∙ sym (bordered-outside (size_of view) 0 y (value_on view list (point 0 y 0)) refl)
 unknown-side view list t (suc i) y side window told wide high before none =
@@ -73,11 +72,11 @@ unknown-side view list t (suc i) y side window told wide high before none =
     by (inr uniform) = uniform.each (point i y 0) there ∙ sym (uniform.each (point (suc i) y 0) here)
 
 -- so each point lies on the side that is worked out for it
-pub next-side : (view : Window) (list : List Step) (t : PlaneValues) (x y : ℕ) (side : Bool) → IsWindow view → IsTold view list t → x ≤ t.n.x → y ≤ t.n.y → IsBefore view list x y side
-    → side_after (known_at t (point x y 0)) side ≡ side_of view list x y
-next-side view list t x y side window told wide high before = by (known_at t (point x y 0)) refl
+pub next-side : (view : Window) (list : List Step) (t : Known) (x y : ℕ) (side : Bool) → IsWindow view → IsTold view list t → x ≤ t.n.x → y ≤ t.n.y → IsBefore view list x y side
+    → side_after (t.at (point x y 0)) side ≡ side_of view list x y
+next-side view list t x y side window told wide high before = by (t.at (point x y 0)) refl
   where
-    by : (o : Option ℤ) → known_at t (point x y 0) ≡ o → side_after (known_at t (point x y 0)) side ≡ side_of view list x y
+    by : (o : Option ℤ) → t.at (point x y 0) ≡ o → side_after (t.at (point x y 0)) side ≡ side_of view list x y
     by (Some v) e = ap (λ o. side_after o side) e ∙ known-side view list t x y v told e
     by None e = ap (λ o. side_after o side) e ∙ unknown-side view list t x y side window told wide high before e
 

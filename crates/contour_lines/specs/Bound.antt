@@ -1,18 +1,13 @@
 -- The work that the cells of a plane grid take at most, and at least.
-use Rattle.std.specs.Prelude.{ℕ, ◌+◌, List}
-use Rattle.box_chains.specs.Sums.{maximum, sum_in}
-use Rattle.kuhn_cells.specs.Triangles.{GridPoint, point}
-use Rattle.kuhn_cells.specs.declared.grid_size.GridSize.{GridSize}
+use Rattle.std.specs.Prelude.{ℕ, List}
+use Rattle.kuhn_cells.specs.Triangles.{GridPoint}
 use Rattle.live_clauses.specs.declared.step.Step.{Step}
-use Rattle.oct_descent.specs.Bound.{cell_spans_in, least, lengths_in, working_lengths_in}
-use Rattle.view_places.specs.Boxes.{Indices}
+use Rattle.oct_descent.specs.Bound.{lengths_in, working_lengths_in}
+use Rattle.oct_descent.specs.Kinds.{least_points, most_points, most_spans}
 use Rattle.view_places.specs.Window.{Window, size_of}
 use Rattle.contour_lines.specs.Planes.{laid_flat}
-use Rattle.contour_lines.specs.Ways.{planar, plane_root}
-
--- the box of all points of a plane grid
-abbrev pub points_of_plane : GridSize → Indices
-points_of_plane n = record { x0 = 0; x1 = n.x + 1; y0 = 0; y1 = n.y + 1; z0 = 0; z1 = 1 }
+use Rattle.contour_lines.specs.Ways.{planar, plane, plane_root}
+pub use Rattle.contour_lines.specs.Ways.{points_of_plane}
 
 -- over a view that lies flat, the lengths of the lists that those working cells receive that have a point as
 -- a corner
@@ -26,16 +21,13 @@ plane_working_lengths view list = working_lengths_in (size_of view) (planar view
 -- the sums of the greatest and of the least of these over all points, and the steps that are traced over all
 -- boxes
 unfoldable pub flat_points : Window → List Step → ℕ
-flat_points view list =
-    sum_in (points_of_plane (size_of view)) (λ s. maximum (plane_lengths view list (point s.i s.j s.k)))
+flat_points view list = most_points plane view list
 
 unfoldable pub flat_least : Window → List Step → ℕ
-flat_least view list =
-    sum_in (points_of_plane (size_of view))
-    (λ s. least (plane_working_lengths view list (point s.i s.j s.k)))
+flat_least view list = least_points plane view list
 
 abbrev pub flat_spans : Window → List Step → ℕ
-flat_spans view list = cell_spans_in (planar view) (plane_root view list)
+flat_spans view list = most_spans plane view list
 
 -- What the points of the plane grid over a view take at most: each one the length of the longest list that a
 -- working cell receives that has it as a corner.

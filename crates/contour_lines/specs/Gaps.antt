@@ -4,11 +4,11 @@ use Rattle.std.specs.List.{All, AllPairs, list_any}
 use Rattle.fixed_ops.specs.Points.{Point}
 use Rattle.kuhn_cells.specs.Sizes.{SameSize}
 use Rattle.kuhn_cells.specs.Triangles.{GridPoint, further, point}
+use Rattle.oct_descent.specs.Known.{Known}
 use Rattle.oct_descent.specs.Tables.{is_known, same_point}
 use Rattle.view_places.specs.Places.{point_of}
 use Rattle.view_places.specs.Window.{Window}
 use Rattle.view_places.specs.declared.lattice.Lattice.TheVariants as lattices
-use Rattle.contour_lines.specs.Tables.{PlaneValues, known_at}
 use Rattle.contour_lines.specs.declared.gap.Gap.{Gap}
 
 -- the point of a gap
@@ -24,7 +24,7 @@ abbrev pub nth : List Gap → ℕ → Gap
 nth gaps n = slice_index_or gaps n (record { x = 0; y = 0 })
 
 -- the point is one of the plane grid's
-pub record StandsIn (t : PlaneValues) (gap : Gap) : Type 0 where
+pub record StandsIn (t : Known) (gap : Gap) : Type 0 where
   pub x : gap.x ≤ t.n.x
   pub y : gap.y ≤ t.n.y
 
@@ -33,10 +33,10 @@ abbrev pub has_gap : List Gap → GridPoint → Bool
 has_gap gaps p = list_any (λ gap. same_point (spot gap) p) gaps
 
 -- the points of some gaps get their values, and all else stays
-pub record Fills (g : GridPoint → ℤ) (gaps : List Gap) (before after : PlaneValues) : Type 0 where
+pub record Fills (g : GridPoint → ℤ) (gaps : List Gap) (before after : Known) : Type 0 where
   pub n : SameSize after.n before.n
   pub each : (q : GridPoint)
-      → known_at after q ≡ (if has_gap gaps q then Some (g q) else known_at before q)
+      → after.at q ≡ (if has_gap gaps q then Some (g q) else before.at q)
 
 -- the point of a gap is a corner of a cell, by its mask, which is less than a number
 pub record IsCornerBelow (count : ℕ) (p q : GridPoint) : Type 0 where
@@ -45,14 +45,14 @@ pub record IsCornerBelow (count : ℕ) (p q : GridPoint) : Type 0 where
   pub at : q ≡ further p mask
 
 -- Gaps at those of the first corners of a cell that are not known: no point has two.
-pub record AreGapsBelow (count : ℕ) (t : PlaneValues) (p : GridPoint) (gaps : List Gap) : Type 0 where
+pub record AreGapsBelow (count : ℕ) (t : Known) (p : GridPoint) (gaps : List Gap) : Type 0 where
   pub stand : All (StandsIn t) gaps
   pub corners : All (λ gap. IsCornerBelow count p (spot gap)) gaps
-  pub unknown : All (λ gap. known_at t (spot gap) ≡ None) gaps
+  pub unknown : All (λ gap. t.at (spot gap) ≡ None) gaps
   pub apart : AllPairs (λ a b. spot a ≢ spot b) gaps
   pub all : (c : ℕ) → c < count
-      → (has_gap gaps (further p c) || is_known (known_at t (further p c))) ≡ true
+      → (has_gap gaps (further p c) || is_known (t.at (further p c))) ≡ true
 
 -- and of all corners
-abbrev pub AreGaps : PlaneValues → GridPoint → List Gap → Type 0
+abbrev pub AreGaps : Known → GridPoint → List Gap → Type 0
 AreGaps t p gaps = AreGapsBelow 4 t p gaps

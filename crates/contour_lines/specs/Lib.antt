@@ -1,7 +1,5 @@
 pub mod Bound
 pub mod Corners
-pub mod Desks
-pub mod Fills
 pub mod Gaps
 pub mod Laws
 pub mod PlaneGrids

@@ -1,5 +1,5 @@
 -- The plane grid over a view, where each place has a value.
-use Rattle.std.specs.Prelude.{ℕ, ◌+◌, ℤ, List, map}
+use Rattle.std.specs.Prelude.{ℕ, ◌+◌, ℤ, map}
 use Rattle.std.specs.List.{flat_map, range_with_len}
 use Rattle.fixed_ops.specs.Points.{Point}
 use Rattle.plane_loops.specs.Planes.{PlaneGrid}

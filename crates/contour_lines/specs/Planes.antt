@@ -2,11 +2,9 @@
 use Rattle.std.specs.Prelude.{ℕ, ◌==◌, ℤ, pos, Bool, ◌||◌, List, if◌then◌else◌}
 use Rattle.std.specs.Int.{int_max}
 use Rattle.fixed_ops.specs.Points.{Point}
-use Rattle.kuhn_cells.specs.Triangles.{GridPoint}
 use Rattle.kuhn_cells.specs.declared.grid_size.GridSize.{GridSize}
 use Rattle.live_clauses.specs.Steps.{tape_value}
 use Rattle.live_clauses.specs.declared.step.Step.{Step}
-use Rattle.oct_descent.specs.GridValues.{value_on}
 use Rattle.view_places.specs.Places.{sample_place}
 use Rattle.view_places.specs.Window.{Window, size_of}
 use Rattle.view_places.specs.declared.lattice.Axis.TheVariants.{X, Y}
@@ -32,7 +30,3 @@ within_border n i j value = if is_on_border n i j then int_max value (pos 0) els
 -- the value of a list at a point of the plane grid over a view
 abbrev pub plane_value : Window → List Step → ℕ → ℕ → ℤ
 plane_value view list i j = within_border (size_of view) i j (tape_value (plane_point view i j) list)
-
--- the same over a view that lies flat, at a point of its grid
-abbrev pub flat_value : Window → List Step → GridPoint → ℤ
-flat_value view list p = within_border (size_of view) p.x p.y (value_on view list p)

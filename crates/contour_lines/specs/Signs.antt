@@ -4,7 +4,8 @@ use Rattle.fixed_ops.specs.Raw.{is_inside}
 use Rattle.kuhn_cells.specs.Triangles.{point}
 use Rattle.live_clauses.specs.declared.step.Step.{Step}
 use Rattle.view_places.specs.Window.{Window}
-use Rattle.contour_lines.specs.Planes.{flat_value, plane_value}
+use Rattle.contour_lines.specs.Planes.{plane_value}
+use Rattle.contour_lines.specs.Ways.{flat_value}
 
 -- a point of the plane grid is inside
 abbrev pub is_inside_at : Window → List Step → ℕ → ℕ → Bool

@@ -6,15 +6,14 @@ use Rattle.live_clauses.specs.declared.step.Step.{Step}
 use Rattle.view_places.specs.Spans.{root_box_of}
 use Rattle.view_places.specs.Window.{Window, size_of}
 use Rattle.view_places.specs.declared.lattice.Lattice.TheVariants as lattices
+use Rattle.oct_descent.specs.Known.{AreSettled, Known}
 use Rattle.oct_descent.specs.Tables.{is_known}
-use Rattle.contour_lines.specs.Planes.{flat_value}
-use Rattle.contour_lines.specs.Tables.{AreSettled, PlaneValues, known_at}
-use Rattle.contour_lines.specs.Ways.{planar}
+use Rattle.contour_lines.specs.Ways.{flat_value, planar}
 
 -- what is known are the list's values, and the corners of each cell are known that has some inside and some
 -- outside
-pub record IsTold (view : Window) (list : List Step) (t : PlaneValues) : Type 0 where
+pub record IsTold (view : Window) (list : List Step) (t : Known) : Type 0 where
   pub n : SameSize t.n (size_of view)
-  pub right : (p : GridPoint) → is_known (known_at t p) ≡ true
-      → known_at t p ≡ Some (flat_value view list p)
+  pub right : (p : GridPoint) → is_known (t.at p) ≡ true
+      → t.at p ≡ Some (flat_value view list p)
   pub settled : AreSettled (planar view) (flat_value view list) (root_box_of view lattices.Grid) t

@@ -2,6 +2,7 @@
 ghost use Rattle.std.specs.Prelude.{◌≡◌, ◌<◌};
 ghost use Rattle.kuhn_cells.specs.Triangles.{point};
 ghost use Rattle.contour_lines.specs.Corners.{IsSeen, side_seen};
+ghost use Rattle.contour_lines.specs.Tables.{known_of};
 
 use crate::known_values::KnownValues;
 use crate::seen::Seen;
@@ -12,7 +13,7 @@ use fixed_ops::{Fx, is_inside};
 pub fn seen(values: &KnownValues, x: u32, y: u32) -> Seen
     requires x { x < values.now.n.x }
     requires y { y < values.now.n.y }
-    ensures { IsSeen values.now (point x y 0) result }
+    ensures { IsSeen (known_of values.now) (point x y 0) result }
 {
     values.holds();
     let mut seen = Seen {

@@ -10,19 +10,21 @@ ghost use Rattle.interval_ops.specs.HullCounts.{CountsHulls};
 ghost use Rattle.kuhn_cells.specs.Sizes.{SameSize};
 ghost use Rattle.kuhn_cells.specs.Triangles.{point};
 ghost use Rattle.live_clauses.specs.Live.{IsWhole};
+ghost use Rattle.oct_descent.specs.Asked.{IsToldAt, asked_of, longer};
+ghost use Rattle.oct_descent.specs.Halves.{ChargesBelow, ChargesHalves, MayLook, PaysHalves};
+ghost use Rattle.oct_descent.specs.Known.{AreSettled, AreWorked, ChargesBox, Grows, Known, PaysBox};
 ghost use Rattle.oct_descent.specs.Ways.{is_open as is_open_for, is_open_by};
 ghost use Rattle.view_places.specs.Boxes.{halves_of};
 ghost use Rattle.view_places.specs.Spans.{IsInRoot};
 ghost use Rattle.view_places.specs.Window.{size_of};
 ghost use Rattle.contour_lines.specs.Corners.{IsSeen};
-ghost use Rattle.contour_lines.specs.Desks.{ChargesBelow, ChargesHalves, IsToldAt, MayLook, PaysHalves, asked_of, longer};
-ghost use Rattle.contour_lines.specs.Planes.{flat_value};
-ghost use Rattle.contour_lines.specs.Tables.{AreSettled, AreWorked, ChargesBox, Grows, PaysBox, PlaneValues};
-ghost use Rattle.contour_lines.specs.Ways.{meets_sides as meets_sides_of, planar};
+ghost use Rattle.contour_lines.specs.Tables.{known_of};
+ghost use Rattle.contour_lines.specs.Ways.{flat_value, meets_sides as meets_sides_of, planar, plane};
 
 use crate::corner_values::seen;
 use crate::filling::fill_cell;
 use crate::known_values::KnownValues;
+use crate::laws::planes_hold;
 use crate::seen::Seen;
 use arrayvec::ArrayVec;
 use box_chains::{AskedBox, Desk, Outcome, is_long, layers_hold};
@@ -43,20 +45,23 @@ pub fn look_into(
     values: &mut KnownValues,
     tally: &mut Tally,
 ) -> Result<(), AllocError>
-    requires may { MayLook desk.old b received values.old }
+    requires may { MayLook plane desk.old b received (known_of values.old) }
+    requires flat { desk.old.view.nz ≡ 1 }
     ensures settled { OnOk result
         (AreSettled (planar desk.old.view) (flat_value desk.old.view (list_of desk.old received)) b
-        values.new) }
+        (known_of values.new)) }
     ensures worked { OnOk result
-        (AreWorked (planar desk.old.view) (visit b (list_of desk.old received)) values.new) }
-    ensures grows { Grows (flat_value desk.old.view (list_of desk.old received)) b values.old values.new }
-    ensures counted { ChargesBox (planar desk.old.view) (visit b (list_of desk.old received)) values.old
-        values.new tally.old tally.new }
-    ensures paid { PaysBox (planar desk.old.view) (visit b (list_of desk.old received)) values.old
-        values.new tally.old tally.new }
+        (AreWorked (planar desk.old.view) (visit b (list_of desk.old received)) (known_of values.new)) }
+    ensures grows { Grows (flat_value desk.old.view (list_of desk.old received)) b (known_of values.old)
+        (known_of values.new) }
+    ensures counted { ChargesBox (planar desk.old.view) (visit b (list_of desk.old received))
+        (known_of values.old) (known_of values.new) tally.old tally.new }
+    ensures paid { PaysBox (planar desk.old.view) (visit b (list_of desk.old received))
+        (known_of values.old) (known_of values.new) tally.old tally.new }
     ensures more { HasMore desk.old desk.new }
 {
     layers_hold();
+    planes_hold();
     if !is_long(b, LEAF) {
         return look_into_cell(desk, b, received, values, tally);
     }
@@ -77,22 +82,24 @@ fn look_into_told(
     values: &mut KnownValues,
     tally: &mut Tally,
 ) -> Result<(), AllocError>
-    requires may { MayLook desk.old b received values.old }
-    requires told { IsToldAt (samples desk.old) (list_of desk.old received) b desk.old.lists
+    requires may { MayLook plane desk.old b received (known_of values.old) }
+    requires flat { desk.old.view.nz ≡ 1 }
+    requires told { IsToldAt plane (samples desk.old) (list_of desk.old received) b desk.old.lists
         outcomes.now at }
     ensures settled { OnOk result
         (AreSettled (planar desk.old.view) (flat_value desk.old.view (list_of desk.old received)) b
-        values.new) }
+        (known_of values.new)) }
     ensures worked { OnOk result
-        (AreWorked (planar desk.old.view) (visit b (list_of desk.old received)) values.new) }
-    ensures grows { Grows (flat_value desk.old.view (list_of desk.old received)) b values.old values.new }
-    ensures counted { ChargesBelow (planar desk.old.view) (visit b (list_of desk.old received)) values.old
-        values.new tally.old tally.new }
-    ensures paid { PaysBox (planar desk.old.view) (visit b (list_of desk.old received)) values.old
-        values.new tally.old tally.new }
+        (AreWorked (planar desk.old.view) (visit b (list_of desk.old received)) (known_of values.new)) }
+    ensures grows { Grows (flat_value desk.old.view (list_of desk.old received)) b (known_of values.old)
+        (known_of values.new) }
+    ensures counted { ChargesBelow (planar desk.old.view) (visit b (list_of desk.old received))
+        (known_of values.old) (known_of values.new) tally.old tally.new }
+    ensures paid { PaysBox (planar desk.old.view) (visit b (list_of desk.old received))
+        (known_of values.old) (known_of values.new) tally.old tally.new }
     ensures kept { desk.new ≡ desk.old }
 {
-    layers_hold();
+    planes_hold();
     if !is_long(b, LEAF) {
         return look_into_cell(desk, b, received, values, tally);
     }
@@ -112,20 +119,22 @@ fn look_into_halves(
     values: &mut KnownValues,
     tally: &mut Tally,
 ) -> Result<(), AllocError>
-    requires may { MayLook desk.old b live values.old }
+    requires may { MayLook plane desk.old b live (known_of values.old) }
+    requires flat { desk.old.view.nz ≡ 1 }
     requires whole { IsWhole (list_of desk.old live) }
     requires long { IsTrue (is_long_for 1 b) }
     ensures settled { OnOk result
         (AreSettled (planar desk.old.view) (flat_value desk.old.view (list_of desk.old live)) b
-        values.new) }
+        (known_of values.new)) }
     ensures worked { OnOk result
-        (All (λ half. AreWorked (planar desk.old.view) (visit half (list_of desk.old live)) values.new)
-        (halves_of 1 b)) }
-    ensures grows { Grows (flat_value desk.old.view (list_of desk.old live)) b values.old values.new }
+        (All (λ half. AreWorked (planar desk.old.view) (visit half (list_of desk.old live))
+        (known_of values.new)) (halves_of 1 b)) }
+    ensures grows { Grows (flat_value desk.old.view (list_of desk.old live)) b (known_of values.old)
+        (known_of values.new) }
     ensures counted { ChargesHalves (planar desk.old.view) (list_of desk.old live) (halves_of 1 b)
-        values.old values.new tally.old tally.new }
-    ensures paid { PaysHalves (planar desk.old.view) (list_of desk.old live) (halves_of 1 b) values.old
-        values.new tally.old tally.new }
+        (known_of values.old) (known_of values.new) tally.old tally.new }
+    ensures paid { PaysHalves (planar desk.old.view) (list_of desk.old live) (halves_of 1 b)
+        (known_of values.old) (known_of values.new) tally.old tally.new }
     ensures kept { desk.new ≡ desk.old }
 {
     let count = desk.lists.len();
@@ -144,23 +153,26 @@ fn look_into_each_half(
     values: &mut KnownValues,
     tally: &mut Tally,
 ) -> Result<(), AllocError>
-    requires may { MayLook desk.old b live values.old }
+    requires may { MayLook plane desk.old b live (known_of values.old) }
+    requires flat { desk.old.view.nz ≡ 1 }
     requires whole { IsWhole (list_of desk.old live) }
     requires long { IsTrue (is_long_for 1 b) }
     ensures settled { OnOk result
         (AreSettled (planar desk.old.view) (flat_value desk.old.view (list_of desk.old live)) b
-        values.new) }
+        (known_of values.new)) }
     ensures worked { OnOk result
-        (All (λ half. AreWorked (planar desk.old.view) (visit half (list_of desk.old live)) values.new)
-        (halves_of 1 b)) }
-    ensures grows { Grows (flat_value desk.old.view (list_of desk.old live)) b values.old values.new }
+        (All (λ half. AreWorked (planar desk.old.view) (visit half (list_of desk.old live))
+        (known_of values.new)) (halves_of 1 b)) }
+    ensures grows { Grows (flat_value desk.old.view (list_of desk.old live)) b (known_of values.old)
+        (known_of values.new) }
     ensures counted { ChargesHalves (planar desk.old.view) (list_of desk.old live) (halves_of 1 b)
-        values.old values.new tally.old tally.new }
-    ensures paid { PaysHalves (planar desk.old.view) (list_of desk.old live) (halves_of 1 b) values.old
-        values.new tally.old tally.new }
+        (known_of values.old) (known_of values.new) tally.old tally.new }
+    ensures paid { PaysHalves (planar desk.old.view) (list_of desk.old live) (halves_of 1 b)
+        (known_of values.old) (known_of values.new) tally.old tally.new }
     ensures more { HasMore desk.old desk.new }
 {
     layers_hold();
+    planes_hold();
     let halves = in_turn(b);
     let outcomes = trace_longer(desk, halves.as_slice(), live, values.n(), tally)?;
     let outcomes = outcomes.as_slice();
@@ -216,17 +228,18 @@ fn trace_longer(
     requires few { length boxes.now ≤ 8 }
     requires within { All (IsInRoot desk.old.view desk.old.lattice) boxes.now }
     ensures outcomes { IfOk result (λ outcomes. all_seen desk.new.lists outcomes.items
-        ≡ asked_outcomes (samples desk.old) (list_of desk.old received) (longer n boxes.now)) }
+        ≡ asked_outcomes (samples desk.old) (list_of desk.old received) (longer plane n boxes.now)) }
     ensures hand { IfOk result (λ outcomes.
         All (HandsOn (length (list_of desk.old received)) desk.new.lists) outcomes.items) }
     ensures counted { OnOk result
-        (CountsHulls (length (longer n boxes.now) * length (list_of desk.old received))
+        (CountsHulls (length (longer plane n boxes.now) * length (list_of desk.old received))
         tally.old tally.new) }
     ensures at_most { OnErr result
-        (CountsAtMost 0 (length (longer n boxes.now) * length (list_of desk.old received))
+        (CountsAtMost 0 (length (longer plane n boxes.now) * length (list_of desk.old received))
         tally.old tally.new) }
     ensures more { HasMore desk.old desk.new }
 {
+    planes_hold();
     let asked = longer_boxes(n, boxes);
     desk.trace_asked_boxes(received, asked.as_slice(), tally)
 }
@@ -235,7 +248,7 @@ fn trace_longer(
 #[inline]
 fn longer_boxes(n: GridSize, boxes: &[IndexBox]) -> ArrayVec<AskedBox, 8>
     requires { length boxes.now ≤ 8 }
-    ensures items { result.items ≡ longer n boxes.now }
+    ensures items { result.items ≡ longer plane n boxes.now }
 {
     let mut asked = ArrayVec::new();
     for b in boxes {
@@ -249,7 +262,7 @@ fn longer_boxes(n: GridSize, boxes: &[IndexBox]) -> ArrayVec<AskedBox, 8>
 // A box that is held open where it covers a point of the border.
 #[inline]
 fn asked_box(n: GridSize, b: IndexBox) -> AskedBox
-    ensures { result ≡ asked_of n b }
+    ensures { result ≡ asked_of plane n b }
 {
     AskedBox {
         range: b,
@@ -266,21 +279,23 @@ fn look_into_cell(
     values: &mut KnownValues,
     tally: &mut Tally,
 ) -> Result<(), AllocError>
-    requires may { MayLook desk.old b received values.old }
+    requires may { MayLook plane desk.old b received (known_of values.old) }
+    requires flat { desk.old.view.nz ≡ 1 }
     requires one { is_long_for 1 b ≡ false }
     ensures settled { OnOk result
         (AreSettled (planar desk.old.view) (flat_value desk.old.view (list_of desk.old received)) b
-        values.new) }
+        (known_of values.new)) }
     ensures worked { OnOk result
-        (AreWorked (planar desk.old.view) (visit b (list_of desk.old received)) values.new) }
-    ensures grows { Grows (flat_value desk.old.view (list_of desk.old received)) b values.old values.new }
+        (AreWorked (planar desk.old.view) (visit b (list_of desk.old received)) (known_of values.new)) }
+    ensures grows { Grows (flat_value desk.old.view (list_of desk.old received)) b (known_of values.old)
+        (known_of values.new) }
     ensures counted { ChargesBox (planar desk.old.view) (visit b (list_of desk.old received))
-        values.old values.new tally.old tally.new }
-    ensures paid { PaysBox (planar desk.old.view) (visit b (list_of desk.old received)) values.old
-        values.new tally.old tally.new }
+        (known_of values.old) (known_of values.new) tally.old tally.new }
+    ensures paid { PaysBox (planar desk.old.view) (visit b (list_of desk.old received))
+        (known_of values.old) (known_of values.new) tally.old tally.new }
     ensures kept { desk.new ≡ desk.old }
 {
-    layers_hold();
+    planes_hold();
     values.holds();
     let seen = seen(values, b.x0, b.y0);
     if seen.all {
@@ -303,8 +318,9 @@ fn is_working(
     seen: Seen,
     tally: &mut Tally,
 ) -> bool
-    requires may { (t : PlaneValues) × MayLook desk.old b received t × IsSeen t
+    requires may { (t : Known) × MayLook plane desk.old b received t × IsSeen t
         (point b.x0 b.y0 0) seen }
+    requires flat { desk.old.view.nz ≡ 1 }
     requires one { is_long_for 1 b ≡ false }
     requires n { SameSize n (size_of desk.old.view) }
     ensures open { result
@@ -314,6 +330,7 @@ fn is_working(
     ensures kept { desk.new ≡ desk.old }
 {
     layers_hold();
+    planes_hold();
     if seen.inside && seen.outside {
         return true;
     }

@@ -3,15 +3,16 @@ ghost use Rattle.std.specs.Prelude.{◌≡◌, ◌<◌, false, length, OnOk};
 ghost use Rattle.box_chains.specs.Chains.{is_long as is_long_for};
 ghost use Rattle.box_chains.specs.Desks.{list_of};
 ghost use Rattle.kuhn_cells.specs.Triangles.{point};
-ghost use Rattle.contour_lines.specs.Desks.{MayLook};
-ghost use Rattle.contour_lines.specs.Fills.{ChargesCorners, PaysCorners, floor_of};
+ghost use Rattle.oct_descent.specs.Halves.{MayLook};
+ghost use Rattle.oct_descent.specs.Known.{AllKnown, ChargesCorners, Grows, PaysCorners};
 ghost use Rattle.contour_lines.specs.Gaps.{AreGaps};
-ghost use Rattle.contour_lines.specs.Planes.{flat_value};
-ghost use Rattle.contour_lines.specs.Tables.{AllKnown, Grows};
+ghost use Rattle.contour_lines.specs.Tables.{known_of};
+ghost use Rattle.contour_lines.specs.Ways.{flat_value, floor_of, plane};
 
 use crate::gap::Gap;
 use crate::gaps::fill_gaps;
 use crate::known_values::KnownValues;
+use crate::laws::planes_hold;
 use arrayvec::ArrayVec;
 use box_chains::{Desk, layers_hold, make_rows};
 use fixed_ops::Tally;
@@ -27,17 +28,20 @@ pub fn fill_cell(
     values: &mut KnownValues,
     tally: &mut Tally,
 ) -> Result<(), AllocError>
-    requires may { MayLook desk.old b received values.old }
+    requires may { MayLook plane desk.old b received (known_of values.old) }
+    requires flat { desk.old.view.nz ≡ 1 }
     requires one { is_long_for 1 b ≡ false }
-    ensures known { OnOk result (AllKnown values.new (floor_of b)) }
-    ensures grows { Grows (flat_value desk.old.view (list_of desk.old received)) b values.old values.new }
-    ensures counted { ChargesCorners b (length (list_of desk.old received)) values.old values.new
-        tally.old tally.new }
-    ensures paid { PaysCorners b (length (list_of desk.old received)) values.old values.new
-        tally.old tally.new }
+    ensures known { OnOk result (AllKnown (known_of values.new) (floor_of b)) }
+    ensures grows { Grows (flat_value desk.old.view (list_of desk.old received)) b (known_of values.old)
+        (known_of values.new) }
+    ensures counted { ChargesCorners (floor_of b) (length (list_of desk.old received))
+        (known_of values.old) (known_of values.new) tally.old tally.new }
+    ensures paid { PaysCorners (floor_of b) (length (list_of desk.old received))
+        (known_of values.old) (known_of values.new) tally.old tally.new }
     ensures kept { desk.new ≡ desk.old }
 {
     layers_hold();
+    planes_hold();
     values.holds();
     let list = desk.lists.list(received);
     make_rows(&mut desk.rows, list.len())?;
@@ -58,8 +62,9 @@ pub fn fill_cell(
 fn find_gaps(x: u32, y: u32, values: &KnownValues) -> ArrayVec<Gap, 4>
     requires x { x < values.now.n.x }
     requires y { y < values.now.n.y }
-    ensures { AreGaps values.now (point x y 0) result.items }
+    ensures { AreGaps (known_of values.now) (point x y 0) result.items }
 {
+    planes_hold();
     values.holds();
     let mut gaps = ArrayVec::new();
     for c in 0..4 {

@@ -7,10 +7,13 @@ ghost use Rattle.kuhn_cells.specs.Sizes.{SameSize};
 ghost use Rattle.view_places.specs.declared.lattice.Lattice.TheVariants as lattices;
 ghost use Rattle.view_places.specs.Window.{size_of};
 ghost use Rattle.contour_lines.specs.Gaps.{Fills, StandsIn, lies_at, nth};
-ghost use Rattle.contour_lines.specs.Planes.{flat_value, within_border};
+ghost use Rattle.contour_lines.specs.Planes.{within_border};
+ghost use Rattle.contour_lines.specs.Tables.{known_of};
+ghost use Rattle.contour_lines.specs.Ways.{flat_value};
 
 use crate::gap::Gap;
 use crate::known_values::KnownValues;
+use crate::laws::planes_hold;
 use box_chains::Places;
 use choice_trace::{Inputs, evaluate_lanes};
 use fixed_ops::{Fx, Tally, border, tallies_add_up};
@@ -30,11 +33,13 @@ pub fn fill_gaps(
     requires lattice { places.now.lattice ≡ lattices.Grid }
     requires n { SameSize values.old.n (size_of places.now.view) }
     requires room { length list.now ≤ length rows.old }
-    requires stand { All (StandsIn values.old) gaps.now }
-    ensures fills { Fills (flat_value places.now.view list.now) gaps.now values.old values.new }
+    requires stand { All (StandsIn (known_of values.old)) gaps.now }
+    ensures fills { Fills (flat_value places.now.view list.now) gaps.now (known_of values.old)
+        (known_of values.new) }
     ensures counted { RisesBy tally.old tally.new (points_of (length gaps.now * length list.now)) }
 {
     tallies_add_up();
+    planes_hold();
     let mut at = 0;
     while at < gaps.len() {
         at += fill_some(places, &gaps[at..], list, rows, values, tally);
@@ -55,11 +60,11 @@ fn fill_some(
     requires n { SameSize values.old.n (size_of places.now.view) }
     requires room { length list.now ≤ length rows.old }
     requires some { 0 < length gaps.now }
-    requires stand { All (StandsIn values.old) gaps.now }
+    requires stand { All (StandsIn (known_of values.old)) gaps.now }
     ensures some { 0 < result }
     ensures few { result ≤ length gaps.now }
-    ensures fills { Fills (flat_value places.now.view list.now) (take result gaps.now) values.old
-        values.new }
+    ensures fills { Fills (flat_value places.now.view list.now) (take result gaps.now)
+        (known_of values.old) (known_of values.new) }
     ensures counted { RisesBy tally.old tally.new (points_of (result * length list.now)) }
 {
     if gaps.len() >= 4 {
@@ -88,10 +93,12 @@ fn fill_lanes<const L: usize>(
     requires lattice { places.now.lattice ≡ lattices.Grid }
     requires n { SameSize values.old.n (size_of places.now.view) }
     requires room { length list.now ≤ length rows.old }
-    requires stand { All (StandsIn values.old) gaps.now }
-    ensures fills { Fills (flat_value places.now.view list.now) gaps.now values.old values.new }
+    requires stand { All (StandsIn (known_of values.old)) gaps.now }
+    ensures fills { Fills (flat_value places.now.view list.now) gaps.now (known_of values.old)
+        (known_of values.new) }
     ensures counted { RisesBy tally.old tally.new (points_of (L * length list.now)) }
 {
+    planes_hold();
     let n = values.n();
     let inputs = gather::<L>(places, n, gaps);
     let row = evaluate_lanes::<L>(list, &inputs, rows, tally);

@@ -1,8 +1,10 @@
 // The values that are known of the points of a plane grid.
 ghost use Rattle.std.specs.Prelude.{◌≡◌, ◌+◌, ◌*◌, ◌<◌, ◌≤◌, None, IfOk, length};
 ghost use Rattle.kuhn_cells.specs.Triangles.{GridPoint, point};
-ghost use Rattle.contour_lines.specs.Tables.{Sets, known_at};
+ghost use Rattle.oct_descent.specs.Known.{Sets};
+ghost use Rattle.contour_lines.specs.Tables.{known_at, known_of};
 
+use crate::laws::planes_hold;
 use fixed_ops::Fx;
 use kuhn_cells::GridSize;
 use std::alloc::{AllocError, Global};
@@ -106,8 +108,9 @@ impl KnownValues {
     pub fn set(&mut self, x: u32, y: u32, value: Fx)
         requires x { x ≤ self.old.n.x }
         requires y { y ≤ self.old.n.y }
-        ensures { Sets (point x y 0) value self.old self.new }
+        ensures { Sets (point x y 0) value (known_of self.old) (known_of self.new) }
     {
+        planes_hold();
         let at = place_of(self.n, x, y);
         self.known[at] = true;
         self.values[at] = value;

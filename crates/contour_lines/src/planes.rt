@@ -5,12 +5,13 @@ ghost use Rattle.oct_descent.specs.Bound.{CountsAtLeast};
 ghost use Rattle.view_places.specs.Window.{FitsContour, IsWindow};
 ghost use Rattle.contour_lines.specs.Bound.{contour_least, contour_points, contour_spans, flat_least, flat_points, flat_spans};
 ghost use Rattle.contour_lines.specs.Signs.{HasCorners, HasSigns};
+ghost use Rattle.contour_lines.specs.Tables.{known_of};
 ghost use Rattle.contour_lines.specs.Trees.{IsTold};
 
 use crate::descent::look_into;
 use crate::flat::lay_flat;
 use crate::known_values::KnownValues;
-use crate::laws::flat_view;
+use crate::laws::{flat_view, planes_hold};
 use crate::sides::{sides_of, signs_of};
 use box_chains::{Desk, layers_hold};
 use fixed_ops::{Fx, Tally};
@@ -51,7 +52,7 @@ pub fn plane_table(
     ensures at_least { OnOk result
         (CountsAtLeast (contour_least view.now list.now) tally.old tally.new) }
 {
-    layers_hold();
+    planes_hold();
     flat_view();
     let flat = lay_flat(view);
     let values = look_into_all(alloc, list, &flat, tally)?;
@@ -74,13 +75,14 @@ fn look_into_all(
     tally: &mut Tally,
 ) -> Result<KnownValues, AllocError>
     requires { view.now.nz ≡ 1 }
-    ensures told { IfOk result (λ values. IsTold view.now list.now values) }
+    ensures told { IfOk result (λ values. IsTold view.now list.now (known_of values)) }
     ensures window { IsWindow view.now }
     ensures at_most { CountsAtMost (flat_points view.now list.now) (flat_spans view.now list.now)
         tally.old tally.new }
     ensures at_least { OnOk result (CountsAtLeast (flat_least view.now list.now) tally.old tally.new) }
 {
     layers_hold();
+    planes_hold();
     let n = view.grid();
     let _len = list.len();
     let mut desk = Desk::new(alloc, view, Lattice::Grid, list)?;

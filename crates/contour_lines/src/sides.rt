@@ -3,6 +3,7 @@ ghost use Rattle.std.specs.Prelude.{◌≡◌, ◌+◌, ◌*◌, ◌<◌, ◌≤
 ghost use Rattle.live_clauses.specs.declared.step.Step.{Step};
 ghost use Rattle.view_places.specs.Window.{Window, IsWindow};
 ghost use Rattle.contour_lines.specs.Signs.{AreRows, side_after as side_after_of, side_of, signs_by};
+ghost use Rattle.contour_lines.specs.Tables.{known_of};
 ghost use Rattle.contour_lines.specs.Trees.{IsTold};
 
 use crate::known_values::KnownValues;
@@ -14,7 +15,7 @@ use std::alloc::{AllocError, Global};
 /// no first point of a row is inside. AllocError: there is no memory for it.
 pub fn sides_of(alloc: Global, values: &KnownValues) -> Result<Vec<bool>, AllocError>
     ensures { IfOk result (λ sides. (view : Window) (list : List Step) → IsWindow view
-        → IsTold view list values.now → AreRows (values.now.n.x + 1) (side_of view list) false
+        → IsTold view list (known_of values.now) → AreRows (values.now.n.x + 1) (side_of view list) false
         (values.now.n.y + 1) 0 sides.items) }
 {
     let mut sides = Vec::new(alloc);
@@ -28,7 +29,7 @@ pub fn sides_of(alloc: Global, values: &KnownValues) -> Result<Vec<bool>, AllocE
 fn push_row(y: u32, values: &KnownValues, sides: &mut Vec<bool>) -> Result<(), AllocError>
     requires { y ≤ values.now.n.y }
     ensures { OnOk result ((view : Window) (list : List Step) → IsWindow view
-        → IsTold view list values.now
+        → IsTold view list (known_of values.now)
         → AreRows (values.now.n.x + 1) (side_of view list) false y 0 sides.old.items
         → AreRows (values.now.n.x + 1) (side_of view list) false (y + 1) 0 sides.new.items) }
 {

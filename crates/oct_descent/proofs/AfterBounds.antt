@@ -5,7 +5,7 @@ use Rattle.std.proofs.lemmas.Bool.{false≢true}
 use Rattle.box_chains.specs.Chains.{Visit, visit}
 use Rattle.box_chains.specs.Laws.{Lawful}
 use Rattle.box_chains.specs.Redrawn.{is_old}
-use Rattle.box_chains.specs.Sums.{Sample, maximum, sum_in}
+use Rattle.box_chains.specs.Sums.{Sample, maximum}
 use Rattle.box_chains.specs.Tallied.{CountsAtMost}
 use Rattle.fixed_ops.specs.Counts.{Counts}
 use Rattle.kuhn_cells.specs.Grids.{over_block}
@@ -15,18 +15,20 @@ use Rattle.live_clauses.specs.declared.step.Step.{Step}
 use Rattle.view_places.specs.Boxes.{Indices, IsBox}
 use Rattle.view_places.specs.Spans.{root_box_of}
 use Rattle.view_places.specs.Window.{IsWindow, Window, size_of}
-use Rattle.view_places.specs.declared.lattice.Lattice.TheVariants as lattices
 use Rattle.oct_descent.specs.After.{is_new_working, mesh_before, mesh_points_after, mesh_spans_after, new_length_in, new_lengths_at, ways_before}
 use Rattle.oct_descent.specs.AfterDesks.{ChargesBoxAfter, IsEnoughAfter}
 use Rattle.oct_descent.specs.AfterLaws.{MeshesAfterAddUp}
-use Rattle.oct_descent.specs.Bound.{length_in, lengths_at, mesh_points, points_of_grid, sample_of}
-use Rattle.oct_descent.specs.Tables.{PointValues, known_at, left}
-use Rattle.oct_descent.specs.Ways.{CellDescent, grid_root, gridded, is_working, way, way_end}
+use Rattle.oct_descent.specs.Bound.{has_point, length_in, lengths_at, mesh_points, points_of_grid, sample_of}
+use Rattle.oct_descent.specs.Kinds.{known_of}
+use Rattle.oct_descent.specs.Known.{left}
+use Rattle.oct_descent.specs.Tables.{PointValues, known_at}
+use Rattle.oct_descent.specs.Ways.{CellDescent, cell_box, grid_root, gridded, is_working, way, way_end}
 use Rattle.oct_descent.proofs.AfterOld.{end-stands, stands-old}
 use Rattle.oct_descent.proofs.AfterWork.{long-fresh, spans-fresh, spans-most, spans-old, sum_in-below, sum_in-nothing}
 use Rattle.oct_descent.proofs.Blocks.{greatest-block, greatest-block_most}
-use Rattle.oct_descent.proofs.Bounds.{covers-has_corner, has_corner}
-use Rattle.oct_descent.proofs.Whole.{left-all}
+use Rattle.oct_descent.proofs.Bounds.{covers-has}
+use Rattle.oct_descent.proofs.Whole.{left-whole}
+use Rattle.view_places.specs.declared.lattice.Lattice.TheVariants as lattices
 
 -- the length of the list that a new working cell of the grid of a mesh receives
 abbrev new_length : Window → Option (List Step) → List Step → GridPoint → ℕ
@@ -35,6 +37,10 @@ new_length view before list = new_length_in (gridded view) (mesh_before view bef
 -- and of one that need not be new
 abbrev any_length : Window → List Step → GridPoint → ℕ
 any_length view list = length_in (gridded view) (grid_root view list)
+
+-- a cell has a point as a corner
+abbrev has_corner : GridPoint → GridPoint → Bool
+has_corner cell p = has_point (cell_box (sample_of cell)) p
 
 -- a number of each cell that has a point as a corner
 abbrev at_corner : (GridPoint → ℕ) → GridPoint → GridPoint → List ℕ
@@ -178,32 +184,32 @@ points_suffice_after view before list s lies works p covers =
     (at_corner (new_length view before list) p) cell lies.x.1 lies.y.1 lies.z.1 in
     let here : maximum (cond (has_corner cell p) (new_length view before list cell ∷ []) [])
     ≡ max (length (way_end (gridded view) (grid_root view list) s).list) 0 =
-    ap (λ t. maximum (cond t (new_length view before list cell ∷ []) [])) (covers-has_corner s p covers)
+    ap (λ t. maximum (cond t (new_length view before list cell ∷ []) [])) (covers-has (cell_box s) p covers)
     ∙ ap (λ t. maximum (cond t (length (way_end (gridded view) (grid_root view list) s).list) 0 ∷ []))
     works in
     omega (arith, one, here)
 
 left-after : (laws : Lawful) (view : Window) (before : Option (List Step)) (list : List Step)
     (t : PointValues) → t.n ≡ size_of view → ((p : GridPoint) → known_at t p ≡ None)
-    → left (λ p. maximum (new_lengths_at view before list p)) t ≡ mesh_points_after view before list
+    → left (λ p. maximum (new_lengths_at view before list p)) (known_of t)
+    ≡ mesh_points_after view before list
 unfolding mesh_points_after
 left-after laws view before list t same none =
-    left-all laws (λ p. maximum (new_lengths_at view before list p)) t none
-    ∙ ap (λ n. sum_in (points_of_grid n) (λ s. maximum (new_lengths_at view before list (point s.i s.j s.k))))
-    same
+    left-whole laws (λ p. maximum (new_lengths_at view before list p)) (known_of t)
+    (points_of_grid (size_of view)) (ap points_of_grid same) none
 
 -- The work of the box of all cells is within that of the grid, where nothing was known of its points.
 pub whole-counted_after : (laws : Lawful) (view other : Window) (old : Option (List Step)) (list : List Step)
     (b : Indices) (before after : PointValues) (told now : Counts) → other ≡ view
     → b ≡ root_box_of view lattices.Grid → before.n ≡ size_of view
     → ((p : GridPoint) → known_at before p ≡ None)
-    → ChargesBoxAfter (gridded other) (mesh_before view old) (visit b list) before after told now
+    → ChargesBoxAfter (gridded other) (mesh_before view old) (visit b list) (known_of before) (known_of after) told now
     → CountsAtMost (mesh_points_after view old list) (mesh_spans_after view old list) told now
 whole-counted_after laws view other old list b before after told now same root n none charges =
     let f : GridPoint → ℕ = λ p. maximum (new_lengths_at view old list p) in
     let here = subst (λ v. ChargesBoxAfter (gridded v) (mesh_before view old)
-    (visit (root_box_of view lattices.Grid) list) before after told now) same
-    (subst (λ c. ChargesBoxAfter (gridded other) (mesh_before view old) (visit c list) before after told now)
+    (visit (root_box_of view lattices.Grid) list) (known_of before) (known_of after) told now) same
+    (subst (λ c. ChargesBoxAfter (gridded other) (mesh_before view old) (visit c list) (known_of before) (known_of after) told now)
     root charges) in
     let h = here f (points_suffice_after view old list) in
     laws.bounds.more told now h.points (mesh_spans_after view old list) (mesh_points_after view old list)

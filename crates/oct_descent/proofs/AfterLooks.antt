@@ -14,7 +14,6 @@ use Rattle.box_chains.specs.Tallied.{CountsAtMost}
 use Rattle.box_chains.specs.Visits.{IsVisit}
 use Rattle.fixed_ops.specs.Counts.{Counts}
 use Rattle.interval_ops.specs.HullCounts.{CountsHulls}
-use Rattle.kuhn_cells.specs.Sizes.{SameSize}
 use Rattle.kuhn_cells.specs.Triangles.{GridPoint, point}
 use Rattle.kuhn_cells.specs.declared.grid_size.GridSize.{GridSize}
 use Rattle.live_clauses.specs.declared.step.Step.{Step}
@@ -22,37 +21,24 @@ use Rattle.view_places.specs.Boxes.{Indices, IsBox, halves_of}
 use Rattle.view_places.specs.Window.{Window}
 use Rattle.oct_descent.specs.After.{cell_spans_after, handed_before, long_spans_after, received_half}
 use Rattle.oct_descent.specs.AfterDesks.{ChargesBelowAfter, ChargesBoxAfter, ChargesHalvesAfter, IsEnoughAfter, IsEnoughHalvesAfter, halves_long_spans_after, halves_spans_after, long_spans_below_after, spans_below_after}
-use Rattle.oct_descent.specs.Bound.{CountsHullsAtLeast, points_of_grid}
-use Rattle.oct_descent.specs.Desks.{longer, own_spans}
-use Rattle.oct_descent.specs.Fills.{ChargesCorners}
-use Rattle.oct_descent.specs.Tables.{Charges, PaysBox, PointValues, is_known, known_at, left}
-use Rattle.oct_descent.specs.Ways.{CellDescent, Covers, gridded, is_cut, is_open}
-use Rattle.oct_descent.proofs.AfterWork.{cell-enough_after, halves-enough_after, long-end_after, long-old, long-split_after, spans-end_after, spans-old, spans-split_after, sum_in-below}
-use Rattle.oct_descent.proofs.Corners.{IsOne, short-one}
-use Rattle.oct_descent.proofs.Looks.{hulls-least, hulls-then, longer-owned, own-long, own-short, owned, traced-none}
-use Rattle.oct_descent.proofs.Sizes.{size-is}
+use Rattle.oct_descent.specs.Bound.{CountsHullsAtLeast}
+use Rattle.oct_descent.specs.Desks.{own_spans}
+use Rattle.oct_descent.specs.Tables.{is_known}
+use Rattle.oct_descent.specs.Ways.{CellDescent, gridded, is_cut, is_open}
+use Rattle.oct_descent.proofs.AfterWork.{halves-enough_after, long-end_after, long-old, long-split_after, spans-end_after, spans-old, spans-split_after, sum_in-below}
+use Rattle.oct_descent.proofs.Looks.{hulls-least, hulls-then, own-long, own-short, traced-none}
 use Rattle.oct_descent.proofs.TableLaws.{charges-hulls, charges-more, charges-most, charges-then}
+use Rattle.oct_descent.specs.Known.{Charges, Known, PaysBox, left}
+use Rattle.oct_descent.proofs.Halves.{longer-owned}
+use Rattle.oct_descent.specs.Asked.{longer}
+use Rattle.oct_descent.specs.Halves.{owned}
+use Rattle.oct_descent.specs.Kinds.{mesh}
 
 -- ---- what the mesh before handed on
-
--- a box that it split handed on a list
-pub handed-cut : (d : CellDescent) (v : Visit) → is_cut d v ≡ true
-    → handed_before d (Some v) ≡ Some (handed_on d.boxes v)
-handed-cut d v e = ap (λ t. cond t (Some (handed_on d.boxes v)) None) e
-
--- and another none
-pub handed-uncut : (d : CellDescent) (v : Visit) → is_cut d v ≡ false → handed_before d (Some v) ≡ None
-handed-uncut d v e = ap (λ t. cond t (Some (handed_on d.boxes v)) None) e
 
 -- a list was not handed on before
 abbrev pub IsOther : Option (List Step) → List Step → Type 0
 IsOther old list = (was : List Step) → old ≡ Some was → was ≢ list
-
-pub none-other : (list : List Step) → IsOther None list
-none-other list was e = absurd (false≢true (ap is_some e))
-
-pub some-other : (was list : List Step) → was ≢ list → IsOther (Some was) list
-some-other was list differs got e same = differs (ap (λ o. unwrap_or o got) e ∙ same)
 
 -- halves that receive a list which was not handed on before are new
 pub half-is_new : (old : Option (List Step)) (list : List Step) (half : Indices) → IsOther old list
@@ -65,18 +51,17 @@ half-is_new (Some was) list half other u e =
 -- ---- what is taken over
 
 -- where no less is known, no more is left
-pub left-fewer : (laws : Lawful) (f : GridPoint → ℕ) (before after : PointValues) → SameSize after.n before.n
-    → ((p : GridPoint) → is_known (known_at before p) ≡ true → is_known (known_at after p) ≡ true)
+left-fewer : (laws : Lawful) (f : GridPoint → ℕ) (before after : Known) → after.points ≡ before.points
+    → ((p : GridPoint) → is_known (before.at p) ≡ true → is_known (after.at p) ≡ true)
     → left f after ≤ left f before
 left-fewer laws f before after same stays =
-    subst (λ (n : GridSize). sum_in (points_of_grid n) (weight after) ≤ left f before)
-    (sym (size-is after.n before.n same))
-    (sum_in-below laws (points_of_grid before.n) (weight after) (weight before)
-    (λ s lies. by (point s.i s.j s.k) (is_known (known_at before (point s.i s.j s.k)))
-    (is_known (known_at after (point s.i s.j s.k))) (stays (point s.i s.j s.k))))
+    subst (λ (b : Indices). sum_in b (weight after) ≤ left f before) (sym same)
+    (sum_in-below laws before.points (weight after) (weight before)
+    (λ s lies. by (point s.i s.j s.k) (is_known (before.at (point s.i s.j s.k)))
+    (is_known (after.at (point s.i s.j s.k))) (stays (point s.i s.j s.k))))
   where
-    weight : PointValues → Sample → ℕ
-    weight t s = cond (is_known (known_at t (point s.i s.j s.k))) 0 (f (point s.i s.j s.k))
+    weight : Known → Sample → ℕ
+    weight t s = cond (is_known (t.at (point s.i s.j s.k))) 0 (f (point s.i s.j s.k))
 
     by : (p : GridPoint) (was now : Bool) → (was ≡ true → now ≡ true)
         → cond {A = ℕ} now 0 (f p) ≤ cond was 0 (f p)
@@ -86,9 +71,9 @@ left-fewer laws f before after same stays =
     by p true false h = absurd (false≢true (h refl))
 
 -- what is taken over is not charged
-pub taken-charged : (laws : Lawful) (f : GridPoint → ℕ) (spans : ℕ) (before after : PointValues)
-    (now : Counts) → SameSize after.n before.n
-    → ((p : GridPoint) → is_known (known_at before p) ≡ true → is_known (known_at after p) ≡ true)
+pub taken-charged : (laws : Lawful) (f : GridPoint → ℕ) (spans : ℕ) (before after : Known)
+    (now : Counts) → after.points ≡ before.points
+    → ((p : GridPoint) → is_known (before.at p) ≡ true → is_known (after.at p) ≡ true)
     → Charges f spans before after now now
 taken-charged laws f spans before after now same stays = record {
   points = 0;
@@ -142,58 +127,22 @@ own-among_after laws d before v some is new = by (is_long 1 v.box)
     by true = spans-some_after laws d before v some is new
     by false = omega arith
 
-pub look-charged_after : (laws : Lawful) (d : CellDescent) (old : Option Visit) (v : Visit) (t : PointValues)
+pub look-charged_after : (laws : Lawful) (d : CellDescent) (old : Option Visit) (v : Visit) (t : Known)
     (told now : Counts) → 0 < d.boxes.leaf → IsBox v.box → IsNew old v
     → CountsAtMost 0 (length v.list) told now → ChargesBoxAfter d old v t t told now
 look-charged_after laws d old v t told now some is new h f enough =
     charges-more laws f (length v.list) (cell_spans_after d old v) t t told now
     (spans-some_after laws d old v some is new) (charges-most f (length v.list) t told now h)
 
-pub trace-charged_after : (laws : Lawful) (d : CellDescent) (old : Option Visit) (v : Visit) (t : PointValues)
+pub trace-charged_after : (laws : Lawful) (d : CellDescent) (old : Option Visit) (v : Visit) (t : Known)
     (told now : Counts) → 0 < d.boxes.leaf → IsBox v.box → IsNew old v → CountsHulls (length v.list) told now
     → ChargesBoxAfter d old v t t told now
 trace-charged_after laws d old v t told now some is new h =
     look-charged_after laws d old v t told now some is new (laws.bounds.hulls told now (length v.list) h)
 
--- what is enough for a new cell that stays open is no less than its list at each point that it covers
-pub cell-covered_after : (laws : Lawful) (view : Window) (f : GridPoint → ℕ) (old : Option Visit) (v : Visit)
-    → IsBox v.box → IsNew old v → is_open (gridded view) v ≡ true → is_long 1 v.box ≡ false
-    → IsEnoughAfter f (gridded view) old v
-    → (p : GridPoint) → Covers v.box p → length v.list ≤ f p
-cell-covered_after laws view f old v is new open' short enough p covers =
-    cell-enough_after laws f (gridded view) old v (omega arith) is new open' short enough
-    (record { i = v.box.x0; j = v.box.y0; k = v.box.z0 })
-    (record {
-      x = (omega arith, omega (arith, one.x));
-      y = (omega arith, omega (arith, one.y));
-      z =
-          (omega arith, omega (arith, one.z));
-    }) p
-    (record {
-      x = (covers.x.0, omega (arith, covers.x.1, one.x));
-      y = (covers.y.0, omega (arith, covers.y.1, one.y));
-      z = (covers.z.0, omega (arith, covers.z.1, one.z));
-    })
-  where
-    one : IsOne v.box
-    one = short-one v.box is short
-
--- a new working cell takes what its corners do
-pub cell-charged_after : (laws : Lawful) (view : Window) (old : Option Visit) (v : Visit)
-    (before after : PointValues) (told since now : Counts) → IsVisit (gridded view).boxes v → IsNew old v
-    → is_open (gridded view) v ≡ true → is_long 1 v.box ≡ false
-    → CountsAtMost 0 (length v.list) told since → ChargesCorners v.box (length v.list) before after since now
-    → ChargesBoxAfter (gridded view) old v before after told now
-cell-charged_after laws view old v before after told since now is new open' short hulls corners f enough =
-    charges-then laws f (length v.list) 0
-    (cell_spans_after (gridded view) old v) before before after told since now
-    (omega (arith, spans-some_after laws (gridded view) old v (omega arith) is.box new))
-    (charges-most f (length v.list) before told since hulls)
-    (corners f (cell-covered_after laws view f old v is.box new open' short enough))
-
 -- what a new box takes once it is traced, behind its trace
 pub below-charged_after : (laws : Lawful) (view : Window) (old : Option Visit) (v : Visit)
-    (before after : PointValues) (told since now : Counts) → IsBox v.box → IsNew old v → is_long 1 v.box
+    (before after : Known) (told since now : Counts) → IsBox v.box → IsNew old v → is_long 1 v.box
     ≡ true
     → CountsHulls (length v.list) told since → ChargesBelowAfter (gridded view) old v before after since now
     → ChargesBoxAfter (gridded view) old v before after told now
@@ -205,7 +154,7 @@ below-charged_after laws view old v before after told since now is new long hull
 
 -- a cell takes as much
 pub cell-below_after : (laws : Lawful) (d : CellDescent) (old : Option Visit) (v : Visit)
-    (before after : PointValues) (told now : Counts) → is_long 1 v.box ≡ false
+    (before after : Known) (told now : Counts) → is_long 1 v.box ≡ false
     → ChargesBoxAfter d old v before after told now → ChargesBelowAfter d old v before after told now
 cell-below_after laws d old v before after told now short charged f enough =
     charges-more laws f (cell_spans_after d old v) (spans_below_after d old v) before after told now
@@ -213,7 +162,7 @@ cell-below_after laws d old v before after told now short charged f enough =
 
 -- a box that is split takes what its halves take, beside its own trace
 pub halves-charged_after : (laws : Lawful) (view : Window) (old : Option Visit) (was : Option (List Step))
-    (v : Visit) (live : List Step) (before after : PointValues) (told now : Counts)
+    (v : Visit) (live : List Step) (before after : Known) (told now : Counts)
     → IsVisit (gridded view).boxes v → IsNew old v
     → is_open (gridded view) v ≡ true → is_long 1 v.box ≡ true → was ≡ handed_before (gridded view) old
     → live ≡ handed_on (gridded view).boxes v
@@ -281,31 +230,31 @@ owned-long_below_after d old list (h ∷ hs) = omega (
 
 -- the traces of new halves, whole or begun, are among what the halves take
 pub begun-charged_after : (laws : Lawful) (view : Window) (old : Option (List Step)) (list : List Step)
-    (halves : List Indices) (n : GridSize) (t : PointValues) (told now : Counts) → IsOther old list
+    (halves : List Indices) (n : GridSize) (t : Known) (told now : Counts) → IsOther old list
     → All IsBox halves
-    → CountsAtMost 0 (length (longer n halves) * length list) told now
+    → CountsAtMost 0 (length (longer mesh n halves) * length list) told now
     → ChargesHalvesAfter (gridded view) old list halves t t told now
 begun-charged_after laws view old list halves n t told now other each begun f enough =
-    charges-more laws f (length (longer n halves) * length list)
+    charges-more laws f (length (longer mesh n halves) * length list)
     (halves_spans_after (gridded view) old list halves) t t told now
-    (omega (arith, longer-owned n list halves, owned-below_after laws view old list halves other each))
-    (charges-most f (length (longer n halves) * length list) t told now begun)
+    (omega (arith, longer-owned mesh n list halves, owned-below_after laws view old list halves other each))
+    (charges-most f (length (longer mesh n halves) * length list) t told now begun)
 
 -- what holds once halves are traced, and before any is looked into
 pub first-charged_after : (laws : Lawful) (d : CellDescent) (old : Option (List Step)) (list : List Step)
-    (halves : List Indices) (n : GridSize) (t : PointValues) (told now : Counts)
-    → CountsHulls (length (longer n halves) * length list) told now
+    (halves : List Indices) (n : GridSize) (t : Known) (told now : Counts)
+    → CountsHulls (length (longer mesh n halves) * length list) told now
     → (f : GridPoint → ℕ) → IsEnoughHalvesAfter f d old list halves
     → Charges f (owned list halves + halves_below_after d old list (take 0 halves)) t t told now
 first-charged_after laws d old list halves n t told now hulls f enough =
-    charges-more laws f (length (longer n halves) * length list)
+    charges-more laws f (length (longer mesh n halves) * length list)
     (owned list halves + halves_below_after d old list (take 0 halves)) t t told now
-    (omega (arith, longer-owned n list halves))
-    (charges-hulls laws f (length (longer n halves) * length list) t told now hulls)
+    (omega (arith, longer-owned mesh n list halves))
+    (charges-hulls laws f (length (longer mesh n halves) * length list) t told now hulls)
 
 -- one more half is charged, behind what was traced of all halves before
 pub next-charged_after : (laws : Lawful) (view other : Window) (old : Option (List Step)) (list : List Step)
-    (half : Indices) (halves : List Indices) (i own : ℕ) (before mid after : PointValues)
+    (half : Indices) (halves : List Indices) (i own : ℕ) (before mid after : Known)
     (told since now : Counts) → other ≡ view → i < length halves → half ≡ get_or halves i half
     → ((f : GridPoint → ℕ) → IsEnoughHalvesAfter f (gridded view) old list halves
     → Charges f (own + halves_below_after (gridded view) old list (take i halves)) before mid told since)
@@ -331,7 +280,7 @@ next-charged_after laws view other old list half halves i own before mid after t
 
 -- the work of some of the halves, behind what was traced of all, is among that of all
 pub some-charged_after : (laws : Lawful) (view : Window) (old : Option (List Step)) (list : List Step)
-    (halves : List Indices) (i : ℕ) (before after : PointValues) (told now : Counts)
+    (halves : List Indices) (i : ℕ) (before after : Known) (told now : Counts)
     → IsOther old list → All IsBox halves
     → ((f : GridPoint → ℕ) → IsEnoughHalvesAfter f (gridded view) old list halves
     → Charges f
@@ -351,20 +300,20 @@ some-charged_after laws view old list halves i before after told now other each 
 
 pub first-traced_after : (d : CellDescent) (old : Option (List Step)) (list : List Step)
     (halves : List Indices) (n : GridSize) (told now : Counts)
-    → CountsHulls (length (longer n halves) * length list) told now
+    → CountsHulls (length (longer mesh n halves) * length list) told now
     → CountsHullsAtLeast (owned list halves + halves_long_below_after d old list (take 0 halves)) told now
 first-traced_after d old list halves n told now hulls =
-    let least = hulls-least told now (length (longer n halves) * length list) hulls in
+    let least = hulls-least told now (length (longer mesh n halves) * length list) hulls in
     record {
       by = least.by;
       many = omega
-          (arith, least.many, longer-owned n list halves);
+          (arith, least.many, longer-owned mesh n list halves);
       rises = least.rises;
     }
 
 -- a new cell need not be traced
 pub cell-traced_after : (laws : Lawful) (d : CellDescent) (old : Option Visit) (v : Visit)
-    (before after : PointValues) (told now : Counts) → 0 < d.boxes.leaf → IsBox v.box → IsNew old v
+    (before after : Known) (told now : Counts) → 0 < d.boxes.leaf → IsBox v.box → IsNew old v
     → is_long d.boxes.leaf v.box ≡ false → PaysBox d v before after told now
     → CountsHullsAtLeast (long_spans_after d old v) told now
 cell-traced_after laws d old v before after told now some is new short pays =

@@ -1,6 +1,7 @@
 -- Where a box of the grid before and its halves stand there.
 use Rattle.std.proofs.Common.{◌≡◌, ◌≢◌, ℕ, ◌+◌, ◌<◌, ◌≤◌, Bool, true, false, cond, List, [], ◌∷◌, ◌++◌, append-nil, append_assoc, length, get_or, take, drop, refl, sym, ap, subst, ◌∙◌, arith}
 use Rattle.std.specs.Prelude.{◌&&◌, not, IfNone, IfSome, IsTrue, is_some, Option, Some, None, unwrap_or}
+use Rattle.std.specs.List.Sorted.{IsPermutation}
 use Rattle.std.proofs.Math.Seq.{drop-append_seam, take-append_seam}
 use Rattle.std.proofs.lemmas.Bool.{and_parts, false≢true}
 use Rattle.std.proofs.lemmas.List.{drop-drop, drop_all, drop_more, length-append}
@@ -25,14 +26,17 @@ use Rattle.oct_descent.specs.GridValues.{list_grid_value}
 use Rattle.oct_descent.specs.KeptBoxes.{halves_places, places_of}
 use Rattle.oct_descent.specs.OldBoxes.{AreOldHalves, IsLookedInto, IsOldBox, StandsFirst, behind, behind_halves, first_count, first_list, handed_by, received_by, visit_before}
 use Rattle.kuhn_cells.specs.Sizes.{SameSize}
-use Rattle.oct_descent.specs.Tables.{AreRight, AreSettled, ChargesBox, IsEnough, PointValues}
+use Rattle.oct_descent.specs.Tables.{IsEnough, PointValues}
 use Rattle.oct_descent.specs.Trees.{IsTold}
 use Rattle.oct_descent.specs.Ways.{CellDescent, grid_root, gridded, is_cut, is_open, way_end}
 use Rattle.oct_descent.specs.declared.old_box.OldBox.{OldBox}
 use Rattle.oct_descent.specs.declared.split_box.SplitBox.{SplitBox}
-use Rattle.oct_descent.proofs.Covered.{corner-covered, handed-grid_value}
+use Rattle.oct_descent.proofs.Covered.{corner-covered, handed-value}
+use Rattle.oct_descent.specs.Kinds.{known_of, mesh}
+use Rattle.oct_descent.specs.Known.{Known, AreRight, AreSettled, ChargesBox}
 use Rattle.oct_descent.proofs.Kept.{places-cell, places-shut, places-split}
-use Rattle.oct_descent.proofs.Looks.{half-part, half-visit, handed-right, handed-tape, part-covers}
+use Rattle.oct_descent.proofs.Looks.{handed-right, handed-tape}
+use Rattle.oct_descent.proofs.Halves.{half-visit, part-covers, turned-part}
 use Rattle.oct_descent.proofs.AfterLooks.{IsOther, spans-some_after}
 use Rattle.oct_descent.proofs.AfterWork.{cell-enough_after}
 use Rattle.oct_descent.proofs.TableLaws.{charges-more, settled-same}
@@ -133,12 +137,12 @@ handed-some laws view b left old list long is handed = by (is_open d v) refl
 
 -- what was known of the points of the box is right for the list that it handed on, too, and its cells are settled by it
 pub handed-looked : (laws : Lawful) (view : Window) (b : Indices) (old : OldBox) (live : List Step) → IsLookedInto view b old → live ≡ handed_on (gridded view).boxes (visit b old.list.now)
-    → AreRight (list_grid_value view live) b old.values.now × AreSettled (gridded view) (list_grid_value view live) b old.values.now
+    → AreRight (list_grid_value view live) b (known_of old.values.now) × AreSettled (gridded view) (list_grid_value view live) b (known_of old.values.now)
 handed-looked laws view b old live is same =
     let v = visit b old.list.now in (
-      handed-right laws view v live old.values.now is.visit_is same is.right,
-      settled-same (gridded view) (list_grid_value view old.list.now) (list_grid_value view live) b old.values.now
-          (λ s p lies covers. sym (ap (λ l. list_grid_value view l p) same ∙ handed-grid_value laws view v p is.visit_is (corner-covered b s p lies covers))) is.settled,
+      handed-right laws mesh view v live (known_of old.values.now) is.visit_is same is.right,
+      settled-same (gridded view) (list_grid_value view old.list.now) (list_grid_value view live) b (known_of old.values.now)
+          (λ s p lies covers. sym (ap (λ l. list_grid_value view l p) same ∙ handed-value laws mesh view v p is.visit_is (corner-covered b s p lies covers))) is.settled,
     )
 
 looked-handed : (laws : Lawful) (view : Window) (b : Indices) (old half : OldBox) → IsLookedInto view b old → half.values.now ≡ old.values.now
@@ -149,8 +153,8 @@ looked-handed laws view b old half is values same =
     record {
       visit_is = record { window = is.visit_is.window; box = is.visit_is.box; within = is.visit_is.within; tape = handed-tape laws view v half.list.now is.visit_is same };
       n = subst (λ (w : PointValues). SameSize w.n (size_of view)) (sym values) is.n;
-      right = subst (AreRight (list_grid_value view half.list.now) b) (sym values) handed.0;
-      settled = subst (AreSettled (gridded view) (list_grid_value view half.list.now) b) (sym values) handed.1;
+      right = subst (λ w. AreRight (list_grid_value view half.list.now) b (known_of w)) (sym values) handed.0;
+      settled = subst (λ w. AreSettled (gridded view) (list_grid_value view half.list.now) b (known_of w)) (sym values) handed.1;
     }
 
 -- ---- halves
@@ -191,13 +195,13 @@ next-places d list halves i h within read =
     ap (halves_places d list) (next-of halves i h within read) ∙ flat_map-cons (λ x. places_of d (visit x list)) h (drop (i + 1) halves)
 
 -- the next of the halves of a box stands where they begin, and the others behind it
-half-stands : (laws : Lawful) (view : Window) (b h : Indices) (i : ℕ) (halves : List Indices) (left : List (Option SplitBox)) (half : OldBox) → halves ≡ halves_of 1 b → i < length halves → h ≡ get_or halves i h
+half-stands : (laws : Lawful) (view : Window) (b h : Indices) (i : ℕ) (halves : List Indices) (left : List (Option SplitBox)) (half : OldBox) → IsPermutation (halves_of 1 b) halves → i < length halves → h ≡ get_or halves i h
     → AreOldHalves view b (drop i halves) left half → IsOldBox view h left half
 half-stands laws view b h i halves left half all within read are =
     let d = gridded view in
     let list = half.list.now in
     record {
-      looked = looked-part laws view b h half (half-part laws b h halves i are.looked.visit_is.box all within read) are.looked;
+      looked = looked-part laws view b h half (turned-part laws b h halves i are.looked.visit_is.box all within read) are.looked;
       places = first-of left (places_of d (visit h list)) (halves_places d list (drop (i + 1) halves)) (subst (StandsFirst left) (next-places d list halves i h within read) are.places);
     }
 
@@ -206,7 +210,7 @@ pub half-was : (h : Indices) (before : Option OldBox) → visit_before before h 
 half-was h None = refl
 half-was h (Some old) = refl
 
-pub half-old : (laws : Lawful) (view : Window) (b h : Indices) (i : ℕ) (halves : List Indices) (left : List (Option SplitBox)) (before : Option OldBox) → halves ≡ halves_of 1 b → i < length halves
+pub half-old : (laws : Lawful) (view : Window) (b h : Indices) (i : ℕ) (halves : List Indices) (left : List (Option SplitBox)) (before : Option OldBox) → IsPermutation (halves_of 1 b) halves → i < length halves
     → h ≡ get_or halves i h → IfSome before (AreOldHalves view b (drop i halves) left) → IfSome before (IsOldBox view h left)
 half-old laws view b h i halves left None all within read are = tt
 half-old laws view b h i halves left (Some half) all within read are = half-stands laws view b h i halves left half all within read are
@@ -282,13 +286,6 @@ first-halves laws view b left before None long is received values = tt
 first-halves laws view b left None (Some half) long is received values = absurd (none-some half.list.now (sym received))
 first-halves laws view b left (Some old) (Some half) long is received values = old-halves laws view b left old half long is values (sym received)
 
--- halves are new, where the box handed on another list before
-pub halves-new : (was : Option (List Step)) (list : List Step) → was ≢ Some list → (h : Indices) → IsNew (received_half was h) (visit h list)
-halves-new None list new h old e = absurd (none-some old e)
-halves-new (Some other) list new h old e =
-    let same = ap (λ o. unwrap_or o old) e in
-    (ap (λ v. v.box) (sym same), λ equal. new (ap Some (ap (λ v. v.list) same ∙ equal)))
-
 -- no box before has no halves
 pub none-halves : (before half : Option OldBox) (left : List (Option SplitBox)) → received_by half ≡ handed_by before left → before ≡ None → half ≡ None
 none-halves before None left received none = refl
@@ -321,7 +318,7 @@ cell-enough laws view was v f is short new enough s lies works p covers =
     open' = (and_parts (is_open d v) (not (is_long 1 v.box)) (sym (ap (λ w. is_open d w && not (is_long 1 w.box)) end) ∙ works)).0
 
 -- so a new cell takes no more than a cell
-pub cell-after : (laws : Lawful) (view : Window) (was : Option Visit) (v : Visit) (before after : PointValues) (told now : Counts) → IsBox v.box → is_long 1 v.box ≡ false → IsNew was v
+pub cell-after : (laws : Lawful) (view : Window) (was : Option Visit) (v : Visit) (before after : Known) (told now : Counts) → IsBox v.box → is_long 1 v.box ≡ false → IsNew was v
     → ChargesBox (gridded view) v before after told now → ChargesBoxAfter (gridded view) was v before after told now
 cell-after laws view was v before after told now is short new charged f enough =
     charges-more laws f (cell_spans_in d v) (cell_spans_after d was v) before after told now
@@ -348,8 +345,8 @@ root-stands view list values places old told is same known all = record {
   looked = record {
     visit_is = subst (λ l. IsVisit (gridded view).boxes (grid_root view l)) (sym same) is;
     n = subst (λ (t : PointValues). SameSize t.n (size_of view)) (sym known) told.n;
-    right = subst (λ t. AreRight (list_grid_value view old.list.now) (root_box_of view Grid) t) (sym known) (subst (λ l. AreRight (list_grid_value view l) (root_box_of view Grid) values) (sym same) (λ p covers k. told.right p k));
-    settled = subst (λ t. AreSettled (gridded view) (list_grid_value view old.list.now) (root_box_of view Grid) t) (sym known) (subst (λ l. AreSettled (gridded view) (list_grid_value view l) (root_box_of view Grid) values) (sym same) told.settled);
+    right = subst (λ t. AreRight (list_grid_value view old.list.now) (root_box_of view Grid) (known_of t)) (sym known) (subst (λ l. AreRight (list_grid_value view l) (root_box_of view Grid) (known_of values)) (sym same) (λ p covers k. told.right p k));
+    settled = subst (λ t. AreSettled (gridded view) (list_grid_value view old.list.now) (root_box_of view Grid) (known_of t)) (sym known) (subst (λ l. AreSettled (gridded view) (list_grid_value view l) (root_box_of view Grid) (known_of values)) (sym same) told.settled);
   };
   places = record { rest = []; is = all ∙ ap (λ l. places_of (gridded view) (grid_root view l)) (sym same) ∙ sym (append-nil (places_of (gridded view) (grid_root view old.list.now))) };
 }

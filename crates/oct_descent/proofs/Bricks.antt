@@ -8,8 +8,10 @@ use Rattle.kuhn_cells.specs.Triangles.{GridPoint, further, point}
 use Rattle.kuhn_cells.specs.declared.grid_size.GridSize.{GridSize}
 use Rattle.oct_descent.proofs.Sizes.{size-none, size-then}
 use Rattle.oct_descent.specs.Corners.{AreTogether, IsRow, places_to}
-use Rattle.oct_descent.specs.Tables.{AreKept, IsSame, KeepsPlaces, Marks, PointValues, Sets, brick_of, is_known, is_within, known_at, read, read_at, same_point, slot, stand, stand_in}
+use Rattle.oct_descent.specs.Tables.{AreKept, IsSame, KeepsPlaces, Marks, PointValues, brick_of, is_known, is_within, known_at, read, read_at, same_point, slot, stand, stand_in}
 use Rattle.oct_descent.proofs.TableLaws.{same-is, same-self}
+use Rattle.oct_descent.specs.Known.{Sets}
+use Rattle.oct_descent.specs.Kinds.{known_of}
 
 -- ---- marks
 
@@ -300,7 +302,7 @@ stand-one t p q at kept here there first second =
 
 -- what is written where the value of a point stands sets the point
 pub brick-sets : (t : PointValues) (p : GridPoint) (v : ℤ) (at : ℕ) → AreKept t.places (length t.kept.known) (length t.kept.values) → is_within t.n p ≡ true → stand t p ≡ Some at → at < length t.kept.known
-    → Sets p v t (record { n = t.n; places = t.places; kept = record { known = set t.kept.known at true; values = set t.kept.values at v } })
+    → Sets p v (known_of t) (known_of (record { n = t.n; places = t.places; kept = record { known = set t.kept.known at true; values = set t.kept.values at v } }))
 unfolding known_at stand
 brick-sets t p v at kept inside is fits = record { n = size-none t.n; each = λ q. by q (same_point p q) refl (is_within t.n q) refl }
   where

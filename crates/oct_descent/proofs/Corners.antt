@@ -8,10 +8,12 @@ use Rattle.view_places.specs.Boxes.{Indices, IsBox}
 use Rattle.box_chains.specs.Chains.{is_long}
 use Rattle.fixed_ops.specs.Raw.{is_inside}
 use Rattle.oct_descent.specs.Corners.{AllShow, IsSeen, LacksCorner, ShowsCorner, side_seen}
-use Rattle.oct_descent.specs.Tables.{AllKnown, PointValues, is_known, known_at}
+use Rattle.oct_descent.specs.Tables.{PointValues, is_known, known_at}
 use Rattle.oct_descent.specs.Ways.{Covers}
 use Rattle.oct_descent.specs.declared.seen.Seen.{Seen}
 use Rattle.oct_descent.proofs.Covered.{or-false}
+use Rattle.oct_descent.specs.Known.{AllKnown}
+use Rattle.oct_descent.specs.Kinds.{known_of}
 
 pub none-is : (o : Option ℤ) (t : Bool) → is_some o ≡ not t → t ≡ true → o ≡ None
 none-is None t told e = refl
@@ -79,7 +81,7 @@ mask-covered b c one = record {
 }
 
 -- where all eight corners are known, all points that the cell covers are
-pub all-known : (b : Indices) (t : PointValues) → IsOne b → ((c : ℕ) → c < 8 → is_known (known_at t (further (point b.x0 b.y0 b.z0) c)) ≡ true) → AllKnown t b
+pub all-known : (b : Indices) (t : PointValues) → IsOne b → ((c : ℕ) → c < 8 → is_known (known_at t (further (point b.x0 b.y0 b.z0) c)) ≡ true) → AllKnown (known_of t) b
 all-known b t one known p covers =
     let corner = corner-mask b p one covers in
     subst (λ q. is_known (known_at t q) ≡ true) corner.at (known corner.mask corner.few)

@@ -14,17 +14,18 @@ use Rattle.view_places.specs.Boxes.{Indices}
 use Rattle.view_places.specs.Places.{point_of}
 use Rattle.view_places.specs.Spans.{region_of}
 use Rattle.view_places.specs.Window.{Window, size_of}
-use Rattle.view_places.specs.declared.lattice.Axis.TheVariants as axes
-use Rattle.view_places.specs.declared.lattice.Lattice.TheVariants as lattices
 use Rattle.box_chains.specs.Chains.{Visit, decision, handed_on}
 use Rattle.box_chains.specs.Sums.{LiesIn, Sample}
 use Rattle.box_chains.specs.Visits.{IsVisit}
 use Rattle.box_chains.specs.Laws.{Lawful}
 use Rattle.kuhn_cells.specs.Grids.{bordered, is_border}
 use Rattle.kuhn_cells.specs.declared.grid_size.GridSize.{GridSize}
-use Rattle.oct_descent.specs.GridValues.{list_grid_value, value_on}
+use Rattle.oct_descent.specs.GridValues.{value_on}
+use Rattle.oct_descent.specs.Kinds.{BordersHold, GridKind, mesh, value_in}
 use Rattle.oct_descent.specs.Tables.{IsUniform}
 use Rattle.oct_descent.specs.Ways.{Covers, cell_box, gridded, meets_border}
+use Rattle.view_places.specs.declared.lattice.Axis.TheVariants as axes
+use Rattle.view_places.specs.declared.lattice.Lattice.TheVariants as lattices
 
 -- the corners of a cell of a box are covered
 pub corner-covered : (b : Indices) (s : Sample) (p : GridPoint) → LiesIn b s → Covers (cell_box s) p → Covers b p
@@ -45,12 +46,12 @@ region-holds laws view v p is covers =
     }
 
 -- the list that a box hands on has the value of the one that it receives at each point that it covers
-pub handed-grid_value : (laws : Lawful) (view : Window) (v : Visit) (p : GridPoint) → IsVisit (gridded view).boxes v → Covers v.box p
-    → list_grid_value view (handed_on (gridded view).boxes v) p ≡ list_grid_value view v.list p
-handed-grid_value laws view v p is covers =
+pub handed-value : (laws : Lawful) (k : GridKind) (view : Window) (v : Visit) (p : GridPoint) → IsVisit (gridded view).boxes v → Covers v.box p
+    → value_in k view (handed_on (gridded view).boxes v) p ≡ value_in k view v.list p
+handed-value laws k view v p is covers =
     let region = region_of view lattices.Grid v.box in
     let at = point_of view lattices.Grid p.x p.y p.z in
-    ap (bordered (size_of view) p) (laws.layers.kept at v.list (choices_over region v.list) is.tape (laws.layers.choices region v.list)
+    ap (λ (w : ℤ). cond (k.is_border (size_of view) p) (int_max w (pos 0)) w) (laws.layers.kept at v.list (choices_over region v.list) is.tape (laws.layers.choices region v.list)
     (laws.layers.right region at v.list (laws.visits.ranges (gridded view).boxes v is) (region-holds laws view v p is covers) is.tape))
 
 decided-right : (s : Interval) (x : ℤ) (inside : Bool) → Holds s x → decided_of s ≡ Some inside → is_inside x ≡ inside
@@ -72,20 +73,29 @@ max-outside x = grind (arith, ints)
 pub bordered-outside : (n : GridSize) (p : GridPoint) (v : ℤ) → is_border n p ≡ true → is_inside (bordered n p v) ≡ false
 bordered-outside n p v e = rw e (max-outside v)
 
--- what is outside stays so in the outermost layer
-bordered-stays : (n : GridSize) (p : GridPoint) (v : ℤ) → is_inside v ≡ false → is_inside (bordered n p v) ≡ false
-bordered-stays n p v e = by (is_border n p)
-  where
-    by : (t : Bool) → is_inside (cond t (int_max v (pos 0)) v) ≡ false
-    by true = max-outside v
-    by false = e
+-- what is outside stays so on the border
+outside-stays : (t : Bool) (v : ℤ) → is_inside v ≡ false → is_inside (cond t (int_max v (pos 0)) v) ≡ false
+outside-stays true v e = max-outside v
+outside-stays false v e = e
 
-pub outside-uniform : (laws : Lawful) (view : Window) (v : Visit) (s : Sample) → IsVisit (gridded view).boxes v → LiesIn v.box s → decision (gridded view).boxes v ≡ Some false
-    → IsUniform (list_grid_value view v.list) (cell_box s)
-outside-uniform laws view v s is lies e = record {
+pub outside-uniform : (laws : Lawful) (k : GridKind) → BordersHold k → (view : Window) (v : Visit) (s : Sample) → IsVisit (gridded view).boxes v → LiesIn v.box s → decision (gridded view).boxes v ≡ Some false
+    → IsUniform (value_in k view v.list) (k.cell s)
+outside-uniform laws k holds view v s is lies e = record {
   inside = false;
-  each = λ p covers. bordered-stays (size_of view) p (value_on view v.list p) (decision-right laws view v p false is (corner-covered v.box s p lies covers) e);
+  each = λ p covers. outside-stays (k.is_border (size_of view) p) (value_on view v.list p) (decision-right laws view v p false is (holds.covered v.box s p lies covers) e);
 }
+
+pub inside-uniform : (laws : Lawful) (k : GridKind) → BordersHold k → (view : Window) (v : Visit) (s : Sample) → IsVisit (gridded view).boxes v → LiesIn v.box s → decision (gridded view).boxes v ≡ Some true → k.meets (size_of view) v.box ≡ false
+    → IsUniform (value_in k view v.list) (k.cell s)
+inside-uniform laws k holds view v s is lies e apart = record {
+  inside = true;
+  each = λ p covers.
+      let covered = holds.covered v.box s p lies covers in
+      ap is_inside (ap (λ t. cond t (int_max (value_on view v.list p) (pos 0)) (value_on view v.list p)) (holds.apart (size_of view) v.box p is.within.x is.within.y is.within.z covered apart))
+      ∙ decision-right laws view v p true is covered e;
+}
+
+-- ---- the grids of meshes
 
 -- a box that covers no point of the outermost layer covers none
 axis-apart : (n low high i : ℕ) → low ≤ i → i ≤ high → high ≤ n → (low == 0 || high == n) ≡ false → (i == 0 || i == n) ≡ false
@@ -104,12 +114,5 @@ border-apart n b p x y z covers e =
     let ez = axis-apart n.z b.z0 b.z1 p.z covers.z.0 covers.z.1 z second.1 in
     rw (ex, ey, ez) refl
 
-pub inside-uniform : (laws : Lawful) (view : Window) (v : Visit) (s : Sample) → IsVisit (gridded view).boxes v → LiesIn v.box s → decision (gridded view).boxes v ≡ Some true → meets_border (size_of view) v.box ≡ false
-    → IsUniform (list_grid_value view v.list) (cell_box s)
-inside-uniform laws view v s is lies e apart = record {
-  inside = true;
-  each = λ p covers.
-      let covered = corner-covered v.box s p lies covers in
-      ap is_inside (ap (λ t. cond t (int_max (value_on view v.list p) (pos 0)) (value_on view v.list p)) (border-apart (size_of view) v.box p is.within.x is.within.y is.within.z covered apart))
-      ∙ decision-right laws view v p true is covered e;
-}
+pub mesh_holds : BordersHold mesh
+mesh_holds = record { apart = border-apart; covered = corner-covered }

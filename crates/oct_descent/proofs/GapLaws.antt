@@ -18,15 +18,19 @@ use Rattle.kuhn_cells.specs.Triangles.{GridPoint, further, point}
 use Rattle.live_clauses.specs.declared.step.Step.{Step}
 use Rattle.view_places.specs.Boxes.{Indices}
 use Rattle.view_places.specs.Window.{Window}
-use Rattle.oct_descent.specs.Bound.{points_of_grid}
+use Rattle.oct_descent.specs.Bound.{points_of_grid, sample_of}
 use Rattle.oct_descent.specs.Gaps.{AreGapsBelow, Fills, IsCornerBelow, StandsIn, has_gap, nth, spot}
 use Rattle.oct_descent.specs.GridValues.{list_grid_value}
-use Rattle.oct_descent.specs.Tables.{AllKnown, Charges, Grows, IsNew, IsSame, KeepsPlaces, Pays, PointValues, Sets, is_known, known_at, left, same_point}
+use Rattle.oct_descent.specs.Tables.{IsSame, KeepsPlaces, PointValues, is_known, known_at, same_point}
 use Rattle.oct_descent.specs.Ways.{Covers}
 use Rattle.oct_descent.specs.declared.gap.Gap.{Gap}
 use Rattle.oct_descent.proofs.Corners.{IsOne, all-known, mask-covered}
 use Rattle.oct_descent.proofs.Sizes.{size-is, size-none, size-then}
-use Rattle.oct_descent.proofs.TableLaws.{same-is, same-left, same-self, unmet, unmet-one}
+use Rattle.oct_descent.proofs.TableLaws.{pays-none, same-is, same-self, unmet-one}
+use Rattle.oct_descent.specs.GridLaws.{unmet}
+use Rattle.oct_descent.specs.Kinds.{known_of}
+use Rattle.oct_descent.specs.Known.{left, AllKnown, Charges, Grows, IsNew, Pays, Sets}
+use Rattle.box_chains.specs.Sums.{LiesIn}
 
 -- ---- tests
 
@@ -115,7 +119,7 @@ fills-more g at more gaps before mid after =
 
 -- and one more
 pub fills-one : (g : GridPoint → ℤ) (n : ℕ) (v : ℤ) (gaps : List Gap) (before mid after : PointValues) → n < length gaps → v ≡ g (spot (nth gaps n)) → Fills g (take n gaps) before mid
-    → Sets (spot (nth gaps n)) v mid after → Fills g (take (n + 1) gaps) before after
+    → Sets (spot (nth gaps n)) v (known_of mid) (known_of after) → Fills g (take (n + 1) gaps) before after
 fills-one g n v gaps before mid after within value first sets = record {
   n = size-then after.n mid.n before.n sets.n first.n;
   each = λ q. by q (same_point p q) refl;
@@ -246,10 +250,36 @@ covered-all : (b : Indices) (gaps : List Gap) → IsOne b → All (λ gap. IsCor
 covered-all b gaps one corners =
     All-weaker (λ (gap : Gap). IsCornerBelow 8 (point b.x0 b.y0 b.z0) (spot gap)) (λ gap. Covers b (spot gap)) (λ gap is. subst (Covers b) (sym is.at) (mask-covered b is.mask one)) gaps corners
 
+-- ---- tables with the same values
+
+pub same-grows : (g : GridPoint → ℤ) (b : Indices) (before after : PointValues) → IsSame before after → Grows g b (known_of before) (known_of after)
+same-grows g b before after same = record { n = same.n; each = λ p. inl (same.each p) }
+
+same-left : (laws : Lawful) (f : GridPoint → ℕ) (before after : PointValues) → IsSame before after → left f (known_of after) ≡ left f (known_of before)
+same-left laws f before after same =
+    ap (λ n. unmet f (points_of_grid n) (λ q. is_known (known_at after q))) (size-is after.n before.n same.n)
+    ∙ laws.sums.same (points_of_grid before.n) (λ s. cond (is_known (known_at after (point s.i s.j s.k))) 0 (f (point s.i s.j s.k)))
+    (λ s. cond (is_known (known_at before (point s.i s.j s.k))) 0 (f (point s.i s.j s.k)))
+    (λ s lies. ap (λ o. cond (is_known o) 0 (f (point s.i s.j s.k))) (same.each (point s.i s.j s.k)))
+
+pub same-charges : (laws : Lawful) (f : GridPoint → ℕ) (before after : PointValues) (now : Counts) → IsSame before after → Charges f 0 (known_of before) (known_of after) now now
+same-charges laws f before after now same = record {
+  points = 0;
+  enough = omega (arith, same-left laws f before after same);
+  counts = laws.bounds.none now 0 0;
+}
+
+pub same-pays : (laws : Lawful) (f : GridPoint → ℕ) (before after : PointValues) (now : Counts) → IsSame before after → Pays f (known_of before) (known_of after) now now
+same-pays laws f before after now same =
+    let none = pays-none laws f (known_of after) now in
+    record { points = none.points; due = omega (arith, none.due, same-left laws f before after same); counts = none.counts }
+
+-- ---- what is left once gaps are filled
+
 -- what the points of gaps take is no longer left where they are known
 gaps-left : (laws : Lawful) (f : GridPoint → ℕ) (t : PointValues) (gaps : List Gap) → All (StandsIn t) gaps → All (λ gap. known_at t (spot gap) ≡ None) gaps → AllPairs (λ a b. spot a ≢ spot b) gaps
-    → sum_by (λ gap. f (spot gap)) gaps + unmet f t.n (λ q. has_gap gaps q || is_known (known_at t q)) ≡ left f t
-gaps-left laws f t [] stand unknown apart = zero-add (left f t)
+    → sum_by (λ gap. f (spot gap)) gaps + unmet f (points_of_grid t.n) (λ q. has_gap gaps q || is_known (known_at t q)) ≡ left f (known_of t)
+gaps-left laws f t [] stand unknown apart = zero-add (left f (known_of t))
 gaps-left laws f t (gap ∷ rest) stand unknown apart =
     let p = spot gap in
     let first : All (λ (a : Gap). p ≢ spot a) rest = λ k d h. apart 0 (suc k) d (omega arith) (omega (arith, h)) in
@@ -258,14 +288,15 @@ gaps-left laws f t (gap ∷ rest) stand unknown apart =
     let none : known_at t p ≡ None = All-head (λ (a : Gap). known_at t (spot a) ≡ None) gap rest unknown in
     let others : has_gap rest p ≡ false =
     list_any_none (λ (a : Gap). same_point (spot a) p) rest (All-weaker (λ (a : Gap). p ≢ spot a) (λ a. same_point (spot a) p ≡ false) (λ a other. differs p (spot a) other) rest first) in
-    let more = unmet-one laws f p t.n (λ q. has_gap rest q || is_known (known_at t q)) (λ q. has_gap (gap ∷ rest) q || is_known (known_at t q)) here.x here.y here.z
+    let lies : LiesIn (points_of_grid t.n) (sample_of p) = record { x = (omega arith, omega (arith, here.x)); y = (omega arith, omega (arith, here.y)); z = (omega arith, omega (arith, here.z)) } in
+    let more = unmet-one laws f p (points_of_grid t.n) (λ q. has_gap rest q || is_known (known_at t q)) (λ q. has_gap (gap ∷ rest) q || is_known (known_at t q)) lies
     (neither (has_gap rest p) (is_known (known_at t p)) others (ap is_known none)) (λ q. or_assoc (same_point p q) (has_gap rest q) (is_known (known_at t q))) in
     omega (arith, sum_by-cons (λ (a : Gap). f (spot a)) gap rest, more, gaps-left laws f t rest (All-tail (StandsIn t) gap rest stand) (All-tail (λ (a : Gap). known_at t (spot a) ≡ None) gap rest unknown) later)
 
 filled-left : (laws : Lawful) (f : GridPoint → ℕ) (g : GridPoint → ℤ) (gaps : List Gap) (before after : PointValues) → Fills g gaps before after
-    → left f after ≡ unmet f before.n (λ q. has_gap gaps q || is_known (known_at before q))
+    → left f (known_of after) ≡ unmet f (points_of_grid before.n) (λ q. has_gap gaps q || is_known (known_at before q))
 filled-left laws f g gaps before after fills =
-    ap (λ n. unmet f n (λ q. is_known (known_at after q))) (size-is after.n before.n fills.n)
+    ap (λ n. unmet f (points_of_grid n) (λ q. is_known (known_at after q))) (size-is after.n before.n fills.n)
     ∙ laws.sums.same (points_of_grid before.n) (λ s. cond (is_known (known_at after (point s.i s.j s.k))) 0 (f (point s.i s.j s.k)))
     (λ s. cond (has_gap gaps (point s.i s.j s.k) || is_known (known_at before (point s.i s.j s.k))) 0 (f (point s.i s.j s.k)))
     (λ s lies. ap (λ t. cond {A = ℕ} t 0 (f (point s.i s.j s.k))) (filled-known g gaps before after (point s.i s.j s.k) fills))
@@ -314,7 +345,7 @@ are-filled view is list b p gaps items old before after one same corner all kept
 }
 
 pub gaps-charged : (laws : Lawful) (f : GridPoint → ℕ) (g : GridPoint → ℤ) (b : Indices) (len : ℕ) (gaps : List Gap) (old before after : PointValues) (told now : Counts) → AreFilled g b gaps old before after
-    → ((q : GridPoint) → Covers b q → len ≤ f q) → RisesBy told now (points_of (length gaps * len)) → Charges f 0 old after told now
+    → ((q : GridPoint) → Covers b q → len ≤ f q) → RisesBy told now (points_of (length gaps * len)) → Charges f 0 (known_of old) (known_of after) told now
 gaps-charged laws f g b len gaps old before after told now are enough rises =
     let gaps_are = are.gaps_are in
     let all = All-weaker (λ (gap : Gap). Covers b (spot gap)) (λ gap. len ≤ f (spot gap)) (λ gap covers. enough (spot gap) covers) gaps (covered-all b gaps are.one gaps_are.corners) in
@@ -325,7 +356,7 @@ gaps-charged laws f g b len gaps old before after told now are enough rises =
     }
 
 pub gaps-paid : (laws : Lawful) (f : GridPoint → ℕ) (g : GridPoint → ℤ) (b : Indices) (len : ℕ) (gaps : List Gap) (old before after : PointValues) (told now : Counts) → AreFilled g b gaps old before after
-    → ((q : GridPoint) → Covers b q → f q ≤ len) → RisesBy told now (points_of (length gaps * len)) → Pays f old after told now
+    → ((q : GridPoint) → Covers b q → f q ≤ len) → RisesBy told now (points_of (length gaps * len)) → Pays f (known_of old) (known_of after) told now
 gaps-paid laws f g b len gaps old before after told now are due rises =
     let gaps_are = are.gaps_are in
     let all = All-weaker (λ (gap : Gap). Covers b (spot gap)) (λ gap. f (spot gap) ≤ len) (λ gap covers. due (spot gap) covers) gaps (covered-all b gaps are.one gaps_are.corners) in
@@ -335,13 +366,13 @@ gaps-paid laws f g b len gaps old before after told now are due rises =
       counts = record { by = points_of (length gaps * len); many = omega arith; rises = rises };
     }
 
-pub gaps-grow : (g : GridPoint → ℤ) (b : Indices) (gaps : List Gap) (old before after : PointValues) → AreFilled g b gaps old before after → Grows g b old after
+pub gaps-grow : (g : GridPoint → ℤ) (b : Indices) (gaps : List Gap) (old before after : PointValues) → AreFilled g b gaps old before after → Grows g b (known_of old) (known_of after)
 gaps-grow g b gaps old before after are = record {
   n = size-then after.n before.n old.n are.fills.n are.same.n;
   each = λ q. by q (has_gap gaps q) refl;
 }
   where
-    by : (q : GridPoint) (t : Bool) → has_gap gaps q ≡ t → (known_at after q ≡ known_at old q) ⊎ IsNew g b old after q
+    by : (q : GridPoint) (t : Bool) → has_gap gaps q ≡ t → (known_at after q ≡ known_at old q) ⊎ IsNew g b (known_of old) (known_of after) q
     by q true e =
         inr (record {
           unknown = sym (are.same.each q) ∙ has-gap (λ p. known_at before p ≡ None) gaps q are.gaps_are.unknown e;
@@ -351,6 +382,6 @@ gaps-grow g b gaps old before after are = record {
     by q false e = inl (are.fills.each q ∙ ap (λ t. cond t (Some (g q)) (known_at before q)) e ∙ are.same.each q)
 
 -- then each corner is known
-pub gaps-known_then : (g : GridPoint → ℤ) (b : Indices) (gaps : List Gap) (old before after : PointValues) → AreFilled g b gaps old before after → AllKnown after b
+pub gaps-known_then : (g : GridPoint → ℤ) (b : Indices) (gaps : List Gap) (old before after : PointValues) → AreFilled g b gaps old before after → AllKnown (known_of after) b
 gaps-known_then g b gaps old before after are =
     all-known b after are.one (λ k less. filled-known g gaps before after (further (point b.x0 b.y0 b.z0) k) are.fills ∙ are.gaps_are.all k less)

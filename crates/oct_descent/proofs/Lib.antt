@@ -12,6 +12,8 @@ pub mod Corners
 pub mod Covered
 mod Examples
 pub mod GapLaws
+pub mod GridLaws
+pub mod Halves
 pub mod Joined
 pub mod Kept
 pub mod Listed
@@ -22,6 +24,7 @@ pub mod Sizes
 pub mod TableLaws
 pub mod Takes
 pub mod Together
+pub mod Turns
 pub mod WayLaws
 pub mod WayProofs
 pub mod Whole

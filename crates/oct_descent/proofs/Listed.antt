@@ -18,12 +18,14 @@ use Rattle.oct_descent.specs.Bound.{sample_of}
 use Rattle.oct_descent.specs.Corners.{AreCorners, IsRow, LacksCorner, are_mixed}
 use Rattle.oct_descent.specs.GridValues.{list_grid, list_grid_value}
 use Rattle.oct_descent.specs.Rows.{cells_at, cells_between, cells_in_layer}
-use Rattle.oct_descent.specs.Tables.{AllKnown, IsUniform, PointValues, brick_of, is_known, known_at, read, stand}
+use Rattle.oct_descent.specs.Tables.{IsUniform, PointValues, brick_of, is_known, known_at, read, stand}
 use Rattle.oct_descent.specs.Trees.{IsTold}
 use Rattle.oct_descent.specs.Ways.{cell_box}
 use Rattle.oct_descent.proofs.Blocks.{value-at_grid}
 use Rattle.oct_descent.proofs.Bricks.{roomless-unknown}
 use Rattle.oct_descent.proofs.Corners.{IsOne, mask-covered}
+use Rattle.oct_descent.specs.Known.{AllKnown}
+use Rattle.oct_descent.specs.Kinds.{known_of}
 
 -- ---- rows and layers
 
@@ -180,7 +182,7 @@ listed-none view list t p told x y z lacks = by (told.settled (sample_of p) (rec
         ap is_inside (get_or-map-range_with_len (λ c. value_at (list_grid view list) (further p c)) 0 8 k k d few (omega arith) ∙ value-at_grid view list (further p k) (omega (arith, x)) (omega (arith, y)) (omega (arith, z)))
         ∙ uniform.each (further p k) (mask-covered (cell_box (sample_of p)) k one))
 
-    by : AllKnown t (cell_box (sample_of p)) ⊎ IsUniform g (cell_box (sample_of p)) → [] ≡ cells_at view list p
+    by : AllKnown (known_of t) (cell_box (sample_of p)) ⊎ IsUniform g (cell_box (sample_of p)) → [] ≡ cells_at view list p
     by (inl known) = absurd (false≢true (sym lacks.unknown ∙ known (further p lacks.corner) (mask-covered (cell_box (sample_of p)) lacks.corner one)))
     by (inr uniform) = sym (ap (λ b. cond b (cell_at (list_grid view list) p ∷ []) []) (side uniform))
 

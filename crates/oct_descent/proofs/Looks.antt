@@ -1,51 +1,40 @@
 -- What looking into a box leaves.
-use Rattle.std.proofs.Common.{◌≡◌, ℕ, ◌+◌, ◌*◌, ◌<◌, ◌≤◌, ℤ, Bool, true, false, cond, List, [], ◌∷◌, ◌++◌, length, get_or, sum_by, take, refl, sym, ap, subst, ◌∙◌, Result, Ok, Err, inl, inr, arith}
+use Rattle.std.proofs.Common.{◌≡◌, ℕ, ◌+◌, ◌<◌, ◌≤◌, ℤ, Bool, true, false, cond, List, length, refl, sym, ap, subst, ◌∙◌, Result, Ok, Err, inl, inr, arith}
 use Rattle.std.specs.Prelude.{Option, Some, None, ◌&&◌, not, unwrap_or, OnOk}
 use Rattle.std.specs.List.{All, Contains}
 use Rattle.std.proofs.lemmas.Bool.{false≢true}
-use Rattle.std.proofs.Math.Nat.{add-mul}
-use Rattle.box_chains.specs.declared.asked_box.AskedBox.{AskedBox}
-use Rattle.std.proofs.lemmas.List.{take_all, take_more}
-use Rattle.std.proofs.lemmas.List.Concat.{flat_map-cons}
-use Rattle.std.proofs.lemmas.List.Elements.{All-append, All-cons, All-head, All-tail, All-contains, All-contains_itself, All-get_or, All-nil, All-weaker}
-use Rattle.std.proofs.lemmas.List.Sums.{sum_by-cons, sum_by-take-le, sum_by_more}
+use Rattle.std.proofs.lemmas.List.Elements.{All-contains, All-contains_itself, All-weaker}
 use Rattle.box_chains.specs.Chains.{Visit, decision, half_with, handed_on, is_long, sides, visit}
 use Rattle.box_chains.specs.Parts.{IsPart}
 use Rattle.box_chains.specs.Sums.{LiesIn, Sample}
 use Rattle.box_chains.specs.Visits.{IsVisit}
 use Rattle.box_chains.specs.Laws.{Lawful}
 use Rattle.box_chains.specs.Tallied.{CountsAtMost}
-use Rattle.choice_trace.specs.Hulls.{choices_over, tape_hull}
+use Rattle.choice_trace.specs.Hulls.{choices_over}
 use Rattle.fixed_ops.specs.Counts.{Counts, no_counts, plus}
-use Rattle.interval_ops.specs.Decided.{decided_of}
 use Rattle.interval_ops.specs.HullCounts.{CountsHulls, hulls_of}
-use Rattle.interval_ops.specs.declared.choice.Choice.{Choice}
-use Rattle.interval_ops.specs.declared.region.Region.{Region}
 use Rattle.fixed_ops.specs.Raw.{is_inside}
 use Rattle.kuhn_cells.specs.Triangles.{GridPoint, further, point}
-use Rattle.kuhn_cells.specs.declared.grid_size.GridSize.{GridSize}
-use Rattle.live_clauses.specs.Live.{live_of}
 use Rattle.live_clauses.specs.Steps.{IsTape}
 use Rattle.live_clauses.specs.declared.step.Step.{Step}
 use Rattle.view_places.specs.Boxes.{Indices, IsBox, halves_of}
-use Rattle.view_places.specs.Spans.{IsInRoot, region_of}
-use Rattle.box_chains.specs.Outcomes.{AreInRoot}
-use Rattle.box_chains.specs.Placing.{Sampling}
+use Rattle.view_places.specs.Spans.{region_of}
 use Rattle.view_places.specs.Window.{Window, size_of}
-use Rattle.view_places.specs.declared.lattice.Lattice.{Lattice}
-use Rattle.view_places.specs.declared.lattice.Lattice.TheVariants as lattices
-use Rattle.oct_descent.specs.Bound.{CountsHullsAtLeast, CountsNoHull, long_spans_in, cell_spans_in}
+use Rattle.oct_descent.specs.Bound.{CountsHullsAtLeast, CountsNoHull, cell_spans_in}
 use Rattle.oct_descent.specs.Corners.{AllShow, IsSeen, IsShown, ShowsCorner}
-use Rattle.oct_descent.specs.Desks.{ChargesBelow, ChargesHalves, PaysHalves, asked_of, halves_long_spans, halves_spans, long_spans_below, longer, own_spans, spans_below}
-use Rattle.oct_descent.specs.Fills.{ChargesCorners, PaysCorners}
+use Rattle.oct_descent.specs.Desks.{halves_spans, own_spans, spans_below}
 use Rattle.oct_descent.specs.GridValues.{list_grid_value}
-use Rattle.oct_descent.specs.Tables.{AllKnown, AreRight, AreSettled, AreWorked, Charges, ChargesBox, Grows, IsDue, IsEnough, IsUniform, PaysBox, PointValues, is_known}
-use Rattle.oct_descent.specs.Ways.{CellDescent, Covers, cell_box, gridded, is_cut, is_open, is_open_by, is_working, meets_border, way_end}
+use Rattle.oct_descent.specs.Tables.{IsDue, IsEnough, IsUniform, PointValues, is_known}
+use Rattle.oct_descent.specs.Ways.{CellDescent, Covers, cell_box, gridded, is_cut, is_open, is_open_by, is_working, way_end}
 use Rattle.oct_descent.specs.declared.seen.Seen.{Seen}
-use Rattle.oct_descent.proofs.Corners.{IsOne, mask-covered, short-one}
-use Rattle.oct_descent.proofs.Covered.{corner-covered, handed-grid_value, inside-uniform, outside-uniform}
-use Rattle.oct_descent.proofs.TableLaws.{charges-hulls, charges-more, charges-most, charges-then, grows-wider, pays-most, pays-then, right-same, settled-same, settled-stays, worked-stays}
-use Rattle.oct_descent.proofs.WayLaws.{end-ends, end-of_half, long-end, long-split, spans-end, spans-some, spans-split}
+use Rattle.oct_descent.proofs.Corners.{mask-covered, short-one}
+use Rattle.oct_descent.proofs.Covered.{inside-uniform, outside-uniform, handed-value, mesh_holds}
+use Rattle.oct_descent.proofs.TableLaws.{charges-hulls, charges-more, charges-most, charges-then, grows-wider, pays-most, pays-then, right-same, settled-same}
+use Rattle.oct_descent.proofs.WayLaws.{end-ends, end-of_half, spans-end, spans-some, spans-split}
+use Rattle.oct_descent.specs.Known.{AllKnown, AreRight, AreSettled, AreWorked, ChargesBox, ChargesCorners, Grows, Known, PaysBox, PaysCorners}
+use Rattle.oct_descent.specs.Kinds.{BordersHold, GridKind, descent_of, known_of, low_cell, mesh, value_in}
+use Rattle.oct_descent.specs.Halves.{ChargesBelow, ChargesHalves, PaysHalves}
+use Rattle.view_places.specs.declared.lattice.Lattice.TheVariants as lattices
 
 pub on_ok-then : {T E : Type 0} (r : Result T E) (P Q : Type 0) → (P → Q) → OnOk r P → OnOk r Q
 on_ok-then (Ok x) P Q f p = f p
@@ -55,42 +44,28 @@ pub on_ok : {T E : Type 0} (r : Result T E) (P : Type 0) → P → OnOk r P
 on_ok (Ok x) P p = p
 on_ok (Err e) P p = tt
 
--- what a look told is the box's decision
-pub looked : (view : Window) (lattice : Lattice) (b : Indices) (list : List Step) (region : Region) (told : Option Bool)
-    → lattice ≡ lattices.Grid → region ≡ region_of view lattice b → told ≡ decided_of (tape_hull region list) → decision (gridded view).boxes (visit b list) ≡ told
-looked view lattice b list region told is placed tells =
-    sym (tells ∙ ap (λ r. decided_of (tape_hull r list)) placed ∙ ap (λ l. decided_of (tape_hull (region_of view l b) list)) is)
-
--- and what it hands on is the box's
-pub handed : (view : Window) (lattice : Lattice) (b : Indices) (list live : List Step) (region : Region) (choices : List Choice)
-    → lattice ≡ lattices.Grid → region ≡ region_of view lattice b → take (length list) choices ≡ choices_over region list → live ≡ live_of list (take (length list) choices)
-    → live ≡ handed_on (gridded view).boxes (visit b list)
-handed view lattice b list live region choices is placed chosen made =
-    made ∙ ap (live_of list) chosen ∙ ap (λ r. live_of list (choices_over r list)) placed ∙ ap (λ l. live_of list (choices_over (region_of view l b) list)) is
-
--- whether the box stays open, by what a look told
-pub opened : (view : Window) (b : Indices) (list : List Step) (n : GridSize) (told : Option Bool) (open' : Bool) → n ≡ size_of view → decision (gridded view).boxes (visit b list) ≡ told
-    → open' ≡ is_open_by (meets_border n) b told → is_open (gridded view) (visit b list) ≡ open'
-opened view b list n told open' same tells is = ap (is_open_by (meets_border (size_of view)) b) tells ∙ ap (λ m. is_open_by (meets_border m) b told) (sym same) ∙ sym is
+-- the cell at the lower end of a box lies in it
+pub low-lies : (b : Indices) → IsBox b → LiesIn b (low_cell b)
+low-lies b is = record { x = (omega arith, omega (arith, is.x)); y = (omega arith, omega (arith, is.y)); z = (omega arith, omega (arith, is.z)) }
 
 -- each cell of a box that does not stay open has all corners on one side
-closed-uniform : (laws : Lawful) (view : Window) (v : Visit) (s : Sample) → IsVisit (gridded view).boxes v → is_open (gridded view) v ≡ false → LiesIn v.box s → IsUniform (list_grid_value view v.list) (cell_box s)
-closed-uniform laws view v s is e lies = by (decision (gridded view).boxes v) refl
+closed-uniform : (laws : Lawful) (k : GridKind) → BordersHold k → (view : Window) (v : Visit) (s : Sample) → IsVisit (descent_of k view).boxes v → is_open (descent_of k view) v ≡ false → LiesIn v.box s → IsUniform (value_in k view v.list) (k.cell s)
+closed-uniform laws k holds view v s is e lies = by (decision (descent_of k view).boxes v) refl
   where
-    by : (o : Option Bool) → decision (gridded view).boxes v ≡ o → IsUniform (list_grid_value view v.list) (cell_box s)
-    by None h = absurd (false≢true (sym e ∙ ap (is_open_by (meets_border (size_of view)) v.box) h))
-    by (Some false) h = outside-uniform laws view v s is lies h
-    by (Some true) h = inside-uniform laws view v s is lies h (sym (ap (is_open_by (meets_border (size_of view)) v.box) h) ∙ e)
+    by : (o : Option Bool) → decision (descent_of k view).boxes v ≡ o → IsUniform (value_in k view v.list) (k.cell s)
+    by None h = absurd (false≢true (sym e ∙ ap (is_open_by (k.meets (size_of view)) v.box) h))
+    by (Some false) h = outside-uniform laws k holds view v s is lies h
+    by (Some true) h = inside-uniform laws k holds view v s is lies h (sym (ap (is_open_by (k.meets (size_of view)) v.box) h) ∙ e)
 
-pub closed-settled : (laws : Lawful) (view : Window) (v : Visit) (t : PointValues) → IsVisit (gridded view).boxes v → is_open (gridded view) v ≡ false → AreSettled (gridded view) (list_grid_value view v.list) v.box t
-closed-settled laws view v t is e s lies = inr (closed-uniform laws view v s is e lies)
+pub closed-settled : (laws : Lawful) (k : GridKind) → BordersHold k → (view : Window) (v : Visit) (t : Known) → IsVisit (descent_of k view).boxes v → is_open (descent_of k view) v ≡ false → AreSettled (descent_of k view) (value_in k view v.list) v.box t
+closed-settled laws k holds view v t is e s lies = inr (closed-uniform laws k holds view v s is e lies)
 
 -- and no working one
-pub closed-worked : (view : Window) (v : Visit) (t : PointValues) → IsVisit (gridded view).boxes v → is_open (gridded view) v ≡ false → AreWorked (gridded view) v t
-closed-worked view v t is e s lies works = absurd (false≢true (sym idle ∙ works))
+pub closed-worked : (k : GridKind) (view : Window) (v : Visit) (t : Known) → IsVisit (descent_of k view).boxes v → is_open (descent_of k view) v ≡ false → AreWorked (descent_of k view) v t
+closed-worked k view v t is e s lies works = absurd (false≢true (sym idle ∙ works))
   where
     d : CellDescent
-    d = gridded view
+    d = descent_of k view
 
     uncut : is_cut d v ≡ false
     uncut = rw e refl
@@ -99,87 +74,58 @@ closed-worked view v t is e s lies works = absurd (false≢true (sym idle ∙ wo
     idle = ap (λ w. is_open d w && not (is_long 1 w.box)) (end-ends d v s is.box uncut) ∙ (rw e refl)
 
 -- a box takes at least its own trace
-pub trace-charged : (laws : Lawful) (d : CellDescent) (v : Visit) (t : PointValues) (told now : Counts) → 0 < d.boxes.leaf → IsBox v.box → CountsHulls (length v.list) told now → ChargesBox d v t t told now
+pub trace-charged : (laws : Lawful) (d : CellDescent) (v : Visit) (t : Known) (told now : Counts) → 0 < d.boxes.leaf → IsBox v.box → CountsHulls (length v.list) told now → ChargesBox d v t t told now
 trace-charged laws d v t told now some is h f enough =
     charges-more laws f (length v.list) (cell_spans_in d v) t t told now (spans-some laws d v some is) (charges-hulls laws f (length v.list) t told now h)
 
 -- and no more than that, where it is not looked into
-pub look-charged : (laws : Lawful) (d : CellDescent) (v : Visit) (t : PointValues) (told now : Counts) → 0 < d.boxes.leaf → IsBox v.box → CountsAtMost 0 (length v.list) told now → ChargesBox d v t t told now
+pub look-charged : (laws : Lawful) (d : CellDescent) (v : Visit) (t : Known) (told now : Counts) → 0 < d.boxes.leaf → IsBox v.box → CountsAtMost 0 (length v.list) told now → ChargesBox d v t t told now
 look-charged laws d v t told now some is h f enough =
     charges-more laws f (length v.list) (cell_spans_in d v) t t told now (spans-some laws d v some is) (charges-most f (length v.list) t told now h)
 
 -- nothing is due for a box that is not looked into
-pub look-paid : (d : CellDescent) (v : Visit) (t : PointValues) (told now : Counts) → CountsAtMost 0 (length v.list) told now → PaysBox d v t t told now
+pub look-paid : (d : CellDescent) (v : Visit) (t : Known) (told now : Counts) → CountsAtMost 0 (length v.list) told now → PaysBox d v t t told now
 look-paid d v t told now h f due = pays-most f 0 (length v.list) t told now h
 
 -- two known corners on either side show that a cell stays open
-pub sides-open : (laws : Lawful) (view : Window) (v : Visit) (t : PointValues) → IsVisit (gridded view).boxes v → is_long 1 v.box ≡ false
-    → AreRight (list_grid_value view v.list) v.box t → ShowsCorner t (point v.box.x0 v.box.y0 v.box.z0) true
-    → ShowsCorner t (point v.box.x0 v.box.y0 v.box.z0) false → is_open (gridded view) v ≡ true
-sides-open laws view v t is short right inner outer = by (is_open (gridded view) v) refl
+pub sides-open : (laws : Lawful) (k : GridKind) → BordersHold k → (view : Window) (v : Visit) (t : Known) (p q : GridPoint) (a c : ℤ) → IsVisit (descent_of k view).boxes v → is_long 1 v.box ≡ false
+    → AreRight (value_in k view v.list) v.box t → Covers (k.cell (low_cell v.box)) p → Covers (k.cell (low_cell v.box)) q → t.at p ≡ Some a → is_inside a ≡ true → t.at q ≡ Some c → is_inside c ≡ false
+    → is_open (descent_of k view) v ≡ true
+sides-open laws k holds view v t p q a c is short right on_p on_q at_p inner at_q outer = by (is_open (descent_of k view) v) refl
   where
-    one : IsOne v.box
-    one = short-one v.box is.box short
-
     s : Sample
-    s = record { i = v.box.x0; j = v.box.y0; k = v.box.z0 }
+    s = low_cell v.box
 
     lies : LiesIn v.box s
-    lies = record { x = (omega arith, omega (arith, one.x)); y = (omega arith, omega (arith, one.y)); z = (omega arith, omega (arith, one.z)) }
+    lies = low-lies v.box is.box
 
-    corner : ℕ → GridPoint
-    corner c = further (point v.box.x0 v.box.y0 v.box.z0) c
+    -- the side that a corner shows is that of its value
+    shown : (r : GridPoint) (w : ℤ) (inside : Bool) → Covers (k.cell s) r → t.at r ≡ Some w → is_inside w ≡ inside → is_inside (value_in k view v.list r) ≡ inside
+    shown r w inside covers known side =
+        let told = right r (holds.covered v.box s r lies covers) (ap is_known known) in
+        ap (λ o. is_inside (unwrap_or o w)) (sym told ∙ known) ∙ side
 
-    own : (c : ℕ) → Covers (cell_box s) (corner c)
-    own c = mask-covered (cell_box s) c (record { x = refl; y = refl; z = refl })
-
-    -- the side that a corner shows is that of its grid value
-    shown : (inside : Bool) (h : ShowsCorner t (point v.box.x0 v.box.y0 v.box.z0) inside) → is_inside (list_grid_value view v.list (corner h.corner)) ≡ inside
-    shown inside h =
-        let known = right (corner h.corner) (mask-covered v.box h.corner one) (ap is_known h.known) in
-        ap (λ o. is_inside (unwrap_or o h.value)) (sym known ∙ h.known) ∙ h.side
-
-    by : (open' : Bool) → is_open (gridded view) v ≡ open' → is_open (gridded view) v ≡ true
+    by : (open' : Bool) → is_open (descent_of k view) v ≡ open' → is_open (descent_of k view) v ≡ true
     by true e = e
     by false e =
-        let uniform = closed-uniform laws view v s is e lies in
-        absurd (false≢true (sym (shown false outer) ∙ uniform.each (corner outer.corner) (own outer.corner) ∙ sym (uniform.each (corner inner.corner) (own inner.corner)) ∙ shown true inner))
-
--- where the known corners of a cell show how it lies, though some corner is not known, what is seen of them has both sides
-pub shown-sides : (t : PointValues) (p : GridPoint) (seen : Seen) → IsSeen t p seen → seen.all ≡ false → IsShown t p → (seen.inside ≡ true) × (seen.outside ≡ true)
-shown-sides t p seen is lacks (inl known) =
-    let corner = is.lacks lacks in
-    absurd (false≢true (sym corner.unknown ∙ known corner.corner corner.few))
-shown-sides t p seen is lacks (inr sides) = (by true seen.inside seen.inside refl sides.0 is.none_inside, by false seen.outside seen.outside refl sides.1 is.none_outside)
-  where
-    unlike : (inside : Bool) → inside ≡ not inside → ⊥
-    unlike true e = false≢true (sym e)
-    unlike false e = false≢true e
-
-    by : (inside told side : Bool) → told ≡ side → ShowsCorner t p inside → (told ≡ false → AllShow t p 8 (not inside)) → told ≡ true
-    by inside told true e shows none = e
-    by inside told false e shows none = absurd (unlike inside (sym shows.side ∙ none e shows.corner shows.value shows.few shows.known))
+        let uniform = closed-uniform laws k holds view v s is e lies in
+        absurd (false≢true (sym (shown q c false on_q at_q outer) ∙ uniform.each q on_q ∙ sym (uniform.each p on_p) ∙ shown p a true on_p at_p inner))
 
 -- what holds of each corner of each working cell of a box, and of the list that the cell receives, holds of a cell that stays open
-cell-corners : (view : Window) (v : Visit) (Q : ℕ → GridPoint → Type 0) → IsVisit (gridded view).boxes v → is_open (gridded view) v ≡ true → is_long 1 v.box ≡ false
-    → ((s : Sample) → LiesIn v.box s → is_working (gridded view) v s ≡ true → (p : GridPoint) → Covers (cell_box s) p → Q (length (way_end (gridded view) v s).list) p)
-    → (p : GridPoint) → Covers v.box p → Q (length v.list) p
-cell-corners view v Q is open' short each p covers = subst (λ w. Q (length w.list) p) end (each s lies works p corner)
+cell-corners : (k : GridKind) (view : Window) (v : Visit) (corners : Indices) (Q : ℕ → GridPoint → Type 0) → IsVisit (descent_of k view).boxes v → is_open (descent_of k view) v ≡ true → is_long 1 v.box ≡ false
+    → ((p : GridPoint) → Covers corners p → Covers (k.cell (low_cell v.box)) p)
+    → ((s : Sample) → LiesIn v.box s → is_working (descent_of k view) v s ≡ true → (p : GridPoint) → Covers (k.cell s) p → Q (length (way_end (descent_of k view) v s).list) p)
+    → (p : GridPoint) → Covers corners p → Q (length v.list) p
+cell-corners k view v corners Q is open' short within each p covers = subst (λ w. Q (length w.list) p) end (each s (low-lies v.box is.box) works p (within p covers))
   where
     d : CellDescent
-    d = gridded view
-
-    one : IsOne v.box
-    one = short-one v.box is.box short
+    d = descent_of k view
 
     uncut : is_cut d v ≡ false
     uncut = rw (open', short) refl
 
     s : Sample
-    s = record { i = v.box.x0; j = v.box.y0; k = v.box.z0 }
-
-    lies : LiesIn v.box s
-    lies = record { x = (omega arith, omega (arith, one.x)); y = (omega arith, omega (arith, one.y)); z = (omega arith, omega (arith, one.z)) }
+    s = low_cell v.box
 
     end : way_end d v s ≡ v
     end = end-ends d v s is.box uncut
@@ -187,30 +133,25 @@ cell-corners view v Q is open' short each p covers = subst (λ w. Q (length w.li
     works : is_working d v s ≡ true
     works = ap (λ w. is_open d w && not (is_long 1 w.box)) end ∙ (rw (open', short) refl)
 
-    corner : Covers (cell_box s) p
-    corner = record {
-      x = (covers.x.0, omega (arith, covers.x.1, one.x));
-      y = (covers.y.0, omega (arith, covers.y.1, one.y));
-      z = (covers.z.0, omega (arith, covers.z.1, one.z));
-    }
-
 -- a working cell takes what its corners do
-pub cell-charged : (laws : Lawful) (view : Window) (v : Visit) (before after : PointValues) (told since now : Counts) → IsVisit (gridded view).boxes v → is_open (gridded view) v ≡ true → is_long 1 v.box ≡ false
-    → CountsAtMost 0 (length v.list) told since → ChargesCorners v.box (length v.list) before after since now → ChargesBox (gridded view) v before after told now
-cell-charged laws view v before after told since now is open' short hulls corners f enough =
-    let uncut : is_cut (gridded view) v ≡ false = rw (open', short) refl in
-    charges-then laws f (length v.list) 0 (cell_spans_in (gridded view) v) before before after told since now (omega (arith, spans-end laws (gridded view) v is.box uncut))
-    (charges-most f (length v.list) before told since hulls) (corners f (cell-corners view v (λ n p. n ≤ f p) is open' short enough))
+pub cell-charged : (laws : Lawful) (k : GridKind) (view : Window) (v : Visit) (corners : Indices) (before after : Known) (told since now : Counts) → IsVisit (descent_of k view).boxes v → is_open (descent_of k view) v ≡ true
+    → is_long 1 v.box ≡ false → ((p : GridPoint) → Covers corners p → Covers (k.cell (low_cell v.box)) p)
+    → CountsAtMost 0 (length v.list) told since → ChargesCorners corners (length v.list) before after since now → ChargesBox (descent_of k view) v before after told now
+cell-charged laws k view v corners before after told since now is open' short within hulls charged f enough =
+    let uncut : is_cut (descent_of k view) v ≡ false = rw (open', short) refl in
+    charges-then laws f (length v.list) 0 (cell_spans_in (descent_of k view) v) before before after told since now (omega (arith, spans-end laws (descent_of k view) v is.box uncut))
+    (charges-most f (length v.list) before told since hulls) (charged f (cell-corners k view v corners (λ n p. n ≤ f p) is open' short within enough))
 
 -- and what it takes is paid
-pub cell-paid : (laws : Lawful) (view : Window) (v : Visit) (before after : PointValues) (told since now : Counts) → IsVisit (gridded view).boxes v → is_open (gridded view) v ≡ true → is_long 1 v.box ≡ false
-    → CountsAtMost 0 (length v.list) told since → PaysCorners v.box (length v.list) before after since now → PaysBox (gridded view) v before after told now
-cell-paid laws view v before after told since now is open' short hulls corners f due =
-    pays-then laws f before before after told since now (pays-most f 0 (length v.list) before told since hulls) (corners f (cell-corners view v (λ n p. f p ≤ n) is open' short due))
+pub cell-paid : (laws : Lawful) (k : GridKind) (view : Window) (v : Visit) (corners : Indices) (before after : Known) (told since now : Counts) → IsVisit (descent_of k view).boxes v → is_open (descent_of k view) v ≡ true
+    → is_long 1 v.box ≡ false → ((p : GridPoint) → Covers corners p → Covers (k.cell (low_cell v.box)) p)
+    → CountsAtMost 0 (length v.list) told since → PaysCorners corners (length v.list) before after since now → PaysBox (descent_of k view) v before after told now
+cell-paid laws k view v corners before after told since now is open' short within hulls paid f due =
+    pays-then laws f before before after told since now (pays-most f 0 (length v.list) before told since hulls) (paid f (cell-corners k view v corners (λ n p. f p ≤ n) is open' short within due))
 
 -- the corners of a cell of a box are known where all points that the box covers are
-pub known-settled : (view : Window) (g : GridPoint → ℤ) (b : Indices) (t : PointValues) → AllKnown t b → AreSettled (gridded view) g b t
-known-settled view g b t known s lies = inl (λ p covers. known p (corner-covered b s p lies covers))
+pub known-settled : (k : GridKind) → BordersHold k → (view : Window) (g : GridPoint → ℤ) (b : Indices) (t : Known) → AllKnown t b → AreSettled (descent_of k view) g b t
+known-settled k holds view g b t known s lies = inl (λ p covers. known p (holds.covered b s p lies covers))
 
 -- the list that a box hands on can be evaluated
 pub handed-tape : (laws : Lawful) (view : Window) (v : Visit) (live : List Step) → IsVisit (gridded view).boxes v → live ≡ handed_on (gridded view).boxes v → IsTape live
@@ -219,22 +160,22 @@ handed-tape laws view v live is same =
     subst IsTape (sym same) (laws.layers.tapes v.list (choices_over region v.list) is.tape (laws.layers.choices region v.list)).0
 
 -- what the halves of a box change by the list that it hands on, it changes by the one that it receives
-pub handed-grows : (laws : Lawful) (view : Window) (v : Visit) (live : List Step) (before after : PointValues) → IsVisit (gridded view).boxes v → live ≡ handed_on (gridded view).boxes v
-    → Grows (list_grid_value view live) v.box before after → Grows (list_grid_value view v.list) v.box before after
-handed-grows laws view v live before after is same grows =
-    grows-wider (list_grid_value view live) (list_grid_value view v.list) v.box v.box before after (λ p covers. covers)
-    (λ p covers. ap (λ l. list_grid_value view l p) same ∙ handed-grid_value laws view v p is covers) grows
+pub handed-grows : (laws : Lawful) (k : GridKind) (view : Window) (v : Visit) (live : List Step) (before after : Known) → IsVisit (descent_of k view).boxes v → live ≡ handed_on (descent_of k view).boxes v
+    → Grows (value_in k view live) v.box before after → Grows (value_in k view v.list) v.box before after
+handed-grows laws k view v live before after is same grows =
+    grows-wider (value_in k view live) (value_in k view v.list) v.box v.box before after (λ p covers. covers)
+    (λ p covers. ap (λ l. value_in k view l p) same ∙ handed-value laws k view v p is covers) grows
 
-pub handed-right : (laws : Lawful) (view : Window) (v : Visit) (live : List Step) (t : PointValues) → IsVisit (gridded view).boxes v → live ≡ handed_on (gridded view).boxes v
-    → AreRight (list_grid_value view v.list) v.box t → AreRight (list_grid_value view live) v.box t
-handed-right laws view v live t is same right =
-    right-same (list_grid_value view v.list) (list_grid_value view live) v.box t (λ p covers. sym (ap (λ l. list_grid_value view l p) same ∙ handed-grid_value laws view v p is covers)) right
+pub handed-right : (laws : Lawful) (k : GridKind) (view : Window) (v : Visit) (live : List Step) (t : Known) → IsVisit (descent_of k view).boxes v → live ≡ handed_on (descent_of k view).boxes v
+    → AreRight (value_in k view v.list) v.box t → AreRight (value_in k view live) v.box t
+handed-right laws k view v live t is same right =
+    right-same (value_in k view v.list) (value_in k view live) v.box t (λ p covers. sym (ap (λ l. value_in k view l p) same ∙ handed-value laws k view v p is covers)) right
 
-pub handed-settled : (laws : Lawful) (view : Window) (v : Visit) (live : List Step) (t : PointValues) → IsVisit (gridded view).boxes v → live ≡ handed_on (gridded view).boxes v
-    → AreSettled (gridded view) (list_grid_value view live) v.box t → AreSettled (gridded view) (list_grid_value view v.list) v.box t
-handed-settled laws view v live t is same settled =
-    settled-same (gridded view) (list_grid_value view live) (list_grid_value view v.list) v.box t
-    (λ s p lies covers. ap (λ l. list_grid_value view l p) same ∙ handed-grid_value laws view v p is (corner-covered v.box s p lies covers)) settled
+pub handed-settled : (laws : Lawful) (k : GridKind) → BordersHold k → (view : Window) (v : Visit) (live : List Step) (t : Known) → IsVisit (descent_of k view).boxes v → live ≡ handed_on (descent_of k view).boxes v
+    → AreSettled (descent_of k view) (value_in k view live) v.box t → AreSettled (descent_of k view) (value_in k view v.list) v.box t
+handed-settled laws k holds view v live t is same settled =
+    settled-same (descent_of k view) (value_in k view live) (value_in k view v.list) v.box t
+    (λ s p lies covers. ap (λ l. value_in k view l p) same ∙ handed-value laws k view v p is (holds.covered v.box s p lies covers)) settled
 
 -- a cell has no trace of its own, and a longer box one
 pub own-short : (v : Visit) → is_long 1 v.box ≡ false → own_spans v ≡ 0
@@ -252,46 +193,46 @@ own-among laws d v some is = by (is_long 1 v.box)
     by false = omega arith
 
 -- what a box takes once it is traced, behind its trace
-pub below-charged : (laws : Lawful) (view : Window) (v : Visit) (before after : PointValues) (told since now : Counts) → IsBox v.box → is_long 1 v.box ≡ true
-    → CountsHulls (length v.list) told since → ChargesBelow (gridded view) v before after since now → ChargesBox (gridded view) v before after told now
-below-charged laws view v before after told since now is long hulls below f enough =
-    charges-then laws f (length v.list) (spans_below (gridded view) v) (cell_spans_in (gridded view) v) before before after told since now
-    (omega (arith, own-among laws (gridded view) v (omega arith) is, own-long v long)) (charges-hulls laws f (length v.list) before told since hulls) (below f enough)
+pub below-charged : (laws : Lawful) (k : GridKind) (view : Window) (v : Visit) (before after : Known) (told since now : Counts) → IsBox v.box → is_long 1 v.box ≡ true
+    → CountsHulls (length v.list) told since → ChargesBelow (descent_of k view) v before after since now → ChargesBox (descent_of k view) v before after told now
+below-charged laws k view v before after told since now is long hulls below f enough =
+    charges-then laws f (length v.list) (spans_below (descent_of k view) v) (cell_spans_in (descent_of k view) v) before before after told since now
+    (omega (arith, own-among laws (descent_of k view) v (omega arith) is, own-long v long)) (charges-hulls laws f (length v.list) before told since hulls) (below f enough)
 
-pub below-paid : (laws : Lawful) (d : CellDescent) (v : Visit) (before after : PointValues) (told since now : Counts) → CountsHulls (length v.list) told since → PaysBox d v before after since now → PaysBox d v before after told now
+pub below-paid : (laws : Lawful) (d : CellDescent) (v : Visit) (before after : Known) (told since now : Counts) → CountsHulls (length v.list) told since → PaysBox d v before after since now → PaysBox d v before after told now
 below-paid laws d v before after told since now hulls paid f due =
     pays-then laws f before before after told since now (pays-most f 0 (length v.list) before told since (laws.bounds.hulls told since (length v.list) hulls)) (paid f due)
 
 -- a cell takes as much
-pub cell-below : (laws : Lawful) (d : CellDescent) (v : Visit) (before after : PointValues) (told now : Counts) → is_long 1 v.box ≡ false → ChargesBox d v before after told now → ChargesBelow d v before after told now
+pub cell-below : (laws : Lawful) (d : CellDescent) (v : Visit) (before after : Known) (told now : Counts) → is_long 1 v.box ≡ false → ChargesBox d v before after told now → ChargesBelow d v before after told now
 cell-below laws d v before after told now short charged f enough =
     charges-more laws f (cell_spans_in d v) (spans_below d v) before after told now (omega (arith, own-short v short)) (charged f enough)
 
 -- the way to a cell of a half of a box that is split ends as that from the half on
-half-works : (laws : Lawful) (view : Window) (v : Visit) (live : List Step) (half : Indices) (s : Sample) → IsVisit (gridded view).boxes v → is_cut (gridded view) v ≡ true → live ≡ handed_on (gridded view).boxes v
-    → Contains (halves_of 1 v.box) half → LiesIn half s → way_end (gridded view) v s ≡ way_end (gridded view) (visit half live) s
-half-works laws view v live half s is cut same among lies =
-    end-of_half laws (gridded view) v half s (omega arith) is.box cut among lies ∙ ap (λ l. way_end (gridded view) (visit half l) s) (sym same)
+half-works : (laws : Lawful) (k : GridKind) (view : Window) (v : Visit) (live : List Step) (half : Indices) (s : Sample) → IsVisit (descent_of k view).boxes v → is_cut (descent_of k view) v ≡ true → live ≡ handed_on (descent_of k view).boxes v
+    → Contains (halves_of 1 v.box) half → LiesIn half s → way_end (descent_of k view) v s ≡ way_end (descent_of k view) (visit half live) s
+half-works laws k view v live half s is cut same among lies =
+    end-of_half laws (descent_of k view) v half s (omega arith) is.box cut among lies ∙ ap (λ l. way_end (descent_of k view) (visit half l) s) (sym same)
 
 -- what is due for a box is due for its halves
-halves-due : (laws : Lawful) (view : Window) (v : Visit) (live : List Step) (f : GridPoint → ℕ) → IsVisit (gridded view).boxes v → is_cut (gridded view) v ≡ true → live ≡ handed_on (gridded view).boxes v
-    → IsDue f (gridded view) v → All (λ half. IsDue f (gridded view) (visit half live)) (halves_of 1 v.box)
-halves-due laws view v live f is cut same due =
+halves-due : (laws : Lawful) (k : GridKind) (view : Window) (v : Visit) (live : List Step) (f : GridPoint → ℕ) → IsVisit (descent_of k view).boxes v → is_cut (descent_of k view) v ≡ true → live ≡ handed_on (descent_of k view).boxes v
+    → IsDue f (descent_of k view) v → All (λ half. IsDue f (descent_of k view) (visit half live)) (halves_of 1 v.box)
+halves-due laws k view v live f is cut same due =
     All-weaker (Contains (halves_of 1 v.box)) (λ half. IsDue f d (visit half live))
     (λ half among s lies works p covers.
     let part = All-contains (IsPart 1 v.box) (halves_of 1 v.box) half (laws.parts.all 1 v.box (omega arith) is.box) among in
-    let end = half-works laws view v live half s is cut same among lies in
+    let end = half-works laws k view v live half s is cut same among lies in
     let worked : is_working d v s ≡ true = ap (λ w. is_open d w && not (is_long 1 w.box)) end ∙ works in
     subst (λ w. f p ≤ length w.list) end (due s (laws.parts.lies 1 v.box half s part lies) worked p covers))
     (halves_of 1 v.box) (All-contains_itself (halves_of 1 v.box))
   where
     d : CellDescent
-    d = gridded view
+    d = descent_of k view
 
 -- what is enough for a box is enough for its halves
-halves-enough : (laws : Lawful) (view : Window) (v : Visit) (live : List Step) (f : GridPoint → ℕ) → IsVisit (gridded view).boxes v → is_cut (gridded view) v ≡ true → live ≡ handed_on (gridded view).boxes v
-    → IsEnough f (gridded view) v → All (λ half. IsEnough f (gridded view) (visit half live)) (halves_of 1 v.box)
-halves-enough laws view v live f is cut same enough =
+halves-enough : (laws : Lawful) (k : GridKind) (view : Window) (v : Visit) (live : List Step) (f : GridPoint → ℕ) → IsVisit (descent_of k view).boxes v → is_cut (descent_of k view) v ≡ true → live ≡ handed_on (descent_of k view).boxes v
+    → IsEnough f (descent_of k view) v → All (λ half. IsEnough f (descent_of k view) (visit half live)) (halves_of 1 v.box)
+halves-enough laws k view v live f is cut same enough =
     All-weaker (Contains (halves_of 1 v.box)) (λ half. IsEnough f d (visit half live))
     (λ half among s lies works p covers.
     let part = All-contains (IsPart 1 v.box) (halves_of 1 v.box) half (laws.parts.all 1 v.box (omega arith) is.box) among in
@@ -301,238 +242,45 @@ halves-enough laws view v live f is cut same enough =
     (halves_of 1 v.box) (All-contains_itself (halves_of 1 v.box))
   where
     d : CellDescent
-    d = gridded view
+    d = descent_of k view
 
 -- a box that is split takes what its halves take, beside its own trace
-pub halves-charged : (laws : Lawful) (view : Window) (v : Visit) (live : List Step) (before after : PointValues) (told now : Counts) → IsVisit (gridded view).boxes v → is_open (gridded view) v ≡ true
-    → is_long 1 v.box ≡ true → live ≡ handed_on (gridded view).boxes v → ChargesHalves (gridded view) live (halves_of 1 v.box) before after told now
-    → ChargesBelow (gridded view) v before after told now
-halves-charged laws view v live before after told now is open' long same halves f enough =
+pub halves-charged : (laws : Lawful) (k : GridKind) (view : Window) (v : Visit) (live : List Step) (before after : Known) (told now : Counts) → IsVisit (descent_of k view).boxes v → is_open (descent_of k view) v ≡ true
+    → is_long 1 v.box ≡ true → live ≡ handed_on (descent_of k view).boxes v → ChargesHalves (descent_of k view) live (halves_of 1 v.box) before after told now
+    → ChargesBelow (descent_of k view) v before after told now
+halves-charged laws k view v live before after told now is open' long same halves f enough =
     charges-more laws f (halves_spans d live (halves_of 1 v.box)) (spans_below d v) before after told now
     (omega (arith, spans-split laws d v (omega arith) is.box cut, ap (λ l. halves_spans d l (halves_of 1 v.box)) same, own-long v long))
-    (halves f (halves-enough laws view v live f is cut same enough))
+    (halves f (halves-enough laws k view v live f is cut same enough))
   where
     d : CellDescent
-    d = gridded view
+    d = descent_of k view
 
     cut : is_cut d v ≡ true
     cut = rw (open', long) refl
 
 -- and pays what its halves pay
-pub halves-paid : (laws : Lawful) (view : Window) (v : Visit) (live : List Step) (before after : PointValues) (told now : Counts) → IsVisit (gridded view).boxes v → is_open (gridded view) v ≡ true
-    → is_long 1 v.box ≡ true → live ≡ handed_on (gridded view).boxes v → PaysHalves (gridded view) live (halves_of 1 v.box) before after told now
-    → PaysBox (gridded view) v before after told now
-halves-paid laws view v live before after told now is open' long same halves f due = halves f (halves-due laws view v live f is cut same due)
+pub halves-paid : (laws : Lawful) (k : GridKind) (view : Window) (v : Visit) (live : List Step) (before after : Known) (told now : Counts) → IsVisit (descent_of k view).boxes v → is_open (descent_of k view) v ≡ true
+    → is_long 1 v.box ≡ true → live ≡ handed_on (descent_of k view).boxes v → PaysHalves (descent_of k view) live (halves_of 1 v.box) before after told now
+    → PaysBox (descent_of k view) v before after told now
+halves-paid laws k view v live before after told now is open' long same halves f due = halves f (halves-due laws k view v live f is cut same due)
   where
-    cut : is_cut (gridded view) v ≡ true
+    cut : is_cut (descent_of k view) v ≡ true
     cut = rw (open', long) refl
 
 -- its working cells are those of its halves
-pub halves-worked : (laws : Lawful) (view : Window) (v : Visit) (live : List Step) (t : PointValues) → IsVisit (gridded view).boxes v → is_open (gridded view) v ≡ true
-    → is_long 1 v.box ≡ true → live ≡ handed_on (gridded view).boxes v → All (λ half. AreWorked (gridded view) (visit half live) t) (halves_of 1 v.box) → AreWorked (gridded view) v t
-halves-worked laws view v live t is open' long same each s lies works =
+pub halves-worked : (laws : Lawful) (k : GridKind) (view : Window) (v : Visit) (live : List Step) (t : Known) → IsVisit (descent_of k view).boxes v → is_open (descent_of k view) v ≡ true
+    → is_long 1 v.box ≡ true → live ≡ handed_on (descent_of k view).boxes v → All (λ half. AreWorked (descent_of k view) (visit half live) t) (halves_of 1 v.box) → AreWorked (descent_of k view) v t
+halves-worked laws k view v live t is open' long same each s lies works =
     let half = laws.parts.among 1 v.box s lies in
-    let end = half-works laws view v live (half_with 1 v.box s) s is cut same half.0 half.1 in
+    let end = half-works laws k view v live (half_with 1 v.box s) s is cut same half.0 half.1 in
     All-contains (λ h. AreWorked d (visit h live) t) (halves_of 1 v.box) (half_with 1 v.box s) each half.0 s half.1 (ap (λ w. is_open d w && not (is_long 1 w.box)) (sym end) ∙ works)
   where
     d : CellDescent
-    d = gridded view
+    d = descent_of k view
 
     cut : is_cut d v ≡ true
     cut = rw (open', long) refl
-
--- ---- halves, one after another
-
--- a half that is read is a part of the box
-pub half-part : (laws : Lawful) (b half : Indices) (halves : List Indices) (i : ℕ) → IsBox b → halves ≡ halves_of 1 b → i < length halves → half ≡ get_or halves i half → IsPart 1 b half
-half-part laws b half halves i is all within read =
-    subst (λ h. IsPart 1 b h) (sym read) (All-get_or (IsPart 1 b) halves i half within (subst (λ hs. All (IsPart 1 b) hs) (sym all) (laws.parts.all 1 b (omega arith) is)))
-
--- a half of a box can be visited
-pub half-visit : (laws : Lawful) (view : Window) (list : List Step) (b half : Indices) → IsPart 1 b half → IsVisit (gridded view).boxes (visit b list) → IsVisit (gridded view).boxes (visit half list)
-half-visit laws view list b half part is = record {
-  window = is.window;
-  box = laws.parts.box 1 b half part;
-  within = record { x = omega (arith, part.x.below, is.within.x); y = omega (arith, part.y.below, is.within.y); z = omega (arith, part.z.below, is.within.z) };
-  tape = is.tape;
-}
-
-pub half-shorter : (laws : Lawful) (b half : Indices) → is_long 1 b ≡ true → IsPart 1 b half → sides half < sides b
-half-shorter laws b half long part = laws.parts.shorter 1 b half long part
-
--- what is traced of halves before they are looked into, and while they are
-abbrev pub owned : List Step → List Indices → ℕ
-owned list halves = sum_by (λ h. own_spans (visit h list)) halves
-
-abbrev pub halves_below : CellDescent → List Step → List Indices → ℕ
-halves_below d list halves = sum_by (λ h. spans_below d (visit h list)) halves
-
-abbrev pub halves_long_below : CellDescent → List Step → List Indices → ℕ
-halves_long_below d list halves = sum_by (λ h. long_spans_below d (visit h list)) halves
-
--- all that is among what the halves take
-pub owned-below : (laws : Lawful) (view : Window) (list : List Step) (halves : List Indices) → All IsBox halves
-    → owned list halves + halves_below (gridded view) list halves ≤ halves_spans (gridded view) list halves
-owned-below laws view list [] each = omega arith
-owned-below laws view list (h ∷ hs) each = omega (
-  arith,
-  sum_by-cons (λ b. own_spans (visit b list)) h hs,
-  sum_by-cons (λ b. spans_below (gridded view) (visit b list)) h hs,
-  sum_by-cons (λ b. cell_spans_in (gridded view) (visit b list)) h hs,
-  own-among laws (gridded view) (visit h list) (omega arith) (All-head IsBox h hs each),
-  owned-below laws view list hs (All-tail IsBox h hs each),
-)
-
-pub owned-long_below : (d : CellDescent) (list : List Step) (halves : List Indices) → halves_long_spans d list halves ≤ owned list halves + halves_long_below d list halves
-owned-long_below d list [] = omega arith
-owned-long_below d list (h ∷ hs) = omega (
-  arith,
-  sum_by-cons (λ b. own_spans (visit b list)) h hs,
-  sum_by-cons (λ b. long_spans_below d (visit b list)) h hs,
-  sum_by-cons (λ b. long_spans_in d (visit b list)) h hs,
-  owned-long_below d list hs,
-)
-
--- it is as many traces as there are longer halves
-pub longer-owned : (n : GridSize) (list : List Step) (halves : List Indices) → length (longer n halves) * length list ≡ owned list halves
-longer-owned n list [] = omega arith
-longer-owned n list (h ∷ hs) =
-    ap (λ l. length l * length list) (flat_map-cons piece h hs) ∙ by (is_long 1 h) refl (longer-owned n list hs) ∙ sym (sum_by-cons (λ b. own_spans (visit b list)) h hs)
-  where
-    piece : Indices → List AskedBox
-    piece b = cond (is_long 1 b) (asked_of n b ∷ []) []
-
-    by : (long : Bool) → is_long 1 h ≡ long → length (longer n hs) * length list ≡ owned list hs → length (cond {A = List AskedBox} (is_long 1 h) (asked_of n h ∷ []) [] ++ longer n hs) * length list ≡ own_spans (visit h list) + owned list hs
-    by true e others = ap (λ t. length (cond {A = List AskedBox} t (asked_of n h ∷ []) [] ++ longer n hs) * length list) e ∙ omega (arith, own-long (visit h list) e, add-mul 1 (length (longer n hs)) (length list), others)
-    by false e others = ap (λ t. length (cond {A = List AskedBox} t (asked_of n h ∷ []) [] ++ longer n hs) * length list) e ∙ omega (arith, own-short (visit h list) e, others)
-
--- they are boxes of the grid
-pub longer-in_root : (places : Sampling) (n : GridSize) (halves : List Indices) → All (IsInRoot places.view places.lattice) halves → AreInRoot places (longer n halves)
-longer-in_root places n [] each = All-nil (λ (a : AskedBox). IsInRoot places.view places.lattice a.range)
-longer-in_root places n (h ∷ hs) each =
-    subst (AreInRoot places) (sym (flat_map-cons piece h hs))
-    (All-append P (piece h) (longer n hs) (by (is_long 1 h)) (longer-in_root places n hs (All-tail (IsInRoot places.view places.lattice) h hs each)))
-  where
-    P : AskedBox → Type 0
-    P a = IsInRoot places.view places.lattice a.range
-
-    piece : Indices → List AskedBox
-    piece b = cond (is_long 1 b) (asked_of n b ∷ []) []
-
-    by : (long : Bool) → All P (cond {A = List AskedBox} long (asked_of n h ∷ []) [])
-    by true = All-cons P (asked_of n h) [] (All-head (IsInRoot places.view places.lattice) h hs each) (All-nil P)
-    by false = All-nil P
-
--- the halves of a box are boxes
-pub halves-boxes : (laws : Lawful) (b : Indices) (halves : List Indices) → IsBox b → halves ≡ halves_of 1 b → All IsBox halves
-halves-boxes laws b halves is all =
-    subst (λ hs. All IsBox hs) (sym all) (All-weaker (IsPart 1 b) IsBox (λ h part. laws.parts.box 1 b h part) (halves_of 1 b) (laws.parts.all 1 b (omega arith) is))
-
--- and boxes of the grid
-pub halves-in_root : (laws : Lawful) (view : Window) (lattice : Lattice) (list : List Step) (b : Indices) (halves : List Indices) → lattice ≡ lattices.Grid → IsVisit (gridded view).boxes (visit b list) → halves ≡ halves_of 1 b
-    → All (IsInRoot view lattice) halves
-halves-in_root laws view lattice list b halves placed is all =
-    subst (λ l. All (IsInRoot view l) halves) (sym placed)
-    (subst (λ hs. All (IsInRoot view lattices.Grid) hs) (sym all)
-    (All-weaker (IsPart 1 b) (IsInRoot view lattices.Grid) (λ h part. (half-visit laws view list b h part is).within) (halves_of 1 b) (laws.parts.all 1 b (omega arith) is.box)))
-
--- the traces of halves, whole or begun, are among what the halves take
-pub begun-charged : (laws : Lawful) (view : Window) (list : List Step) (b : Indices) (halves : List Indices) (n : GridSize) (t : PointValues) (told now : Counts) → IsBox b → halves ≡ halves_of 1 b
-    → CountsAtMost 0 (length (longer n halves) * length list) told now → ChargesHalves (gridded view) list (halves_of 1 b) t t told now
-begun-charged laws view list b halves n t told now is all begun f enough =
-    charges-more laws f (length (longer n halves) * length list) (halves_spans (gridded view) list (halves_of 1 b)) t t told now
-    (omega (arith, longer-owned n list halves, owned-below laws view list halves (halves-boxes laws b halves is all), ap (halves_spans (gridded view) list) all))
-    (charges-most f (length (longer n halves) * length list) t told now begun)
-
-pub begun-paid : (d : CellDescent) (list : List Step) (halves : List Indices) (n : ℕ) (t : PointValues) (told now : Counts) → CountsAtMost 0 n told now → PaysHalves d list halves t t told now
-begun-paid d list halves n t told now begun f due = pays-most f 0 n t told now begun
-
--- what holds once halves are traced, and before any is looked into
-pub first-charged : (laws : Lawful) (d : CellDescent) (list : List Step) (halves : List Indices) (n : GridSize) (t : PointValues) (told now : Counts) → CountsHulls (length (longer n halves) * length list) told now
-    → (f : GridPoint → ℕ) → All (λ h. IsEnough f d (visit h list)) halves → Charges f (owned list halves + halves_below d list (take 0 halves)) t t told now
-first-charged laws d list halves n t told now hulls f enough =
-    charges-more laws f (length (longer n halves) * length list) (owned list halves + halves_below d list (take 0 halves)) t t told now (omega (arith, longer-owned n list halves))
-    (charges-hulls laws f (length (longer n halves) * length list) t told now hulls)
-
--- what a half covers the box covers
-pub part-covers : (b half : Indices) (p : GridPoint) → IsPart 1 b half → Covers half p → Covers b p
-part-covers b half p part covers = record {
-  x = (omega (arith, part.x.above, covers.x), omega (arith, part.x.below, covers.x));
-  y = (omega (arith, part.y.above, covers.y), omega (arith, part.y.below, covers.y));
-  z = (omega (arith, part.z.above, covers.z), omega (arith, part.z.below, covers.z));
-}
-
-pub half-grows : (view other : Window) (list : List Step) (b half : Indices) (before after : PointValues) → other ≡ view → IsPart 1 b half → Grows (list_grid_value other list) half before after
-    → Grows (list_grid_value view list) b before after
-half-grows view other list b half before after same part grows =
-    grows-wider (list_grid_value other list) (list_grid_value view list) half b before after (λ p covers. part-covers b half p part covers) (λ p covers. ap (λ v. list_grid_value v list p) same) grows
-
--- one more half is settled
-pub next-settled : (view other : Window) (list : List Step) (b half : Indices) (halves : List Indices) (i : ℕ) (before after : PointValues) → other ≡ view → i < length halves → half ≡ get_or halves i half
-    → Grows (list_grid_value view list) b before after → AreSettled (gridded other) (list_grid_value other list) half after → All (λ h. AreSettled (gridded view) (list_grid_value view list) h before) (take i halves)
-    → All (λ h. AreSettled (gridded view) (list_grid_value view list) h after) (take (i + 1) halves)
-next-settled view other list b half halves i before after same within read grows here earlier =
-    subst (λ hs. All P hs) (sym (take_more halves i half within ∙ ap (λ h. take i halves ++ h ∷ []) (sym read)))
-    (All-append P (take i halves) (half ∷ [])
-    (All-weaker (λ h. AreSettled (gridded view) g h before) P (λ h settled. settled-stays (gridded view) g g b h before after grows settled) (take i halves) earlier)
-    (All-cons P half [] (subst (λ v. AreSettled (gridded v) (list_grid_value v list) half after) same here) (All-nil P)))
-  where
-    g : GridPoint → ℤ
-    g = list_grid_value view list
-
-    P : Indices → Type 0
-    P h = AreSettled (gridded view) g h after
-
--- and worked
-pub next-worked : (view other : Window) (list : List Step) (b half : Indices) (halves : List Indices) (i : ℕ) (before after : PointValues) → other ≡ view → i < length halves → half ≡ get_or halves i half
-    → Grows (list_grid_value view list) b before after → AreWorked (gridded other) (visit half list) after → All (λ h. AreWorked (gridded view) (visit h list) before) (take i halves)
-    → All (λ h. AreWorked (gridded view) (visit h list) after) (take (i + 1) halves)
-next-worked view other list b half halves i before after same within read grows here earlier =
-    subst (λ hs. All P hs) (sym (take_more halves i half within ∙ ap (λ h. take i halves ++ h ∷ []) (sym read)))
-    (All-append P (take i halves) (half ∷ [])
-    (All-weaker (λ h. AreWorked (gridded view) (visit h list) before) P (λ h worked. worked-stays (list_grid_value view list) (gridded view) (visit h list) b before after grows worked) (take i halves) earlier)
-    (All-cons P half [] (subst (λ v. AreWorked (gridded v) (visit half list) after) same here) (All-nil P)))
-  where
-    P : Indices → Type 0
-    P h = AreWorked (gridded view) (visit h list) after
-
--- and paid
-pub next-paid : (laws : Lawful) (view other : Window) (list : List Step) (half : Indices) (halves : List Indices) (i : ℕ) (before mid after : PointValues) (told since now : Counts) → other ≡ view → i < length halves → half ≡ get_or halves i half
-    → PaysHalves (gridded view) list halves before mid told since → PaysBox (gridded other) (visit half list) mid after since now → PaysHalves (gridded view) list halves before after told now
-next-paid laws view other list half halves i before mid after told since now same within read earlier here f due =
-    pays-then laws f before mid after told since now (earlier f due)
-    (subst (λ v. PaysBox (gridded v) (visit half list) mid after since now) same here f
-    (subst (λ h. IsDue f (gridded view) (visit h list)) (sym read) (All-get_or (λ h. IsDue f (gridded view) (visit h list)) halves i half within due)))
-
--- and charged, behind what was traced of all halves before
-pub next-charged : (laws : Lawful) (view other : Window) (list : List Step) (half : Indices) (halves : List Indices) (i own : ℕ) (before mid after : PointValues) (told since now : Counts) → other ≡ view → i < length halves → half ≡ get_or halves i half
-    → ((f : GridPoint → ℕ) → All (λ h. IsEnough f (gridded view) (visit h list)) halves → Charges f (own + halves_below (gridded view) list (take i halves)) before mid told since)
-    → ChargesBelow (gridded other) (visit half list) mid after since now
-    → (f : GridPoint → ℕ) → All (λ h. IsEnough f (gridded view) (visit h list)) halves → Charges f (own + halves_below (gridded view) list (take (i + 1) halves)) before after told now
-next-charged laws view other list half halves i own before mid after told since now same within read earlier here f enough =
-    charges-then laws f (own + halves_below d list (take i halves)) (spans_below d (visit half list)) (own + halves_below d list (take (i + 1) halves)) before mid after told since now
-    (omega (arith, sum_by_more (λ h. spans_below d (visit h list)) halves i half within, ap (λ h. spans_below d (visit h list)) read))
-    (earlier f enough)
-    (subst (λ v. ChargesBelow (gridded v) (visit half list) mid after since now) same here f
-    (subst (λ h. IsEnough f d (visit h list)) (sym read) (All-get_or (λ h. IsEnough f d (visit h list)) halves i half within enough)))
-  where
-    d : CellDescent
-    d = gridded view
-
--- the work of some of the halves, behind what was traced of all, is among that of all
-pub some-charged : (laws : Lawful) (view : Window) (list : List Step) (halves : List Indices) (i : ℕ) (before after : PointValues) (told now : Counts)
-    → All IsBox halves
-    → ((f : GridPoint → ℕ) → All (λ h. IsEnough f (gridded view) (visit h list)) halves → Charges f (owned list halves + halves_below (gridded view) list (take i halves)) before after told now)
-    → ChargesHalves (gridded view) list halves before after told now
-some-charged laws view list halves i before after told now each h f enough =
-    charges-more laws f (owned list halves + halves_below (gridded view) list (take i halves)) (halves_spans (gridded view) list halves) before after told now
-    (omega (arith, sum_by-take-le (λ h. spans_below (gridded view) (visit h list)) halves i, owned-below laws view list halves each)) (h f enough)
-
--- once all halves are settled, the box is
-pub all-settled : (laws : Lawful) (d : CellDescent) (g : GridPoint → ℤ) (b : Indices) (t : PointValues) → All (λ h. AreSettled d g h t) (halves_of 1 b) → AreSettled d g b t
-all-settled laws d g b t each s lies =
-    let half = laws.parts.among 1 b s lies in
-    All-contains (λ h. AreSettled d g h t) (halves_of 1 b) _ each half.0 s half.1
 
 -- ---- what is traced at least
 
@@ -550,14 +298,8 @@ hulls-then laws told since now m n k enough first second = record {
 pub traced-none : (laws : Lawful) (counts : Counts) → CountsHullsAtLeast 0 counts counts
 traced-none laws counts = record { by = no_counts; many = omega arith; rises = laws.tallies.none counts }
 
-pub first-traced : (d : CellDescent) (list : List Step) (halves : List Indices) (n : GridSize) (told now : Counts) → CountsHulls (length (longer n halves) * length list) told now
-    → CountsHullsAtLeast (owned list halves + halves_long_below d list (take 0 halves)) told now
-first-traced d list halves n told now hulls =
-    let least = hulls-least told now (length (longer n halves) * length list) hulls in
-    record { by = least.by; many = omega (arith, least.many, longer-owned n list halves); rises = least.rises }
-
 -- evaluating at the corners of a cell traces nothing
-pub corners-untraced : (b : Indices) (len : ℕ) (before after : PointValues) (told since now : Counts) → since ≡ told → ChargesCorners b len before after since now → CountsNoHull told now
+pub corners-untraced : (b : Indices) (len : ℕ) (before after : Known) (told since now : Counts) → since ≡ told → ChargesCorners b len before after since now → CountsNoHull told now
 corners-untraced b len before after told since now same corners =
     let charged = corners (λ p. len) (λ p covers. omega arith) in
     record { points = charged.points; counts = subst (λ c. CountsAtMost charged.points 0 c now) same charged.counts }
@@ -566,71 +308,33 @@ corners-untraced b len before after told since now same corners =
 pub left-untraced : (laws : Lawful) (told now : Counts) → now ≡ told → CountsNoHull told now
 left-untraced laws told now same = record { points = 0; counts = subst (λ c. CountsAtMost 0 0 told c) (sym same) (laws.bounds.none told 0 0) }
 
--- a cell need not be traced
-pub cell-traced : (laws : Lawful) (d : CellDescent) (v : Visit) (before after : PointValues) (told now : Counts) → IsBox v.box → is_long d.boxes.leaf v.box ≡ false → PaysBox d v before after told now
-    → CountsHullsAtLeast (long_spans_in d v) told now
-cell-traced laws d v before after told now is short pays =
-    let paid = pays (λ p. 0) (λ s lies works p covers. omega arith) in
-    let none = long-end laws d v is uncut ∙ ap (λ t. cond {A = ℕ} t (length v.list) 0) short in
-    record { by = paid.counts.by; many = omega (arith, none); rises = paid.counts.rises }
+-- ---- the grids of meshes
+
+-- a box of one cell is that of its cell
+pub box-cell : (b : Indices) → IsBox b → is_long 1 b ≡ false → (p : GridPoint) → Covers b p → Covers (cell_box (low_cell b)) p
+box-cell b is short p covers =
+    let one = short-one b is short in
+    record { x = (covers.x.0, omega (arith, covers.x.1, one.x)); y = (covers.y.0, omega (arith, covers.y.1, one.y)); z = (covers.z.0, omega (arith, covers.z.1, one.z)) }
+
+-- two known corners on either side show that a cell stays open
+pub corners-open : (laws : Lawful) (view : Window) (v : Visit) (t : PointValues) → IsVisit (gridded view).boxes v → is_long 1 v.box ≡ false → AreRight (list_grid_value view v.list) v.box (known_of t)
+    → ShowsCorner t (point v.box.x0 v.box.y0 v.box.z0) true → ShowsCorner t (point v.box.x0 v.box.y0 v.box.z0) false → is_open (gridded view) v ≡ true
+corners-open laws view v t is short right inner outer =
+    let corner : ℕ → GridPoint = λ c. further (point v.box.x0 v.box.y0 v.box.z0) c in
+    let own : (c : ℕ) → Covers (cell_box (low_cell v.box)) (corner c) = λ c. mask-covered (cell_box (low_cell v.box)) c (record { x = refl; y = refl; z = refl }) in
+    sides-open laws mesh mesh_holds view v (known_of t) (corner inner.corner) (corner outer.corner) inner.value outer.value is short right (own inner.corner) (own outer.corner) inner.known inner.side outer.known outer.side
+
+-- where the known corners of a cell show how it lies, though some corner is not known, what is seen of them has both sides
+pub shown-sides : (t : PointValues) (p : GridPoint) (seen : Seen) → IsSeen t p seen → seen.all ≡ false → IsShown t p → (seen.inside ≡ true) × (seen.outside ≡ true)
+shown-sides t p seen is lacks (inl known) =
+    let corner = is.lacks lacks in
+    absurd (false≢true (sym corner.unknown ∙ known corner.corner corner.few))
+shown-sides t p seen is lacks (inr sides) = (by true seen.inside seen.inside refl sides.0 is.none_inside, by false seen.outside seen.outside refl sides.1 is.none_outside)
   where
-    closed : (t : Bool) → (t && false) ≡ false
-    closed true = refl
-    closed false = refl
+    unlike : (inside : Bool) → inside ≡ not inside → ⊥
+    unlike true e = false≢true (sym e)
+    unlike false e = false≢true e
 
-    uncut : is_cut d v ≡ false
-    uncut = ap (λ l. is_open d v && l) short ∙ closed (is_open d v)
-
--- what is traced over a box before it is looked into and while it is
-pub below-traced : (laws : Lawful) (view : Window) (v : Visit) (told since now : Counts) → is_long 1 v.box ≡ true → CountsHulls (length v.list) told since
-    → CountsHullsAtLeast (long_spans_below (gridded view) v) since now → CountsHullsAtLeast (long_spans_in (gridded view) v) told now
-below-traced laws view v told since now long hulls below =
-    hulls-then laws told since now (length v.list) (long_spans_below (gridded view) v) (long_spans_in (gridded view) v) (omega (arith, own-long v long)) (hulls-least told since (length v.list) hulls) below
-
--- a cell is traced no more
-pub cell-traced_below : (d : CellDescent) (v : Visit) (told now : Counts) → CountsHullsAtLeast (long_spans_in d v) told now → CountsHullsAtLeast (long_spans_below d v) told now
-cell-traced_below d v told now least = record { by = least.by; many = omega (arith, least.many); rises = least.rises }
-
--- nor a box of more cells that does not stay open
-pub closed-traced : (laws : Lawful) (view : Window) (v : Visit) (told : Counts) → IsBox v.box → is_open (gridded view) v ≡ false → CountsHullsAtLeast (long_spans_below (gridded view) v) told told
-closed-traced laws view v told is closed =
-    let uncut : is_cut (gridded view) v ≡ false = rw closed refl in
-    let none = traced-none laws told in
-    record { by = none.by; many = omega (arith, long-end laws (gridded view) v is uncut); rises = none.rises }
-
--- but the halves of one that is split are
-pub halves-traced : (laws : Lawful) (view : Window) (v : Visit) (live : List Step) (told now : Counts) → IsVisit (gridded view).boxes v → is_open (gridded view) v ≡ true → is_long 1 v.box ≡ true
-    → live ≡ handed_on (gridded view).boxes v → CountsHullsAtLeast (halves_long_spans (gridded view) live (halves_of 1 v.box)) told now
-    → CountsHullsAtLeast (long_spans_below (gridded view) v) told now
-halves-traced laws view v live told now is open' long same halves = record {
-  by = halves.by;
-  many = omega (arith, halves.many, own-long v long, long-split laws d v (omega arith) is.box cut, ap (λ l. halves_long_spans d l (halves_of 1 v.box)) same);
-  rises = halves.rises;
-}
-  where
-    d : CellDescent
-    d = gridded view
-
-    cut : is_cut d v ≡ true
-    cut = rw (open', long) refl
-
--- one more half is traced
-pub next-traced : (laws : Lawful) (view other : Window) (list : List Step) (half : Indices) (halves : List Indices) (i own : ℕ) (told since now : Counts) → other ≡ view → i < length halves → half ≡ get_or halves i half
-    → CountsHullsAtLeast (own + halves_long_below (gridded view) list (take i halves)) told since → CountsHullsAtLeast (long_spans_below (gridded other) (visit half list)) since now
-    → CountsHullsAtLeast (own + halves_long_below (gridded view) list (take (i + 1) halves)) told now
-next-traced laws view other list half halves i own told since now same within read earlier here =
-    hulls-then laws told since now (own + halves_long_below d list (take i halves)) (long_spans_below d (visit half list)) (own + halves_long_below d list (take (i + 1) halves))
-    (omega (arith, sum_by_more (λ h. long_spans_below d (visit h list)) halves i half within, ap (λ h. long_spans_below d (visit h list)) read))
-    earlier (subst (λ v. CountsHullsAtLeast (long_spans_below (gridded v) (visit half list)) since now) same here)
-  where
-    d : CellDescent
-    d = gridded view
-
--- once all are
-pub all-traced : (d : CellDescent) (list : List Step) (halves : List Indices) (i : ℕ) (told now : Counts) → length halves ≤ i
-    → CountsHullsAtLeast (owned list halves + halves_long_below d list (take i halves)) told now → CountsHullsAtLeast (halves_long_spans d list halves) told now
-all-traced d list halves i told now all least = record {
-  by = least.by;
-  many = omega (arith, least.many, ap (halves_long_below d list) (take_all i halves all), owned-long_below d list halves);
-  rises = least.rises;
-}
+    by : (inside told side : Bool) → told ≡ side → ShowsCorner t p inside → (told ≡ false → AllShow t p 8 (not inside)) → told ≡ true
+    by inside told true e shows none = e
+    by inside told false e shows none = absurd (unlike inside (sym shows.side ∙ none e shows.corner shows.value shows.few shows.known))

@@ -1,6 +1,6 @@
 -- How known values become more, and what that takes.
 use Rattle.std.proofs.Common.{◌≡◌, ℕ, ◌+◌, ◌-◌, ◌*◌, ◌<◌, ◌≤◌, ℤ, Bool, true, false, cond, refl, sym, ap, ◌∙◌, ◌⊎◌, inl, inr, arith}
-use Rattle.std.specs.Prelude.{Some, None, ◌==◌, ◌&&◌, ◌||◌}
+use Rattle.std.specs.Prelude.{Some, ◌==◌, ◌&&◌, ◌||◌}
 use Rattle.box_chains.specs.Chains.{Visit}
 use Rattle.box_chains.specs.Sums.{LiesIn, Sample, sum_along, sum_in}
 use Rattle.box_chains.specs.Tallied.{CountsAtMost}
@@ -9,51 +9,52 @@ use Rattle.fixed_ops.specs.Counts.{Counts, plus}
 use Rattle.fixed_ops.specs.Raw.{is_inside}
 use Rattle.interval_ops.specs.HullCounts.{CountsHulls}
 use Rattle.kuhn_cells.specs.Triangles.{GridPoint, point}
-use Rattle.std.proofs.lemmas.Bool.{false≢true, and_parts, cond-false, cond-true, eq-eqb, eqb-true, ne_eqb}
-use Rattle.kuhn_cells.specs.declared.grid_size.GridSize.{GridSize}
+use Rattle.std.proofs.lemmas.Bool.{and_parts, cond-false, cond-true, eq-eqb, eqb-true, ne_eqb}
 use Rattle.view_places.specs.Boxes.{Indices}
 use Rattle.view_places.specs.Window.{Window}
-use Rattle.oct_descent.proofs.Sizes.{size-is, size-none, size-then}
-use Rattle.oct_descent.specs.Bound.{CountsAtLeast, points_of_grid}
-use Rattle.oct_descent.specs.Tables.{AllKnown, AreRight, AreSettled, AreWorked, Charges, Grows, IsNew, IsSame, IsUniform, Pays, PointValues, is_known, known_at, left, same_point}
-use Rattle.oct_descent.specs.Ways.{CellDescent, Covers, gridded}
-use Rattle.oct_descent.proofs.Covered.{corner-covered}
+use Rattle.oct_descent.proofs.Sizes.{size-none, size-then}
+use Rattle.oct_descent.specs.Bound.{CountsAtLeast, sample_of}
+use Rattle.oct_descent.specs.GridLaws.{unmet}
+use Rattle.oct_descent.specs.Kinds.{BordersHold, GridKind, descent_of}
+use Rattle.oct_descent.specs.Known.{AllKnown, AreRight, AreSettled, AreWorked, Charges, Grows, IsNew, Known, Pays}
+use Rattle.oct_descent.specs.Tables.{IsUniform, is_known, same_point}
+use Rattle.oct_descent.specs.Ways.{CellDescent, Covers}
 
 -- ---- growth
 
-pub grows-none : (g : GridPoint → ℤ) (b : Indices) (t : PointValues) → Grows g b t t
+pub grows-none : (g : GridPoint → ℤ) (b : Indices) (t : Known) → Grows g b t t
 grows-none g b t = record { n = size-none t.n; each = λ p. inl refl }
 
-pub grows-then : (g : GridPoint → ℤ) (b : Indices) (before mid after : PointValues) → Grows g b before mid → Grows g b mid after → Grows g b before after
+pub grows-then : (g : GridPoint → ℤ) (b : Indices) (before mid after : Known) → Grows g b before mid → Grows g b mid after → Grows g b before after
 grows-then g b before mid after first second = record {
   n = size-then after.n mid.n before.n second.n first.n;
   each = λ p. by p (first.each p) (second.each p);
 }
   where
-    by : (p : GridPoint) → (known_at mid p ≡ known_at before p) ⊎ IsNew g b before mid p → (known_at after p ≡ known_at mid p) ⊎ IsNew g b mid after p → (known_at after p ≡ known_at before p) ⊎ IsNew g b before after p
+    by : (p : GridPoint) → (mid.at p ≡ before.at p) ⊎ IsNew g b before mid p → (after.at p ≡ mid.at p) ⊎ IsNew g b mid after p → (after.at p ≡ before.at p) ⊎ IsNew g b before after p
     by p (inl same) (inl stays) = inl (stays ∙ same)
     by p (inl same) (inr new) = inr (record { unknown = sym same ∙ new.unknown; covered = new.covered; value = new.value })
     by p (inr new) (inl stays) = inr (record { unknown = new.unknown; covered = new.covered; value = stays ∙ new.value })
     by p (inr new) (inr again) = inr (record { unknown = new.unknown; covered = new.covered; value = again.value })
 
 -- growth in a part of a box, by values that are the same there
-pub grows-wider : (g h : GridPoint → ℤ) (part b : Indices) (before after : PointValues) → ((p : GridPoint) → Covers part p → Covers b p) → ((p : GridPoint) → Covers part p → g p ≡ h p)
+pub grows-wider : (g h : GridPoint → ℤ) (part b : Indices) (before after : Known) → ((p : GridPoint) → Covers part p → Covers b p) → ((p : GridPoint) → Covers part p → g p ≡ h p)
     → Grows g part before after → Grows h b before after
 grows-wider g h part b before after wider same grows = record { n = grows.n; each = λ p. by p (grows.each p) }
   where
-    by : (p : GridPoint) → (known_at after p ≡ known_at before p) ⊎ IsNew g part before after p → (known_at after p ≡ known_at before p) ⊎ IsNew h b before after p
+    by : (p : GridPoint) → (after.at p ≡ before.at p) ⊎ IsNew g part before after p → (after.at p ≡ before.at p) ⊎ IsNew h b before after p
     by p (inl stays) = inl stays
     by p (inr new) = inr (record { unknown = new.unknown; covered = wider p new.covered; value = new.value ∙ ap Some (same p new.covered) })
 
 -- what is known stays known
-pub stays-known : (g : GridPoint → ℤ) (b : Indices) (before after : PointValues) (p : GridPoint) → Grows g b before after → is_known (known_at before p) ≡ true → is_known (known_at after p) ≡ true
+pub stays-known : (g : GridPoint → ℤ) (b : Indices) (before after : Known) (p : GridPoint) → Grows g b before after → is_known (before.at p) ≡ true → is_known (after.at p) ≡ true
 stays-known g b before after p grows e = by (grows.each p)
   where
-    by : (known_at after p ≡ known_at before p) ⊎ IsNew g b before after p → is_known (known_at after p) ≡ true
+    by : (after.at p ≡ before.at p) ⊎ IsNew g b before after p → is_known (after.at p) ≡ true
     by (inl stays) = ap is_known stays ∙ e
     by (inr new) = ap is_known new.value
 
-pub settled-stays : (d : CellDescent) (g h : GridPoint → ℤ) (b part : Indices) (before after : PointValues) → Grows h b before after → AreSettled d g part before → AreSettled d g part after
+pub settled-stays : (d : CellDescent) (g h : GridPoint → ℤ) (b part : Indices) (before after : Known) → Grows h b before after → AreSettled d g part before → AreSettled d g part after
 settled-stays d g h b part before after grows settled s lies = by (settled s lies)
   where
     by : AllKnown before (d.cell s) ⊎ IsUniform g (d.cell s) → AllKnown after (d.cell s) ⊎ IsUniform g (d.cell s)
@@ -61,7 +62,7 @@ settled-stays d g h b part before after grows settled s lies = by (settled s lie
     by (inr uniform) = inr uniform
 
 -- cells are settled by values that are the same at their corners
-pub settled-same : (d : CellDescent) (g h : GridPoint → ℤ) (b : Indices) (t : PointValues) → ((s : Sample) (p : GridPoint) → LiesIn b s → Covers (d.cell s) p → g p ≡ h p) → AreSettled d g b t → AreSettled d h b t
+pub settled-same : (d : CellDescent) (g h : GridPoint → ℤ) (b : Indices) (t : Known) → ((s : Sample) (p : GridPoint) → LiesIn b s → Covers (d.cell s) p → g p ≡ h p) → AreSettled d g b t → AreSettled d h b t
 settled-same d g h b t same settled s lies = by (settled s lies)
   where
     by : AllKnown t (d.cell s) ⊎ IsUniform g (d.cell s) → AllKnown t (d.cell s) ⊎ IsUniform h (d.cell s)
@@ -70,19 +71,16 @@ settled-same d g h b t same settled s lies = by (settled s lies)
 
 -- ---- right values
 
-pub right-same : (g h : GridPoint → ℤ) (b : Indices) (t : PointValues) → ((p : GridPoint) → Covers b p → g p ≡ h p) → AreRight g b t → AreRight h b t
+pub right-same : (g h : GridPoint → ℤ) (b : Indices) (t : Known) → ((p : GridPoint) → Covers b p → g p ≡ h p) → AreRight g b t → AreRight h b t
 right-same g h b t same right p covers known = right p covers known ∙ ap Some (same p covers)
 
 -- what is known of a part of a box is right once the box has grown by right values
-pub right-grows : (g : GridPoint → ℤ) (part b : Indices) (before after : PointValues) → ((p : GridPoint) → Covers part p → Covers b p) → Grows g b before after → AreRight g b before → AreRight g part after
+pub right-grows : (g : GridPoint → ℤ) (part b : Indices) (before after : Known) → ((p : GridPoint) → Covers part p → Covers b p) → Grows g b before after → AreRight g b before → AreRight g part after
 right-grows g part b before after wider grows right p covers known = by (grows.each p)
   where
-    by : (known_at after p ≡ known_at before p) ⊎ IsNew g b before after p → known_at after p ≡ Some (g p)
+    by : (after.at p ≡ before.at p) ⊎ IsNew g b before after p → after.at p ≡ Some (g p)
     by (inl stays) = stays ∙ right p (wider p covers) (ap is_known (sym stays) ∙ known)
     by (inr new) = new.value
-
-pub right-none : (g : GridPoint → ℤ) (b : Indices) (t : PointValues) → ((p : GridPoint) → known_at t p ≡ None) → AreRight g b t
-right-none g b t none p covers known = absurd (false≢true (sym (ap is_known (none p)) ∙ known))
 
 -- ---- what is left
 
@@ -134,16 +132,10 @@ same-is p q e =
 pub same-self : (p : GridPoint) → same_point p p ≡ true
 same-self p = rw (eq-eqb p.x p.x refl, eq-eqb p.y p.y refl, eq-eqb p.z p.z refl) refl
 
--- what is left where a test tells which points are known
-abbrev pub unmet : (GridPoint → ℕ) → GridSize → (GridPoint → Bool) → ℕ
-unmet f n known = sum_in (points_of_grid n) (λ s. cond (known (point s.i s.j s.k)) 0 (f (point s.i s.j s.k)))
-
 -- one more point that becomes known is no longer left
-pub unmet-one : (laws : Lawful) (f : GridPoint → ℕ) (p : GridPoint) (n : GridSize) (was now : GridPoint → Bool) → p.x ≤ n.x → p.y ≤ n.y → p.z ≤ n.z → was p ≡ false
-    → ((q : GridPoint) → now q ≡ (same_point p q || was q)) → f p + unmet f n now ≡ unmet f n was
-unmet-one laws f p n was now x y z unknown one =
-    let b = points_of_grid n in
-    let lies : LiesIn b (record { i = p.x; j = p.y; k = p.z }) = record { x = (omega arith, omega (arith, x)); y = (omega arith, omega (arith, y)); z = (omega arith, omega (arith, z)) } in
+pub unmet-one : (laws : Lawful) (f : GridPoint → ℕ) (p : GridPoint) (b : Indices) (was now : GridPoint → Bool) → LiesIn b (sample_of p) → was p ≡ false
+    → ((q : GridPoint) → now q ≡ (same_point p q || was q)) → f p + unmet f b now ≡ unmet f b was
+unmet-one laws f p b was now lies unknown one =
     let split = laws.sums.same b before (λ s. cond (same_point p (spot s)) (f p) 0 + after s) (λ s l. by (spot s) (same_point p (spot s)) refl) in
     omega (arith, split, laws.sums.plus b (λ s. cond (same_point p (spot s)) (f p) 0) after, sum_in-one laws b p (f p) lies)
   where
@@ -173,43 +165,24 @@ unmet-one laws f p n was now x y z unknown one =
 
 -- ---- charges
 
-pub charges-none : (laws : Lawful) (f : GridPoint → ℕ) (spans : ℕ) (t : PointValues) (now : Counts) → Charges f spans t t now now
+pub charges-none : (laws : Lawful) (f : GridPoint → ℕ) (spans : ℕ) (t : Known) (now : Counts) → Charges f spans t t now now
 charges-none laws f spans t now = record { points = 0; enough = omega arith; counts = laws.bounds.none now 0 spans }
 
-pub charges-hulls : (laws : Lawful) (f : GridPoint → ℕ) (n : ℕ) (t : PointValues) (told now : Counts) → CountsHulls n told now → Charges f n t t told now
+pub charges-hulls : (laws : Lawful) (f : GridPoint → ℕ) (n : ℕ) (t : Known) (told now : Counts) → CountsHulls n told now → Charges f n t t told now
 charges-hulls laws f n t told now h = record { points = 0; enough = omega arith; counts = laws.bounds.hulls told now n h }
 
-pub charges-most : (f : GridPoint → ℕ) (n : ℕ) (t : PointValues) (told now : Counts) → CountsAtMost 0 n told now → Charges f n t t told now
+pub charges-most : (f : GridPoint → ℕ) (n : ℕ) (t : Known) (told now : Counts) → CountsAtMost 0 n told now → Charges f n t t told now
 charges-most f n t told now h = record { points = 0; enough = omega arith; counts = h }
 
-pub charges-more : (laws : Lawful) (f : GridPoint → ℕ) (s u : ℕ) (before after : PointValues) (told now : Counts) → s ≤ u → Charges f s before after told now → Charges f u before after told now
+pub charges-more : (laws : Lawful) (f : GridPoint → ℕ) (s u : ℕ) (before after : Known) (told now : Counts) → s ≤ u → Charges f s before after told now → Charges f u before after told now
 charges-more laws f s u before after told now less h = record { points = h.points; enough = h.enough; counts = laws.bounds.more told now h.points s h.points u (omega arith) less h.counts }
 
-pub charges-then : (laws : Lawful) (f : GridPoint → ℕ) (s t u : ℕ) (before mid after : PointValues) (told since now : Counts) → s + t ≤ u → Charges f s before mid told since → Charges f t mid after since now
+pub charges-then : (laws : Lawful) (f : GridPoint → ℕ) (s t u : ℕ) (before mid after : Known) (told since now : Counts) → s + t ≤ u → Charges f s before mid told since → Charges f t mid after since now
     → Charges f u before after told now
 charges-then laws f s t u before mid after told since now less first second = record {
   points = first.points + second.points;
   enough = omega (arith, first.enough, second.enough);
   counts = laws.bounds.sum told since now first.points s second.points t (first.points + second.points) u (omega arith) less first.counts second.counts;
-}
-
--- ---- tables with the same values
-
-pub same-grows : (g : GridPoint → ℤ) (b : Indices) (before after : PointValues) → IsSame before after → Grows g b before after
-same-grows g b before after same = record { n = same.n; each = λ p. inl (same.each p) }
-
-pub same-left : (laws : Lawful) (f : GridPoint → ℕ) (before after : PointValues) → IsSame before after → left f after ≡ left f before
-same-left laws f before after same =
-    ap (λ n. sum_in (points_of_grid n) (λ s. cond (is_known (known_at after (point s.i s.j s.k))) 0 (f (point s.i s.j s.k)))) (size-is after.n before.n same.n)
-    ∙ laws.sums.same (points_of_grid before.n) (λ s. cond (is_known (known_at after (point s.i s.j s.k))) 0 (f (point s.i s.j s.k)))
-    (λ s. cond (is_known (known_at before (point s.i s.j s.k))) 0 (f (point s.i s.j s.k)))
-    (λ s lies. ap (λ o. cond (is_known o) 0 (f (point s.i s.j s.k))) (same.each (point s.i s.j s.k)))
-
-pub same-charges : (laws : Lawful) (f : GridPoint → ℕ) (before after : PointValues) (now : Counts) → IsSame before after → Charges f 0 before after now now
-same-charges laws f before after now same = record {
-  points = 0;
-  enough = omega (arith, same-left laws f before after same);
-  counts = laws.bounds.none now 0 0;
 }
 
 -- ---- what is paid
@@ -218,13 +191,13 @@ same-charges laws f before after now same = record {
 least-most : (told now : Counts) (p s : ℕ) → CountsAtMost p s told now → CountsAtLeast 0 told now
 least-most told now p s h = record { by = h.by; many = omega arith; rises = h.rises }
 
-pub pays-none : (laws : Lawful) (f : GridPoint → ℕ) (t : PointValues) (now : Counts) → Pays f t t now now
+pub pays-none : (laws : Lawful) (f : GridPoint → ℕ) (t : Known) (now : Counts) → Pays f t t now now
 pays-none laws f t now = record { points = 0; due = omega arith; counts = least-most now now 0 0 (laws.bounds.none now 0 0) }
 
-pub pays-most : (f : GridPoint → ℕ) (p s : ℕ) (t : PointValues) (told now : Counts) → CountsAtMost p s told now → Pays f t t told now
+pub pays-most : (f : GridPoint → ℕ) (p s : ℕ) (t : Known) (told now : Counts) → CountsAtMost p s told now → Pays f t t told now
 pays-most f p s t told now h = record { points = 0; due = omega arith; counts = least-most told now p s h }
 
-pub pays-then : (laws : Lawful) (f : GridPoint → ℕ) (before mid after : PointValues) (told since now : Counts) → Pays f before mid told since → Pays f mid after since now → Pays f before after told now
+pub pays-then : (laws : Lawful) (f : GridPoint → ℕ) (before mid after : Known) (told since now : Counts) → Pays f before mid told since → Pays f mid after since now → Pays f before after told now
 pays-then laws f before mid after told since now first second = record {
   points = first.points + second.points;
   due = omega (arith, first.due, second.due);
@@ -235,18 +208,11 @@ pays-then laws f before mid after told since now first second = record {
   };
 }
 
-pub same-pays : (laws : Lawful) (f : GridPoint → ℕ) (before after : PointValues) (now : Counts) → IsSame before after → Pays f before after now now
-same-pays laws f before after now same = record {
-  points = 0;
-  due = omega (arith, same-left laws f before after same);
-  counts = least-most now now 0 0 (laws.bounds.none now 0 0);
-}
-
 -- ---- working cells
 
 -- all corners of a box are those of its working cells too
-pub known-worked : (view : Window) (v : Visit) (t : PointValues) → AllKnown t v.box → AreWorked (gridded view) v t
-known-worked view v t known s lies works p covers = known p (corner-covered v.box s p lies covers)
+pub known-worked : (k : GridKind) → BordersHold k → (view : Window) (v : Visit) (t : Known) → AllKnown t v.box → AreWorked (descent_of k view) v t
+known-worked k holds view v t known s lies works p covers = known p (holds.covered v.box s p lies covers)
 
-pub worked-stays : (g : GridPoint → ℤ) (d : CellDescent) (v : Visit) (b : Indices) (before after : PointValues) → Grows g b before after → AreWorked d v before → AreWorked d v after
+pub worked-stays : (g : GridPoint → ℤ) (d : CellDescent) (v : Visit) (b : Indices) (before after : Known) → Grows g b before after → AreWorked d v before → AreWorked d v after
 worked-stays g d v b before after grows worked s lies works p covers = stays-known g b before after p grows (worked s lies works p covers)

@@ -5,13 +5,15 @@ use Rattle.std.proofs.lemmas.Bool.{cases_lt, false≢true}
 use Rattle.kuhn_cells.specs.Triangles.{GridPoint, point}
 use Rattle.view_places.specs.Boxes.{Indices}
 use Rattle.view_places.specs.Window.{Window}
-use Rattle.oct_descent.specs.Tables.{AllKnown, AreKept, AreRight, AreSettled, Grows, IsNew, IsSame, IsUniform, PointValues, Sets, brick_of, is_known, is_within, known_at, read, same_point, slot, stand}
+use Rattle.oct_descent.specs.Tables.{AreKept, IsSame, IsUniform, PointValues, brick_of, is_known, is_within, known_at, read, same_point, slot, stand}
 use Rattle.oct_descent.specs.Taking.{IsInLayer, IsInRow, IsTaken, TakesAll, TakesOver, TakesPart, TakesSome, TakesValue, known_or}
 use Rattle.oct_descent.specs.Ways.{Covers, cell_box, gridded}
 use Rattle.oct_descent.proofs.Bricks.{roomless-unknown, stand-place, stand-some}
 use Rattle.oct_descent.proofs.Covered.{corner-covered}
 use Rattle.oct_descent.proofs.Sizes.{size-none, size-then}
 use Rattle.oct_descent.proofs.TableLaws.{same-is, same-self}
+use Rattle.oct_descent.specs.Known.{AllKnown, AreRight, AreSettled, Grows, IsNew, Sets}
+use Rattle.oct_descent.specs.Kinds.{known_of}
 
 -- an option is known or not
 known-or_none : (o : Option ℤ) → (is_known o ≡ true) ⊎ (o ≡ None)
@@ -68,22 +70,22 @@ takes-both first second all old before mid after one two parts was now = record 
     by p known (inr b) = now.all p b known
 
 -- where what is known elsewhere is right, right values are taken over
-pub takes-grows : (g : GridPoint → ℤ) (b : Indices) (old before after : PointValues) → AreRight g b old → TakesPart b old before after → Grows g b before after
+pub takes-grows : (g : GridPoint → ℤ) (b : Indices) (old before after : PointValues) → AreRight g b (known_of old) → TakesPart b old before after → Grows g b (known_of before) (known_of after)
 takes-grows g b old before after right takes = record { n = takes.n; each = λ p. by p (takes.each p) }
   where
-    by : (p : GridPoint) → (known_at after p ≡ known_at before p) ⊎ IsTaken (Covers b) old before after p → (known_at after p ≡ known_at before p) ⊎ IsNew g b before after p
+    by : (p : GridPoint) → (known_at after p ≡ known_at before p) ⊎ IsTaken (Covers b) old before after p → (known_at after p ≡ known_at before p) ⊎ IsNew g b (known_of before) (known_of after) p
     by p (inl stays) = inl stays
     by p (inr taken) = told (known-or_none (known_at old p))
       where
-        told : (is_known (known_at old p) ≡ true) ⊎ (known_at old p ≡ None) → (known_at after p ≡ known_at before p) ⊎ IsNew g b before after p
+        told : (is_known (known_at old p) ≡ true) ⊎ (known_at old p ≡ None) → (known_at after p ≡ known_at before p) ⊎ IsNew g b (known_of before) (known_of after) p
         told (inl known) = inr (record { unknown = taken.unknown; covered = taken.one; value = taken.value ∙ right p taken.one known })
         told (inr none) = inl (taken.value ∙ none ∙ sym taken.unknown)
 
 -- and where its cells are settled elsewhere, they are then
-pub takes-settled : (view : Window) (g : GridPoint → ℤ) (b : Indices) (old before after : PointValues) → AreSettled (gridded view) g b old → TakesOver b old before after → AreSettled (gridded view) g b after
+pub takes-settled : (view : Window) (g : GridPoint → ℤ) (b : Indices) (old before after : PointValues) → AreSettled (gridded view) g b (known_of old) → TakesOver b old before after → AreSettled (gridded view) g b (known_of after)
 takes-settled view g b old before after settled takes s lies = by (settled s lies)
   where
-    by : AllKnown old (cell_box s) ⊎ IsUniform g (cell_box s) → AllKnown after (cell_box s) ⊎ IsUniform g (cell_box s)
+    by : AllKnown (known_of old) (cell_box s) ⊎ IsUniform g (cell_box s) → AllKnown (known_of after) (cell_box s) ⊎ IsUniform g (cell_box s)
     by (inl known) = inl (λ p covers. takes.all p (corner-covered b s p lies covers) (known p covers))
     by (inr uniform) = inr uniform
 
@@ -115,7 +117,7 @@ value-none t p = record { n = size-none t.n; each = λ q. by (same_point p q) (k
     by true (Some w) = refl
     by true None = refl
 
-pub value-set : (before after : PointValues) (p : GridPoint) (at : ℕ) (v : ℤ) → is_within before.n p ≡ true → stand before p ≡ Some at → is_some (read before.kept at) ≡ false → Sets p v before after
+pub value-set : (before after : PointValues) (p : GridPoint) (at : ℕ) (v : ℤ) → is_within before.n p ≡ true → stand before p ≡ Some at → is_some (read before.kept at) ≡ false → Sets p v (known_of before) (known_of after)
     → TakesValue p (Some v) before after
 value-set before after p at v within stands none sets = record { n = sets.n; each = λ q. sets.each q ∙ by q (same_point p q) refl }
   where

@@ -9,7 +9,7 @@ use Rattle.std.proofs.lemmas.List.{drop_more, get_or-take, get_or_default, lengt
 use Rattle.std.proofs.lemmas.List.Concat.{flat_map-cons}
 use Rattle.std.proofs.lemmas.List.Elements.{All-get_or}
 use Rattle.box_chains.specs.Chains.{decision, handed_on, is_long, visit}
-use Rattle.box_chains.specs.Outcomes.{HandsOn, IsHandedOn, all_seen, asked_outcome, asked_outcomes, held_decision, outcome_by, seen}
+use Rattle.box_chains.specs.Outcomes.{HandsOn, all_seen, asked_outcome, asked_outcomes, held_decision, outcome_by, seen}
 use Rattle.box_chains.specs.Desks.{HasMore, Tracing, list_of, samples}
 use Rattle.live_clauses.specs.Blocks.{list_at}
 use Rattle.box_chains.specs.Placing.{Sampling}
@@ -20,9 +20,10 @@ use Rattle.kuhn_cells.specs.declared.grid_size.GridSize.{GridSize}
 use Rattle.live_clauses.specs.declared.step.Step.{Step}
 use Rattle.view_places.specs.Boxes.{Indices}
 use Rattle.view_places.specs.Window.{Window, size_of}
+use Rattle.oct_descent.specs.Asked.{IsAt, IsOpened, IsStep, asked_of, longer}
+use Rattle.oct_descent.specs.Kinds.{GridKind, descent_of}
+use Rattle.oct_descent.specs.Ways.{is_open, is_open_by}
 use Rattle.view_places.specs.declared.lattice.Lattice.TheVariants as lattices
-use Rattle.oct_descent.specs.Desks.{IsAt, IsToldAt, asked_of, longer}
-use Rattle.oct_descent.specs.Ways.{gridded, is_open, is_open_by, meets_border}
 
 -- whether an outcome hands on a list, and which
 unfoldable pub opens : Outcome (List Step) → Bool
@@ -35,14 +36,14 @@ list_in Inside = []
 list_in Outside = []
 list_in (Open list) = list
 
-opens-by : (n : GridSize) (b : Indices) (told : Option Bool) (held : Bool) (live : List Step) → meets_border n b ≡ held → opens (outcome_by (held_decision held told) live) ≡ is_open_by (meets_border n) b told
+opens-by : (meets : Indices → Bool) (b : Indices) (told : Option Bool) (held : Bool) (live : List Step) → meets b ≡ held → opens (outcome_by (held_decision held told) live) ≡ is_open_by meets b told
 unfolding opens
-opens-by n b None false live e = refl
-opens-by n b None true live e = refl
-opens-by n b (Some true) false live e = sym e
-opens-by n b (Some true) true live e = sym e
-opens-by n b (Some false) false live e = refl
-opens-by n b (Some false) true live e = refl
+opens-by meets b None false live e = refl
+opens-by meets b None true live e = refl
+opens-by meets b (Some true) false live e = sym e
+opens-by meets b (Some true) true live e = sym e
+opens-by meets b (Some false) false live e = refl
+opens-by meets b (Some false) true live e = refl
 
 list-by : (told : Option Bool) (held : Bool) (live : List Step) → opens (outcome_by (held_decision held told) live) ≡ true → list_in (outcome_by (held_decision held told) live) ≡ live
 unfolding list_in opens
@@ -54,14 +55,16 @@ list-by (Some false) false live e = absurd (false≢true e)
 list-by (Some false) true live e = absurd (false≢true e)
 
 -- a box stays open where its outcome hands on a list, and that is the box's
-pub told-opens : (view : Window) (b : Indices) (list : List Step) (o : Outcome (List Step)) → o ≡ asked_outcome (record { view = view; lattice = lattices.Grid }) list (asked_of (size_of view) b) → is_open (gridded view) (visit b list) ≡ opens o
-told-opens view b list o is =
-    sym (ap opens is ∙ opens-by (size_of view) b (decision (gridded view).boxes (visit b list)) (meets_border (size_of view) b) (handed_on (gridded view).boxes (visit b list)) refl)
+told-opens : (k : GridKind) (view : Window) (b : Indices) (list : List Step) (o : Outcome (List Step)) → o ≡ asked_outcome (record { view = view; lattice = lattices.Grid }) list (asked_of k (size_of view) b) → is_open (descent_of k view) (visit b list) ≡ opens o
+told-opens k view b list o is =
+    let d = descent_of k view in
+    sym (ap opens is ∙ opens-by d.meets b (decision d.boxes (visit b list)) (d.meets b) (handed_on d.boxes (visit b list)) refl)
 
-pub told-hands : (view : Window) (b : Indices) (list : List Step) (o : Outcome (List Step)) → o ≡ asked_outcome (record { view = view; lattice = lattices.Grid }) list (asked_of (size_of view) b) → opens o ≡ true
-    → list_in o ≡ handed_on (gridded view).boxes (visit b list)
-told-hands view b list o is open' =
-    ap list_in is ∙ list-by (decision (gridded view).boxes (visit b list)) (meets_border (size_of view) b) (handed_on (gridded view).boxes (visit b list)) (sym (ap opens is) ∙ open')
+told-hands : (k : GridKind) (view : Window) (b : Indices) (list : List Step) (o : Outcome (List Step)) → o ≡ asked_outcome (record { view = view; lattice = lattices.Grid }) list (asked_of k (size_of view) b) → opens o ≡ true
+    → list_in o ≡ handed_on (descent_of k view).boxes (visit b list)
+told-hands k view b list o is open' =
+    let d = descent_of k view in
+    ap list_in is ∙ list-by (decision d.boxes (visit b list)) (d.meets b) (handed_on d.boxes (visit b list)) (sym (ap opens is) ∙ open')
 
 -- what stands at a place stands first behind it
 head_or : {A : Type 0} → A → List A → A
@@ -84,34 +87,29 @@ next-is xs at d y ys e =
     let both = sym (drop_more xs at d within) ∙ e in
     record { within = within; is = ap (head_or d) both; rest = ap rest_of both }
 
--- The outcomes from a place on are those of the longer halves from another on: so what is told of the
--- first of these stands at that place, where it is longer than a cell, and the others behind it.
-pub record IsStep (places : Sampling) (list : List Step) (halves : List Indices) (half : Indices) (i : ℕ) (lists : List (List Step)) (outcomes : List (Outcome ℕ)) (at next : ℕ) : Type 0 where
-  pub told : IsToldAt places list half lists outcomes at
-  pub rest : drop next (all_seen lists outcomes) ≡ asked_outcomes places list (longer (size_of places.view) (drop (i + 1) halves))
-
-pub step-told : (places : Sampling) (list : List Step) (halves : List Indices) (half : Indices) (i : ℕ) (lists : List (List Step)) (outcomes : List (Outcome ℕ)) (at next : ℕ) → i < length halves → half ≡ get_or halves i half
-    → All (HandsOn (length list) lists) outcomes → drop at (all_seen lists outcomes) ≡ asked_outcomes places list (longer (size_of places.view) (drop i halves))
-    → next ≡ at + cond (is_long 1 half) 1 0 → IsStep places list halves half i lists outcomes at next
-step-told places list halves half i lists outcomes at next within read hands are step = by (is_long 1 half) refl
+-- what is told of the halves stands step by step
+pub step-told : (k : GridKind) (places : Sampling) (list : List Step) (halves : List Indices) (half : Indices) (i : ℕ) (lists : List (List Step)) (outcomes : List (Outcome ℕ)) (at next : ℕ) → i < length halves → half ≡ get_or halves i half
+    → All (HandsOn (length list) lists) outcomes → drop at (all_seen lists outcomes) ≡ asked_outcomes places list (longer k (size_of places.view) (drop i halves))
+    → next ≡ at + cond (is_long 1 half) 1 0 → IsStep k places list halves half i lists outcomes at next
+step-told k places list halves half i lists outcomes at next within read hands are step = by (is_long 1 half) refl
   where
     n : GridSize
     n = size_of places.view
 
     piece : Indices → List AskedBox
-    piece b = cond (is_long 1 b) (asked_of n b ∷ []) []
+    piece b = cond (is_long 1 b) (asked_of k n b ∷ []) []
 
     after : List Indices
     after = drop (i + 1) halves
 
-    split : drop at (all_seen lists outcomes) ≡ asked_outcomes places list (piece half ++ longer n after)
-    split = are ∙ ap (λ hs. asked_outcomes places list (longer n hs)) (drop_more halves i half within ∙ ap (λ h. h ∷ after) (sym read))
+    split : drop at (all_seen lists outcomes) ≡ asked_outcomes places list (piece half ++ longer k n after)
+    split = are ∙ ap (λ hs. asked_outcomes places list (longer k n hs)) (drop_more halves i half within ∙ ap (λ h. h ∷ after) (sym read))
         ∙ ap (asked_outcomes places list) (flat_map-cons piece half after)
 
-    by : (long : Bool) → is_long 1 half ≡ long → IsStep places list halves half i lists outcomes at next
+    by : (long : Bool) → is_long 1 half ≡ long → IsStep k places list halves half i lists outcomes at next
     by true e =
-        let next' = next-is (all_seen lists outcomes) at Outside (asked_outcome places list (asked_of n half)) (asked_outcomes places list (longer n after))
-        (split ∙ ap (λ (t : Bool). asked_outcomes places list (cond t (asked_of n half ∷ []) [] ++ longer n after)) e) in
+        let next' = next-is (all_seen lists outcomes) at Outside (asked_outcome places list (asked_of k n half)) (asked_outcomes places list (longer k n after))
+        (split ∙ ap (λ (t : Bool). asked_outcomes places list (cond t (asked_of k n half ∷ []) [] ++ longer k n after)) e) in
         let within' : at < length outcomes = omega (arith, next'.within, length-map outcomes (seen lists)) in
         record {
           told = λ long. record { within = within'; is = sym (get_or-map-same (seen lists) outcomes at Outside) ∙ next'.is; hands = All-get_or (HandsOn (length list) lists) outcomes at Outside within' hands };
@@ -119,44 +117,45 @@ step-told places list halves half i lists outcomes at next within read hands are
         }
     by false e = record {
       told = λ long. absurd (false≢true (sym e ∙ long));
-      rest = ap (λ k. drop k (all_seen lists outcomes)) (step ∙ ap (λ (t : Bool). at + cond {A = ℕ} t 1 0) e ∙ omega arith) ∙ split ∙ ap (λ (t : Bool). asked_outcomes places list (cond t (asked_of n half ∷ []) [] ++ longer n after)) e;
+      rest = ap (λ k. drop k (all_seen lists outcomes)) (step ∙ ap (λ (t : Bool). at + cond {A = ℕ} t 1 0) e ∙ omega arith) ∙ split ∙ ap (λ (t : Bool). asked_outcomes places list (cond t (asked_of k n half ∷ []) [] ++ longer k n after)) e;
     }
 
--- what is told of a box of a grid
-pub record IsLooked (view : Window) (b : Indices) (list : List Step) (lists : List (List Step)) (o : Outcome ℕ) : Type 0 where
-  pub told : seen lists o ≡ asked_outcome (record { view = view; lattice = lattices.Grid }) list (asked_of (size_of view) b)
-  pub hands : HandsOn (length list) lists o
-
-pub at-told : (places : Sampling) (list : List Step) (b : Indices) (lists : List (List Step)) (outcomes : List (Outcome ℕ)) (at : ℕ) (d : Outcome ℕ) → places.lattice ≡ lattices.Grid → IsAt places list b lists outcomes at
-    → IsLooked places.view b list lists (get_or outcomes at d)
-at-told places list b lists outcomes at d placed told =
-    let same = get_or_default outcomes at d Outside told.within in
-    record {
-      told = ap (seen lists) same ∙ told.is ∙ ap (λ l. asked_outcome (record { view = places.view; lattice = l }) list (asked_of (size_of places.view) b)) placed;
-      hands = subst (HandsOn (length list) lists) (sym same) told.hands;
-    }
+-- what is told of a box of a grid at a place
+told-at : (k : GridKind) (places : Sampling) (list : List Step) (b : Indices) (lists : List (List Step)) (outcomes : List (Outcome ℕ)) (at : ℕ) → places.lattice ≡ lattices.Grid → IsAt k places list b lists outcomes at
+    → seen lists (get_or outcomes at Outside) ≡ asked_outcome (record { view = places.view; lattice = lattices.Grid }) list (asked_of k (size_of places.view) b)
+told-at k places list b lists outcomes at placed told =
+    told.is ∙ ap (λ l. asked_outcome (record { view = places.view; lattice = l }) list (asked_of k (size_of places.view) b)) placed
 
 -- a box that hands on a list stays open, and it is that box's list
-pub record IsOpened (view : Window) (b : Indices) (list : List Step) (lists : List (List Step)) (at : ℕ) : Type 0 where
-  pub open' : is_open (gridded view) (visit b list) ≡ true
-  pub same : list_at lists at ≡ handed_on (gridded view).boxes (visit b list)
-  pub hands : IsHandedOn (length list) lists at
-
-pub opened-told : (view : Window) (b : Indices) (list : List Step) (lists : List (List Step)) (at : ℕ) (o : Outcome ℕ) → IsLooked view b list lists o → o ≡ Open at → IsOpened view b list lists at
+pub opened-told : (k : GridKind) (places : Sampling) (list : List Step) (b : Indices) (lists : List (List Step)) (outcomes : List (Outcome ℕ)) (at live : ℕ) (d : Outcome ℕ) → places.lattice ≡ lattices.Grid
+    → IsAt k places list b lists outcomes at → get_or outcomes at d ≡ Open live → IsOpened k places.view b list lists live
 unfolding opens list_in
-opened-told view b list lists at o looked is =
-    let open' = ap (λ x. opens (seen lists x)) is in
+opened-told k places list b lists outcomes at live d placed told is =
+    let here = sym (get_or_default outcomes at d Outside told.within) ∙ is in
+    let o = seen lists (get_or outcomes at Outside) in
+    let all = told-at k places list b lists outcomes at placed told in
+    let open' = ap (λ x. opens (seen lists x)) here in
     record {
-      open' = told-opens view b list (seen lists o) looked.told ∙ open';
-      same = sym (ap (λ x. list_in (seen lists x)) is) ∙ told-hands view b list (seen lists o) looked.told open';
-      hands = subst (HandsOn (length list) lists) is looked.hands;
+      open' = told-opens k places.view b list o all ∙ open';
+      same = sym (ap (λ x. list_in (seen lists x)) here) ∙ told-hands k places.view b list o all open';
+      hands = subst (HandsOn (length list) lists) here told.hands;
     }
 
 -- any other does not
-pub closed-told : (view : Window) (b : Indices) (list : List Step) (lists : List (List Step)) (o : Outcome ℕ) → IsLooked view b list lists o → (o ≡ Inside) ⊎ (o ≡ Outside) → is_open (gridded view) (visit b list) ≡ false
+pub closed-told : (k : GridKind) (places : Sampling) (list : List Step) (b : Indices) (lists : List (List Step)) (outcomes : List (Outcome ℕ)) (at : ℕ) (d : Outcome ℕ) → places.lattice ≡ lattices.Grid
+    → IsAt k places list b lists outcomes at → (get_or outcomes at d ≡ Inside) ⊎ (get_or outcomes at d ≡ Outside) → is_open (descent_of k places.view) (visit b list) ≡ false
 unfolding opens
-closed-told view b list lists o looked (inl is) = told-opens view b list (seen lists o) looked.told ∙ ap (λ x. opens (seen lists x)) is
-closed-told view b list lists o looked (inr is) = told-opens view b list (seen lists o) looked.told ∙ ap (λ x. opens (seen lists x)) is
+closed-told k places list b lists outcomes at d placed told is = by is
+  where
+    opened : is_open (descent_of k places.view) (visit b list) ≡ opens (seen lists (get_or outcomes at Outside))
+    opened = told-opens k places.view b list (seen lists (get_or outcomes at Outside)) (told-at k places list b lists outcomes at placed told)
+
+    here : get_or outcomes at Outside ≡ get_or outcomes at d
+    here = sym (get_or_default outcomes at d Outside told.within)
+
+    by : (get_or outcomes at d ≡ Inside) ⊎ (get_or outcomes at d ≡ Outside) → is_open (descent_of k places.view) (visit b list) ≡ false
+    by (inl e) = opened ∙ ap (λ x. opens (seen lists x)) (here ∙ e)
+    by (inr e) = opened ∙ ap (λ x. opens (seen lists x)) (here ∙ e)
 
 -- a list keeps its number where lists are put behind
 pub list-stays : (before after : Tracing) (at : ℕ) → HasMore before after → at < length before.lists → list_of after at ≡ list_of before at

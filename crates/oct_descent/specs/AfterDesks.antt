@@ -9,7 +9,7 @@ use Rattle.live_clauses.specs.declared.step.Step.{Step}
 use Rattle.view_places.specs.Boxes.{Indices}
 use Rattle.oct_descent.specs.After.{cell_spans_after, is_new_working, long_spans_after, received_half}
 use Rattle.oct_descent.specs.Desks.{own_spans}
-use Rattle.oct_descent.specs.Tables.{Charges, PointValues}
+use Rattle.oct_descent.specs.Known.{Charges, Known}
 use Rattle.oct_descent.specs.Ways.{CellDescent, Covers, way_end}
 
 -- each corner of a new working cell of a box takes no less than the length of the list that the cell
@@ -20,7 +20,7 @@ IsEnoughAfter f d before v = (s : Sample) → LiesIn v.box s → is_new_working 
 
 -- Whatever points take, if it is enough for the new working cells of a box, no more is counted, and no
 -- more steps are traced than those of the boxes that are not old.
-abbrev pub ChargesBoxAfter : CellDescent → Option Visit → Visit → PointValues → PointValues → Counts
+abbrev pub ChargesBoxAfter : CellDescent → Option Visit → Visit → Known → Known → Counts
     → Counts → Type 0
 ChargesBoxAfter d before v grid_before grid_after told now = (f : GridPoint → ℕ)
     → IsEnoughAfter f d before v
@@ -46,7 +46,7 @@ IsEnoughHalvesAfter f d before list halves =
 -- whatever points take, if it is enough for the new working cells of each half of a box, no more is
 -- counted
 abbrev pub ChargesHalvesAfter : CellDescent → Option (List Step) → List Step → List Indices
-    → PointValues → PointValues → Counts → Counts → Type 0
+    → Known → Known → Counts → Counts → Type 0
 ChargesHalvesAfter d before list halves grid_before grid_after told now = (f : GridPoint → ℕ)
     → IsEnoughHalvesAfter f d before list halves
     → Charges f (halves_spans_after d before list halves) grid_before grid_after told now
@@ -62,7 +62,7 @@ long_spans_below_after d before v = long_spans_after d before v - own_spans v
 
 -- whatever points take, if it is enough for the new working cells of a box that is traced already, no
 -- more is counted
-abbrev pub ChargesBelowAfter : CellDescent → Option Visit → Visit → PointValues → PointValues → Counts
+abbrev pub ChargesBelowAfter : CellDescent → Option Visit → Visit → Known → Known → Counts
     → Counts → Type 0
 ChargesBelowAfter d before v grid_before grid_after told now = (f : GridPoint → ℕ)
     → IsEnoughAfter f d before v

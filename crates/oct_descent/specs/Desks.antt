@@ -1,36 +1,10 @@
 -- What looking into a box needs, and the work that it takes.
-use Rattle.std.specs.Prelude.{◌≡◌, ℕ, ◌-◌, ◌<◌, ◌≤◌, true, List, [], ◌∷◌, length, get_or, if◌then◌else◌}
-use Rattle.std.specs.List.{All, flat_map}
-use Rattle.box_chains.specs.Chains.{Visit, is_long, sum_over, visit}
-use Rattle.box_chains.specs.Desks.{Tracing, list_of}
-use Rattle.box_chains.specs.Outcomes.{HandsOn, asked_outcome, seen}
-use Rattle.box_chains.specs.Placing.{Sampling}
-use Rattle.box_chains.specs.declared.asked_box.AskedBox.{AskedBox}
-use Rattle.box_chains.specs.declared.outcome.Outcome.{Outcome}
-use Rattle.box_chains.specs.declared.outcome.Outcome.TheVariants.{Outside}
-use Rattle.box_chains.specs.Visits.{IsVisit}
-use Rattle.fixed_ops.specs.Counts.{Counts}
-use Rattle.kuhn_cells.specs.Triangles.{GridPoint}
-use Rattle.kuhn_cells.specs.Sizes.{SameSize}
-use Rattle.kuhn_cells.specs.declared.grid_size.GridSize.{GridSize}
+use Rattle.std.specs.Prelude.{ℕ, ◌-◌, List, length, if◌then◌else◌}
+use Rattle.box_chains.specs.Chains.{Visit, is_long, sum_over}
 use Rattle.live_clauses.specs.declared.step.Step.{Step}
 use Rattle.view_places.specs.Boxes.{Indices}
-use Rattle.view_places.specs.declared.lattice.Lattice.TheVariants as lattices
 use Rattle.oct_descent.specs.Bound.{long_spans_in, cell_spans_in}
-use Rattle.oct_descent.specs.GridValues.{list_grid_value}
-use Rattle.view_places.specs.Window.{size_of}
-use Rattle.oct_descent.specs.Tables.{AreRight, Charges, IsDue, IsEnough, Pays, PointValues}
-use Rattle.oct_descent.specs.Ways.{CellDescent, gridded, meets_border}
-
--- The box is one of the grid's, whose points these are, and there is room for the list of a number.
--- What is known of the points that the box covers are the list's grid values.
-pub record MayLook (desk : Tracing) (b : Indices) (at : ℕ) (t : PointValues) : Type 0 where
-  pub lattice : desk.lattice ≡ lattices.Grid
-  pub visit_is : IsVisit (gridded desk.view).boxes (visit b (list_of desk at))
-  pub n : SameSize t.n (size_of desk.view)
-  pub among : at < length desk.lists
-  pub room : length (list_of desk at) ≤ desk.room
-  pub right : AreRight (list_grid_value desk.view (list_of desk at)) b t
+use Rattle.oct_descent.specs.Ways.{CellDescent}
 
 -- the steps that are traced over some halves of a box, which receive a list
 abbrev pub halves_spans : CellDescent → List Step → List Indices → ℕ
@@ -39,19 +13,6 @@ halves_spans d list halves = sum_over (cell_spans_in d) list halves
 -- and of these, those that are traced over boxes of more than one cell
 abbrev pub halves_long_spans : CellDescent → List Step → List Indices → ℕ
 halves_long_spans d list halves = sum_over (long_spans_in d) list halves
-
--- whatever points take, if it is enough for each half of a box, no more is counted
-abbrev pub ChargesHalves : CellDescent → List Step → List Indices → PointValues → PointValues → Counts
-    → Counts → Type 0
-ChargesHalves d list halves before after told now =
-    (f : GridPoint → ℕ) → All (λ half. IsEnough f d (visit half list)) halves
-    → Charges f (halves_spans d list halves) before after told now
-
--- whatever points take, if the working cells of each half of a box take as much, no less is counted
-abbrev pub PaysHalves : CellDescent → List Step → List Indices → PointValues → PointValues → Counts
-    → Counts → Type 0
-PaysHalves d list halves before after told now = (f : GridPoint → ℕ)
-    → All (λ half. IsDue f d (visit half list)) halves → Pays f before after told now
 
 -- the steps that are traced over a box before it is looked into: those of its own trace, which a
 -- cell does not have
@@ -65,30 +26,3 @@ spans_below d v = cell_spans_in d v - own_spans v
 -- and of these, those that are traced over boxes of more than one cell
 abbrev pub long_spans_below : CellDescent → Visit → ℕ
 long_spans_below d v = long_spans_in d v - own_spans v
-
--- whatever points take, if it is enough for a box that is traced already, no more is counted
-abbrev pub ChargesBelow : CellDescent → Visit → PointValues → PointValues → Counts → Counts → Type 0
-ChargesBelow d v before after told now =
-    (f : GridPoint → ℕ) → IsEnough f d v → Charges f (spans_below d v) before after told now
-
--- a box as it is traced: held open where it covers a point of the outermost layer
-abbrev pub asked_of : GridSize → Indices → AskedBox
-asked_of n b = record { range = b; held = meets_border n b }
-
--- those of some boxes that are longer than a cell
-abbrev pub longer : GridSize → List Indices → List AskedBox
-longer n boxes = flat_map (λ b. if is_long 1 b then asked_of n b ∷ [] else []) boxes
-
--- what tracing a list over a box told stands at a place, with a list by its number among some
-pub record IsAt (places : Sampling) (list : List Step) (b : Indices) (lists : List (List Step))
-    (outcomes : List (Outcome ℕ)) (at : ℕ) : Type 0 where
-  pub within : at < length outcomes
-  pub is : seen lists (get_or outcomes at Outside)
-      ≡ asked_outcome places list (asked_of (size_of places.view) b)
-  pub hands : HandsOn (length list) lists (get_or outcomes at Outside)
-
--- it does where the box is longer than a cell
-abbrev pub IsToldAt : Sampling → List Step → Indices → List (List Step) → List (Outcome ℕ) → ℕ
-    → Type 0
-IsToldAt places list b lists outcomes at =
-    is_long 1 b ≡ true → IsAt places list b lists outcomes at

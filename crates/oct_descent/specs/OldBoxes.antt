@@ -8,7 +8,8 @@ use Rattle.view_places.specs.Boxes.{Indices}
 use Rattle.view_places.specs.Window.{Window, size_of}
 use Rattle.oct_descent.specs.GridValues.{list_grid_value}
 use Rattle.oct_descent.specs.KeptBoxes.{halves_places, places_of}
-use Rattle.oct_descent.specs.Tables.{AreRight, AreSettled}
+use Rattle.oct_descent.specs.Kinds.{known_of}
+use Rattle.oct_descent.specs.Known.{AreRight, AreSettled}
 use Rattle.oct_descent.specs.Ways.{CellDescent, gridded}
 use Rattle.oct_descent.specs.declared.old_box.OldBox.{OldBox}
 use Rattle.oct_descent.specs.declared.split_box.SplitBox.{SplitBox}
@@ -55,8 +56,8 @@ handed_by (Some old) left = first_list left
 pub record IsLookedInto (view : Window) (b : Indices) (old : OldBox) : Type 0 where
   pub visit_is : IsVisit (gridded view).boxes (visit b old.list.now)
   pub n : SameSize old.values.now.n (size_of view)
-  pub right : AreRight (list_grid_value view old.list.now) b old.values.now
-  pub settled : AreSettled (gridded view) (list_grid_value view old.list.now) b old.values.now
+  pub right : AreRight (list_grid_value view old.list.now) b (known_of old.values.now)
+  pub settled : AreSettled (gridded view) (list_grid_value view old.list.now) b (known_of old.values.now)
 
 -- a box stood in the grid before, and its places stand first of those that are left
 pub record IsOldBox (view : Window) (b : Indices) (left : List (Option SplitBox)) (old : OldBox)

@@ -1,5 +1,5 @@
 // Boxes of cells that are looked into.
-ghost use Rattle.std.specs.Prelude.{◌≡◌, ◌≢◌, ◌*◌, ◌+◌, ◌<◌, ◌≤◌, ℕ, IfNone, IfOk, IfSome, None, OnErr, OnOk, IsTrue, Some, drop, false, is_some, length, take, true, if◌then◌else◌};
+ghost use Rattle.std.specs.Prelude.{◌≡◌, ◌≢◌, ◌*◌, ◌+◌, ◌<◌, ◌≤◌, ℕ, IfNone, IfOk, IfSome, None, OnErr, OnOk, IsTrue, Some, drop, false, is_some, length, reverse, take, true, if◌then◌else◌};
 ghost use Rattle.std.specs.List.{All};
 ghost use Rattle.box_chains.specs.Chains.{is_long as is_long_for, visit};
 ghost use Rattle.box_chains.specs.Desks.{HasMore, list_of, samples};
@@ -9,7 +9,7 @@ ghost use Rattle.interval_ops.specs.HullCounts.{CountsHulls};
 ghost use Rattle.kuhn_cells.specs.Triangles.{GridPoint, point};
 ghost use Rattle.kuhn_cells.specs.Sizes.{SameSize};
 ghost use Rattle.live_clauses.specs.Live.{IsWhole};
-ghost use Rattle.view_places.specs.Boxes.{halves_of};
+ghost use Rattle.view_places.specs.Boxes.{IsBox, halves_of};
 ghost use Rattle.view_places.specs.Spans.{IsInRoot};
 ghost use Rattle.box_chains.specs.Redrawn.{IsNew};
 ghost use Rattle.oct_descent.specs.Adding.{Adds};
@@ -17,12 +17,15 @@ ghost use Rattle.oct_descent.specs.After.{long_spans_after};
 ghost use Rattle.oct_descent.specs.AfterDesks.{ChargesBelowAfter, ChargesBoxAfter, ChargesHalvesAfter, halves_long_spans_after, long_spans_below_after};
 ghost use Rattle.oct_descent.specs.Bound.{CountsHullsAtLeast, CountsNoHull};
 ghost use Rattle.oct_descent.specs.Corners.{IsSeen, IsShown};
-ghost use Rattle.oct_descent.specs.Desks.{IsToldAt, MayLook, PaysHalves, asked_of, longer};
+ghost use Rattle.oct_descent.specs.Asked.{IsToldAt, asked_of, longer};
+ghost use Rattle.oct_descent.specs.Halves.{AreTurned, MayLook, PaysHalves};
+ghost use Rattle.oct_descent.specs.Kinds.{known_of, mesh};
+ghost use Rattle.oct_descent.specs.Known.{AreSettled, AreWorked, ChargesBox, Grows, PaysBox};
 ghost use Rattle.oct_descent.specs.GridValues.{list_grid_value};
 ghost use Rattle.oct_descent.specs.KeptBoxes.{halves_places, places_of, split_places};
 ghost use Rattle.oct_descent.specs.OldBoxes.{AreOldHalves, IsOldBox, behind, behind_halves, first_count, handed_by, received_by, visit_before};
 ghost use Rattle.view_places.specs.Window.{size_of};
-ghost use Rattle.oct_descent.specs.Tables.{AreSettled, AreWorked, ChargesBox, Grows, PaysBox, PointValues};
+ghost use Rattle.oct_descent.specs.Tables.{PointValues};
 ghost use Rattle.oct_descent.specs.Taking.{TakesOver, TakesPart};
 ghost use Rattle.oct_descent.specs.Ways.{gridded, is_open as is_open_for, is_open_by, meets_border as meets_border_of};
 
@@ -56,7 +59,7 @@ pub fn look_into(
     values: &mut GridValues,
     tally: &mut Tally,
 ) -> Result<(), AllocError>
-    requires may { MayLook desk.old b received values.old }
+    requires may { MayLook mesh desk.old b received (known_of values.old) }
     requires old { IfSome before (IsOldBox desk.old.view b boxes.old.before) }
     requires new { IsNew (visit_before before b) (visit b (list_of desk.old received)) }
     ensures adds { OnOk result (Adds boxes.old boxes.new
@@ -65,15 +68,15 @@ pub fn look_into(
         ≡ behind (gridded desk.old.view) (visit_before before.entry b) boxes.old.before) }
     ensures settled { OnOk result
         (AreSettled (gridded desk.old.view) (list_grid_value desk.old.view (list_of desk.old received)) b
-        values.new) }
+        (known_of values.new)) }
     ensures worked { before.entry ≡ None → OnOk result
-        (AreWorked (gridded desk.old.view) (visit b (list_of desk.old received)) values.new) }
-    ensures grows { Grows (list_grid_value desk.old.view (list_of desk.old received)) b values.old
-        values.new }
+        (AreWorked (gridded desk.old.view) (visit b (list_of desk.old received)) (known_of values.new)) }
+    ensures grows { Grows (list_grid_value desk.old.view (list_of desk.old received)) b (known_of values.old)
+        (known_of values.new) }
     ensures counted { ChargesBoxAfter (gridded desk.old.view) (visit_before before.entry b)
-        (visit b (list_of desk.old received)) values.old values.new tally.old tally.new }
+        (visit b (list_of desk.old received)) (known_of values.old) (known_of values.new) tally.old tally.new }
     ensures paid { before.entry ≡ None → PaysBox (gridded desk.old.view)
-        (visit b (list_of desk.old received)) values.old values.new tally.old tally.new }
+        (visit b (list_of desk.old received)) (known_of values.old) (known_of values.new) tally.old tally.new }
     ensures traced { OnOk result
         (CountsHullsAtLeast
         (long_spans_after (gridded desk.old.view) (visit_before before.entry b)
@@ -103,8 +106,8 @@ fn look_into_told(
     values: &mut GridValues,
     tally: &mut Tally,
 ) -> Result<(), AllocError>
-    requires may { MayLook desk.old b received values.old }
-    requires told { IsToldAt (samples desk.old) (list_of desk.old received) b desk.old.lists
+    requires may { MayLook mesh desk.old b received (known_of values.old) }
+    requires told { IsToldAt mesh (samples desk.old) (list_of desk.old received) b desk.old.lists
         outcomes.now at }
     requires old { IfSome before (IsOldBox desk.old.view b boxes.old.before) }
     requires new { IsNew (visit_before before b) (visit b (list_of desk.old received)) }
@@ -114,15 +117,15 @@ fn look_into_told(
         ≡ behind (gridded desk.old.view) (visit_before before.entry b) boxes.old.before) }
     ensures settled { OnOk result
         (AreSettled (gridded desk.old.view) (list_grid_value desk.old.view (list_of desk.old received)) b
-        values.new) }
+        (known_of values.new)) }
     ensures worked { before.entry ≡ None → OnOk result
-        (AreWorked (gridded desk.old.view) (visit b (list_of desk.old received)) values.new) }
-    ensures grows { Grows (list_grid_value desk.old.view (list_of desk.old received)) b values.old
-        values.new }
+        (AreWorked (gridded desk.old.view) (visit b (list_of desk.old received)) (known_of values.new)) }
+    ensures grows { Grows (list_grid_value desk.old.view (list_of desk.old received)) b (known_of values.old)
+        (known_of values.new) }
     ensures counted { ChargesBelowAfter (gridded desk.old.view) (visit_before before.entry b)
-        (visit b (list_of desk.old received)) values.old values.new tally.old tally.new }
+        (visit b (list_of desk.old received)) (known_of values.old) (known_of values.new) tally.old tally.new }
     ensures paid { before.entry ≡ None → PaysBox (gridded desk.old.view)
-        (visit b (list_of desk.old received)) values.old values.new tally.old tally.new }
+        (visit b (list_of desk.old received)) (known_of values.old) (known_of values.new) tally.old tally.new }
     ensures traced { OnOk result
         (CountsHullsAtLeast
         (long_spans_below_after (gridded desk.old.view) (visit_before before.entry b)
@@ -151,7 +154,7 @@ fn look_into_split(
     values: &mut GridValues,
     tally: &mut Tally,
 ) -> Result<(), AllocError>
-    requires may { MayLook desk.old b live values.old }
+    requires may { MayLook mesh desk.old b live (known_of values.old) }
     requires whole { IsWhole (list_of desk.old live) }
     requires long { IsTrue (is_long_for 1 b) }
     requires old { IfSome before (IsOldBox desk.old.view b boxes.old.before) }
@@ -161,17 +164,17 @@ fn look_into_split(
         ≡ behind (gridded desk.old.view) (visit_before before.entry b) boxes.old.before) }
     ensures settled { OnOk result
         (AreSettled (gridded desk.old.view) (list_grid_value desk.old.view (list_of desk.old live)) b
-        values.new) }
+        (known_of values.new)) }
     ensures worked { before.entry ≡ None → OnOk result
         (All (λ half. AreWorked (gridded desk.old.view) (visit half (list_of desk.old live))
-        values.new) (halves_of 1 b)) }
-    ensures grows { Grows (list_grid_value desk.old.view (list_of desk.old live)) b values.old
-        values.new }
+        (known_of values.new)) (halves_of 1 b)) }
+    ensures grows { Grows (list_grid_value desk.old.view (list_of desk.old live)) b (known_of values.old)
+        (known_of values.new) }
     ensures counted { ChargesHalvesAfter (gridded desk.old.view)
-        (handed_by before.entry boxes.old.before) (list_of desk.old live) (halves_of 1 b) values.old
-        values.new tally.old tally.new }
+        (handed_by before.entry boxes.old.before) (list_of desk.old live) (halves_of 1 b) (known_of values.old)
+        (known_of values.new) tally.old tally.new }
     ensures paid { before.entry ≡ None → PaysHalves (gridded desk.old.view) (list_of desk.old live)
-        (halves_of 1 b) values.old values.new tally.old tally.new }
+        (halves_of 1 b) (known_of values.old) (known_of values.new) tally.old tally.new }
     ensures traced { OnOk result
         (CountsHullsAtLeast (halves_long_spans_after (gridded desk.old.view)
         (handed_by before.entry boxes.old.before) (list_of desk.old live) (halves_of 1 b)) tally.old
@@ -237,7 +240,7 @@ fn look_into_anew(
     values: &mut GridValues,
     tally: &mut Tally,
 ) -> Result<(), AllocError>
-    requires may { MayLook desk.old b live values.old }
+    requires may { MayLook mesh desk.old b live (known_of values.old) }
     requires whole { IsWhole (list_of desk.old live) }
     requires long { IsTrue (is_long_for 1 b) }
     requires old { IfSome before (IsOldBox desk.old.view b boxes.old.before) }
@@ -248,17 +251,17 @@ fn look_into_anew(
         ≡ behind (gridded desk.old.view) (visit_before before.entry b) boxes.old.before) }
     ensures settled { OnOk result
         (AreSettled (gridded desk.old.view) (list_grid_value desk.old.view (list_of desk.old live)) b
-        values.new) }
+        (known_of values.new)) }
     ensures worked { before.entry ≡ None → OnOk result
         (All (λ half. AreWorked (gridded desk.old.view) (visit half (list_of desk.old live))
-        values.new) (halves_of 1 b)) }
-    ensures grows { Grows (list_grid_value desk.old.view (list_of desk.old live)) b values.old
-        values.new }
+        (known_of values.new)) (halves_of 1 b)) }
+    ensures grows { Grows (list_grid_value desk.old.view (list_of desk.old live)) b (known_of values.old)
+        (known_of values.new) }
     ensures counted { ChargesHalvesAfter (gridded desk.old.view)
-        (handed_by before.entry boxes.old.before) (list_of desk.old live) (halves_of 1 b) values.old
-        values.new tally.old tally.new }
+        (handed_by before.entry boxes.old.before) (list_of desk.old live) (halves_of 1 b) (known_of values.old)
+        (known_of values.new) tally.old tally.new }
     ensures paid { before.entry ≡ None → PaysHalves (gridded desk.old.view) (list_of desk.old live)
-        (halves_of 1 b) values.old values.new tally.old tally.new }
+        (halves_of 1 b) (known_of values.old) (known_of values.new) tally.old tally.new }
     ensures traced { OnOk result
         (CountsHullsAtLeast (halves_long_spans_after (gridded desk.old.view)
         (handed_by before.entry boxes.old.before) (list_of desk.old live) (halves_of 1 b)) tally.old
@@ -312,7 +315,7 @@ fn look_into_halves(
     values: &mut GridValues,
     tally: &mut Tally,
 ) -> Result<(), AllocError>
-    requires may { MayLook desk.old b live values.old }
+    requires may { MayLook mesh desk.old b live (known_of values.old) }
     requires whole { IsWhole (list_of desk.old live) }
     requires long { IsTrue (is_long_for 1 b) }
     requires old { IfSome half (AreOldHalves desk.old.view b (halves_of 1 b) boxes.old.before) }
@@ -323,16 +326,16 @@ fn look_into_halves(
         (received_by half.entry) (halves_of 1 b) boxes.old.before) }
     ensures settled { OnOk result
         (AreSettled (gridded desk.old.view) (list_grid_value desk.old.view (list_of desk.old live)) b
-        values.new) }
+        (known_of values.new)) }
     ensures worked { half.entry ≡ None → OnOk result
         (All (λ half. AreWorked (gridded desk.old.view) (visit half (list_of desk.old live))
-        values.new) (halves_of 1 b)) }
-    ensures grows { Grows (list_grid_value desk.old.view (list_of desk.old live)) b values.old
-        values.new }
+        (known_of values.new)) (halves_of 1 b)) }
+    ensures grows { Grows (list_grid_value desk.old.view (list_of desk.old live)) b (known_of values.old)
+        (known_of values.new) }
     ensures counted { ChargesHalvesAfter (gridded desk.old.view) (received_by half.entry)
-        (list_of desk.old live) (halves_of 1 b) values.old values.new tally.old tally.new }
+        (list_of desk.old live) (halves_of 1 b) (known_of values.old) (known_of values.new) tally.old tally.new }
     ensures paid { half.entry ≡ None → PaysHalves (gridded desk.old.view) (list_of desk.old live)
-        (halves_of 1 b) values.old values.new tally.old tally.new }
+        (halves_of 1 b) (known_of values.old) (known_of values.new) tally.old tally.new }
     ensures traced { OnOk result
         (CountsHullsAtLeast (halves_long_spans_after (gridded desk.old.view)
         (received_by half.entry) (list_of desk.old live) (halves_of 1 b)) tally.old tally.new) }
@@ -356,7 +359,7 @@ fn look_into_each_half(
     values: &mut GridValues,
     tally: &mut Tally,
 ) -> Result<(), AllocError>
-    requires may { MayLook desk.old b live values.old }
+    requires may { MayLook mesh desk.old b live (known_of values.old) }
     requires whole { IsWhole (list_of desk.old live) }
     requires long { IsTrue (is_long_for 1 b) }
     requires old { IfSome before (AreOldHalves desk.old.view b (halves_of 1 b) boxes.old.before) }
@@ -367,23 +370,23 @@ fn look_into_each_half(
         (received_by before.entry) (halves_of 1 b) boxes.old.before) }
     ensures settled { OnOk result
         (AreSettled (gridded desk.old.view) (list_grid_value desk.old.view (list_of desk.old live)) b
-        values.new) }
+        (known_of values.new)) }
     ensures worked { before.entry ≡ None → OnOk result
         (All (λ half. AreWorked (gridded desk.old.view) (visit half (list_of desk.old live))
-        values.new) (halves_of 1 b)) }
-    ensures grows { Grows (list_grid_value desk.old.view (list_of desk.old live)) b values.old
-        values.new }
+        (known_of values.new)) (halves_of 1 b)) }
+    ensures grows { Grows (list_grid_value desk.old.view (list_of desk.old live)) b (known_of values.old)
+        (known_of values.new) }
     ensures counted { ChargesHalvesAfter (gridded desk.old.view) (received_by before.entry)
-        (list_of desk.old live) (halves_of 1 b) values.old values.new tally.old tally.new }
+        (list_of desk.old live) (halves_of 1 b) (known_of values.old) (known_of values.new) tally.old tally.new }
     ensures paid { before.entry ≡ None → PaysHalves (gridded desk.old.view) (list_of desk.old live)
-        (halves_of 1 b) values.old values.new tally.old tally.new }
+        (halves_of 1 b) (known_of values.old) (known_of values.new) tally.old tally.new }
     ensures traced { OnOk result
         (CountsHullsAtLeast (halves_long_spans_after (gridded desk.old.view)
         (received_by before.entry) (list_of desk.old live) (halves_of 1 b)) tally.old tally.new) }
     ensures more { HasMore desk.old desk.new }
 {
     layers_hold();
-    let halves = split(b, LEAF);
+    let halves = in_turn(b);
     let outcomes = trace_longer(desk, halves.as_slice(), live, values.n(), tally)?;
     let outcomes = outcomes.as_slice();
     let mut at = 0;
@@ -394,6 +397,35 @@ fn look_into_each_half(
         at += usize::from(is_long(*half, LEAF));
     }
     Ok(())
+}
+
+// The halves of a box in the order in which they are looked into. Those that are cells come last first: the
+// last one has most of the corners that are not known, so that they are evaluated side by side, and the
+// others are seldom traced then.
+#[inline]
+fn in_turn(b: IndexBox) -> ArrayVec<IndexBox, 8>
+    ensures { IsBox b → AreTurned b result.items }
+{
+    layers_hold();
+    let halves = split(b, LEAF);
+    if is_long(b, 2 * LEAF) {
+        halves
+    } else {
+        last_first(halves.as_slice())
+    }
+}
+
+// Some boxes from the last one to the first.
+#[inline]
+fn last_first(boxes: &[IndexBox]) -> ArrayVec<IndexBox, 8>
+    requires { length boxes.now ≤ 8 }
+    ensures { result.items ≡ reverse boxes.now }
+{
+    let mut turned = ArrayVec::new();
+    for at in (0..boxes.len()).rev() {
+        turned.push(boxes[at]);
+    }
+    turned
 }
 
 // What tracing a list tells over those of some boxes that are longer than a cell. AllocError: there
@@ -412,14 +444,14 @@ fn trace_longer(
     requires few { length boxes.now ≤ 8 }
     requires within { All (IsInRoot desk.old.view desk.old.lattice) boxes.now }
     ensures outcomes { IfOk result (λ outcomes. all_seen desk.new.lists outcomes.items
-        ≡ asked_outcomes (samples desk.old) (list_of desk.old received) (longer n boxes.now)) }
+        ≡ asked_outcomes (samples desk.old) (list_of desk.old received) (longer mesh n boxes.now)) }
     ensures hand { IfOk result (λ outcomes.
         All (HandsOn (length (list_of desk.old received)) desk.new.lists) outcomes.items) }
     ensures counted { OnOk result
-        (CountsHulls (length (longer n boxes.now) * length (list_of desk.old received))
+        (CountsHulls (length (longer mesh n boxes.now) * length (list_of desk.old received))
         tally.old tally.new) }
     ensures at_most { OnErr result
-        (CountsAtMost 0 (length (longer n boxes.now) * length (list_of desk.old received))
+        (CountsAtMost 0 (length (longer mesh n boxes.now) * length (list_of desk.old received))
         tally.old tally.new) }
     ensures more { HasMore desk.old desk.new }
 {
@@ -431,7 +463,7 @@ fn trace_longer(
 #[inline]
 fn longer_boxes(n: GridSize, boxes: &[IndexBox]) -> ArrayVec<AskedBox, 8>
     requires { length boxes.now ≤ 8 }
-    ensures items { result.items ≡ longer n boxes.now }
+    ensures items { result.items ≡ longer mesh n boxes.now }
 {
     let mut asked = ArrayVec::new();
     for b in boxes {
@@ -445,7 +477,7 @@ fn longer_boxes(n: GridSize, boxes: &[IndexBox]) -> ArrayVec<AskedBox, 8>
 // A box that is held open where it covers a point of the outermost layer.
 #[inline]
 fn asked_box(n: GridSize, b: IndexBox) -> AskedBox
-    ensures { result ≡ asked_of n b }
+    ensures { result ≡ asked_of mesh n b }
 {
     AskedBox {
         range: b,
@@ -462,19 +494,19 @@ fn look_into_cell(
     values: &mut GridValues,
     tally: &mut Tally,
 ) -> Result<(), AllocError>
-    requires may { MayLook desk.old b received values.old }
+    requires may { MayLook mesh desk.old b received (known_of values.old) }
     requires one { is_long_for 1 b ≡ false }
     ensures settled { OnOk result
         (AreSettled (gridded desk.old.view) (list_grid_value desk.old.view (list_of desk.old received)) b
-        values.new) }
+        (known_of values.new)) }
     ensures worked { OnOk result
-        (AreWorked (gridded desk.old.view) (visit b (list_of desk.old received)) values.new) }
-    ensures grows { Grows (list_grid_value desk.old.view (list_of desk.old received)) b values.old
-        values.new }
+        (AreWorked (gridded desk.old.view) (visit b (list_of desk.old received)) (known_of values.new)) }
+    ensures grows { Grows (list_grid_value desk.old.view (list_of desk.old received)) b (known_of values.old)
+        (known_of values.new) }
     ensures counted { ChargesBox (gridded desk.old.view) (visit b (list_of desk.old received))
-        values.old values.new tally.old tally.new }
-    ensures paid { PaysBox (gridded desk.old.view) (visit b (list_of desk.old received)) values.old
-        values.new tally.old tally.new }
+        (known_of values.old) (known_of values.new) tally.old tally.new }
+    ensures paid { PaysBox (gridded desk.old.view) (visit b (list_of desk.old received)) (known_of values.old)
+        (known_of values.new) tally.old tally.new }
     ensures untraced { IsShown values.old (point b.x0 b.y0 b.z0)
         → CountsNoHull tally.old tally.new }
     ensures kept { desk.new ≡ desk.old }
@@ -502,7 +534,7 @@ fn is_working(
     seen: Seen,
     tally: &mut Tally,
 ) -> bool
-    requires may { (t : PointValues) × MayLook desk.old b received t × IsSeen t
+    requires may { (t : PointValues) × MayLook mesh desk.old b received (known_of t) × IsSeen t
         (point b.x0 b.y0 b.z0) seen }
     requires one { is_long_for 1 b ≡ false }
     requires n { SameSize n (size_of desk.old.view) }

@@ -4,11 +4,12 @@ ghost use Rattle.box_chains.specs.Chains.{is_long as is_long_for};
 ghost use Rattle.box_chains.specs.Desks.{list_of};
 ghost use Rattle.kuhn_cells.specs.Sizes.{IsBounded};
 ghost use Rattle.kuhn_cells.specs.Triangles.{point};
-ghost use Rattle.oct_descent.specs.Desks.{MayLook};
-ghost use Rattle.oct_descent.specs.Fills.{ChargesCorners, PaysCorners};
 ghost use Rattle.oct_descent.specs.Gaps.{AreGaps};
 ghost use Rattle.oct_descent.specs.GridValues.{list_grid_value};
-ghost use Rattle.oct_descent.specs.Tables.{AllKnown, Grows, IsSame};
+ghost use Rattle.oct_descent.specs.Halves.{MayLook};
+ghost use Rattle.oct_descent.specs.Kinds.{known_of, mesh};
+ghost use Rattle.oct_descent.specs.Known.{AllKnown, ChargesCorners, Grows, PaysCorners};
+ghost use Rattle.oct_descent.specs.Tables.{IsSame};
 
 use crate::gap::Gap;
 use crate::gaps::fill_gaps;
@@ -28,14 +29,14 @@ pub fn fill_cell(
     values: &mut GridValues,
     tally: &mut Tally,
 ) -> Result<(), AllocError>
-    requires may { MayLook desk.old b received values.old }
+    requires may { MayLook mesh desk.old b received (known_of values.old) }
     requires one { is_long_for 1 b ≡ false }
-    ensures known { OnOk result (AllKnown values.new b) }
-    ensures grows { Grows (list_grid_value desk.old.view (list_of desk.old received)) b values.old
-        values.new }
-    ensures counted { ChargesCorners b (length (list_of desk.old received)) values.old values.new
+    ensures known { OnOk result (AllKnown (known_of values.new) b) }
+    ensures grows { Grows (list_grid_value desk.old.view (list_of desk.old received)) b (known_of values.old)
+        (known_of values.new) }
+    ensures counted { ChargesCorners b (length (list_of desk.old received)) (known_of values.old) (known_of values.new)
         tally.old tally.new }
-    ensures paid { PaysCorners b (length (list_of desk.old received)) values.old values.new
+    ensures paid { PaysCorners b (length (list_of desk.old received)) (known_of values.old) (known_of values.new)
         tally.old tally.new }
     ensures kept { desk.new ≡ desk.old }
 {

@@ -4,7 +4,9 @@ ghost use Rattle.kuhn_cells.specs.Triangles.{GridPoint, further, point};
 ghost use Rattle.kuhn_cells.specs.Sizes.{IsBounded};
 ghost use Rattle.oct_descent.specs.Corners.{AreTogether, IsRow};
 ghost use Rattle.oct_descent.specs.Taking.{TakesValue};
-ghost use Rattle.oct_descent.specs.Tables.{AreKept, IsSame, KeepsPlaces, Sets, brick_of as brick_of_point, is_known as is_known_of, is_within, known_at, read as read_of, slot as slot_of, stand as stand_of};
+ghost use Rattle.oct_descent.specs.Kinds.{known_of};
+ghost use Rattle.oct_descent.specs.Known.{Sets};
+ghost use Rattle.oct_descent.specs.Tables.{AreKept, IsSame, KeepsPlaces, brick_of as brick_of_point, is_known as is_known_of, is_within, known_at, read as read_of, slot as slot_of, stand as stand_of};
 
 use fixed_ops::Fx;
 use kuhn_cells::GridSize;
@@ -250,7 +252,7 @@ impl GridValues {
         requires { at < length self.old.kept.known }
         ensures sets { (p : GridPoint) → IsTrue (is_within self.old.n p) → stand_of self.old p
             ≡ Some at
-            → Sets p value self.old self.new }
+            → Sets p value (known_of self.old) (known_of self.new) }
         ensures keeps { KeepsPlaces self.old self.new }
     {
         self.known[at] = true;

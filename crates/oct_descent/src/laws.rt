@@ -1,5 +1,6 @@
 // What always holds of grids of lists and of the work that their cells take.
 ghost use Rattle.oct_descent.specs.AfterLaws.{BoxesAfterAddUp, MeshesAfterAddUp};
+ghost use Rattle.oct_descent.specs.GridLaws.{GridsHold};
 ghost use Rattle.oct_descent.specs.Laws.{GridsAreBordered, LayersHaveTheCells, LongMeshSpansAddUp, MeshPointsAreBounded, MeshSpansAddUp, MeshSpansAreBounded, ReachedBoxesAreCountedOnce, WaysGoOn};
 
 use box_chains::layers_hold;
@@ -8,6 +9,16 @@ use box_chains::layers_hold;
 pub fn grids_are_bordered()
     ensures { GridsAreBordered }
 {}
+
+/// What holds of every grid whose cells are looked into by boxes, be it that of a mesh or a plane one: how
+/// what is known of its points grows, what its boxes and their halves take, and what the box of all cells
+/// leaves. A kind of grid has to show for it how its border lies.
+#[inline]
+pub fn grids_hold()
+    ensures { GridsHold }
+{
+    layers_hold();
+}
 
 /// The points of a grid take no more evaluations than the list has steps, at each of them, and no
 /// more steps are traced than the list has, for each cell and each side of the boxes that hold it.

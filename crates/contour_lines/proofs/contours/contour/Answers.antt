@@ -1,5 +1,5 @@
 -- The tables that are found are those of the grid over the view.
-use Rattle.std.proofs.Common.{◌≡◌, sym, subst}
+use Rattle.std.proofs.Common.{sym, subst}
 use Rattle.live_clauses.specs.Steps.{tape_value}
 use Rattle.plane_loops.specs.Tables.{AreTables}
 use Rattle.contour_lines.specs.PlaneGrids.{plane_over}

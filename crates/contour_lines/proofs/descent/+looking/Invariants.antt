@@ -5,12 +5,12 @@ use Rattle.box_chains.specs.Chains.{sides, visit}
 use Rattle.box_chains.specs.Outcomes.{HandsOn, all_seen, asked_outcomes}
 use Rattle.kuhn_cells.specs.Triangles.{GridPoint}
 use Rattle.view_places.specs.Window.{size_of}
+use Rattle.oct_descent.specs.Asked.{longer}
+use Rattle.oct_descent.specs.Halves.{PaysHalves, halves_below, owned}
+use Rattle.oct_descent.specs.Known.{AreSettled, AreWorked, Charges, Grows}
 use Rattle.oct_descent.specs.Tables.{IsEnough}
-use Rattle.contour_lines.specs.Desks.{PaysHalves, longer}
-use Rattle.contour_lines.specs.Planes.{flat_value}
-use Rattle.contour_lines.specs.Tables.{AreSettled, AreWorked, Charges, Grows}
-use Rattle.contour_lines.specs.Ways.{planar}
-use Rattle.contour_lines.proofs.Looks.{halves_below, owned}
+use Rattle.contour_lines.specs.Tables.{known_of}
+use Rattle.contour_lines.specs.Ways.{flat_value, planar, plane}
 use Rattle.contour_lines.proofs.descent.+looking.Given as goal
 
 -- a box has three turns before its halves have theirs
@@ -27,12 +27,12 @@ abbrev pub invariant-look_into_each_half-loop-half : goal.invariant-look_into_ea
 invariant-look_into_each_half-loop-half l = let list = list_of l.fn.desk l.live in let d = planar l.fn.desk.view in record {
   more : HasMore l.fn.desk l.desk;
   few : l.at ≤ l.half-index;
-  told : drop l.at (all_seen l.desk.lists l.outcomes) ≡ asked_outcomes (samples l.fn.desk) list (longer (size_of l.fn.desk.view) (drop l.half-index l.half-items));
+  told : drop l.at (all_seen l.desk.lists l.outcomes) ≡ asked_outcomes (samples l.fn.desk) list (longer plane (size_of l.fn.desk.view) (drop l.half-index l.half-items));
   hand : All (HandsOn (length list) l.desk.lists) l.outcomes;
-  settled : All (λ h. AreSettled d (flat_value l.fn.desk.view list) h l.values) (take l.half-index l.half-items);
-  grows : Grows (flat_value l.fn.desk.view list) l.fn.b l.fn.values l.values;
+  settled : All (λ h. AreSettled d (flat_value l.fn.desk.view list) h (known_of l.values)) (take l.half-index l.half-items);
+  grows : Grows (flat_value l.fn.desk.view list) l.fn.b (known_of l.fn.values) (known_of l.values);
   counted : (f : GridPoint → ℕ) → All (λ h. IsEnough f d (visit h list)) l.half-items
-      → Charges f (owned list l.half-items + halves_below d list (take l.half-index l.half-items)) l.fn.values l.values l.fn.tally l.tally;
-  worked : All (λ h. AreWorked d (visit h list) l.values) (take l.half-index l.half-items);
-  paid : PaysHalves d list l.half-items l.fn.values l.values l.fn.tally l.tally;
+      → Charges f (owned list l.half-items + halves_below d list (take l.half-index l.half-items)) (known_of l.fn.values) (known_of l.values) l.fn.tally l.tally;
+  worked : All (λ h. AreWorked d (visit h list) (known_of l.values)) (take l.half-index l.half-items);
+  paid : PaysHalves d list l.half-items (known_of l.fn.values) (known_of l.values) l.fn.tally l.tally;
 }

@@ -9,8 +9,8 @@ pub returns-then-seen-2-clause-open : goal.returns-then-seen-2-clause-open
 returns-then-seen-2-clause-open c =
     let may = c.requires.may.1 in
     let seen = c.requires.may.2 in
-    let low = low-is c.args.desk.now.view c.args.b may.visit_is.box may.visit_is.within may.flat c.requires.one in
-    sym (sides-open c.layers_hold.ensures c.args.desk.now.view (visit c.args.b (list_of c.args.desk.now c.args.received)) c.requires.may.0 may.visit_is low may.right (seen.inside c.if-seen.true) (seen.outside c.if-seen-2.true))
+    let low = low-is c.args.desk.now.view c.args.b may.visit_is.box may.visit_is.within c.requires.flat c.requires.one in
+    sym (sides-open c.planes_hold.ensures c.args.desk.now.view (visit c.args.b (list_of c.args.desk.now c.args.received)) c.requires.may.0 may.visit_is c.requires.one low may.right (seen.inside c.if-seen.true) (seen.outside c.if-seen-2.true))
 
 pub returns-then-seen-2-clause-counted : goal.returns-then-seen-2-clause-counted
 returns-then-seen-2-clause-counted c = c.layers_hold.ensures.bounds.none c.args.tally.now 0 _

@@ -5,68 +5,64 @@ use Rattle.box_chains.specs.Desks.{list_of}
 use Rattle.box_chains.specs.Visits.{IsVisit}
 use Rattle.kuhn_cells.specs.Sizes.{SameSize}
 use Rattle.view_places.specs.Window.{size_of}
-use Rattle.contour_lines.specs.Desks.{ChargesBelow}
-use Rattle.contour_lines.specs.Planes.{flat_value}
-use Rattle.contour_lines.specs.Tables.{AreRight, AreSettled, AreWorked, Grows, PaysBox}
-use Rattle.contour_lines.specs.Ways.{planar}
-use Rattle.contour_lines.proofs.Looks.{below-charged, below-paid, look-paid, trace-charged}
-use Rattle.contour_lines.proofs.TableLaws.{grows-none}
-use Rattle.contour_lines.proofs.Together.{among-stays, list-stays}
+use Rattle.oct_descent.specs.Halves.{ChargesBelow}
+use Rattle.oct_descent.specs.Known.{AreRight, AreSettled, AreWorked, Grows, PaysBox}
+use Rattle.contour_lines.specs.Tables.{known_of}
+use Rattle.contour_lines.specs.Ways.{flat_value, planar}
 use Rattle.contour_lines.proofs.descent.look_into.Goals as goal
 
 pub returns-in_err-told-clause-grows : goal.returns-in_err-told-clause-grows
-returns-in_err-told-clause-grows c = grows-none (flat_value c.args.desk.now.view (list_of c.args.desk.now c.args.received)) c.args.b c.args.values.now
+returns-in_err-told-clause-grows c = c.planes_hold.ensures.growth.none (flat_value c.args.desk.now.view (list_of c.args.desk.now c.args.received)) c.args.b (known_of c.args.values.now)
 
 pub returns-in_err-told-clause-counted : goal.returns-in_err-told-clause-counted
 returns-in_err-told-clause-counted c =
     let v = visit c.args.b (list_of c.args.desk.now c.args.received) in
-    trace-charged c.layers_hold.ensures (planar c.args.desk.now.view) v c.args.values.now c.args.tally.now c.trace_asked_box.new.tally (omega arith) c.requires.may.visit_is.box c.trace_asked_box.ensures.counted
+    c.planes_hold.ensures.looks.traced (planar c.args.desk.now.view) v (known_of c.args.values.now) c.args.tally.now c.trace_asked_box.new.tally (omega arith) c.requires.may.visit_is.box c.trace_asked_box.ensures.counted
 
 pub returns-in_err-told-clause-paid : goal.returns-in_err-told-clause-paid
 returns-in_err-told-clause-paid c =
     let v = visit c.args.b (list_of c.args.desk.now c.args.received) in
-    look-paid (planar c.args.desk.now.view) v c.args.values.now c.args.tally.now c.trace_asked_box.new.tally
+    c.planes_hold.ensures.looks.unpaid (planar c.args.desk.now.view) v (known_of c.args.values.now) c.args.tally.now c.trace_asked_box.new.tally
     (c.layers_hold.ensures.bounds.hulls c.args.tally.now c.trace_asked_box.new.tally (length (list_of c.args.desk.now c.args.received)) c.trace_asked_box.ensures.counted)
 
 pub returns-clause-counted : goal.returns-clause-counted
 returns-clause-counted c =
     let view = c.args.desk.now.view in
     let v = visit c.args.b (list_of c.args.desk.now c.args.received) in
-    below-charged c.layers_hold.ensures view v c.args.values.now c.look_into_told.new.values c.args.tally.now c.trace_asked_box.new.tally c.look_into_told.new.tally
+    c.planes_hold.ensures.looks.below_charged view v (known_of c.args.values.now) (known_of c.look_into_told.new.values) c.args.tally.now c.trace_asked_box.new.tally c.look_into_told.new.tally
     c.requires.may.visit_is.box (sym c.is_long.ensures ∙ c.if-not-is_long.false) c.trace_asked_box.ensures.counted
-    (subst (λ w. ChargesBelow (planar w) (visit c.args.b (list_of c.args.desk.now c.args.received)) c.args.values.now c.look_into_told.new.values c.trace_asked_box.new.tally c.look_into_told.new.tally) c.in_ok-told.ensures.more.view (subst (λ l. ChargesBelow (planar c.trace_asked_box.new.self.view) (visit c.args.b l) c.args.values.now c.look_into_told.new.values c.trace_asked_box.new.tally c.look_into_told.new.tally) (list-stays c.args.desk.now c.trace_asked_box.new.self c.args.received c.in_ok-told.ensures.more c.requires.may.among) c.look_into_told.ensures.counted))
+    (subst (λ w. ChargesBelow (planar w) (visit c.args.b (list_of c.args.desk.now c.args.received)) (known_of c.args.values.now) (known_of c.look_into_told.new.values) c.trace_asked_box.new.tally c.look_into_told.new.tally) c.in_ok-told.ensures.more.view (subst (λ l. ChargesBelow (planar c.trace_asked_box.new.self.view) (visit c.args.b l) (known_of c.args.values.now) (known_of c.look_into_told.new.values) c.trace_asked_box.new.tally c.look_into_told.new.tally) (c.planes_hold.ensures.telling.stays c.args.desk.now c.trace_asked_box.new.self c.args.received c.in_ok-told.ensures.more c.requires.may.among) c.look_into_told.ensures.counted))
 
 pub returns-clause-paid : goal.returns-clause-paid
 returns-clause-paid c =
     let view = c.args.desk.now.view in
     let v = visit c.args.b (list_of c.args.desk.now c.args.received) in
-    below-paid c.layers_hold.ensures (planar view) v c.args.values.now c.look_into_told.new.values c.args.tally.now c.trace_asked_box.new.tally c.look_into_told.new.tally
+    c.planes_hold.ensures.looks.below_paid (planar view) v (known_of c.args.values.now) (known_of c.look_into_told.new.values) c.args.tally.now c.trace_asked_box.new.tally c.look_into_told.new.tally
     c.trace_asked_box.ensures.counted
-    (subst (λ w. PaysBox (planar w) (visit c.args.b (list_of c.args.desk.now c.args.received)) c.args.values.now c.look_into_told.new.values c.trace_asked_box.new.tally c.look_into_told.new.tally) c.in_ok-told.ensures.more.view (subst (λ l. PaysBox (planar c.trace_asked_box.new.self.view) (visit c.args.b l) c.args.values.now c.look_into_told.new.values c.trace_asked_box.new.tally c.look_into_told.new.tally) (list-stays c.args.desk.now c.trace_asked_box.new.self c.args.received c.in_ok-told.ensures.more c.requires.may.among) c.look_into_told.ensures.paid))
+    (subst (λ w. PaysBox (planar w) (visit c.args.b (list_of c.args.desk.now c.args.received)) (known_of c.args.values.now) (known_of c.look_into_told.new.values) c.trace_asked_box.new.tally c.look_into_told.new.tally) c.in_ok-told.ensures.more.view (subst (λ l. PaysBox (planar c.trace_asked_box.new.self.view) (visit c.args.b l) (known_of c.args.values.now) (known_of c.look_into_told.new.values) c.trace_asked_box.new.tally c.look_into_told.new.tally) (c.planes_hold.ensures.telling.stays c.args.desk.now c.trace_asked_box.new.self c.args.received c.in_ok-told.ensures.more c.requires.may.among) c.look_into_told.ensures.paid))
 
 pub returns-clause-settled : goal.returns-clause-settled
 returns-clause-settled c =
-    (subst (λ w. OnOk c.look_into_told.result (AreSettled (planar w) (flat_value w (list_of c.args.desk.now c.args.received)) c.args.b c.look_into_told.new.values)) c.in_ok-told.ensures.more.view (subst (λ l. OnOk c.look_into_told.result (AreSettled (planar c.trace_asked_box.new.self.view) (flat_value c.trace_asked_box.new.self.view l) c.args.b c.look_into_told.new.values)) (list-stays c.args.desk.now c.trace_asked_box.new.self c.args.received c.in_ok-told.ensures.more c.requires.may.among) c.look_into_told.ensures.settled))
+    (subst (λ w. OnOk c.look_into_told.result (AreSettled (planar w) (flat_value w (list_of c.args.desk.now c.args.received)) c.args.b (known_of c.look_into_told.new.values))) c.in_ok-told.ensures.more.view (subst (λ l. OnOk c.look_into_told.result (AreSettled (planar c.trace_asked_box.new.self.view) (flat_value c.trace_asked_box.new.self.view l) c.args.b (known_of c.look_into_told.new.values))) (c.planes_hold.ensures.telling.stays c.args.desk.now c.trace_asked_box.new.self c.args.received c.in_ok-told.ensures.more c.requires.may.among) c.look_into_told.ensures.settled))
 
 pub returns-clause-worked : goal.returns-clause-worked
 returns-clause-worked c =
-    (subst (λ w. OnOk c.look_into_told.result (AreWorked (planar w) (visit c.args.b (list_of c.args.desk.now c.args.received)) c.look_into_told.new.values)) c.in_ok-told.ensures.more.view (subst (λ l. OnOk c.look_into_told.result (AreWorked (planar c.trace_asked_box.new.self.view) (visit c.args.b l) c.look_into_told.new.values)) (list-stays c.args.desk.now c.trace_asked_box.new.self c.args.received c.in_ok-told.ensures.more c.requires.may.among) c.look_into_told.ensures.worked))
+    (subst (λ w. OnOk c.look_into_told.result (AreWorked (planar w) (visit c.args.b (list_of c.args.desk.now c.args.received)) (known_of c.look_into_told.new.values))) c.in_ok-told.ensures.more.view (subst (λ l. OnOk c.look_into_told.result (AreWorked (planar c.trace_asked_box.new.self.view) (visit c.args.b l) (known_of c.look_into_told.new.values))) (c.planes_hold.ensures.telling.stays c.args.desk.now c.trace_asked_box.new.self c.args.received c.in_ok-told.ensures.more c.requires.may.among) c.look_into_told.ensures.worked))
 
 pub returns-clause-grows : goal.returns-clause-grows
 returns-clause-grows c =
-    (subst (λ w. Grows (flat_value w (list_of c.args.desk.now c.args.received)) c.args.b c.args.values.now c.look_into_told.new.values) c.in_ok-told.ensures.more.view (subst (λ l. Grows (flat_value c.trace_asked_box.new.self.view l) c.args.b c.args.values.now c.look_into_told.new.values) (list-stays c.args.desk.now c.trace_asked_box.new.self c.args.received c.in_ok-told.ensures.more c.requires.may.among) c.look_into_told.ensures.grows))
+    (subst (λ w. Grows (flat_value w (list_of c.args.desk.now c.args.received)) c.args.b (known_of c.args.values.now) (known_of c.look_into_told.new.values)) c.in_ok-told.ensures.more.view (subst (λ l. Grows (flat_value c.trace_asked_box.new.self.view l) c.args.b (known_of c.args.values.now) (known_of c.look_into_told.new.values)) (c.planes_hold.ensures.telling.stays c.args.desk.now c.trace_asked_box.new.self c.args.received c.in_ok-told.ensures.more c.requires.may.among) c.look_into_told.ensures.grows))
 
 pub look_into_told-requires-clause-may : goal.look_into_told-requires-clause-may
 look_into_told-requires-clause-may c =
-    let same = list-stays c.args.desk.now c.trace_asked_box.new.self c.args.received c.in_ok-told.ensures.more c.requires.may.among in
+    let same = c.planes_hold.ensures.telling.stays c.args.desk.now c.trace_asked_box.new.self c.args.received c.in_ok-told.ensures.more c.requires.may.among in
     let view = c.in_ok-told.ensures.more.view in
     let may = c.requires.may in
     record {
       lattice = c.in_ok-told.ensures.more.lattice ∙ may.lattice;
       visit_is = subst (λ l. IsVisit (planar c.trace_asked_box.new.self.view).boxes (visit c.args.b l)) (sym same) (subst (λ w. IsVisit (planar w).boxes (visit c.args.b (list_of c.args.desk.now c.args.received))) (sym view) may.visit_is);
-      flat = ap (λ w. w.nz) view ∙ may.flat;
       n = subst (λ w. SameSize c.args.values.now.n (size_of w)) (sym view) may.n;
-      among = among-stays c.args.desk.now c.trace_asked_box.new.self c.args.received c.in_ok-told.ensures.more may.among;
+      among = c.planes_hold.ensures.telling.among c.args.desk.now c.trace_asked_box.new.self c.args.received c.in_ok-told.ensures.more may.among;
       room = omega (arith, c.in_ok-told.ensures.more.room, may.room, ap length same);
-      right = subst (λ l. AreRight (flat_value c.trace_asked_box.new.self.view l) c.args.b c.args.values.now) (sym same) (subst (λ w. AreRight (flat_value w (list_of c.args.desk.now c.args.received)) c.args.b c.args.values.now) (sym view) may.right);
+      right = subst (λ l. AreRight (flat_value c.trace_asked_box.new.self.view l) c.args.b (known_of c.args.values.now)) (sym same) (subst (λ w. AreRight (flat_value w (list_of c.args.desk.now c.args.received)) c.args.b (known_of c.args.values.now)) (sym view) may.right);
     }

@@ -4,16 +4,14 @@ use Rattle.box_chains.specs.Chains.{visit}
 use Rattle.box_chains.specs.Desks.{Tracing, list_of}
 use Rattle.box_chains.specs.Visits.{IsVisit}
 use Rattle.live_clauses.specs.declared.step.Step.{Step}
+use Rattle.oct_descent.specs.Known.{AreSettled, AreWorked, ChargesBox, Grows, PaysBox}
 use Rattle.oct_descent.specs.Tables.{is_known}
 use Rattle.view_places.specs.Spans.{root_box_of}
 use Rattle.view_places.specs.Window.{size_of}
 use Rattle.view_places.specs.declared.lattice.Lattice.TheVariants.{Grid}
-use Rattle.contour_lines.specs.Planes.{flat_value}
-use Rattle.contour_lines.specs.Tables.{AreSettled, AreWorked, ChargesBox, Grows, PaysBox}
-use Rattle.contour_lines.specs.Ways.{planar}
-use Rattle.contour_lines.proofs.Bounds.{whole-visit}
-use Rattle.contour_lines.proofs.Sizes.{size-from}
-use Rattle.contour_lines.proofs.Whole.{whole-counted, whole-paid, whole-told}
+use Rattle.contour_lines.specs.Tables.{known_of}
+use Rattle.contour_lines.specs.Ways.{flat_value, planar}
+use Rattle.contour_lines.proofs.Work.{whole-counted, whole-paid, whole-told}
 use Rattle.contour_lines.proofs.planes.look_into_all.Goals as goal
 
 pub look_into-requires : goal.look_into-requires
@@ -27,13 +25,13 @@ look_into-requires c =
       may = record {
         lattice = ap (λ (d : Tracing). d.lattice) made;
         visit_is = subst (λ l. IsVisit (planar desk.view).boxes (visit c.root-root.result l)) (sym is)
-            (subst (λ b. IsVisit (planar desk.view).boxes (visit b c.args.list.now)) (sym root) (subst (λ v. IsVisit (planar v).boxes (visit (root_box_of c.args.view.now Grid) c.args.list.now)) (sym view) (whole-visit c.args.view.now c.args.list.now c.grid-n.ensures.window c.len-len.ensures.tape)));
-        flat = ap (λ w. w.nz) view ∙ c.requires;
-        n = size-from c.in_ok-values.values.n (size_of desk.view) (c.in_ok-values.ensures.n ∙ c.grid-n.ensures.size ∙ ap size_of (sym view));
+            (subst (λ b. IsVisit (planar desk.view).boxes (visit b c.args.list.now)) (sym root) (subst (λ v. IsVisit (planar v).boxes (visit (root_box_of c.args.view.now Grid) c.args.list.now)) (sym view) (c.planes_hold.ensures.whole.visits c.args.view.now c.args.list.now c.grid-n.ensures.window c.len-len.ensures.tape)));
+        n = c.planes_hold.ensures.sizes.from c.in_ok-values.values.n (size_of desk.view) (c.in_ok-values.ensures.n ∙ c.grid-n.ensures.size ∙ ap size_of (sym view));
         among = omega (arith, ap (λ (d : Tracing). length d.lists) made);
         room = omega (arith, ap length is, ap (λ (d : Tracing). d.room) made);
         right = λ p covers known. absurd (false≢true (sym (ap is_known (c.in_ok-values.ensures.none p)) ∙ known));
       };
+      flat = ap (λ w. w.nz) view ∙ c.requires;
     }
 
 pub returns-in_err-look_into-clause-at_most : goal.returns-in_err-look_into-clause-at_most
@@ -43,9 +41,9 @@ returns-in_err-look_into-clause-at_most c =
     let is = ap (λ (d : Tracing). list_of d 0) made in
     let root = subst (λ (d : Tracing). c.root-root.result ≡ root_box_of d.view d.lattice) made c.root-root.ensures in
     let desk = c.in_ok-desk.desk in
-    whole-counted c.layers_hold.ensures c.args.view.now desk.view c.args.list.now c.root-root.result c.in_ok-values.values c.look_into.new.values c.args.tally.now c.look_into.new.tally view root
+    whole-counted c.planes_hold.ensures c.args.view.now desk.view c.args.list.now c.root-root.result c.in_ok-values.values c.look_into.new.values c.args.tally.now c.look_into.new.tally view root
     (c.in_ok-values.ensures.n ∙ c.grid-n.ensures.size) c.in_ok-values.ensures.none
-    (subst (λ (l : List Step). ChargesBox (planar desk.view) (visit c.root-root.result l) c.in_ok-values.values c.look_into.new.values c.args.tally.now c.look_into.new.tally) is c.in_err-look_into.ensures.counted)
+    (subst (λ (l : List Step). ChargesBox (planar desk.view) (visit c.root-root.result l) (known_of c.in_ok-values.values) (known_of c.look_into.new.values) c.args.tally.now c.look_into.new.tally) is c.in_err-look_into.ensures.counted)
 
 pub returns-clause-at_most : goal.returns-clause-at_most
 returns-clause-at_most c =
@@ -54,9 +52,9 @@ returns-clause-at_most c =
     let is = ap (λ (d : Tracing). list_of d 0) made in
     let root = subst (λ (d : Tracing). c.root-root.result ≡ root_box_of d.view d.lattice) made c.root-root.ensures in
     let desk = c.in_ok-desk.desk in
-    whole-counted c.layers_hold.ensures c.args.view.now desk.view c.args.list.now c.root-root.result c.in_ok-values.values c.look_into.new.values c.args.tally.now c.look_into.new.tally view root
+    whole-counted c.planes_hold.ensures c.args.view.now desk.view c.args.list.now c.root-root.result c.in_ok-values.values c.look_into.new.values c.args.tally.now c.look_into.new.tally view root
     (c.in_ok-values.ensures.n ∙ c.grid-n.ensures.size) c.in_ok-values.ensures.none
-    (subst (λ (l : List Step). ChargesBox (planar desk.view) (visit c.root-root.result l) c.in_ok-values.values c.look_into.new.values c.args.tally.now c.look_into.new.tally) is c.in_ok-look_into.ensures.counted)
+    (subst (λ (l : List Step). ChargesBox (planar desk.view) (visit c.root-root.result l) (known_of c.in_ok-values.values) (known_of c.look_into.new.values) c.args.tally.now c.look_into.new.tally) is c.in_ok-look_into.ensures.counted)
 
 pub returns-clause-at_least : goal.returns-clause-at_least
 returns-clause-at_least c =
@@ -65,10 +63,10 @@ returns-clause-at_least c =
     let is = ap (λ (d : Tracing). list_of d 0) made in
     let root = subst (λ (d : Tracing). c.root-root.result ≡ root_box_of d.view d.lattice) made c.root-root.ensures in
     let desk = c.in_ok-desk.desk in
-    whole-paid c.layers_hold.ensures c.args.view.now desk.view c.args.list.now c.root-root.result c.in_ok-values.values c.look_into.new.values c.args.tally.now c.look_into.new.tally view root
+    whole-paid c.planes_hold.ensures c.args.view.now desk.view c.args.list.now c.root-root.result c.in_ok-values.values c.look_into.new.values c.args.tally.now c.look_into.new.tally view root
     (c.in_ok-values.ensures.n ∙ c.grid-n.ensures.size) c.in_ok-values.ensures.none
-    (subst (λ (l : List Step). AreWorked (planar desk.view) (visit c.root-root.result l) c.look_into.new.values) is c.in_ok-look_into.ensures.worked)
-    (subst (λ (l : List Step). PaysBox (planar desk.view) (visit c.root-root.result l) c.in_ok-values.values c.look_into.new.values c.args.tally.now c.look_into.new.tally) is c.in_ok-look_into.ensures.paid)
+    (subst (λ (l : List Step). AreWorked (planar desk.view) (visit c.root-root.result l) (known_of c.look_into.new.values)) is c.in_ok-look_into.ensures.worked)
+    (subst (λ (l : List Step). PaysBox (planar desk.view) (visit c.root-root.result l) (known_of c.in_ok-values.values) (known_of c.look_into.new.values) c.args.tally.now c.look_into.new.tally) is c.in_ok-look_into.ensures.paid)
 
 pub returns-clause-told : goal.returns-clause-told
 returns-clause-told c =
@@ -77,6 +75,6 @@ returns-clause-told c =
     let is = ap (λ (d : Tracing). list_of d 0) made in
     let root = subst (λ (d : Tracing). c.root-root.result ≡ root_box_of d.view d.lattice) made c.root-root.ensures in
     let desk = c.in_ok-desk.desk in
-    whole-told c.args.view.now desk.view c.args.list.now c.root-root.result c.in_ok-values.values c.look_into.new.values view root (c.in_ok-values.ensures.n ∙ c.grid-n.ensures.size) c.in_ok-values.ensures.none
-    (subst (λ (l : List Step). Grows (flat_value desk.view l) c.root-root.result c.in_ok-values.values c.look_into.new.values) is c.in_ok-look_into.ensures.grows)
-    (subst (λ (l : List Step). AreSettled (planar desk.view) (flat_value desk.view l) c.root-root.result c.look_into.new.values) is c.in_ok-look_into.ensures.settled)
+    whole-told c.planes_hold.ensures c.args.view.now desk.view c.args.list.now c.root-root.result c.in_ok-values.values c.look_into.new.values view root (c.in_ok-values.ensures.n ∙ c.grid-n.ensures.size) c.in_ok-values.ensures.none
+    (subst (λ (l : List Step). Grows (flat_value desk.view l) c.root-root.result (known_of c.in_ok-values.values) (known_of c.look_into.new.values)) is c.in_ok-look_into.ensures.grows)
+    (subst (λ (l : List Step). AreSettled (planar desk.view) (flat_value desk.view l) c.root-root.result (known_of c.look_into.new.values)) is c.in_ok-look_into.ensures.settled)

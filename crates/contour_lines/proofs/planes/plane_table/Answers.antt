@@ -2,16 +2,16 @@ use Rattle.std.proofs.Common.{◌≡◌, ◌+◌, ◌*◌, ℕ, Bool, List, ◌�
 use Rattle.view_places.specs.Window.{IsWindow, size_of}
 use Rattle.contour_lines.specs.Planes.{laid_flat}
 use Rattle.contour_lines.specs.Signs.{AreRows, HasCorners, signs_by}
+use Rattle.contour_lines.specs.Tables.{known_of}
 use Rattle.contour_lines.specs.Trees.{IsTold}
 use Rattle.contour_lines.proofs.PlaneLaws.{has-corners, has-signs}
-use Rattle.contour_lines.proofs.Sizes.{size-is}
 use Rattle.contour_lines.proofs.planes.plane_table.Goals as goal
 
 pub signs_of-requires : goal.signs_of-requires
 signs_of-requires c =
     let flat = laid_flat c.args.view.now in
     let list = c.args.list.now in
-    let told = subst (λ v. IsTold v list c.in_ok-values.values) c.lay_flat-flat.ensures c.in_ok-values.ensures.told in
+    let told = subst (λ v. IsTold v list (known_of c.in_ok-values.values)) c.lay_flat-flat.ensures c.in_ok-values.ensures.told in
     let window = subst IsWindow c.lay_flat-flat.ensures c.in_ok-values.ensures.window in
     let n = c.in_ok-values.values.n in
     let sided = c.in_ok-sides.ensures flat list window told in
@@ -26,7 +26,7 @@ pub returns-clause-signs : goal.returns-clause-signs
 returns-clause-signs c =
     let flat = laid_flat c.args.view.now in
     let list = c.args.list.now in
-    let told = subst (λ v. IsTold v list c.in_ok-values.values) c.lay_flat-flat.ensures c.in_ok-values.ensures.told in
+    let told = subst (λ v. IsTold v list (known_of c.in_ok-values.values)) c.lay_flat-flat.ensures c.in_ok-values.ensures.told in
     let window = subst IsWindow c.lay_flat-flat.ensures c.in_ok-values.ensures.window in
     let n = c.in_ok-values.values.n in
     let signed = subst (λ (m : ℕ). AreRows m (signs_by m c.in_ok-sides.sides.items) 0 n.y 0 c.in_ok-signs.signs.items) c.nx.ensures.value
@@ -38,6 +38,6 @@ pub returns-clause-corners : goal.returns-clause-corners
 returns-clause-corners c =
     let flat = laid_flat c.args.view.now in
     let list = c.args.list.now in
-    let told = subst (λ v. IsTold v list c.in_ok-values.values) c.lay_flat-flat.ensures c.in_ok-values.ensures.told in
+    let told = subst (λ v. IsTold v list (known_of c.in_ok-values.values)) c.lay_flat-flat.ensures c.in_ok-values.ensures.told in
     let values = c.in_ok-values.values in
-    subst (HasCorners c.args.view.now list) (sym c.into_values.ensures) (has-corners c.args.view.now list values (size-is values.n (size_of flat) told.n) c.holds.ensures.values told)
+    subst (HasCorners c.args.view.now list) (sym c.into_values.ensures) (has-corners c.args.view.now list values (c.planes_hold.ensures.sizes.is values.n (size_of flat) told.n) c.holds.ensures.values told)

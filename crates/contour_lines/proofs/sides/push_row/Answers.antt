@@ -1,5 +1,6 @@
 use Rattle.std.proofs.Common.{◌≡◌, ◌+◌, ◌≤◌, ap, arith, false, subst, sym, ◌∙◌}
 use Rattle.contour_lines.specs.Signs.{AreRows, side_after, side_of}
+use Rattle.contour_lines.specs.Tables.{known_of}
 use Rattle.contour_lines.proofs.RowLaws.{rows-more, rows-next}
 use Rattle.contour_lines.proofs.SideLaws.{before-first, before-next, next-side}
 use Rattle.contour_lines.proofs.sides.push_row.Goals as goal
@@ -10,7 +11,7 @@ loop-x-init c = λ view list window told rows. record { before = before-first vi
 pub loop-x-preserved : goal.loop-x-preserved
 loop-x-preserved c =
     λ view list window told rows.
-    let t = c.args.values.now in
+    let t = known_of c.args.values.now in
     let x = c.loop-x.x in
     let y = c.args.y in
     let was = c.loop-x.invariant view list window told rows in

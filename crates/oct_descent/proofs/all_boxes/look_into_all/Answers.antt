@@ -10,12 +10,14 @@ use Rattle.oct_descent.specs.AfterDesks.{ChargesBoxAfter}
 use Rattle.oct_descent.specs.GridValues.{list_grid_value}
 use Rattle.oct_descent.specs.OldBoxes.{received_by, visit_before}
 use Rattle.view_places.specs.Window.{size_of}
-use Rattle.oct_descent.specs.Tables.{AreSettled, AreWorked, Grows, PaysBox, is_known}
+use Rattle.oct_descent.specs.Tables.{is_known}
 use Rattle.oct_descent.specs.Ways.{gridded}
 use Rattle.oct_descent.proofs.AfterBounds.{whole-counted_after}
 use Rattle.oct_descent.proofs.Before.{root-was}
 use Rattle.oct_descent.proofs.Sizes.{size-from}
-use Rattle.oct_descent.proofs.Whole.{whole-paid, whole-told}
+use Rattle.oct_descent.proofs.Whole.{mesh-paid, whole-told}
+use Rattle.oct_descent.specs.Known.{AreSettled, AreWorked, Grows, PaysBox}
+use Rattle.oct_descent.specs.Kinds.{known_of}
 use Rattle.oct_descent.proofs.all_boxes.look_into_all.Goals as goal
 
 pub look_into-requires-clause-may : goal.look_into-requires-clause-may
@@ -41,8 +43,8 @@ returns-in_err-look_into-clause-at_most c =
     let d = gridded c.args.desk.now.view in
     whole-counted_after c.layers_hold.ensures c.args.view.now c.args.desk.now.view (received_by c.args.before) c.args.list.now c.root-root.result c.in_ok-values.values c.look_into.new.values c.args.tally.now c.look_into.new.tally view root
     (c.in_ok-values.ensures.n ∙ c.grid.ensures.size) c.in_ok-values.ensures.none
-    (subst (λ r. ChargesBoxAfter d r (visit c.root-root.result c.args.list.now) c.in_ok-values.values c.look_into.new.values c.args.tally.now c.look_into.new.tally) (ap (visit_before c.args.before) root ∙ root-was c.args.view.now c.args.before)
-    (subst (λ (l : List Step). ChargesBoxAfter d (visit_before c.args.before c.root-root.result) (visit c.root-root.result l) c.in_ok-values.values c.look_into.new.values c.args.tally.now c.look_into.new.tally) is
+    (subst (λ r. ChargesBoxAfter d r (visit c.root-root.result c.args.list.now) (known_of c.in_ok-values.values) (known_of c.look_into.new.values) c.args.tally.now c.look_into.new.tally) (ap (visit_before c.args.before) root ∙ root-was c.args.view.now c.args.before)
+    (subst (λ (l : List Step). ChargesBoxAfter d (visit_before c.args.before c.root-root.result) (visit c.root-root.result l) (known_of c.in_ok-values.values) (known_of c.look_into.new.values) c.args.tally.now c.look_into.new.tally) is
     c.in_err-look_into.ensures.counted))
 
 pub returns-clause-at_most : goal.returns-clause-at_most
@@ -53,8 +55,8 @@ returns-clause-at_most c =
     let d = gridded c.args.desk.now.view in
     whole-counted_after c.layers_hold.ensures c.args.view.now c.args.desk.now.view (received_by c.args.before) c.args.list.now c.root-root.result c.in_ok-values.values c.look_into.new.values c.args.tally.now c.look_into.new.tally view root
     (c.in_ok-values.ensures.n ∙ c.grid.ensures.size) c.in_ok-values.ensures.none
-    (subst (λ r. ChargesBoxAfter d r (visit c.root-root.result c.args.list.now) c.in_ok-values.values c.look_into.new.values c.args.tally.now c.look_into.new.tally) (ap (visit_before c.args.before) root ∙ root-was c.args.view.now c.args.before)
-    (subst (λ (l : List Step). ChargesBoxAfter d (visit_before c.args.before c.root-root.result) (visit c.root-root.result l) c.in_ok-values.values c.look_into.new.values c.args.tally.now c.look_into.new.tally) is
+    (subst (λ r. ChargesBoxAfter d r (visit c.root-root.result c.args.list.now) (known_of c.in_ok-values.values) (known_of c.look_into.new.values) c.args.tally.now c.look_into.new.tally) (ap (visit_before c.args.before) root ∙ root-was c.args.view.now c.args.before)
+    (subst (λ (l : List Step). ChargesBoxAfter d (visit_before c.args.before c.root-root.result) (visit c.root-root.result l) (known_of c.in_ok-values.values) (known_of c.look_into.new.values) c.args.tally.now c.look_into.new.tally) is
     c.in_ok-look_into.ensures.counted))
 
 pub returns-clause-told : goal.returns-clause-told
@@ -63,15 +65,15 @@ returns-clause-told c =
     let is = ap (λ (d : Tracing). list_of d 0) c.requires.desk in
     let root = subst (λ (d : Tracing). c.root-root.result ≡ root_box_of d.view d.lattice) c.requires.desk c.root-root.ensures in
     whole-told c.args.view.now c.args.desk.now.view c.args.list.now c.root-root.result c.in_ok-values.values c.look_into.new.values view root (c.in_ok-values.ensures.n ∙ c.grid.ensures.size) c.requires.bounded c.in_ok-values.ensures.none
-    (subst (λ (l : List Step). Grows (list_grid_value c.args.desk.now.view l) c.root-root.result c.in_ok-values.values c.look_into.new.values) is c.in_ok-look_into.ensures.grows)
-    (subst (λ (l : List Step). AreSettled (gridded c.args.desk.now.view) (list_grid_value c.args.desk.now.view l) c.root-root.result c.look_into.new.values) is c.in_ok-look_into.ensures.settled)
+    (subst (λ (l : List Step). Grows (list_grid_value c.args.desk.now.view l) c.root-root.result (known_of c.in_ok-values.values) (known_of c.look_into.new.values)) is c.in_ok-look_into.ensures.grows)
+    (subst (λ (l : List Step). AreSettled (gridded c.args.desk.now.view) (list_grid_value c.args.desk.now.view l) c.root-root.result (known_of c.look_into.new.values)) is c.in_ok-look_into.ensures.settled)
 
 pub returns-clause-at_least : goal.returns-clause-at_least
 returns-clause-at_least c =
     let view = ap (λ (d : Tracing). d.view) c.requires.desk in
     let is = ap (λ (d : Tracing). list_of d 0) c.requires.desk in
     let root = subst (λ (d : Tracing). c.root-root.result ≡ root_box_of d.view d.lattice) c.requires.desk c.root-root.ensures in
-    λ none. whole-paid c.layers_hold.ensures c.args.view.now c.args.desk.now.view c.args.list.now c.root-root.result c.in_ok-values.values c.look_into.new.values c.args.tally.now c.look_into.new.tally view root
+    λ none. mesh-paid c.layers_hold.ensures c.args.view.now c.args.desk.now.view c.args.list.now c.root-root.result c.in_ok-values.values c.look_into.new.values c.args.tally.now c.look_into.new.tally view root
     (c.in_ok-values.ensures.n ∙ c.grid.ensures.size) c.in_ok-values.ensures.none
-    (subst (λ (l : List Step). AreWorked (gridded c.args.desk.now.view) (visit c.root-root.result l) c.look_into.new.values) is (c.in_ok-look_into.ensures.worked none))
-    (subst (λ (l : List Step). PaysBox (gridded c.args.desk.now.view) (visit c.root-root.result l) c.in_ok-values.values c.look_into.new.values c.args.tally.now c.look_into.new.tally) is (c.in_ok-look_into.ensures.paid none))
+    (subst (λ (l : List Step). AreWorked (gridded c.args.desk.now.view) (visit c.root-root.result l) (known_of c.look_into.new.values)) is (c.in_ok-look_into.ensures.worked none))
+    (subst (λ (l : List Step). PaysBox (gridded c.args.desk.now.view) (visit c.root-root.result l) (known_of c.in_ok-values.values) (known_of c.look_into.new.values) c.args.tally.now c.look_into.new.tally) is (c.in_ok-look_into.ensures.paid none))

@@ -1,4 +1,4 @@
-use Rattle.std.proofs.Common.{◌≡◌, ◌+◌, ◌*◌, ℕ, Bool, [], ◌∷◌, cond, ap, arith, drop, get_or, length, refl, subst, sym, take, ◌∙◌}
+use Rattle.std.proofs.Common.{◌≡◌, ◌+◌, ◌*◌, ℕ, Bool, [], ◌∷◌, cond, ap, arith, drop, length, refl, subst, sym, take, ◌∙◌}
 use Rattle.std.specs.Prelude.{IfNone, IfSome, IsTrue, None, Some}
 use Rattle.std.specs.List.{All}
 use Rattle.std.proofs.lemmas.List.{take_all}
@@ -18,22 +18,28 @@ use Rattle.oct_descent.proofs.Sizes.{size-from, size-is, size-then}
 use Rattle.oct_descent.specs.Adding.{Adds}
 use Rattle.oct_descent.specs.After.{received_half}
 use Rattle.oct_descent.specs.AfterDesks.{ChargesBelowAfter, ChargesHalvesAfter, halves_long_spans_after, long_spans_below_after}
-use Rattle.oct_descent.specs.Bound.{CountsHullsAtLeast}
-use Rattle.oct_descent.specs.Desks.{IsToldAt, PaysHalves, longer}
+use Rattle.oct_descent.specs.Bound.{CountsHullsAtLeast, points_of_grid}
 use Rattle.oct_descent.specs.GridValues.{list_grid_value}
 use Rattle.oct_descent.specs.KeptBoxes.{halves_places, places_of, split_places}
 use Rattle.oct_descent.specs.OldBoxes.{AreOldHalves, IsOldBox, behind, behind_halves, first_count, first_list, handed_by, received_by, visit_before}
 use Rattle.view_places.specs.Window.{size_of}
-use Rattle.oct_descent.specs.Tables.{AreRight, AreSettled, AreWorked, Grows, PaysBox}
 use Rattle.oct_descent.specs.Ways.{gridded}
 use Rattle.oct_descent.proofs.Added.{adds-more, adds-none, adds-same, adds-split, begun-within}
 use Rattle.oct_descent.proofs.AfterLooks.{all-traced_after, begun-charged_after, cell-below_after, cell-traced_after, cell-traced_below_after, closed-traced_after, first-charged_after, first-traced_after, half-is_new, halves-charged_after, halves-traced_after, halves-untraced, next-charged_after, next-traced_after, some-charged_after, taken-charged}
 use Rattle.oct_descent.proofs.Before.{cell-after, first-halves, found-old, half-old, half-was, handed-looked, handed-some, handed-was, left-all, left-anew, left-cell, left-more, left-shut, next-halves, none-halves, none-handed, old-count, old-many, old-places, old-there, other-list}
 use Rattle.oct_descent.proofs.Kept.{places-cell, places-shut, places-split}
-use Rattle.oct_descent.proofs.Looks.{all-settled, begun-paid, closed-settled, closed-worked, half-grows, half-part, half-shorter, half-visit, halves-boxes, halves-in_root, halves-paid, halves-worked, handed-grows, handed-right, handed-settled, handed-tape, next-paid, next-settled, next-worked, on_ok, on_ok-then, part-covers}
+use Rattle.oct_descent.proofs.Looks.{closed-settled, closed-worked, halves-paid, halves-worked, handed-grows, handed-right, handed-settled, handed-tape, on_ok, on_ok-then}
 use Rattle.oct_descent.proofs.TableLaws.{charges-none, grows-none, grows-then, pays-none, right-grows}
 use Rattle.oct_descent.proofs.Takes.{taken-known, takes-grows, takes-settled}
-use Rattle.oct_descent.proofs.Together.{among-stays, at-told, byte-is, byte-most, closed-told, list-stays, more-samples, opened-told, step-told}
+use Rattle.oct_descent.proofs.Together.{among-stays, byte-is, byte-most, closed-told, list-stays, more-samples, opened-told, step-told}
+use Rattle.oct_descent.specs.Known.{AreRight, AreSettled, AreWorked, Grows, PaysBox}
+use Rattle.oct_descent.specs.Asked.{IsToldAt, longer}
+use Rattle.oct_descent.specs.Halves.{AreTurned}
+use Rattle.oct_descent.proofs.Halves.{begun-paid, half-grows, half-shorter, half-visit, next-paid, next-settled, next-worked, part-covers, turned-boxes, turned-in_root, turned-paid, turned-part, turned-settled}
+use Rattle.oct_descent.specs.Kinds.{known_of, mesh}
+use Rattle.oct_descent.proofs.Covered.{mesh_holds}
+use Rattle.std.proofs.lemmas.List.Sorted.{All-permutation, IsPermutation-sym}
+use Rattle.oct_descent.proofs.Turns.{turned-behind, turned-charged_after, turned-old, turned-places, turned-traced_after}
 use Rattle.oct_descent.proofs.descent.+looking.Goals as goal
 
 pub look_into_told-returns-then-not-is_long-clause-counted : goal.look_into_told-returns-then-not-is_long-clause-counted
@@ -42,8 +48,8 @@ look_into_told-returns-then-not-is_long-clause-counted t c =
     let v = visit c.args.b (list_of c.args.desk.now c.args.received) in
     let was = visit_before c.args.before c.args.b in
     let short = sym c.is_long.ensures ∙ c.if-not-is_long.true in
-    cell-below_after c.layers_hold.ensures (gridded view) was v c.args.values.now c.look_into_cell.new.values c.args.tally.now c.look_into_cell.new.tally short
-    (cell-after c.layers_hold.ensures view was v c.args.values.now c.look_into_cell.new.values c.args.tally.now c.look_into_cell.new.tally c.requires.may.visit_is.box short c.requires.new c.look_into_cell.ensures.counted)
+    cell-below_after c.layers_hold.ensures (gridded view) was v (known_of c.args.values.now) (known_of c.look_into_cell.new.values) c.args.tally.now c.look_into_cell.new.tally short
+    (cell-after c.layers_hold.ensures view was v (known_of c.args.values.now) (known_of c.look_into_cell.new.values) c.args.tally.now c.look_into_cell.new.tally c.requires.may.visit_is.box short c.requires.new c.look_into_cell.ensures.counted)
 
 pub look_into_told-returns-then-not-is_long-clause-traced : goal.look_into_told-returns-then-not-is_long-clause-traced
 look_into_told-returns-then-not-is_long-clause-traced t c =
@@ -52,7 +58,7 @@ look_into_told-returns-then-not-is_long-clause-traced t c =
     let was = visit_before c.args.before c.args.b in
     on_ok c.look_into_cell.result _
     (cell-traced_below_after (gridded view) was v c.args.tally.now c.look_into_cell.new.tally
-    (cell-traced_after c.layers_hold.ensures (gridded view) was v c.args.values.now c.look_into_cell.new.values c.args.tally.now c.look_into_cell.new.tally (omega arith) c.requires.may.visit_is.box c.requires.new (sym c.is_long.ensures ∙ c.if-not-is_long.true) c.look_into_cell.ensures.paid))
+    (cell-traced_after c.layers_hold.ensures (gridded view) was v (known_of c.args.values.now) (known_of c.look_into_cell.new.values) c.args.tally.now c.look_into_cell.new.tally (omega arith) c.requires.may.visit_is.box c.requires.new (sym c.is_long.ensures ∙ c.if-not-is_long.true) c.look_into_cell.ensures.paid))
 
 pub look_into_told-look_into_split-requires : goal.look_into_told-look_into_split-requires
 look_into_told-look_into_split-requires t c =
@@ -61,8 +67,7 @@ look_into_told-look_into_split-requires t c =
     let at = c.in-Open.live in
     let live = list_of c.args.desk.now at in
     let long = sym c.is_long.ensures ∙ c.if-not-is_long.false in
-    let looked = at-told (samples c.args.desk.now) (list_of c.args.desk.now c.args.received) c.args.b c.args.desk.now.lists c.args.outcomes.now c.args.at Inside c.requires.may.lattice (c.requires.told long) in
-    let opened = opened-told view c.args.b (list_of c.args.desk.now c.args.received) c.args.desk.now.lists at (get_or c.args.outcomes.now c.args.at Inside) looked c.in-Open.is in (
+    let opened = opened-told mesh (samples c.args.desk.now) (list_of c.args.desk.now c.args.received) c.args.b c.args.desk.now.lists c.args.outcomes.now c.args.at at Inside c.requires.may.lattice (c.requires.told long) c.in-Open.is in (
       omega (arith, c.decreases),
       (
         record {
@@ -71,7 +76,7 @@ look_into_told-look_into_split-requires t c =
           n = c.requires.may.n;
           among = opened.hands.among;
           room = omega (arith, opened.hands.few, c.requires.may.room);
-          right = handed-right c.layers_hold.ensures view v live c.args.values.now c.requires.may.visit_is opened.same c.requires.may.right;
+          right = handed-right c.layers_hold.ensures mesh view v live (known_of c.args.values.now) c.requires.may.visit_is opened.same c.requires.may.right;
         },
         (opened.hands.whole, (long, c.requires.old)),
       ),
@@ -84,9 +89,8 @@ look_into_told-returns-in-Open-clause-settled t c =
     let at = c.in-Open.live in
     let live = list_of c.args.desk.now at in
     let long = sym c.is_long.ensures ∙ c.if-not-is_long.false in
-    let looked = at-told (samples c.args.desk.now) (list_of c.args.desk.now c.args.received) c.args.b c.args.desk.now.lists c.args.outcomes.now c.args.at Inside c.requires.may.lattice (c.requires.told long) in
-    let opened = opened-told view c.args.b (list_of c.args.desk.now c.args.received) c.args.desk.now.lists at (get_or c.args.outcomes.now c.args.at Inside) looked c.in-Open.is in
-    on_ok-then c.look_into_split.result _ _ (handed-settled c.layers_hold.ensures view v live c.look_into_split.new.values c.requires.may.visit_is opened.same) c.look_into_split.ensures.settled
+    let opened = opened-told mesh (samples c.args.desk.now) (list_of c.args.desk.now c.args.received) c.args.b c.args.desk.now.lists c.args.outcomes.now c.args.at at Inside c.requires.may.lattice (c.requires.told long) c.in-Open.is in
+    on_ok-then c.look_into_split.result _ _ (handed-settled c.layers_hold.ensures mesh mesh_holds view v live (known_of c.look_into_split.new.values) c.requires.may.visit_is opened.same) c.look_into_split.ensures.settled
 
 pub look_into_told-returns-in-Open-clause-worked : goal.look_into_told-returns-in-Open-clause-worked
 look_into_told-returns-in-Open-clause-worked t c =
@@ -97,9 +101,8 @@ look_into_told-returns-in-Open-clause-worked t c =
     let at = c.in-Open.live in
     let live = list_of c.args.desk.now at in
     let long = sym c.is_long.ensures ∙ c.if-not-is_long.false in
-    let looked = at-told (samples c.args.desk.now) (list_of c.args.desk.now c.args.received) c.args.b c.args.desk.now.lists c.args.outcomes.now c.args.at Inside c.requires.may.lattice (c.requires.told long) in
-    let opened = opened-told view c.args.b (list_of c.args.desk.now c.args.received) c.args.desk.now.lists at (get_or c.args.outcomes.now c.args.at Inside) looked c.in-Open.is in
-    λ none. on_ok-then c.look_into_split.result _ _ (halves-worked c.layers_hold.ensures view v live c.look_into_split.new.values c.requires.may.visit_is opened.open' long opened.same) (c.look_into_split.ensures.worked none)
+    let opened = opened-told mesh (samples c.args.desk.now) (list_of c.args.desk.now c.args.received) c.args.b c.args.desk.now.lists c.args.outcomes.now c.args.at at Inside c.requires.may.lattice (c.requires.told long) c.in-Open.is in
+    λ none. on_ok-then c.look_into_split.result _ _ (halves-worked c.layers_hold.ensures mesh view v live (known_of c.look_into_split.new.values) c.requires.may.visit_is opened.open' long opened.same) (c.look_into_split.ensures.worked none)
 
 pub look_into_told-returns-in-Open-clause-grows : goal.look_into_told-returns-in-Open-clause-grows
 look_into_told-returns-in-Open-clause-grows t c =
@@ -108,9 +111,8 @@ look_into_told-returns-in-Open-clause-grows t c =
     let at = c.in-Open.live in
     let live = list_of c.args.desk.now at in
     let long = sym c.is_long.ensures ∙ c.if-not-is_long.false in
-    let looked = at-told (samples c.args.desk.now) (list_of c.args.desk.now c.args.received) c.args.b c.args.desk.now.lists c.args.outcomes.now c.args.at Inside c.requires.may.lattice (c.requires.told long) in
-    let opened = opened-told view c.args.b (list_of c.args.desk.now c.args.received) c.args.desk.now.lists at (get_or c.args.outcomes.now c.args.at Inside) looked c.in-Open.is in
-    handed-grows c.layers_hold.ensures view v live c.args.values.now c.look_into_split.new.values c.requires.may.visit_is opened.same c.look_into_split.ensures.grows
+    let opened = opened-told mesh (samples c.args.desk.now) (list_of c.args.desk.now c.args.received) c.args.b c.args.desk.now.lists c.args.outcomes.now c.args.at at Inside c.requires.may.lattice (c.requires.told long) c.in-Open.is in
+    handed-grows c.layers_hold.ensures mesh view v live (known_of c.args.values.now) (known_of c.look_into_split.new.values) c.requires.may.visit_is opened.same c.look_into_split.ensures.grows
 
 pub look_into_told-returns-in-Open-clause-counted : goal.look_into_told-returns-in-Open-clause-counted
 look_into_told-returns-in-Open-clause-counted t c =
@@ -121,9 +123,8 @@ look_into_told-returns-in-Open-clause-counted t c =
     let at = c.in-Open.live in
     let live = list_of c.args.desk.now at in
     let long = sym c.is_long.ensures ∙ c.if-not-is_long.false in
-    let looked = at-told (samples c.args.desk.now) (list_of c.args.desk.now c.args.received) c.args.b c.args.desk.now.lists c.args.outcomes.now c.args.at Inside c.requires.may.lattice (c.requires.told long) in
-    let opened = opened-told view c.args.b (list_of c.args.desk.now c.args.received) c.args.desk.now.lists at (get_or c.args.outcomes.now c.args.at Inside) looked c.in-Open.is in
-    halves-charged_after c.layers_hold.ensures view was (handed_by c.args.before left) v live c.args.values.now c.look_into_split.new.values c.args.tally.now c.look_into_split.new.tally c.requires.may.visit_is c.requires.new opened.open' long
+    let opened = opened-told mesh (samples c.args.desk.now) (list_of c.args.desk.now c.args.received) c.args.b c.args.desk.now.lists c.args.outcomes.now c.args.at at Inside c.requires.may.lattice (c.requires.told long) c.in-Open.is in
+    halves-charged_after c.layers_hold.ensures view was (handed_by c.args.before left) v live (known_of c.args.values.now) (known_of c.look_into_split.new.values) c.args.tally.now c.look_into_split.new.tally c.requires.may.visit_is c.requires.new opened.open' long
     (handed-was c.layers_hold.ensures view c.args.b left c.args.before c.requires.may.visit_is.box long c.requires.old) opened.same c.look_into_split.ensures.counted
 
 pub look_into_told-returns-in-Open-clause-paid : goal.look_into_told-returns-in-Open-clause-paid
@@ -135,9 +136,8 @@ look_into_told-returns-in-Open-clause-paid t c =
     let at = c.in-Open.live in
     let live = list_of c.args.desk.now at in
     let long = sym c.is_long.ensures ∙ c.if-not-is_long.false in
-    let looked = at-told (samples c.args.desk.now) (list_of c.args.desk.now c.args.received) c.args.b c.args.desk.now.lists c.args.outcomes.now c.args.at Inside c.requires.may.lattice (c.requires.told long) in
-    let opened = opened-told view c.args.b (list_of c.args.desk.now c.args.received) c.args.desk.now.lists at (get_or c.args.outcomes.now c.args.at Inside) looked c.in-Open.is in
-    λ none. halves-paid c.layers_hold.ensures view v live c.args.values.now c.look_into_split.new.values c.args.tally.now c.look_into_split.new.tally c.requires.may.visit_is opened.open' long opened.same (c.look_into_split.ensures.paid none)
+    let opened = opened-told mesh (samples c.args.desk.now) (list_of c.args.desk.now c.args.received) c.args.b c.args.desk.now.lists c.args.outcomes.now c.args.at at Inside c.requires.may.lattice (c.requires.told long) c.in-Open.is in
+    λ none. halves-paid c.layers_hold.ensures mesh view v live (known_of c.args.values.now) (known_of c.look_into_split.new.values) c.args.tally.now c.look_into_split.new.tally c.requires.may.visit_is opened.open' long opened.same (c.look_into_split.ensures.paid none)
 
 pub look_into_told-returns-in-Open-clause-traced : goal.look_into_told-returns-in-Open-clause-traced
 look_into_told-returns-in-Open-clause-traced t c =
@@ -148,8 +148,7 @@ look_into_told-returns-in-Open-clause-traced t c =
     let at = c.in-Open.live in
     let live = list_of c.args.desk.now at in
     let long = sym c.is_long.ensures ∙ c.if-not-is_long.false in
-    let looked = at-told (samples c.args.desk.now) (list_of c.args.desk.now c.args.received) c.args.b c.args.desk.now.lists c.args.outcomes.now c.args.at Inside c.requires.may.lattice (c.requires.told long) in
-    let opened = opened-told view c.args.b (list_of c.args.desk.now c.args.received) c.args.desk.now.lists at (get_or c.args.outcomes.now c.args.at Inside) looked c.in-Open.is in
+    let opened = opened-told mesh (samples c.args.desk.now) (list_of c.args.desk.now c.args.received) c.args.b c.args.desk.now.lists c.args.outcomes.now c.args.at at Inside c.requires.may.lattice (c.requires.told long) c.in-Open.is in
     on_ok-then c.look_into_split.result _ _
     (halves-traced_after c.layers_hold.ensures view was (handed_by c.args.before left) v live c.args.tally.now c.look_into_split.new.tally c.requires.may.visit_is c.requires.new opened.open' long
     (handed-was c.layers_hold.ensures view c.args.b left c.args.before c.requires.may.visit_is.box long c.requires.old) opened.same)
@@ -162,9 +161,8 @@ look_into_told-returns-in-Inside-clause-settled t c =
     let was = visit_before c.args.before c.args.b in
     let left = c.args.boxes.now.before in
     let long = sym c.is_long.ensures ∙ c.if-not-is_long.false in
-    let looked = at-told (samples c.args.desk.now) (list_of c.args.desk.now c.args.received) c.args.b c.args.desk.now.lists c.args.outcomes.now c.args.at Inside c.requires.may.lattice (c.requires.told long) in
-    let closed = closed-told view c.args.b (list_of c.args.desk.now c.args.received) c.args.desk.now.lists (get_or c.args.outcomes.now c.args.at Inside) looked c.in-Inside.is in
-    on_ok c.push_shut.result _ (closed-settled c.layers_hold.ensures view v c.args.values.now c.requires.may.visit_is closed)
+    let closed = closed-told mesh (samples c.args.desk.now) (list_of c.args.desk.now c.args.received) c.args.b c.args.desk.now.lists c.args.outcomes.now c.args.at Inside c.requires.may.lattice (c.requires.told long) c.in-Inside.is in
+    on_ok c.push_shut.result _ (closed-settled c.layers_hold.ensures mesh mesh_holds view v (known_of c.args.values.now) c.requires.may.visit_is closed)
 
 pub look_into_told-returns-in-Inside-clause-worked : goal.look_into_told-returns-in-Inside-clause-worked
 look_into_told-returns-in-Inside-clause-worked t c =
@@ -173,17 +171,16 @@ look_into_told-returns-in-Inside-clause-worked t c =
     let was = visit_before c.args.before c.args.b in
     let left = c.args.boxes.now.before in
     let long = sym c.is_long.ensures ∙ c.if-not-is_long.false in
-    let looked = at-told (samples c.args.desk.now) (list_of c.args.desk.now c.args.received) c.args.b c.args.desk.now.lists c.args.outcomes.now c.args.at Inside c.requires.may.lattice (c.requires.told long) in
-    let closed = closed-told view c.args.b (list_of c.args.desk.now c.args.received) c.args.desk.now.lists (get_or c.args.outcomes.now c.args.at Inside) looked c.in-Inside.is in
-    λ none. on_ok c.push_shut.result _ (closed-worked view v c.args.values.now c.requires.may.visit_is closed)
+    let closed = closed-told mesh (samples c.args.desk.now) (list_of c.args.desk.now c.args.received) c.args.b c.args.desk.now.lists c.args.outcomes.now c.args.at Inside c.requires.may.lattice (c.requires.told long) c.in-Inside.is in
+    λ none. on_ok c.push_shut.result _ (closed-worked mesh view v (known_of c.args.values.now) c.requires.may.visit_is closed)
 
 pub look_into_told-returns-in-Inside-clause-counted : goal.look_into_told-returns-in-Inside-clause-counted
 look_into_told-returns-in-Inside-clause-counted t c =
-    λ f enough. charges-none c.layers_hold.ensures f _ c.args.values.now c.args.tally.now
+    λ f enough. charges-none c.layers_hold.ensures f _ (known_of c.args.values.now) c.args.tally.now
 
 pub look_into_told-returns-in-Inside-clause-paid : goal.look_into_told-returns-in-Inside-clause-paid
 look_into_told-returns-in-Inside-clause-paid t c =
-    λ none f due. pays-none c.layers_hold.ensures f c.args.values.now c.args.tally.now
+    λ none f due. pays-none c.layers_hold.ensures f (known_of c.args.values.now) c.args.tally.now
 
 pub look_into_told-returns-in-Inside-clause-traced : goal.look_into_told-returns-in-Inside-clause-traced
 look_into_told-returns-in-Inside-clause-traced t c =
@@ -192,13 +189,13 @@ look_into_told-returns-in-Inside-clause-traced t c =
     let was = visit_before c.args.before c.args.b in
     let left = c.args.boxes.now.before in
     let long = sym c.is_long.ensures ∙ c.if-not-is_long.false in
-    let looked = at-told (samples c.args.desk.now) (list_of c.args.desk.now c.args.received) c.args.b c.args.desk.now.lists c.args.outcomes.now c.args.at Inside c.requires.may.lattice (c.requires.told long) in
-    let closed = closed-told view c.args.b (list_of c.args.desk.now c.args.received) c.args.desk.now.lists (get_or c.args.outcomes.now c.args.at Inside) looked c.in-Inside.is in
+    let closed = closed-told mesh (samples c.args.desk.now) (list_of c.args.desk.now c.args.received) c.args.b c.args.desk.now.lists c.args.outcomes.now c.args.at Inside c.requires.may.lattice (c.requires.told long) c.in-Inside.is in
     on_ok c.push_shut.result _ (closed-traced_after c.layers_hold.ensures view was v c.args.tally.now c.requires.may.visit_is.box c.requires.new closed)
 
 pub look_into_each_half-trace_longer-requires-clause-within : goal.look_into_each_half-trace_longer-requires-clause-within
 look_into_each_half-trace_longer-requires-clause-within t c =
-    halves-in_root c.layers_hold.ensures c.args.desk.now.view c.args.desk.now.lattice (list_of c.args.desk.now c.args.live) c.args.b c.as_slice.result.now c.requires.may.lattice c.requires.may.visit_is (c.as_slice.ensures.value ∙ c.split-halves.ensures)
+    turned-in_root c.layers_hold.ensures c.args.desk.now.view c.args.desk.now.lattice (list_of c.args.desk.now c.args.live) c.args.b c.as_slice.result.now c.requires.may.lattice c.requires.may.visit_is
+    (subst (AreTurned c.args.b) (sym c.as_slice.ensures.value) (c.in_turn-halves.ensures c.requires.may.visit_is.box)).among
 
 pub look_into_each_half-returns-in_err-outcomes-clause-counted : goal.look_into_each_half-returns-in_err-outcomes-clause-counted
 look_into_each_half-returns-in_err-outcomes-clause-counted t c =
@@ -207,14 +204,14 @@ look_into_each_half-returns-in_err-outcomes-clause-counted t c =
     let was = received_by c.args.before in
     let other = other-list was live c.requires.new in
     let halves = c.as_slice.result.now in
-    let all = c.as_slice.ensures.value ∙ c.split-halves.ensures in
-    subst (λ hs. ChargesHalvesAfter (gridded view) was live hs c.args.values.now c.args.values.now c.args.tally.now c.trace_longer.new.tally) all
-    (begun-charged_after c.layers_hold.ensures view was live halves c.n.result c.args.values.now c.args.tally.now c.trace_longer.new.tally other (halves-boxes c.layers_hold.ensures c.args.b halves c.requires.may.visit_is.box all)
+    let turned = subst (AreTurned c.args.b) (sym c.as_slice.ensures.value) (c.in_turn-halves.ensures c.requires.may.visit_is.box) in
+    turned-charged_after (gridded view) was live (halves_of 1 c.args.b) halves (known_of c.args.values.now) (known_of c.args.values.now) c.args.tally.now c.trace_longer.new.tally turned.among
+    (begun-charged_after c.layers_hold.ensures view was live halves c.n.result (known_of c.args.values.now) c.args.tally.now c.trace_longer.new.tally other (turned-boxes c.layers_hold.ensures c.args.b halves c.requires.may.visit_is.box turned.among)
     c.in_err-outcomes.ensures.at_most)
 
 pub look_into_each_half-returns-in_err-outcomes-clause-paid : goal.look_into_each_half-returns-in_err-outcomes-clause-paid
 look_into_each_half-returns-in_err-outcomes-clause-paid t c =
-    λ none. begun-paid (gridded c.args.desk.now.view) (list_of c.args.desk.now c.args.live) _ _ c.args.values.now c.args.tally.now c.trace_longer.new.tally c.in_err-outcomes.ensures.at_most
+    λ none. begun-paid (gridded c.args.desk.now.view) (list_of c.args.desk.now c.args.live) _ _ (known_of c.args.values.now) c.args.tally.now c.trace_longer.new.tally c.in_err-outcomes.ensures.at_most
 
 pub look_into_each_half-loop-half-init : goal.look_into_each_half-loop-half-init
 look_into_each_half-loop-half-init t c =
@@ -222,37 +219,37 @@ look_into_each_half-loop-half-init t c =
     let live = (list_of c.args.desk.now c.args.live) in
     let halves = c.as_slice-half-items.result.now in
     let was = received_by c.args.before in
-    let all = c.as_slice-half-items.ensures.value ∙ c.split-halves.ensures in
+    let turned = subst (AreTurned c.args.b) (sym c.as_slice-half-items.ensures.value) (c.in_turn-halves.ensures c.requires.may.visit_is.box) in
     let same = c.as_slice.ensures.value ∙ sym c.as_slice-half-items.ensures.value in
-    let hulls = subst (λ hs. CountsHulls (length (longer c.n.result hs) * length live) c.args.tally.now c.trace_longer.new.tally) same c.in_ok-outcomes.ensures.counted in
+    let hulls = subst (λ hs. CountsHulls (length (longer mesh c.n.result hs) * length live) c.args.tally.now c.trace_longer.new.tally) same c.in_ok-outcomes.ensures.counted in
     record {
       more = c.in_ok-outcomes.ensures.more;
       few = omega arith;
-      told = ap (all_seen c.trace_longer.new.desk.lists) c.as_slice-outcomes.ensures.value ∙ c.in_ok-outcomes.ensures.outcomes ∙ ap (λ hs. asked_outcomes (samples c.args.desk.now) live (longer c.n.result hs)) same
-          ∙ ap (λ n. asked_outcomes (samples c.args.desk.now) live (longer n halves)) (c.n.ensures ∙ size-is c.args.values.now.n (size_of view) c.requires.may.n);
+      told = ap (all_seen c.trace_longer.new.desk.lists) c.as_slice-outcomes.ensures.value ∙ c.in_ok-outcomes.ensures.outcomes ∙ ap (λ hs. asked_outcomes (samples c.args.desk.now) live (longer mesh c.n.result hs)) same
+          ∙ ap (λ n. asked_outcomes (samples c.args.desk.now) live (longer mesh n halves)) (c.n.ensures ∙ size-is c.args.values.now.n (size_of view) c.requires.may.n);
       hand = subst (All (HandsOn (length live) c.trace_longer.new.desk.lists)) (sym c.as_slice-outcomes.ensures.value) c.in_ok-outcomes.ensures.hand;
-      stands = subst (λ hs. IfSome c.args.before (AreOldHalves view c.args.b hs c.args.boxes.now.before)) (sym all) c.requires.old;
+      stands = turned-old c.layers_hold.ensures view c.args.b halves c.args.boxes.now.before c.args.before c.requires.may.visit_is.box turned c.requires.old;
       left = refl;
       adds = adds-none c.args.boxes.now;
-      settled = All-nil (λ h. AreSettled (gridded view) (list_grid_value view live) h c.args.values.now);
-      grows = grows-none (list_grid_value view live) c.args.b c.args.values.now;
-      counted = first-charged_after c.layers_hold.ensures (gridded view) was live halves c.n.result c.args.values.now c.args.tally.now c.trace_longer.new.tally hulls;
-      worked = λ none. All-nil (λ h. AreWorked (gridded view) (visit h live) c.args.values.now);
-      paid = λ none. begun-paid (gridded view) live halves _ c.args.values.now c.args.tally.now c.trace_longer.new.tally (c.layers_hold.ensures.bounds.hulls c.args.tally.now c.trace_longer.new.tally _ hulls);
+      settled = All-nil (λ h. AreSettled (gridded view) (list_grid_value view live) h (known_of c.args.values.now));
+      grows = grows-none (list_grid_value view live) c.args.b (known_of c.args.values.now);
+      counted = first-charged_after c.layers_hold.ensures (gridded view) was live halves c.n.result (known_of c.args.values.now) c.args.tally.now c.trace_longer.new.tally hulls;
+      worked = λ none. All-nil (λ h. AreWorked (gridded view) (visit h live) (known_of c.args.values.now));
+      paid = λ none. begun-paid (gridded view) live halves _ (known_of c.args.values.now) c.args.tally.now c.trace_longer.new.tally (c.layers_hold.ensures.bounds.hulls c.args.tally.now c.trace_longer.new.tally _ hulls);
       traced = first-traced_after (gridded view) was live halves c.n.result c.args.tally.now c.trace_longer.new.tally hulls;
     }
 
 pub look_into_each_half-look_into_told-requires : goal.look_into_each_half-look_into_told-requires
 look_into_each_half-look_into_told-requires t c =
-    let all = c.as_slice-half-items.ensures.value ∙ c.split-halves.ensures in
+    let turned = subst (AreTurned c.args.b) (sym c.as_slice-half-items.ensures.value) (c.in_turn-halves.ensures c.requires.may.visit_is.box) in
     let halves = c.as_slice-half-items.result.now in
     let half = c.half-item.result in
-    let part = half-part c.layers_hold.ensures c.args.b half halves c.loop-half.half-index c.requires.may.visit_is.box all c.loop-half-test.true c.half-item.is in
+    let part = turned-part c.layers_hold.ensures c.args.b half halves c.loop-half.half-index c.requires.may.visit_is.box turned.among c.loop-half-test.true c.half-item.is in
     let places = samples c.args.desk.now in
     let live = (list_of c.args.desk.now c.args.live) in
     let here = c.loop-half.desk.lists in
     let hands = c.loop-half.invariant.hand in
-    let step = step-told places live halves half c.loop-half.half-index here c.as_slice-outcomes.result.now c.loop-half.at _ c.loop-half-test.true c.half-item.is hands c.loop-half.invariant.told refl in
+    let step = step-told mesh places live halves half c.loop-half.half-index here c.as_slice-outcomes.result.now c.loop-half.at _ c.loop-half-test.true c.half-item.is hands c.loop-half.invariant.told refl in
     let less = half-shorter c.layers_hold.ensures c.args.b half c.requires.long part in
     let more = c.loop-half.invariant.more in
     let same = list-stays c.args.desk.now c.loop-half.desk c.args.live more c.requires.may.among in (
@@ -265,15 +262,15 @@ look_into_each_half-look_into_told-requires t c =
           n = subst (λ w. SameSize c.loop-half.values.n (size_of w)) (sym more.view) (size-then c.loop-half.values.n c.args.values.now.n (size_of places.view) c.loop-half.invariant.grows.n c.requires.may.n);
           among = among-stays c.args.desk.now c.loop-half.desk c.args.live more c.requires.may.among;
           room = omega (arith, more.room, c.requires.may.room, ap length same);
-          right = subst (λ l. AreRight (list_grid_value c.loop-half.desk.view l) half c.loop-half.values) (sym same)
-              (subst (λ w. AreRight (list_grid_value w live) half c.loop-half.values) (sym more.view)
-              (right-grows (list_grid_value places.view live) half c.args.b c.args.values.now c.loop-half.values (λ p covers. part-covers c.args.b half p part covers) c.loop-half.invariant.grows c.requires.may.right));
+          right = subst (λ l. AreRight (list_grid_value c.loop-half.desk.view l) half (known_of c.loop-half.values)) (sym same)
+              (subst (λ w. AreRight (list_grid_value w live) half (known_of c.loop-half.values)) (sym more.view)
+              (right-grows (list_grid_value places.view live) half c.args.b (known_of c.args.values.now) (known_of c.loop-half.values) (λ p covers. part-covers c.args.b half p part covers) c.loop-half.invariant.grows c.requires.may.right));
         },
         (
-          subst (λ l. IsToldAt (samples c.loop-half.desk) l half here c.as_slice-outcomes.result.now c.loop-half.at) (sym same)
-              (subst (λ w. IsToldAt w live half here c.as_slice-outcomes.result.now c.loop-half.at) (sym (more-samples c.args.desk.now c.loop-half.desk more)) step.told),
+          subst (λ l. IsToldAt mesh (samples c.loop-half.desk) l half here c.as_slice-outcomes.result.now c.loop-half.at) (sym same)
+              (subst (λ w. IsToldAt mesh w live half here c.as_slice-outcomes.result.now c.loop-half.at) (sym (more-samples c.args.desk.now c.loop-half.desk more)) step.told),
           (
-            subst (λ w. IfSome c.args.before (IsOldBox w half c.loop-half.boxes.before)) (sym more.view) (half-old c.layers_hold.ensures places.view c.args.b half c.loop-half.half-index halves c.loop-half.boxes.before c.args.before all c.loop-half-test.true c.half-item.is c.loop-half.invariant.stands),
+            subst (λ w. IfSome c.args.before (IsOldBox w half c.loop-half.boxes.before)) (sym more.view) (half-old c.layers_hold.ensures places.view c.args.b half c.loop-half.half-index halves c.loop-half.boxes.before c.args.before turned.among c.loop-half-test.true c.half-item.is c.loop-half.invariant.stands),
             subst (λ r. IsNew r (visit half (list_of c.loop-half.desk c.args.live))) (sym (half-was half c.args.before)) (subst (λ l. IsNew (received_half (received_by c.args.before) half) (visit half l)) (sym same) (half-is_new (received_by c.args.before) live half (other-list (received_by c.args.before) live c.requires.new))),
           ),
         ),
@@ -287,12 +284,12 @@ look_into_each_half-overflow_add-at t c =
 pub look_into_each_half-returns-in_err-look_into_told-clause-grows : goal.look_into_each_half-returns-in_err-look_into_told-clause-grows
 look_into_each_half-returns-in_err-look_into_told-clause-grows t c =
     let view = c.args.desk.now.view in
-    let all = c.as_slice-half-items.ensures.value ∙ c.split-halves.ensures in
+    let turned = subst (AreTurned c.args.b) (sym c.as_slice-half-items.ensures.value) (c.in_turn-halves.ensures c.requires.may.visit_is.box) in
     let half = c.half-item.result in
-    let part = half-part c.layers_hold.ensures c.args.b half c.as_slice-half-items.result.now c.loop-half.half-index c.requires.may.visit_is.box all c.loop-half-test.true c.half-item.is in
+    let part = turned-part c.layers_hold.ensures c.args.b half c.as_slice-half-items.result.now c.loop-half.half-index c.requires.may.visit_is.box turned.among c.loop-half-test.true c.half-item.is in
     let same = c.loop-half.invariant.more.view in
-    grows-then (list_grid_value view (list_of c.args.desk.now c.args.live)) c.args.b c.args.values.now c.loop-half.values c.look_into_told.new.values c.loop-half.invariant.grows
-    (half-grows view c.loop-half.desk.view (list_of c.args.desk.now c.args.live) c.args.b half c.loop-half.values c.look_into_told.new.values same part (subst (λ l. Grows (list_grid_value c.loop-half.desk.view l) c.half-item.result c.loop-half.values c.look_into_told.new.values) (list-stays c.args.desk.now c.loop-half.desk c.args.live c.loop-half.invariant.more c.requires.may.among) c.in_err-look_into_told.ensures.grows))
+    grows-then (list_grid_value view (list_of c.args.desk.now c.args.live)) c.args.b (known_of c.args.values.now) (known_of c.loop-half.values) (known_of c.look_into_told.new.values) c.loop-half.invariant.grows
+    (half-grows mesh view c.loop-half.desk.view (list_of c.args.desk.now c.args.live) c.args.b half (known_of c.loop-half.values) (known_of c.look_into_told.new.values) same part (subst (λ l. Grows (list_grid_value c.loop-half.desk.view l) c.half-item.result (known_of c.loop-half.values) (known_of c.look_into_told.new.values)) (list-stays c.args.desk.now c.loop-half.desk c.args.live c.loop-half.invariant.more c.requires.may.among) c.in_err-look_into_told.ensures.grows))
 
 pub look_into_each_half-returns-in_err-look_into_told-clause-counted : goal.look_into_each_half-returns-in_err-look_into_told-clause-counted
 look_into_each_half-returns-in_err-look_into_told-clause-counted t c =
@@ -300,45 +297,45 @@ look_into_each_half-returns-in_err-look_into_told-clause-counted t c =
     let live = list_of c.args.desk.now c.args.live in
     let was = received_by c.args.before in
     let other = other-list was live c.requires.new in
-    let all = c.as_slice-half-items.ensures.value ∙ c.split-halves.ensures in
+    let turned = subst (AreTurned c.args.b) (sym c.as_slice-half-items.ensures.value) (c.in_turn-halves.ensures c.requires.may.visit_is.box) in
     let halves = c.as_slice-half-items.result.now in
     let half = c.half-item.result in
-    subst (λ hs. ChargesHalvesAfter (gridded view) was live hs c.args.values.now c.look_into_told.new.values c.args.tally.now c.look_into_told.new.tally) all
-    (some-charged_after c.layers_hold.ensures view was live halves (c.loop-half.half-index + 1) c.args.values.now c.look_into_told.new.values c.args.tally.now c.look_into_told.new.tally other (halves-boxes c.layers_hold.ensures c.args.b halves c.requires.may.visit_is.box all)
-    (next-charged_after c.layers_hold.ensures view c.loop-half.desk.view was live half halves c.loop-half.half-index _ c.args.values.now c.loop-half.values c.look_into_told.new.values c.args.tally.now c.loop-half.tally c.look_into_told.new.tally
+    turned-charged_after (gridded view) was live (halves_of 1 c.args.b) halves (known_of c.args.values.now) (known_of c.look_into_told.new.values) c.args.tally.now c.look_into_told.new.tally turned.among
+    (some-charged_after c.layers_hold.ensures view was live halves (c.loop-half.half-index + 1) (known_of c.args.values.now) (known_of c.look_into_told.new.values) c.args.tally.now c.look_into_told.new.tally other (turned-boxes c.layers_hold.ensures c.args.b halves c.requires.may.visit_is.box turned.among)
+    (next-charged_after c.layers_hold.ensures view c.loop-half.desk.view was live half halves c.loop-half.half-index _ (known_of c.args.values.now) (known_of c.loop-half.values) (known_of c.look_into_told.new.values) c.args.tally.now c.loop-half.tally c.look_into_told.new.tally
     c.loop-half.invariant.more.view c.loop-half-test.true c.half-item.is c.loop-half.invariant.counted
-    (subst (λ r. ChargesBelowAfter (gridded c.loop-half.desk.view) r (visit half live) c.loop-half.values c.look_into_told.new.values c.loop-half.tally c.look_into_told.new.tally) (half-was half c.args.before)
-    (subst (λ l. ChargesBelowAfter (gridded c.loop-half.desk.view) (visit_before c.args.before half) (visit half l) c.loop-half.values c.look_into_told.new.values c.loop-half.tally c.look_into_told.new.tally) (list-stays c.args.desk.now c.loop-half.desk c.args.live c.loop-half.invariant.more c.requires.may.among) c.in_err-look_into_told.ensures.counted))))
+    (subst (λ r. ChargesBelowAfter (gridded c.loop-half.desk.view) r (visit half live) (known_of c.loop-half.values) (known_of c.look_into_told.new.values) c.loop-half.tally c.look_into_told.new.tally) (half-was half c.args.before)
+    (subst (λ l. ChargesBelowAfter (gridded c.loop-half.desk.view) (visit_before c.args.before half) (visit half l) (known_of c.loop-half.values) (known_of c.look_into_told.new.values) c.loop-half.tally c.look_into_told.new.tally) (list-stays c.args.desk.now c.loop-half.desk c.args.live c.loop-half.invariant.more c.requires.may.among) c.in_err-look_into_told.ensures.counted))))
 
 pub look_into_each_half-returns-in_err-look_into_told-clause-paid : goal.look_into_each_half-returns-in_err-look_into_told-clause-paid
 look_into_each_half-returns-in_err-look_into_told-clause-paid t c =
     let view = c.args.desk.now.view in
-    let all = c.as_slice-half-items.ensures.value ∙ c.split-halves.ensures in
+    let turned = subst (AreTurned c.args.b) (sym c.as_slice-half-items.ensures.value) (c.in_turn-halves.ensures c.requires.may.visit_is.box) in
     let halves = c.as_slice-half-items.result.now in
     let half = c.half-item.result in
     let same = c.loop-half.invariant.more.view in
-    λ none. subst (λ hs. PaysHalves (gridded view) (list_of c.args.desk.now c.args.live) hs c.args.values.now c.look_into_told.new.values c.args.tally.now c.look_into_told.new.tally) all
-    (next-paid c.layers_hold.ensures view c.loop-half.desk.view (list_of c.args.desk.now c.args.live) half halves c.loop-half.half-index c.args.values.now c.loop-half.values c.look_into_told.new.values c.args.tally.now c.loop-half.tally c.look_into_told.new.tally
-    same c.loop-half-test.true c.half-item.is (c.loop-half.invariant.paid none) (subst (λ l. PaysBox (gridded c.loop-half.desk.view) (visit c.half-item.result l) c.loop-half.values c.look_into_told.new.values c.loop-half.tally c.look_into_told.new.tally) (list-stays c.args.desk.now c.loop-half.desk c.args.live c.loop-half.invariant.more c.requires.may.among) (c.in_err-look_into_told.ensures.paid none)))
+    λ none. turned-paid (gridded view) (list_of c.args.desk.now c.args.live) (halves_of 1 c.args.b) c.as_slice-half-items.result.now (known_of c.args.values.now) (known_of c.look_into_told.new.values) c.args.tally.now c.look_into_told.new.tally turned.among
+    (next-paid c.layers_hold.ensures mesh view c.loop-half.desk.view (list_of c.args.desk.now c.args.live) half halves c.loop-half.half-index (known_of c.args.values.now) (known_of c.loop-half.values) (known_of c.look_into_told.new.values) c.args.tally.now c.loop-half.tally c.look_into_told.new.tally
+    same c.loop-half-test.true c.half-item.is (c.loop-half.invariant.paid none) (subst (λ l. PaysBox (gridded c.loop-half.desk.view) (visit c.half-item.result l) (known_of c.loop-half.values) (known_of c.look_into_told.new.values) c.loop-half.tally c.look_into_told.new.tally) (list-stays c.args.desk.now c.loop-half.desk c.args.live c.loop-half.invariant.more c.requires.may.among) (c.in_err-look_into_told.ensures.paid none)))
 
 pub look_into_each_half-loop-half-preserved : goal.look_into_each_half-loop-half-preserved
 look_into_each_half-loop-half-preserved t c =
-    let all = c.as_slice-half-items.ensures.value ∙ c.split-halves.ensures in
+    let turned = subst (AreTurned c.args.b) (sym c.as_slice-half-items.ensures.value) (c.in_turn-halves.ensures c.requires.may.visit_is.box) in
     let halves = c.as_slice-half-items.result.now in
     let half = c.half-item.result in
-    let part = half-part c.layers_hold.ensures c.args.b half halves c.loop-half.half-index c.requires.may.visit_is.box all c.loop-half-test.true c.half-item.is in
+    let part = turned-part c.layers_hold.ensures c.args.b half halves c.loop-half.half-index c.requires.may.visit_is.box turned.among c.loop-half-test.true c.half-item.is in
     let view = c.args.desk.now.view in
     let places = samples c.args.desk.now in
     let live = (list_of c.args.desk.now c.args.live) in
     let here = c.loop-half.desk.lists in
     let hands = c.loop-half.invariant.hand in
-    let step = step-told places live halves half c.loop-half.half-index here c.as_slice-outcomes.result.now c.loop-half.at _ c.loop-half-test.true c.half-item.is hands c.loop-half.invariant.told (ap (λ k. c.loop-half.at + k) (c.from-at.ensures ∙ byte-is c.is_long.result ∙ ap (λ (t : Bool). cond {A = ℕ} t 1 0) c.is_long.ensures)) in
+    let step = step-told mesh places live halves half c.loop-half.half-index here c.as_slice-outcomes.result.now c.loop-half.at _ c.loop-half-test.true c.half-item.is hands c.loop-half.invariant.told (ap (λ k. c.loop-half.at + k) (c.from-at.ensures ∙ byte-is c.is_long.result ∙ ap (λ (t : Bool). cond {A = ℕ} t 1 0) c.is_long.ensures)) in
     let was = received_by c.args.before in
     let g = list_grid_value view live in
     let before = c.loop-half.invariant in
     let after = c.in_ok-look_into_told.ensures in
     let same = before.more.view in
-    let grown = half-grows view c.loop-half.desk.view live c.args.b half c.loop-half.values c.look_into_told.new.values same part (subst (λ l. Grows (list_grid_value c.loop-half.desk.view l) c.half-item.result c.loop-half.values c.look_into_told.new.values) (list-stays c.args.desk.now c.loop-half.desk c.args.live c.loop-half.invariant.more c.requires.may.among) c.in_ok-look_into_told.ensures.grows) in
+    let grown = half-grows mesh view c.loop-half.desk.view live c.args.b half (known_of c.loop-half.values) (known_of c.look_into_told.new.values) same part (subst (λ l. Grows (list_grid_value c.loop-half.desk.view l) c.half-item.result (known_of c.loop-half.values) (known_of c.look_into_told.new.values)) (list-stays c.args.desk.now c.loop-half.desk c.args.live c.loop-half.invariant.more c.requires.may.among) c.in_ok-look_into_told.ensures.grows) in
     let passed = after.left ∙ ap (λ w. behind (gridded w) (visit_before c.args.before half) c.loop-half.boxes.before) same in
     record {
       more = subst (HasMore c.args.desk.now) (sym after.kept) before.more;
@@ -351,15 +348,15 @@ look_into_each_half-loop-half-preserved t c =
       adds = adds-more (gridded view) live halves c.loop-half.half-index half c.args.boxes.now c.loop-half.boxes c.look_into_told.new.boxes c.loop-half-test.true c.half-item.is before.adds
           (subst (λ w. Adds c.loop-half.boxes c.look_into_told.new.boxes (places_of (gridded w) (visit half live))) same
           (subst (λ l. Adds c.loop-half.boxes c.look_into_told.new.boxes (places_of (gridded c.loop-half.desk.view) (visit half l))) (list-stays c.args.desk.now c.loop-half.desk c.args.live c.loop-half.invariant.more c.requires.may.among) after.adds));
-      settled = next-settled view c.loop-half.desk.view live c.args.b half halves c.loop-half.half-index c.loop-half.values c.look_into_told.new.values same c.loop-half-test.true c.half-item.is grown (subst (λ l. AreSettled (gridded c.loop-half.desk.view) (list_grid_value c.loop-half.desk.view l) c.half-item.result c.look_into_told.new.values) (list-stays c.args.desk.now c.loop-half.desk c.args.live c.loop-half.invariant.more c.requires.may.among) c.in_ok-look_into_told.ensures.settled) before.settled;
-      grows = grows-then g c.args.b c.args.values.now c.loop-half.values c.look_into_told.new.values before.grows grown;
-      counted = next-charged_after c.layers_hold.ensures view c.loop-half.desk.view was live half halves c.loop-half.half-index _ c.args.values.now c.loop-half.values c.look_into_told.new.values c.args.tally.now c.loop-half.tally c.look_into_told.new.tally
+      settled = next-settled mesh view c.loop-half.desk.view live c.args.b half halves c.loop-half.half-index (known_of c.loop-half.values) (known_of c.look_into_told.new.values) same c.loop-half-test.true c.half-item.is grown (subst (λ l. AreSettled (gridded c.loop-half.desk.view) (list_grid_value c.loop-half.desk.view l) c.half-item.result (known_of c.look_into_told.new.values)) (list-stays c.args.desk.now c.loop-half.desk c.args.live c.loop-half.invariant.more c.requires.may.among) c.in_ok-look_into_told.ensures.settled) before.settled;
+      grows = grows-then g c.args.b (known_of c.args.values.now) (known_of c.loop-half.values) (known_of c.look_into_told.new.values) before.grows grown;
+      counted = next-charged_after c.layers_hold.ensures view c.loop-half.desk.view was live half halves c.loop-half.half-index _ (known_of c.args.values.now) (known_of c.loop-half.values) (known_of c.look_into_told.new.values) c.args.tally.now c.loop-half.tally c.look_into_told.new.tally
           same c.loop-half-test.true c.half-item.is before.counted
-          (subst (λ r. ChargesBelowAfter (gridded c.loop-half.desk.view) r (visit half live) c.loop-half.values c.look_into_told.new.values c.loop-half.tally c.look_into_told.new.tally) (half-was half c.args.before)
-          (subst (λ l. ChargesBelowAfter (gridded c.loop-half.desk.view) (visit_before c.args.before half) (visit half l) c.loop-half.values c.look_into_told.new.values c.loop-half.tally c.look_into_told.new.tally) (list-stays c.args.desk.now c.loop-half.desk c.args.live c.loop-half.invariant.more c.requires.may.among) c.in_ok-look_into_told.ensures.counted));
-      worked = λ none. next-worked view c.loop-half.desk.view live c.args.b half halves c.loop-half.half-index c.loop-half.values c.look_into_told.new.values same c.loop-half-test.true c.half-item.is grown (subst (λ l. AreWorked (gridded c.loop-half.desk.view) (visit c.half-item.result l) c.look_into_told.new.values) (list-stays c.args.desk.now c.loop-half.desk c.args.live c.loop-half.invariant.more c.requires.may.among) (c.in_ok-look_into_told.ensures.worked none)) (before.worked none);
-      paid = λ none. next-paid c.layers_hold.ensures view c.loop-half.desk.view live half halves c.loop-half.half-index c.args.values.now c.loop-half.values c.look_into_told.new.values c.args.tally.now c.loop-half.tally c.look_into_told.new.tally
-          same c.loop-half-test.true c.half-item.is (before.paid none) (subst (λ l. PaysBox (gridded c.loop-half.desk.view) (visit c.half-item.result l) c.loop-half.values c.look_into_told.new.values c.loop-half.tally c.look_into_told.new.tally) (list-stays c.args.desk.now c.loop-half.desk c.args.live c.loop-half.invariant.more c.requires.may.among) (c.in_ok-look_into_told.ensures.paid none));
+          (subst (λ r. ChargesBelowAfter (gridded c.loop-half.desk.view) r (visit half live) (known_of c.loop-half.values) (known_of c.look_into_told.new.values) c.loop-half.tally c.look_into_told.new.tally) (half-was half c.args.before)
+          (subst (λ l. ChargesBelowAfter (gridded c.loop-half.desk.view) (visit_before c.args.before half) (visit half l) (known_of c.loop-half.values) (known_of c.look_into_told.new.values) c.loop-half.tally c.look_into_told.new.tally) (list-stays c.args.desk.now c.loop-half.desk c.args.live c.loop-half.invariant.more c.requires.may.among) c.in_ok-look_into_told.ensures.counted));
+      worked = λ none. next-worked mesh view c.loop-half.desk.view live c.args.b half halves c.loop-half.half-index (known_of c.loop-half.values) (known_of c.look_into_told.new.values) same c.loop-half-test.true c.half-item.is grown (subst (λ l. AreWorked (gridded c.loop-half.desk.view) (visit c.half-item.result l) (known_of c.look_into_told.new.values)) (list-stays c.args.desk.now c.loop-half.desk c.args.live c.loop-half.invariant.more c.requires.may.among) (c.in_ok-look_into_told.ensures.worked none)) (before.worked none);
+      paid = λ none. next-paid c.layers_hold.ensures mesh view c.loop-half.desk.view live half halves c.loop-half.half-index (known_of c.args.values.now) (known_of c.loop-half.values) (known_of c.look_into_told.new.values) c.args.tally.now c.loop-half.tally c.look_into_told.new.tally
+          same c.loop-half-test.true c.half-item.is (before.paid none) (subst (λ l. PaysBox (gridded c.loop-half.desk.view) (visit c.half-item.result l) (known_of c.loop-half.values) (known_of c.look_into_told.new.values) c.loop-half.tally c.look_into_told.new.tally) (list-stays c.args.desk.now c.loop-half.desk c.args.live c.loop-half.invariant.more c.requires.may.among) (c.in_ok-look_into_told.ensures.paid none));
       traced = next-traced_after c.layers_hold.ensures view c.loop-half.desk.view was live half halves c.loop-half.half-index _ c.args.tally.now c.loop-half.tally c.look_into_told.new.tally same c.loop-half-test.true c.half-item.is before.traced
           (subst (λ r. CountsHullsAtLeast (long_spans_below_after (gridded c.loop-half.desk.view) r (visit half live)) c.loop-half.tally c.look_into_told.new.tally) (half-was half c.args.before)
           (subst (λ l. CountsHullsAtLeast (long_spans_below_after (gridded c.loop-half.desk.view) (visit_before c.args.before half) (visit half l)) c.loop-half.tally c.look_into_told.new.tally) (list-stays c.args.desk.now c.loop-half.desk c.args.live c.loop-half.invariant.more c.requires.may.among) after.traced));
@@ -369,16 +366,17 @@ pub look_into_each_half-returns-clause-settled : goal.look_into_each_half-return
 look_into_each_half-returns-clause-settled t c =
     let view = c.args.desk.now.view in
     let g = list_grid_value view (list_of c.args.desk.now c.args.live) in
-    let all = c.as_slice-half-items.ensures.value ∙ c.split-halves.ensures in
+    let turned = subst (AreTurned c.args.b) (sym c.as_slice-half-items.ensures.value) (c.in_turn-halves.ensures c.requires.may.visit_is.box) in
     let halves = c.as_slice-half-items.result.now in
-    all-settled c.layers_hold.ensures (gridded view) g c.args.b c.loop-half.values
-    (subst (λ hs. All (λ h. AreSettled (gridded view) g h c.loop-half.values) hs) (take_all c.loop-half.half-index halves (omega (arith, c.loop-half-test.false)) ∙ all) c.loop-half.invariant.settled)
+    turned-settled c.layers_hold.ensures (gridded view) g c.args.b halves (known_of c.loop-half.values) turned.among
+    (subst (λ hs. All (λ h. AreSettled (gridded view) g h (known_of c.loop-half.values)) hs) (take_all c.loop-half.half-index halves (omega (arith, c.loop-half-test.false))) c.loop-half.invariant.settled)
 
 pub look_into_each_half-returns-clause-worked : goal.look_into_each_half-returns-clause-worked
 look_into_each_half-returns-clause-worked t c =
-    let all = c.as_slice-half-items.ensures.value ∙ c.split-halves.ensures in
+    let turned = subst (AreTurned c.args.b) (sym c.as_slice-half-items.ensures.value) (c.in_turn-halves.ensures c.requires.may.visit_is.box) in
     let halves = c.as_slice-half-items.result.now in
-    λ none. subst (λ hs. All (λ h. AreWorked (gridded c.args.desk.now.view) (visit h (list_of c.args.desk.now c.args.live)) c.loop-half.values) hs) (take_all c.loop-half.half-index halves (omega (arith, c.loop-half-test.false)) ∙ all) (c.loop-half.invariant.worked none)
+    λ none. All-permutation (λ h. AreWorked (gridded c.args.desk.now.view) (visit h (list_of c.args.desk.now c.args.live)) (known_of c.loop-half.values)) halves (halves_of 1 c.args.b) (IsPermutation-sym (halves_of 1 c.args.b) halves turned.among)
+    (subst (λ hs. All (λ h. AreWorked (gridded c.args.desk.now.view) (visit h (list_of c.args.desk.now c.args.live)) (known_of c.loop-half.values)) hs) (take_all c.loop-half.half-index halves (omega (arith, c.loop-half-test.false))) (c.loop-half.invariant.worked none))
 
 pub look_into_each_half-returns-clause-counted : goal.look_into_each_half-returns-clause-counted
 look_into_each_half-returns-clause-counted t c =
@@ -386,25 +384,25 @@ look_into_each_half-returns-clause-counted t c =
     let live = list_of c.args.desk.now c.args.live in
     let was = received_by c.args.before in
     let other = other-list was live c.requires.new in
-    let all = c.as_slice-half-items.ensures.value ∙ c.split-halves.ensures in
+    let turned = subst (AreTurned c.args.b) (sym c.as_slice-half-items.ensures.value) (c.in_turn-halves.ensures c.requires.may.visit_is.box) in
     let halves = c.as_slice-half-items.result.now in
-    subst (λ hs. ChargesHalvesAfter (gridded view) was live hs c.args.values.now c.loop-half.values c.args.tally.now c.loop-half.tally) all
-    (some-charged_after c.layers_hold.ensures view was live halves c.loop-half.half-index c.args.values.now c.loop-half.values c.args.tally.now c.loop-half.tally other (halves-boxes c.layers_hold.ensures c.args.b halves c.requires.may.visit_is.box all) c.loop-half.invariant.counted)
+    turned-charged_after (gridded view) was live (halves_of 1 c.args.b) halves (known_of c.args.values.now) (known_of c.loop-half.values) c.args.tally.now c.loop-half.tally turned.among
+    (some-charged_after c.layers_hold.ensures view was live halves c.loop-half.half-index (known_of c.args.values.now) (known_of c.loop-half.values) c.args.tally.now c.loop-half.tally other (turned-boxes c.layers_hold.ensures c.args.b halves c.requires.may.visit_is.box turned.among) c.loop-half.invariant.counted)
 
 pub look_into_each_half-returns-clause-paid : goal.look_into_each_half-returns-clause-paid
 look_into_each_half-returns-clause-paid t c =
     let view = c.args.desk.now.view in
-    let all = c.as_slice-half-items.ensures.value ∙ c.split-halves.ensures in
-    λ none. subst (λ hs. PaysHalves (gridded view) (list_of c.args.desk.now c.args.live) hs c.args.values.now c.loop-half.values c.args.tally.now c.loop-half.tally) all (c.loop-half.invariant.paid none)
+    let turned = subst (AreTurned c.args.b) (sym c.as_slice-half-items.ensures.value) (c.in_turn-halves.ensures c.requires.may.visit_is.box) in
+    λ none. turned-paid (gridded view) (list_of c.args.desk.now c.args.live) (halves_of 1 c.args.b) c.as_slice-half-items.result.now (known_of c.args.values.now) (known_of c.loop-half.values) c.args.tally.now c.loop-half.tally turned.among (c.loop-half.invariant.paid none)
 
 pub look_into_each_half-returns-clause-traced : goal.look_into_each_half-returns-clause-traced
 look_into_each_half-returns-clause-traced t c =
     let view = c.args.desk.now.view in
     let live = list_of c.args.desk.now c.args.live in
     let was = received_by c.args.before in
-    let all = c.as_slice-half-items.ensures.value ∙ c.split-halves.ensures in
+    let turned = subst (AreTurned c.args.b) (sym c.as_slice-half-items.ensures.value) (c.in_turn-halves.ensures c.requires.may.visit_is.box) in
     let halves = c.as_slice-half-items.result.now in
-    subst (λ hs. CountsHullsAtLeast (halves_long_spans_after (gridded view) was live hs) c.args.tally.now c.loop-half.tally) all
+    turned-traced_after (gridded view) was live (halves_of 1 c.args.b) halves c.args.tally.now c.loop-half.tally turned.among
     (all-traced_after (gridded view) was live halves c.loop-half.half-index c.args.tally.now c.loop-half.tally (omega (arith, c.loop-half-test.false)) c.loop-half.invariant.traced)
 
 pub look_into_halves-returns-clause-kept : goal.look_into_halves-returns-clause-kept
@@ -439,8 +437,7 @@ look_into_told-returns-in-Open-clause-adds t c =
     let at = c.in-Open.live in
     let live = list_of c.args.desk.now at in
     let long = sym c.is_long.ensures ∙ c.if-not-is_long.false in
-    let looked = at-told (samples c.args.desk.now) (list_of c.args.desk.now c.args.received) c.args.b c.args.desk.now.lists c.args.outcomes.now c.args.at Inside c.requires.may.lattice (c.requires.told long) in
-    let opened = opened-told view c.args.b (list_of c.args.desk.now c.args.received) c.args.desk.now.lists at (get_or c.args.outcomes.now c.args.at Inside) looked c.in-Open.is in
+    let opened = opened-told mesh (samples c.args.desk.now) (list_of c.args.desk.now c.args.received) c.args.b c.args.desk.now.lists c.args.outcomes.now c.args.at at Inside c.requires.may.lattice (c.requires.told long) c.in-Open.is in
     on_ok-then c.look_into_split.result _ _
     (adds-same c.args.boxes.now c.look_into_split.new.boxes (split_places (gridded view) c.args.b live) (places_of (gridded view) v)
     (sym (places-split c.layers_hold.ensures (gridded view) v live (omega arith) c.requires.may.visit_is.box long opened.open' opened.same)))
@@ -453,8 +450,7 @@ look_into_told-returns-in-Inside-clause-adds t c =
     let was = visit_before c.args.before c.args.b in
     let left = c.args.boxes.now.before in
     let long = sym c.is_long.ensures ∙ c.if-not-is_long.false in
-    let looked = at-told (samples c.args.desk.now) (list_of c.args.desk.now c.args.received) c.args.b c.args.desk.now.lists c.args.outcomes.now c.args.at Inside c.requires.may.lattice (c.requires.told long) in
-    let closed = closed-told view c.args.b (list_of c.args.desk.now c.args.received) c.args.desk.now.lists (get_or c.args.outcomes.now c.args.at Inside) looked c.in-Inside.is in
+    let closed = closed-told mesh (samples c.args.desk.now) (list_of c.args.desk.now c.args.received) c.args.b c.args.desk.now.lists c.args.outcomes.now c.args.at Inside c.requires.may.lattice (c.requires.told long) c.in-Inside.is in
     on_ok-then c.push_shut.result _ _
     (adds-same c.args.boxes.now c.push_shut.new.self (None ∷ []) (places_of (gridded view) v) (sym (places-shut c.layers_hold.ensures (gridded view) v (omega arith) c.requires.may.visit_is.box long closed)))
     c.push_shut.ensures.adds
@@ -466,8 +462,7 @@ look_into_told-returns-in-Inside-clause-left t c =
     let was = visit_before c.args.before c.args.b in
     let left = c.args.boxes.now.before in
     let long = sym c.is_long.ensures ∙ c.if-not-is_long.false in
-    let looked = at-told (samples c.args.desk.now) (list_of c.args.desk.now c.args.received) c.args.b c.args.desk.now.lists c.args.outcomes.now c.args.at Inside c.requires.may.lattice (c.requires.told long) in
-    let closed = closed-told view c.args.b (list_of c.args.desk.now c.args.received) c.args.desk.now.lists (get_or c.args.outcomes.now c.args.at Inside) looked c.in-Inside.is in
+    let closed = closed-told mesh (samples c.args.desk.now) (list_of c.args.desk.now c.args.received) c.args.b c.args.desk.now.lists c.args.outcomes.now c.args.at Inside c.requires.may.lattice (c.requires.told long) c.in-Inside.is in
     on_ok-then c.push_shut.result _ _
     (λ passed. passed ∙ ap (λ (t : Bool). cond t (drop (first_count left) left) left) c.is_some.ensures ∙ left-shut c.layers_hold.ensures view c.args.b left c.args.before long c.requires.old)
     c.push_shut.ensures.left
@@ -568,7 +563,8 @@ look_into_split-returns-in-Some-clause-counted t c =
     let handed : first_list left ≡ Some live = c.in-Some.ensures.same ∙ ap Some (c.list.ensures.list ∙ ap (λ (d : Tracing). list_of d c.args.live) c.desk.view_is) in
     let told = handed-some c.layers_hold.ensures view b left old live c.requires.long is handed in
     let values = c.take_old.new.values in
-    λ f enough. taken-charged c.layers_hold.ensures f _ c.args.values.now values c.args.tally.now c.take_old.ensures.part.n (λ p. taken-known _ old.values.now c.args.values.now values p c.take_old.ensures.part)
+    λ f enough. taken-charged c.layers_hold.ensures f _ (known_of c.args.values.now) (known_of values) c.args.tally.now (ap points_of_grid (size-is values.n c.args.values.now.n c.take_old.ensures.part.n))
+    (λ p. taken-known _ old.values.now c.args.values.now values p c.take_old.ensures.part)
 
 pub look_into_split-returns-in-Some-clause-traced : goal.look_into_split-returns-in-Some-clause-traced
 look_into_split-returns-in-Some-clause-traced t c =
@@ -614,11 +610,11 @@ look_into_anew-look_into_halves-requires t c =
 
 pub look_into_anew-returns-in_err-begun-clause-counted : goal.look_into_anew-returns-in_err-begun-clause-counted
 look_into_anew-returns-in_err-begun-clause-counted t c =
-    λ f enough. charges-none c.layers_hold.ensures f _ c.args.values.now c.args.tally.now
+    λ f enough. charges-none c.layers_hold.ensures f _ (known_of c.args.values.now) c.args.tally.now
 
 pub look_into_anew-returns-in_err-begun-clause-paid : goal.look_into_anew-returns-in_err-begun-clause-paid
 look_into_anew-returns-in_err-begun-clause-paid t c =
-    λ none f due. pays-none c.layers_hold.ensures f c.args.values.now c.args.tally.now
+    λ none f due. pays-none c.layers_hold.ensures f (known_of c.args.values.now) c.args.tally.now
 
 pub look_into_anew-returns-in_err-look_into_halves-clause-counted : goal.look_into_anew-returns-in_err-look_into_halves-clause-counted
 look_into_anew-returns-in_err-look_into_halves-clause-counted t c =
@@ -627,7 +623,7 @@ look_into_anew-returns-in_err-look_into_halves-clause-counted t c =
     let left = c.args.boxes.now.before in
     let live = list_of c.args.desk.now c.args.live in
     let gave = c.half_before-half.ensures.received ∙ c.take_handed-handed.ensures.list in
-    subst (λ h. ChargesHalvesAfter (gridded view) h live (halves_of 1 b) c.args.values.now c.look_into_halves.new.values c.args.tally.now c.look_into_halves.new.tally) gave c.in_err-look_into_halves.ensures.counted
+    subst (λ h. ChargesHalvesAfter (gridded view) h live (halves_of 1 b) (known_of c.args.values.now) (known_of c.look_into_halves.new.values) c.args.tally.now c.look_into_halves.new.tally) gave c.in_err-look_into_halves.ensures.counted
 
 pub look_into_anew-returns-in_err-look_into_halves-clause-paid : goal.look_into_anew-returns-in_err-look_into_halves-clause-paid
 look_into_anew-returns-in_err-look_into_halves-clause-paid t c =
@@ -645,7 +641,7 @@ look_into_anew-returns-clause-counted t c =
     let left = c.args.boxes.now.before in
     let live = list_of c.args.desk.now c.args.live in
     let gave = c.half_before-half.ensures.received ∙ c.take_handed-handed.ensures.list in
-    subst (λ h. ChargesHalvesAfter (gridded view) h live (halves_of 1 b) c.args.values.now c.look_into_halves.new.values c.args.tally.now c.look_into_halves.new.tally) gave c.in_ok-look_into_halves.ensures.counted
+    subst (λ h. ChargesHalvesAfter (gridded view) h live (halves_of 1 b) (known_of c.args.values.now) (known_of c.look_into_halves.new.values) c.args.tally.now c.look_into_halves.new.tally) gave c.in_ok-look_into_halves.ensures.counted
 
 pub look_into_anew-returns-clause-paid : goal.look_into_anew-returns-clause-paid
 look_into_anew-returns-clause-paid t c =
@@ -714,16 +710,16 @@ look_into_each_half-returns-clause-left t c =
     let view = c.args.desk.now.view in
     let live = list_of c.args.desk.now c.args.live in
     let was = received_by c.args.before in
-    let all = c.as_slice-half-items.ensures.value ∙ c.split-halves.ensures in
+    let turned = subst (AreTurned c.args.b) (sym c.as_slice-half-items.ensures.value) (c.in_turn-halves.ensures c.requires.may.visit_is.box) in
     let halves = c.as_slice-half-items.result.now in
     sym (left-all (gridded view) was halves c.loop-half.half-index c.loop-half.boxes.before (omega (arith, c.loop-half-test.false))) ∙ c.loop-half.invariant.left
-    ∙ ap (λ hs. behind_halves (gridded view) was hs c.args.boxes.now.before) all
+    ∙ turned-behind c.layers_hold.ensures view c.args.b halves c.args.boxes.now.before was c.requires.may.visit_is.box turned
 
 pub look_into_each_half-returns-clause-adds : goal.look_into_each_half-returns-clause-adds
 look_into_each_half-returns-clause-adds t c =
     let view = c.args.desk.now.view in
     let live = list_of c.args.desk.now c.args.live in
     let was = received_by c.args.before in
-    let all = c.as_slice-half-items.ensures.value ∙ c.split-halves.ensures in
+    let turned = subst (AreTurned c.args.b) (sym c.as_slice-half-items.ensures.value) (c.in_turn-halves.ensures c.requires.may.visit_is.box) in
     let halves = c.as_slice-half-items.result.now in
-    subst (λ hs. Adds c.args.boxes.now c.loop-half.boxes (halves_places (gridded view) live hs)) (take_all c.loop-half.half-index halves (omega (arith, c.loop-half-test.false)) ∙ all) c.loop-half.invariant.adds
+    subst (Adds c.args.boxes.now c.loop-half.boxes) (ap (halves_places (gridded view) live) (take_all c.loop-half.half-index halves (omega (arith, c.loop-half-test.false))) ∙ turned-places c.layers_hold.ensures view live c.args.b halves c.requires.may.visit_is.box turned) c.loop-half.invariant.adds

@@ -11,7 +11,6 @@ use Rattle.oct_descent.specs.GridValues.{list_grid_value}
 use Rattle.oct_descent.specs.KeptBoxes.{places_of}
 use Rattle.oct_descent.specs.OldBoxes.{visit_before}
 use Rattle.view_places.specs.Window.{size_of}
-use Rattle.oct_descent.specs.Tables.{AreRight, AreSettled, AreWorked, Grows, PaysBox}
 use Rattle.oct_descent.specs.Ways.{gridded}
 use Rattle.oct_descent.proofs.Added.{adds-none, adds-same}
 use Rattle.oct_descent.proofs.AfterLooks.{below-charged_after, below-traced_after, cell-traced_after, trace-charged_after}
@@ -19,6 +18,8 @@ use Rattle.oct_descent.proofs.Before.{cell-after, left-cell}
 use Rattle.oct_descent.proofs.Kept.{places-cell}
 use Rattle.oct_descent.proofs.Looks.{below-paid, look-paid, on_ok, on_ok-then}
 use Rattle.oct_descent.proofs.Together.{among-stays, list-stays}
+use Rattle.oct_descent.specs.Known.{AreRight, AreSettled, AreWorked, Grows, PaysBox}
+use Rattle.oct_descent.specs.Kinds.{known_of}
 use Rattle.oct_descent.proofs.descent.look_into.Goals as goal
 
 pub returns-then-not-is_long-clause-traced : goal.returns-then-not-is_long-clause-traced
@@ -27,7 +28,7 @@ returns-then-not-is_long-clause-traced c =
     let v = visit c.args.b (list_of c.args.desk.now c.args.received) in
     let was = visit_before c.args.before c.args.b in
     on_ok c.look_into_cell.result _
-    (cell-traced_after c.layers_hold.ensures (gridded view) was v c.args.values.now c.look_into_cell.new.values c.args.tally.now c.look_into_cell.new.tally (omega arith) c.requires.may.visit_is.box c.requires.new (sym c.is_long.ensures ∙ c.if-not-is_long.true) c.look_into_cell.ensures.paid)
+    (cell-traced_after c.layers_hold.ensures (gridded view) was v (known_of c.args.values.now) (known_of c.look_into_cell.new.values) c.args.tally.now c.look_into_cell.new.tally (omega arith) c.requires.may.visit_is.box c.requires.new (sym c.is_long.ensures ∙ c.if-not-is_long.true) c.look_into_cell.ensures.paid)
 
 pub returns-then-not-is_long-clause-adds : goal.returns-then-not-is_long-clause-adds
 returns-then-not-is_long-clause-adds c =
@@ -46,21 +47,21 @@ returns-then-not-is_long-clause-counted c =
     let view = c.args.desk.now.view in
     let v = visit c.args.b (list_of c.args.desk.now c.args.received) in
     let was = visit_before c.args.before c.args.b in
-    cell-after c.layers_hold.ensures view was v c.args.values.now c.look_into_cell.new.values c.args.tally.now c.look_into_cell.new.tally c.requires.may.visit_is.box (sym c.is_long.ensures ∙ c.if-not-is_long.true) c.requires.new c.look_into_cell.ensures.counted
+    cell-after c.layers_hold.ensures view was v (known_of c.args.values.now) (known_of c.look_into_cell.new.values) c.args.tally.now c.look_into_cell.new.tally c.requires.may.visit_is.box (sym c.is_long.ensures ∙ c.if-not-is_long.true) c.requires.new c.look_into_cell.ensures.counted
 
 pub returns-in_err-told-clause-counted : goal.returns-in_err-told-clause-counted
 returns-in_err-told-clause-counted c =
     let view = c.args.desk.now.view in
     let v = visit c.args.b (list_of c.args.desk.now c.args.received) in
     let was = visit_before c.args.before c.args.b in
-    trace-charged_after c.layers_hold.ensures (gridded view) was v c.args.values.now c.args.tally.now c.trace_asked_box.new.tally (omega arith) c.requires.may.visit_is.box c.requires.new c.trace_asked_box.ensures.counted
+    trace-charged_after c.layers_hold.ensures (gridded view) was v (known_of c.args.values.now) c.args.tally.now c.trace_asked_box.new.tally (omega arith) c.requires.may.visit_is.box c.requires.new c.trace_asked_box.ensures.counted
 
 pub returns-in_err-told-clause-paid : goal.returns-in_err-told-clause-paid
 returns-in_err-told-clause-paid c =
     let view = c.args.desk.now.view in
     let v = visit c.args.b (list_of c.args.desk.now c.args.received) in
     let was = visit_before c.args.before c.args.b in
-    λ none. look-paid (gridded view) v c.args.values.now c.args.tally.now c.trace_asked_box.new.tally
+    λ none. look-paid (gridded view) v (known_of c.args.values.now) c.args.tally.now c.trace_asked_box.new.tally
     (c.layers_hold.ensures.bounds.hulls c.args.tally.now c.trace_asked_box.new.tally (length (list_of c.args.desk.now c.args.received)) c.trace_asked_box.ensures.counted)
 
 pub returns-clause-counted : goal.returns-clause-counted
@@ -68,18 +69,18 @@ returns-clause-counted c =
     let view = c.args.desk.now.view in
     let v = visit c.args.b (list_of c.args.desk.now c.args.received) in
     let was = visit_before c.args.before c.args.b in
-    below-charged_after c.layers_hold.ensures view was v c.args.values.now c.look_into_told.new.values c.args.tally.now c.trace_asked_box.new.tally c.look_into_told.new.tally
+    below-charged_after c.layers_hold.ensures view was v (known_of c.args.values.now) (known_of c.look_into_told.new.values) c.args.tally.now c.trace_asked_box.new.tally c.look_into_told.new.tally
     c.requires.may.visit_is.box c.requires.new (sym c.is_long.ensures ∙ c.if-not-is_long.false) c.trace_asked_box.ensures.counted
-    (subst (λ w. ChargesBelowAfter (gridded w) (visit_before c.args.before c.args.b) (visit c.args.b (list_of c.args.desk.now c.args.received)) c.args.values.now c.look_into_told.new.values c.trace_asked_box.new.tally c.look_into_told.new.tally) c.in_ok-told.ensures.more.view (subst (λ l. ChargesBelowAfter (gridded c.trace_asked_box.new.self.view) (visit_before c.args.before c.args.b) (visit c.args.b l) c.args.values.now c.look_into_told.new.values c.trace_asked_box.new.tally c.look_into_told.new.tally) (list-stays c.args.desk.now c.trace_asked_box.new.self c.args.received c.in_ok-told.ensures.more c.requires.may.among) c.look_into_told.ensures.counted))
+    (subst (λ w. ChargesBelowAfter (gridded w) (visit_before c.args.before c.args.b) (visit c.args.b (list_of c.args.desk.now c.args.received)) (known_of c.args.values.now) (known_of c.look_into_told.new.values) c.trace_asked_box.new.tally c.look_into_told.new.tally) c.in_ok-told.ensures.more.view (subst (λ l. ChargesBelowAfter (gridded c.trace_asked_box.new.self.view) (visit_before c.args.before c.args.b) (visit c.args.b l) (known_of c.args.values.now) (known_of c.look_into_told.new.values) c.trace_asked_box.new.tally c.look_into_told.new.tally) (list-stays c.args.desk.now c.trace_asked_box.new.self c.args.received c.in_ok-told.ensures.more c.requires.may.among) c.look_into_told.ensures.counted))
 
 pub returns-clause-paid : goal.returns-clause-paid
 returns-clause-paid c =
     let view = c.args.desk.now.view in
     let v = visit c.args.b (list_of c.args.desk.now c.args.received) in
     let was = visit_before c.args.before c.args.b in
-    λ none. below-paid c.layers_hold.ensures (gridded view) v c.args.values.now c.look_into_told.new.values c.args.tally.now c.trace_asked_box.new.tally c.look_into_told.new.tally
+    λ none. below-paid c.layers_hold.ensures (gridded view) v (known_of c.args.values.now) (known_of c.look_into_told.new.values) c.args.tally.now c.trace_asked_box.new.tally c.look_into_told.new.tally
     c.trace_asked_box.ensures.counted
-    (subst (λ w. PaysBox (gridded w) (visit c.args.b (list_of c.args.desk.now c.args.received)) c.args.values.now c.look_into_told.new.values c.trace_asked_box.new.tally c.look_into_told.new.tally) c.in_ok-told.ensures.more.view (subst (λ l. PaysBox (gridded c.trace_asked_box.new.self.view) (visit c.args.b l) c.args.values.now c.look_into_told.new.values c.trace_asked_box.new.tally c.look_into_told.new.tally) (list-stays c.args.desk.now c.trace_asked_box.new.self c.args.received c.in_ok-told.ensures.more c.requires.may.among) (c.look_into_told.ensures.paid none)))
+    (subst (λ w. PaysBox (gridded w) (visit c.args.b (list_of c.args.desk.now c.args.received)) (known_of c.args.values.now) (known_of c.look_into_told.new.values) c.trace_asked_box.new.tally c.look_into_told.new.tally) c.in_ok-told.ensures.more.view (subst (λ l. PaysBox (gridded c.trace_asked_box.new.self.view) (visit c.args.b l) (known_of c.args.values.now) (known_of c.look_into_told.new.values) c.trace_asked_box.new.tally c.look_into_told.new.tally) (list-stays c.args.desk.now c.trace_asked_box.new.self c.args.received c.in_ok-told.ensures.more c.requires.may.among) (c.look_into_told.ensures.paid none)))
 
 pub returns-clause-traced : goal.returns-clause-traced
 returns-clause-traced c =
@@ -92,15 +93,15 @@ returns-clause-traced c =
 
 pub returns-clause-settled : goal.returns-clause-settled
 returns-clause-settled c =
-    (subst (λ w. OnOk c.look_into_told.result (AreSettled (gridded w) (list_grid_value w (list_of c.args.desk.now c.args.received)) c.args.b c.look_into_told.new.values)) c.in_ok-told.ensures.more.view (subst (λ l. OnOk c.look_into_told.result (AreSettled (gridded c.trace_asked_box.new.self.view) (list_grid_value c.trace_asked_box.new.self.view l) c.args.b c.look_into_told.new.values)) (list-stays c.args.desk.now c.trace_asked_box.new.self c.args.received c.in_ok-told.ensures.more c.requires.may.among) c.look_into_told.ensures.settled))
+    (subst (λ w. OnOk c.look_into_told.result (AreSettled (gridded w) (list_grid_value w (list_of c.args.desk.now c.args.received)) c.args.b (known_of c.look_into_told.new.values))) c.in_ok-told.ensures.more.view (subst (λ l. OnOk c.look_into_told.result (AreSettled (gridded c.trace_asked_box.new.self.view) (list_grid_value c.trace_asked_box.new.self.view l) c.args.b (known_of c.look_into_told.new.values))) (list-stays c.args.desk.now c.trace_asked_box.new.self c.args.received c.in_ok-told.ensures.more c.requires.may.among) c.look_into_told.ensures.settled))
 
 pub returns-clause-worked : goal.returns-clause-worked
 returns-clause-worked c =
-    λ none. (subst (λ w. OnOk c.look_into_told.result (AreWorked (gridded w) (visit c.args.b (list_of c.args.desk.now c.args.received)) c.look_into_told.new.values)) c.in_ok-told.ensures.more.view (subst (λ l. OnOk c.look_into_told.result (AreWorked (gridded c.trace_asked_box.new.self.view) (visit c.args.b l) c.look_into_told.new.values)) (list-stays c.args.desk.now c.trace_asked_box.new.self c.args.received c.in_ok-told.ensures.more c.requires.may.among) (c.look_into_told.ensures.worked none)))
+    λ none. (subst (λ w. OnOk c.look_into_told.result (AreWorked (gridded w) (visit c.args.b (list_of c.args.desk.now c.args.received)) (known_of c.look_into_told.new.values))) c.in_ok-told.ensures.more.view (subst (λ l. OnOk c.look_into_told.result (AreWorked (gridded c.trace_asked_box.new.self.view) (visit c.args.b l) (known_of c.look_into_told.new.values))) (list-stays c.args.desk.now c.trace_asked_box.new.self c.args.received c.in_ok-told.ensures.more c.requires.may.among) (c.look_into_told.ensures.worked none)))
 
 pub returns-clause-grows : goal.returns-clause-grows
 returns-clause-grows c =
-    (subst (λ w. Grows (list_grid_value w (list_of c.args.desk.now c.args.received)) c.args.b c.args.values.now c.look_into_told.new.values) c.in_ok-told.ensures.more.view (subst (λ l. Grows (list_grid_value c.trace_asked_box.new.self.view l) c.args.b c.args.values.now c.look_into_told.new.values) (list-stays c.args.desk.now c.trace_asked_box.new.self c.args.received c.in_ok-told.ensures.more c.requires.may.among) c.look_into_told.ensures.grows))
+    (subst (λ w. Grows (list_grid_value w (list_of c.args.desk.now c.args.received)) c.args.b (known_of c.args.values.now) (known_of c.look_into_told.new.values)) c.in_ok-told.ensures.more.view (subst (λ l. Grows (list_grid_value c.trace_asked_box.new.self.view l) c.args.b (known_of c.args.values.now) (known_of c.look_into_told.new.values)) (list-stays c.args.desk.now c.trace_asked_box.new.self c.args.received c.in_ok-told.ensures.more c.requires.may.among) c.look_into_told.ensures.grows))
 
 pub returns-clause-adds : goal.returns-clause-adds
 returns-clause-adds c =
@@ -117,5 +118,5 @@ look_into_told-requires-clause-may c =
       n = subst (λ w. SameSize c.args.values.now.n (size_of w)) (sym view) may.n;
       among = among-stays c.args.desk.now c.trace_asked_box.new.self c.args.received c.in_ok-told.ensures.more may.among;
       room = omega (arith, c.in_ok-told.ensures.more.room, may.room, ap length same);
-      right = subst (λ l. AreRight (list_grid_value c.trace_asked_box.new.self.view l) c.args.b c.args.values.now) (sym same) (subst (λ w. AreRight (list_grid_value w (list_of c.args.desk.now c.args.received)) c.args.b c.args.values.now) (sym view) may.right);
+      right = subst (λ l. AreRight (list_grid_value c.trace_asked_box.new.self.view l) c.args.b (known_of c.args.values.now)) (sym same) (subst (λ w. AreRight (list_grid_value w (list_of c.args.desk.now c.args.received)) c.args.b (known_of c.args.values.now)) (sym view) may.right);
     }

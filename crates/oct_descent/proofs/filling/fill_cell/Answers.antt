@@ -7,15 +7,16 @@ use Rattle.live_clauses.specs.declared.step.Step.{Step}
 use Rattle.oct_descent.specs.Gaps.{Fills, StandsIn}
 use Rattle.oct_descent.specs.GridValues.{list_grid_value}
 use Rattle.oct_descent.proofs.Corners.{short-one}
-use Rattle.oct_descent.proofs.GapLaws.{are-filled, gaps-charged, gaps-grow, gaps-known_then, gaps-paid}
-use Rattle.oct_descent.proofs.TableLaws.{charges-none, pays-none, same-charges, same-grows, same-pays}
+use Rattle.oct_descent.proofs.GapLaws.{are-filled, gaps-charged, gaps-grow, gaps-known_then, gaps-paid, same-charges, same-grows, same-pays}
+use Rattle.oct_descent.proofs.TableLaws.{charges-none, pays-none}
+use Rattle.oct_descent.specs.Kinds.{known_of}
 use Rattle.oct_descent.proofs.filling.fill_cell.Goals as goal
 
 pub returns-in_err-make_rows-clause-counted : goal.returns-in_err-make_rows-clause-counted
-returns-in_err-make_rows-clause-counted c = λ f enough. charges-none c.layers_hold.ensures f 0 c.args.values.now c.args.tally.now
+returns-in_err-make_rows-clause-counted c = λ f enough. charges-none c.layers_hold.ensures f 0 (known_of c.args.values.now) c.args.tally.now
 
 pub returns-in_err-make_rows-clause-paid : goal.returns-in_err-make_rows-clause-paid
-returns-in_err-make_rows-clause-paid c = λ f due. pays-none c.layers_hold.ensures f c.args.values.now c.args.tally.now
+returns-in_err-make_rows-clause-paid c = λ f due. pays-none c.layers_hold.ensures f (known_of c.args.values.now) c.args.tally.now
 
 pub returns-in_err-find_gaps-clause-counted : goal.returns-in_err-find_gaps-clause-counted
 returns-in_err-find_gaps-clause-counted c = λ f enough. same-charges c.layers_hold.ensures f c.args.values.now c.find_gaps.new.values c.args.tally.now c.in_err-find_gaps.ensures.same

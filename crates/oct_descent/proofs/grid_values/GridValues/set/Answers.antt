@@ -1,6 +1,8 @@
 use Rattle.std.proofs.Common.{ap, arith, length, set, subst, true, ◌∙◌}
 use Rattle.std.proofs.lemmas.List.{length-set}
-use Rattle.oct_descent.specs.Tables.{KeepsPlaces, Marks, PointValues, Sets, is_within, stand}
+use Rattle.oct_descent.specs.Kinds.{known_of}
+use Rattle.oct_descent.specs.Known.{Sets}
+use Rattle.oct_descent.specs.Tables.{KeepsPlaces, Marks, PointValues, is_within, stand}
 use Rattle.oct_descent.proofs.Bricks.{brick-sets, kept-keeps}
 use Rattle.oct_descent.proofs.grid_values.GridValues.set.Goals as goal
 
@@ -10,7 +12,7 @@ returns-clause-sets c p within is =
     let t : PointValues = record { n = i.n; places = i.places.items; kept = record { known = i.known.items; values = i.values.items } } in
     let len = ap (λ u. length u.kept.known) c.self.view_is in
     let after : PointValues = record { n = t.n; places = t.places; kept = record { known = set t.kept.known c.args.at true; values = set t.kept.values c.args.at c.args.value } } in
-    subst (λ (u : PointValues). Sets p c.args.value u after) c.self.view_is
+    subst (λ (u : PointValues). Sets p c.args.value (known_of u) (known_of after)) c.self.view_is
     (brick-sets t p c.args.value c.args.at c.self.invariant.2 (ap (λ u. is_within u.n p) c.self.view_is ∙ within) (ap (λ u. stand u p) c.self.view_is ∙ is) (omega (arith, len, c.requires)))
 
 pub returns-clause-keeps : goal.returns-clause-keeps
