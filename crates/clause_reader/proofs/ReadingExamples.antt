@@ -1,5 +1,5 @@
 -- The definitions of reading, computed on texts that were worked out by hand: each reason once, and what is read.
-use Rattle.std.proofs.Common.{◌≡◌, ℕ, pos, nat_le, List, [], ◌∷◌, ◌++◌, length, None, Some, Result, Ok, Err, true, false, refl, ap, arith}
+use Rattle.std.proofs.Common.{◌≡◌, ℕ, Bool, pos, nat_le, List, [], ◌∷◌, ◌++◌, length, None, Some, Result, Ok, Err, true, false, refl, ap, arith}
 use Rattle.std.specs.Prelude.{codes, map, negsuc}
 use Rattle.std.proofs.lemmas.List.Elements.{All-head}
 use Rattle.std.proofs.lemmas.List.Sums.{AllPass-from_list_all}
@@ -14,6 +14,7 @@ use Rattle.clause_reader.specs.declared.text_reason.TextReason.TheVariants.{NoOp
 use Rattle.clause_reader.specs.Forms.{form_read, GivesForm, operation_of, operations, takes}
 use Rattle.clause_reader.specs.Lines.{begins_comment, lines_of, tokens_of, line_of}
 use Rattle.clause_reader.specs.Reading.{clauses_with, clause_of, text_read, GivesModel, MayWantMemory}
+use Rattle.clause_reader.specs.Reasons.{holds}
 use Rattle.clause_reader.specs.Says.{clause_lines}
 use Rattle.clause_reader.specs.Scan.{after_line, line_tokens}
 use Rattle.clause_reader.specs.Tokens.{IsTokenAt}
@@ -183,8 +184,8 @@ token_after_blanks = record {
   longest = refl;
 }
 
--- what stands before the place, blanks, a part of a token and two of them are no token there
-token_before : IsTokenAt some_tokens 4 0 2 → ⊥
+-- a token that begins before the place, blanks, a part of a token and two of them are no token there
+token_before : IsTokenAt some_tokens 5 4 6 → ⊥
 token_before is = omega (arith, is.after)
 
 token_without_bytes : IsTokenAt some_tokens 2 4 4 → ⊥
@@ -213,6 +214,30 @@ each_operation_is_read = refl
 
 arguments_of_each : map takes operations ≡ 0 ∷ 0 ∷ 0 ∷ 1 ∷ 1 ∷ 1 ∷ 1 ∷ 1 ∷ 1 ∷ 2 ∷ 2 ∷ 2 ∷ 2 ∷ 2 ∷ 2 ∷ []
 arguments_of_each = refl
+
+-- the reasons that hold in a line after a clause q
+abbrev clause_q : List Clause
+clause_q = record { name = codes "q"; op = X; a = 0; b = 0; value = pos 0 } ∷ []
+
+abbrev holding : List ℕ → List Bool
+holding line = map (λ reason. holds clause_q (tokens_of line) reason)
+    (NoOperation ∷ UnknownOperation ∷ WrongArity ∷ BadNumeral ∷ UnknownName ∷ DoubleName ∷ TooMany
+    ∷ Empty ∷ NoMemory ∷ [])
+
+-- where no operation stands, or the word names none, nothing is told of its arguments
+lines_without_operation : map holding ([] ∷ codes "q" ∷ codes "q mod y" ∷ [])
+    ≡ (true ∷ false ∷ false ∷ false ∷ false ∷ false ∷ false ∷ false ∷ false ∷ [])
+    ∷ (true ∷ false ∷ false ∷ false ∷ false ∷ true ∷ false ∷ false ∷ false ∷ [])
+    ∷ (false ∷ true ∷ false ∷ false ∷ false ∷ true ∷ false ∷ false ∷ false ∷ []) ∷ []
+lines_without_operation = refl
+
+-- and each other reason holds whichever else does
+lines_with_some_reasons : map holding (codes "q neg x y" ∷ codes "q const x y" ∷ codes "p sub q q" ∷ [])
+    ≡ (false ∷ false ∷ true ∷ false ∷ true ∷ true ∷ false ∷ false ∷ false ∷ [])
+    ∷ (false ∷ false ∷ true ∷ true ∷ false ∷ true ∷ false ∷ false ∷ false ∷ [])
+    ∷ (false ∷ false ∷ false ∷ false ∷ false ∷ false ∷ false ∷ false ∷ false ∷ []) ∷ []
+unfolding is_unsigned_numeral
+lines_with_some_reasons = refl
 
 comments : map begins_comment ([] ∷ codes "#" ∷ codes "#a" ∷ codes "a#" ∷ [])
     ≡ false ∷ true ∷ true ∷ false ∷ []

@@ -52,7 +52,7 @@ impl<'t> Tokens<'t> {
         split_token(self.rest).is_none()
     }
 
-    /// What is left of the line as bytes, and what stands after it.
+    /// Bytes that begin with a line of the tokens that are left.
     #[inline]
     pub fn rest(&self) -> &'t [u8]
         ensures { line_tokens result.now ≡ self.now }

@@ -11,9 +11,10 @@ use Rattle.kuhn_cells.specs.declared.grid_size.GridSize.{GridSize}
 use Rattle.kuhn_cells.specs.Arrangement.{arranged}
 use Rattle.kuhn_cells.specs.Cells.{IsBordered, cell_at, is_mixed_cell, is_outermost}
 use Rattle.kuhn_cells.specs.Faces.{Face, faces, all_triangles}
-use Rattle.kuhn_cells.specs.Grids.{Grid, is_point, over_block, value_at, vertices}
+use Rattle.kuhn_cells.specs.Grids.{Grid, bordered, is_point, over_block, value_at, vertices}
 use Rattle.kuhn_cells.specs.Lists.{ListsCells}
-use Rattle.kuhn_cells.specs.Rings.{HasEdge, IsRing, corners_off, sides}
+use Rattle.kuhn_cells.specs.Rings.{HasEdge, IsRing, corners_off, in_turn, sides}
+use Rattle.kuhn_cells.specs.Sizes.{IsBounded}
 use Rattle.kuhn_cells.specs.Triangles.{point}
 use Rattle.kuhn_cells.specs.Vectors.{Vector}
 
@@ -174,3 +175,22 @@ ring_from_the_second h = let least : 4 ≤ 0 = h.least 3 (0, 0) (omega arith) in
 -- and with the first once more at the end
 ring_with_one_twice : IsRing 3 ((0, 0) ∷ (4, 4) ∷ (4, 5) ∷ (0, 2) ∷ (0, 0) ∷ []) → ⊥
 ring_with_one_twice h = h.once 0 4 (0, 0) (omega arith) (omega arith) refl
+
+-- ---- rings, borders and bounds
+
+-- one to the next, and the last to the first
+round : in_turn {A = ℕ} (0 ∷ 1 ∷ 2 ∷ []) ≡ (0, 1) ∷ (1, 2) ∷ (2, 0) ∷ []
+round = refl
+
+-- in the outermost layer no point is inside
+inside_at_the_border : bordered (sized 2 3 4) (point 1 2 4) (negsuc 0) ≡ pos 0
+inside_at_the_border = refl
+
+inside_within : bordered (sized 2 3 4) (point 1 2 3) (negsuc 0) ≡ negsuc 0
+inside_within = refl
+
+most_cells : IsBounded (sized 512 512 64)
+most_cells = record { x = omega arith; y = omega arith; z = omega arith; all = omega arith }
+
+too_many_along_y : IsBounded (sized 1 513 1) → ⊥
+too_many_along_y h = omega (arith, h.y)

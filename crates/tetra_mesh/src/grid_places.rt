@@ -1,9 +1,9 @@
 // The places of the points of a grid.
-ghost use Rattle.std.specs.Prelude.{◌≡◌, ◌≤◌, IfSome};
+ghost use Rattle.std.specs.Prelude.{◌≡◌, ◌≤◌, IfNone, IfSome};
 ghost use Rattle.fixed_ops.specs.Raw.{IsRaw};
 ghost use Rattle.view_places.specs.declared.lattice.Lattice.TheVariants.{Grid};
 ghost use Rattle.view_places.specs.Places.{sample_place, steps_of};
-ghost use Rattle.tetra_mesh.specs.Places.{IsPlaced, vertex_place};
+ghost use Rattle.tetra_mesh.specs.Places.{IsPlaced, steps_along, vertex_place};
 ghost use Rattle.tetra_mesh.specs.Tables.{IsTable};
 
 use crate::Vertex;
@@ -64,14 +64,15 @@ impl GridPlaces {
         between(low, self.point(axis, index + 1), v.t)
     }
 
-    /// The index along an axis of the points of the grid that have the place of a vertex there,
-    /// unless the vertex's edge leads along the axis.
+    /// The index along an axis of the points of the grid that have the place of a vertex there, and
+    /// None only where the vertex's edge leads along the axis.
     #[inline]
     pub fn point_along(&self, v: &Vertex, axis: Axis) -> Option<u32>
         requires { IsPlaced self.now v.now }
         ensures place { IfSome result (λ index. vertex_place self.now v.now axis
             ≡ sample_place self.now Grid axis index) }
         ensures within { IfSome result (λ index. index ≤ steps_of self.now Grid axis) }
+        ensures leading { IfNone result (steps_along axis v.now.key.dir ≡ 1) }
     {
         if leads_along(v.key, axis) {
             return None;
