@@ -1,10 +1,8 @@
 // Meshes that are checked. What is found of each was worked out by hand.
-use crate::trial::Trial;
 use modeller_cmd::Status;
-use modeller_io::MemSink;
 use std::alloc::{AllocError, Global};
-use std::process::Abort;
 use std::test::Fail;
+use trial_runs::{Ending, Ran, Trial};
 
 // How many vertices and faces a file announces, and its lines behind the header.
 type Body = (u32, u32, &'static str);
@@ -84,28 +82,31 @@ const FOUND: [(Body, &str); 15] = [
 
 #[test]
 fn what_breaks_a_mesh_first_is_told(rt: HostRuntime) -> Result<(), Fail> {
-    for (body, line) in FOUND {
-        assert_found(&rt, rt.alloc(), body, line)?;
+    for (body, told) in FOUND {
+        let ran = check_body(rt.alloc(), body, told)?;
+        assert_eq!(rt; ran.ending, Ending::wanted(Status::Done), "{told:?}");
+        assert_eq!(rt; ran.work.points, 0, "{told:?}");
     }
     Ok(())
 }
 
-// Asserts that a run writes this line of a file, has no note, and counts nothing.
-fn assert_found(
-    rt: &impl Abort,
+// Checks a file that should be told so.
+fn check(alloc: Global, text: &str, told: &str) -> Result<Ran, AllocError> {
+    let line = format!(in alloc; "{told}\n")?;
+    Trial::new(&["check"], text.as_bytes()).run(alloc, line.as_bytes(), b"")
+}
+
+// Checks a file of such a body.
+fn check_body(
     alloc: Global,
     (vertices, faces, lines): Body,
-    line: &str,
-) -> Result<(), AllocError> {
+    told: &str,
+) -> Result<Ran, AllocError> {
     let text = format!(in alloc;
         "ply\nformat ascii 1.0\nelement vertex {vertices}\nproperty float x\n\
         element face {faces}\nproperty list uchar int vertex_indices\nend_header\n{lines}"
     )?;
-    let mut trial = Trial::new(alloc, text.as_bytes())?;
-    let line = format!(in alloc; "{line}\n")?;
-    trial.assert_draws(rt, alloc, &["check"], line.as_bytes())?;
-    assert_eq!(rt; trial.tally.points(), 0);
-    Ok(())
+    check(alloc, &text, told)
 }
 
 // Models, and what is found of their meshes of two cells a side: one inside point, and none.
@@ -120,24 +121,21 @@ const MADE: [(&[u8], &[u8]); 2] = [
 
 #[test]
 fn a_mesh_that_is_made_is_closed(rt: HostRuntime) -> Result<(), Fail> {
-    for (model, line) in MADE {
-        assert_closed(&rt, rt.alloc(), model, line)?;
+    for (model, told) in MADE {
+        let ending = check_made(rt.alloc(), model, told)?;
+        assert_eq!(rt; ending, Ending::wanted(Status::Done), "{told:?}");
     }
     Ok(())
 }
 
-// Asserts that the mesh of a model is found so.
-fn assert_closed(
-    rt: &impl Abort,
-    alloc: Global,
-    model: &[u8],
-    line: &[u8],
-) -> Result<(), AllocError> {
-    let mut made = Trial::new(alloc, model)?;
-    made.out = MemSink::new(8192, Vec::new(alloc), vec![in alloc; 0; 2048]?);
-    made.run(alloc, &["mesh", "n=2"])?;
-    let mut trial = Trial::new(alloc, made.out.held().unwrap_or(b""))?;
-    trial.assert_draws(rt, alloc, &["check"], line)
+// Makes the mesh of a model and checks it, which should be told so.
+fn check_made(alloc: Global, model: &[u8], told: &[u8]) -> Result<Ending, AllocError> {
+    let made = Trial::new(&["mesh", "n=2"], model).written(alloc, 2048)?;
+    Ok(
+        Trial::new(&["check"], &made.bytes)
+            .run(alloc, told, b"")?
+            .ending,
+    )
 }
 
 // Texts that are no mesh, the lines that are noted, and the reasons. Line 0 stands for the whole text.
@@ -180,23 +178,9 @@ const REFUSED: [(&str, u32, &str); 9] = [
 #[test]
 fn the_first_bad_line_is_noted(rt: HostRuntime) -> Result<(), Fail> {
     for (text, line, reason) in REFUSED {
-        assert_refused(&rt, rt.alloc(), text, line, reason)?;
+        let trial = Trial::new(&["check"], text.as_bytes());
+        let ran = trial.run_refused(rt.alloc(), "line", line, reason)?;
+        assert_eq!(rt; ran.ending, Ending::wanted(Status::BadModel), "{text:?}");
     }
-    Ok(())
-}
-
-// Asserts that a run writes nothing but the line and the reason.
-fn assert_refused(
-    rt: &impl Abort,
-    alloc: Global,
-    text: &str,
-    line: u32,
-    reason: &str,
-) -> Result<(), AllocError> {
-    let mut trial = Trial::new(alloc, text.as_bytes())?;
-    let status = trial.run(alloc, &["check"])?;
-    assert_eq!(rt; status, Status::BadModel, "{text:?}");
-    let note = format!(in alloc; "modeller: line {line}: {reason}\n")?;
-    trial.assert_holds(rt, b"", note.as_bytes());
     Ok(())
 }

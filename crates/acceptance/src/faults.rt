@@ -1,84 +1,94 @@
 // Calls of the source and the sinks that fail.
-ghost use Rattle.std.specs.Prelude.{◌≤◌};
-
-use crate::trial::{DISC, DISC_PICTURE, THREE_BY_THREE, Trial, sink, source};
 use modeller_cmd::Status;
-use modeller_io::MemSink;
 use std::alloc::{AllocError, Global};
-use std::process::Abort;
 use std::test::Fail;
+use trial_runs::{Calls, DISC, DISC_PICTURE, Ending, Held, Ran, THREE_BY_THREE, Trial};
 
 #[test]
 fn a_write_that_fails_leaves_what_was_written(rt: HostRuntime) -> Result<(), Fail> {
-    let mut trial = Trial::new(rt.alloc(), DISC)?;
-    trial.out = sink(rt.alloc(), 5, &[2])?;
-    assert_eq!(rt; trial.run(rt.alloc(), THREE_BY_THREE)?, Status::WriteFault);
-    trial.assert_holds(&rt, b"P5\n3 ", b"modeller: write fault\n");
+    let mut trial = Trial::new(THREE_BY_THREE, DISC);
+    trial.writes = Calls {
+        chunk: 5,
+        failing: 2,
+    };
+    let ran = trial.run(rt.alloc(), b"P5\n3 ", b"modeller: write fault\n")?;
+    assert_eq!(rt; ran.ending, Ending::wanted(Status::WriteFault));
     Ok(())
 }
 
 #[test]
 fn short_reads_and_writes_change_nothing(rt: HostRuntime) -> Result<(), Fail> {
-    let mut trial = Trial::new(rt.alloc(), b"")?;
-    trial.source = source(rt.alloc(), DISC, 1, &[])?;
-    trial.out = sink(rt.alloc(), 1, &[])?;
+    let mut trial = Trial::new(THREE_BY_THREE, DISC);
+    trial.reads.chunk = 1;
+    trial.writes.chunk = 1;
     // Notes that would fail are not asked.
-    trial.notes = sink(rt.alloc(), 9, &[1])?;
-    assert_eq!(rt; trial.run(rt.alloc(), THREE_BY_THREE)?, Status::Done);
-    trial.assert_holds(&rt, DISC_PICTURE, b"");
+    trial.notes = Calls {
+        chunk: 9,
+        failing: 1,
+    };
+    let ran = trial.run(rt.alloc(), DISC_PICTURE, b"")?;
+    assert_eq!(rt; ran.ending, Ending::wanted(Status::Done));
     Ok(())
 }
 
-// Runs over an input of 68 bytes, by reads of at most `chunk` bytes, of which one fails.
-fn assert_read(
-    rt: &impl Abort,
-    alloc: Global,
-    chunk: u64,
-    failing: u64,
-    status: Status,
-    picture: &[u8],
-    note: &[u8],
-) -> Result<(), AllocError>
-    requires { 1 ≤ chunk }
-{
-    let mut trial = Trial::new(alloc, b"")?;
-    trial.source = source(alloc, DISC, chunk, &[failing])?;
-    let answer = trial.run(alloc, THREE_BY_THREE)?;
-    assert_eq!(rt; answer, status, "at {failing} of {chunk}");
-    trial.assert_holds(rt, picture, note);
-    assert!(rt; picture.is_empty() == (trial.tally.points() == 0));
-    Ok(())
+// Draws the disc, whose text is read by at most `chunk` bytes a call. A read fails.
+fn failing_to_read(chunk: u64, failing: u64) -> Trial<'static> {
+    let mut trial = Trial::new(THREE_BY_THREE, DISC);
+    trial.reads = Calls { chunk, failing };
+    trial
 }
 
-// Fails at each of the reads that a run makes. One more is not made, and so does not fail.
-fn assert_reads(rt: &impl Abort, alloc: Global, chunk: u64, reads: u8) -> Result<(), AllocError>
-    requires { 1 ≤ chunk }
-{
-    let note = b"modeller: read fault\n";
-    for before in 0..reads {
-        let failing = u64::from(before) + 1;
-        assert_read(rt, alloc, chunk, failing, Status::ReadFault, b"", note)?;
-    }
-    let failing = u64::from(reads) + 1;
-    assert_read(rt, alloc, chunk, failing, Status::Done, DISC_PICTURE, b"")
-}
+// By how many bytes the 68 bytes of the text are read, and how many reads a run makes then. The last one tells
+// that the input ends.
+const READS: [(u64, u8); 2] = [(1, 69), (4, 18)];
 
 #[test]
 fn each_read_may_fail(rt: HostRuntime) -> Result<(), Fail> {
-    // The last read tells that the input ends.
-    assert_reads(&rt, rt.alloc(), 1, 69)?;
-    assert_reads(&rt, rt.alloc(), 4, 18)?;
+    for (chunk, reads) in READS {
+        for before in 0..reads {
+            let trial = failing_to_read(chunk, u64::from(before) + 1);
+            let ran = trial.run(rt.alloc(), b"", b"modeller: read fault\n")?;
+            assert_eq!(rt;
+                ran.ending,
+                Ending::wanted(Status::ReadFault),
+                "{before} of {chunk}"
+            );
+            assert_eq!(rt; ran.work.points, 0, "{before} of {chunk}");
+        }
+        // One more is not made, and so does not fail.
+        let trial = failing_to_read(chunk, u64::from(reads) + 1);
+        let ran = trial.run(rt.alloc(), DISC_PICTURE, b"")?;
+        assert_eq!(rt;
+            ran.ending,
+            Ending::wanted(Status::Done),
+            "{reads} of {chunk}"
+        );
+        assert!(rt; ran.work.points != 0, "{reads} of {chunk}");
+    }
     Ok(())
+}
+
+// Writes a picture by single bytes, and fails behind so many of them.
+fn write_front(
+    alloc: Global,
+    mut trial: Trial,
+    picture: &[u8],
+    taken: u8,
+) -> Result<Ran, AllocError> {
+    trial.writes = Calls {
+        chunk: 1,
+        failing: u64::from(taken) + 1,
+    };
+    let front = &picture[..usize::from(taken).min(picture.len())];
+    trial.run(alloc, front, b"modeller: write fault\n")
 }
 
 #[test]
 fn each_byte_may_be_the_first_that_is_not_written(rt: HostRuntime) -> Result<(), Fail> {
+    let trial = Trial::new(THREE_BY_THREE, DISC);
     for taken in 0..20u8 {
-        let mut trial = Trial::new(rt.alloc(), DISC)?;
-        trial.out = sink(rt.alloc(), 1, &[u64::from(taken) + 1])?;
-        assert_eq!(rt; trial.run(rt.alloc(), THREE_BY_THREE)?, Status::WriteFault);
-        let front = &DISC_PICTURE[..usize::from(taken).min(DISC_PICTURE.len())];
-        trial.assert_holds(&rt, front, b"modeller: write fault\n");
+        let ran = write_front(rt.alloc(), trial, DISC_PICTURE, taken)?;
+        assert_eq!(rt; ran.ending, Ending::wanted(Status::WriteFault), "{taken}");
     }
     Ok(())
 }
@@ -106,31 +116,28 @@ const NOTED: [Noted; 7] = [
 ];
 
 // A run whose note fails at this call, and has taken these bytes then.
-fn assert_noted(
-    rt: &impl Abort,
-    alloc: Global,
-    noted: Noted,
-    failing: u64,
-    front: &[u8],
-) -> Result<(), AllocError> {
-    let (words, comment, text, failing_read, failing_write, status) = noted;
+fn note_front(alloc: Global, noted: Noted, failing: u64, front: &[u8]) -> Result<Ran, AllocError> {
+    let (words, comment, text, failing_read, failing_write, _) = noted;
     let mut input = vec![in alloc; b'#'; comment]?;
     input.extend_from_slice(text)?;
-    let mut trial = Trial::new(alloc, b"")?;
-    trial.source = source(alloc, &input, 8192, &[failing_read])?;
-    trial.out = sink(alloc, 8192, &[failing_write])?;
-    trial.notes = sink(alloc, 9, &[failing])?;
-    assert_eq!(rt; trial.run(alloc, words)?, status);
-    trial.assert_holds(rt, b"", front);
-    Ok(())
+    let mut trial = Trial::new(words, &input);
+    trial.reads.failing = failing_read;
+    trial.writes.failing = failing_write;
+    trial.notes = Calls { chunk: 9, failing };
+    trial.run(alloc, b"", front)
 }
+
+// The call of a note that fails, at once or behind nine bytes, and what is noted.
+const NOTES: [(u64, &[u8]); 2] = [(1, b""), (2, b"modeller:")];
 
 #[test]
 fn a_note_that_fails_changes_no_status(rt: HostRuntime) -> Result<(), Fail> {
     for noted in NOTED {
-        // The note fails at once, or after nine bytes.
-        assert_noted(&rt, rt.alloc(), noted, 1, b"")?;
-        assert_noted(&rt, rt.alloc(), noted, 2, b"modeller:")?;
+        let (words, _, _, _, _, status) = noted;
+        for (failing, front) in NOTES {
+            let ran = note_front(rt.alloc(), noted, failing, front)?;
+            assert_eq!(rt; ran.ending, Ending::wanted(status), "{words:?}");
+        }
     }
     Ok(())
 }
@@ -150,32 +157,19 @@ fn tall_picture(alloc: Global) -> Result<Vec<u8>, AllocError> {
     Ok(picture)
 }
 
-// Draws it, and fails to write the byte after so many. All of its work is done.
-fn assert_front(
-    rt: &impl Abort,
-    alloc: Global,
-    picture: &[u8],
-    taken: u8,
-) -> Result<(), AllocError> {
-    let mut trial = Trial::new(alloc, HALF)?;
-    trial.out = sink(alloc, 1, &[u64::from(taken) + 1])?;
-    assert_eq!(rt; trial.run(alloc, TALL)?, Status::WriteFault);
-    let front = &picture[..usize::from(taken).min(picture.len())];
-    trial.assert_holds(rt, front, b"modeller: write fault\n");
-    // Each sample is evaluated, and its column is halved into 17 and 16 rows, into 9, 8, 8 and 8, and
-    // the 9 into 5 and 4.
-    assert_eq!(rt; trial.tally.points(), 99);
-    assert_eq!(rt; trial.tally.spans(), 9);
-    Ok(())
-}
+// In the header, at the ends of rows that are written together, among them, and at the last byte.
+const TAKEN: [u8; 10] = [0, 4, 11, 12, 59, 60, 84, 107, 108, 110];
 
 #[test]
 fn a_write_that_fails_leaves_a_front_of_a_tall_picture(rt: HostRuntime) -> Result<(), Fail> {
     let picture = tall_picture(rt.alloc())?;
-    // In the header, at the ends of rows that are written together, among them, and at the last byte.
-    let fronts: [u8; 10] = [0, 4, 11, 12, 59, 60, 84, 107, 108, 110];
-    for taken in fronts {
-        assert_front(&rt, rt.alloc(), &picture, taken)?;
+    let trial = Trial::new(TALL, HALF);
+    for taken in TAKEN {
+        let ran = write_front(rt.alloc(), trial, &picture, taken)?;
+        assert_eq!(rt; ran.ending, Ending::wanted(Status::WriteFault), "{taken}");
+        // All of the work is done: each sample is evaluated, and its column is halved into 17 and 16 rows,
+        // into 9, 8, 8 and 8, and the 9 into 5 and 4.
+        assert_eq!(rt; (ran.work.points, ran.work.spans), (99, 9), "{taken}");
     }
     Ok(())
 }
@@ -193,32 +187,46 @@ const FRAMES_WRITTEN: &[u8] = b"@ render 14\nP5\n3 1\n255\n\xff\x00\x00\
     property list uchar int vertex_indices\nend_header\n";
 
 // Writes it by at most four bytes a call, and fails after so many calls.
-fn assert_frames_front(rt: &impl Abort, alloc: Global, calls: u8) -> Result<(), AllocError> {
-    let mut trial = Trial::new(alloc, FRAMES)?;
-    let fails = [u64::from(calls) + 1].to_vec(alloc)?;
-    trial.out = MemSink::new(4, fails, vec![in alloc; 0; 256]?);
-    let status = trial.run(alloc, &["replay"])?;
-    assert_eq!(rt; status, Status::WriteFault, "after {calls}");
-    let held = trial.out.held().unwrap_or_default();
-    assert!(rt; FRAMES_WRITTEN.starts_with(held));
-    assert!(rt; usize::from(calls) <= held.len() && held.len() <= 4 * usize::from(calls));
-    // The work of the frame whose bytes are not taken is done, and none behind it: three samples of one
-    // clause, three of two, and at most the eight corners of a cell.
-    let (points, spans, more) = match held.len() {
-        0..=25 => (3, 1, 0),
-        26..=51 => (9, 3, 0),
-        _ => (9, 3, 8),
+fn write_frames(alloc: Global, calls: u8) -> Result<Ran, AllocError> {
+    let mut trial = Trial::new(&["replay"], FRAMES);
+    trial.writes = Calls {
+        chunk: 4,
+        failing: u64::from(calls) + 1,
     };
-    assert!(rt; points <= trial.tally.points() && trial.tally.points() <= points + more);
-    assert!(rt; spans <= trial.tally.spans() && trial.tally.spans() <= spans + more);
-    Ok(())
+    trial.run(alloc, FRAMES_WRITTEN, b"modeller: write fault\n")
+}
+
+// The least and the most work behind so many bytes. That of the frame whose bytes are not taken is done, and
+// none behind it: three samples of one clause, three of two, and at most the eight corners of a cell.
+fn work_behind(count: usize) -> ((u64, u64), (u64, u64)) {
+    match count {
+        0..=25 => ((3, 1), (3, 1)),
+        26..=51 => ((9, 3), (9, 3)),
+        _ => ((9, 3), (17, 11)),
+    }
 }
 
 #[test]
 fn a_script_ends_at_the_call_that_fails(rt: HostRuntime) -> Result<(), Fail> {
     // 220 bytes take at least 55 calls.
     for calls in 0..55u8 {
-        assert_frames_front(&rt, rt.alloc(), calls)?;
+        let ran = write_frames(rt.alloc(), calls)?;
+        assert_eq!(rt; ran.ending.status, Status::WriteFault, "after {calls}");
+        assert_eq!(rt; ran.ending.notes, Held::All, "after {calls}");
+        let count = match ran.ending.out {
+            Held::Front(count) => count,
+            _ => usize::MAX,
+        };
+        assert!(rt; usize::from(calls) <= count && count <= 4 * usize::from(calls));
+        let (least, most) = work_behind(count);
+        assert!(rt;
+            least.0 <= ran.work.points && ran.work.points <= most.0,
+            "after {calls}"
+        );
+        assert!(rt;
+            least.1 <= ran.work.spans && ran.work.spans <= most.1,
+            "after {calls}"
+        );
     }
     Ok(())
 }

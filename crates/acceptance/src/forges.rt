@@ -1,14 +1,14 @@
 // Models that are made from a seed. The numbers were worked out by a program of its own, which makes
 // the models and walks the boxes of their images.
-use crate::trial::{DISC, Trial, sink, source};
 use clause_reader::write_model;
 use model_forge::forge_model;
 use modeller_cmd::Status;
-use modeller_io::{MemSink, Source};
+use std::alloc::{AllocError, Global};
 use std::test::Fail;
+use trial_runs::{Calls, DISC, Ending, Ran, Rest, Trial};
 
 // Words, and what is told: clauses, pixels inside, points, spans and plain.
-type Case = (&'static [&'static str], u32, u32, u64, u64, u64);
+type Case = (&'static [&'static str], u64, u64, u64, u64, u64);
 
 // One disc, and a view in which there is nothing of it.
 const OUT_OF_SIGHT: &[&str] = &[
@@ -63,33 +63,44 @@ const CASES: [Case; 4] = [
     ),
 ];
 
+// Makes a model over a source whose first call fails. What is made should be told by these lines.
+fn forge(alloc: Global, words: &[&str], counts: [u64; 5]) -> Result<Ran, AllocError> {
+    let [clauses, inside, points, spans, plain] = counts;
+    let told = format!(in alloc;
+        "clauses {clauses}\ninside {inside}\npoints {points}\nspans {spans}\nplain {plain}\n"
+    )?;
+    let mut trial = Trial::new(words, DISC);
+    trial.reads.failing = 1;
+    trial.run(alloc, told.as_bytes(), b"")
+}
+
 #[test]
 fn a_model_is_made_and_told_and_nothing_is_read(rt: HostRuntime) -> Result<(), Fail> {
     for (words, clauses, inside, points, spans, plain) in CASES {
-        let mut trial = Trial::new(rt.alloc(), DISC)?;
-        trial.source = source(rt.alloc(), DISC, 8192, &[1])?;
-        trial.out = MemSink::new(8192, Vec::new(rt.alloc()), vec![in rt.alloc(); 0; 80]?);
-        assert_eq!(rt; trial.run(rt.alloc(), words)?, Status::Done, "{words:?}");
-        let told = format!(in rt.alloc();
-            "clauses {clauses}\ninside {inside}\npoints {points}\nspans {spans}\nplain {plain}\n"
-        )?;
-        trial.assert_holds(&rt, told.as_bytes(), b"");
-        assert_eq!(rt; trial.tally.points(), points);
-        assert_eq!(rt; trial.tally.spans(), spans);
+        let counts = [clauses, inside, points, spans, plain];
+        let ran = forge(rt.alloc(), words, counts)?;
+        assert_eq!(rt; ran.ending, Ending::wanted(Status::Done), "{words:?}");
+        assert_eq!(rt;
+            (ran.work.points, ran.work.spans),
+            (points, spans),
+            "{words:?}"
+        );
         // The first call of the source, which fails, is still to come.
-        assert!(rt; trial.source.read(&mut [0]).is_err());
+        assert_eq!(rt; ran.rest, Rest::Fails, "{words:?}");
     }
     Ok(())
 }
 
 #[test]
 fn what_can_not_be_told_is_counted(rt: HostRuntime) -> Result<(), Fail> {
-    let mut trial = Trial::new(rt.alloc(), DISC)?;
-    trial.out = sink(rt.alloc(), 5, &[2])?;
-    assert_eq!(rt; trial.run(rt.alloc(), OUT_OF_SIGHT)?, Status::WriteFault);
-    trial.assert_holds(&rt, b"claus", b"modeller: write fault\n");
-    assert_eq!(rt; trial.tally.points(), 0);
-    assert_eq!(rt; trial.tally.spans(), 12);
+    let mut trial = Trial::new(OUT_OF_SIGHT, DISC);
+    trial.writes = Calls {
+        chunk: 5,
+        failing: 2,
+    };
+    let ran = trial.run(rt.alloc(), b"claus", b"modeller: write fault\n")?;
+    assert_eq!(rt; ran.ending, Ending::wanted(Status::WriteFault));
+    assert_eq!(rt; (ran.work.points, ran.work.spans), (0, 12));
     Ok(())
 }
 

@@ -1,45 +1,19 @@
-//! Tests of whole runs: words and an input in, a status, bytes and at most one note line out.
+//! Tests of whole runs: words and texts that are refused, what fails, limits, checks, and models that are made.
 #![tactic(auto)]
 
 #[cfg(test)]
 mod checks;
 #[cfg(test)]
-mod contours;
-#[cfg(test)]
-mod counts;
-#[cfg(test)]
-mod edited_meshes;
-#[cfg(test)]
 mod faults;
 #[cfg(test)]
 mod forges;
 #[cfg(test)]
-mod heights;
-#[cfg(test)]
 mod limits;
 #[cfg(test)]
-mod meshes;
-#[cfg(test)]
-mod pictures;
-#[cfg(test)]
 mod refusals;
-#[cfg(test)]
-mod replays;
-#[cfg(test)]
-mod scripts;
-#[cfg(test)]
-mod shades;
-#[cfg(test)]
-mod solids;
 #[cfg(test)]
 mod sure;
 #[cfg(test)]
 mod texts;
-#[cfg(test)]
-mod trial;
-#[cfg(test)]
-mod undos;
-#[cfg(test)]
-mod uneven_meshes;
 #[cfg(test)]
 mod words;

@@ -1,10 +1,8 @@
 // The longest input, the most clauses, and the largest image.
-use crate::trial::Trial;
 use modeller_cmd::Status;
-use modeller_io::{MemSink, MemSource};
 use std::alloc::{AllocError, Global};
-use std::process::Abort;
 use std::test::Fail;
+use trial_runs::{Ending, Trial};
 
 // Lengths of an input that is one comment line, the number of the read that fails, the status and the
 // note. Reads take 8192 bytes. No read is made behind the one that tells that an input is too long.
@@ -35,14 +33,24 @@ const LENGTHS: [(usize, u64, Status, &[u8]); 4] = [
     ),
 ];
 
+// Runs on one comment line of so many bytes, at which a read fails.
+fn read_comment(
+    alloc: Global,
+    length: usize,
+    failing: u64,
+    note: &[u8],
+) -> Result<Ending, AllocError> {
+    let text = vec![in alloc; b'#'; length]?;
+    let mut trial = Trial::new(&["render"], &text);
+    trial.reads.failing = failing;
+    Ok(trial.run(alloc, b"", note)?.ending)
+}
+
 #[test]
 fn an_input_has_at_most_8_mib(rt: HostRuntime) -> Result<(), Fail> {
     for (length, failing, status, note) in LENGTHS {
-        let text = vec![in rt.alloc(); b'#'; length]?;
-        let mut trial = Trial::new(rt.alloc(), b"")?;
-        trial.source = MemSource::new(text, 8192, [failing].to_vec(rt.alloc())?);
-        assert_eq!(rt; trial.run(rt.alloc(), &["render"])?, status);
-        trial.assert_holds(&rt, b"", note);
+        let ending = read_comment(rt.alloc(), length, failing, note)?;
+        assert_eq!(rt; ending, Ending::wanted(status), "{failing} of {length}");
     }
     Ok(())
 }
@@ -56,23 +64,29 @@ fn copies_of_x(alloc: Global, count: u32) -> Result<String, AllocError> {
     Ok(text)
 }
 
+// Draws one sample of such a model.
+fn draw_copies(alloc: Global, count: u32, out: &[u8], note: &[u8]) -> Result<Ending, AllocError> {
+    let text = copies_of_x(alloc, count)?;
+    let trial = Trial::new(&["render", "w=1", "h=1"], text.as_bytes());
+    Ok(trial.run(alloc, out, note)?.ending)
+}
+
+// Counts of clauses, the status, and what is written and noted.
+const COUNTS: [(u32, Status, &[u8], &[u8]); 2] = [
+    (65_535, Status::Done, b"P5\n1 1\n255\n\xff", b""),
+    (
+        65_536,
+        Status::BadModel,
+        b"",
+        b"modeller: line 65536: TooMany\n",
+    ),
+];
+
 #[test]
 fn a_model_has_at_most_65_535_clauses(rt: HostRuntime) -> Result<(), Fail> {
-    let cases: [(u32, Status, &[u8], &[u8]); 2] = [
-        (65_535, Status::Done, b"P5\n1 1\n255\n\xff", b""),
-        (
-            65_536,
-            Status::BadModel,
-            b"",
-            b"modeller: line 65536: TooMany\n",
-        ),
-    ];
-    for (count, status, out, note) in cases {
-        let text = copies_of_x(rt.alloc(), count)?;
-        let mut trial = Trial::new(rt.alloc(), text.as_bytes())?;
-        let words = &["render", "w=1", "h=1"];
-        assert_eq!(rt; trial.run(rt.alloc(), words)?, status);
-        trial.assert_holds(&rt, out, note);
+    for (count, status, out, note) in COUNTS {
+        let ending = draw_copies(rt.alloc(), count, out, note)?;
+        assert_eq!(rt; ending, Ending::wanted(status), "{count}");
     }
     Ok(())
 }
@@ -81,15 +95,15 @@ fn a_model_has_at_most_65_535_clauses(rt: HostRuntime) -> Result<(), Fail> {
 fn an_image_has_at_most_4096_samples_a_side(rt: HostRuntime) -> Result<(), Fail> {
     // 4096 * 4096 bytes after the 17 bytes `P5`, `4096 4096` and `255` with their line feeds.
     let length = 16_777_233;
-    let mut trial = Trial::new(rt.alloc(), b"x var-x")?;
-    let room = vec![in rt.alloc(); 0; length]?;
-    trial.out = MemSink::new(8192, Vec::new(rt.alloc()), room);
-    let words = &["render", "w=4096", "h=4096"];
-    assert_eq!(rt; trial.run(rt.alloc(), words)?, Status::Done);
-    assert_eq!(rt; trial.out.held().map(|bytes| bytes.len()), Some(length));
+    let image = Trial::new(&["render", "w=4096", "h=4096"], b"x var-x").written(
+        rt.alloc(),
+        length,
+    )?;
+    assert_eq!(rt; image.status, Status::Done);
+    assert_eq!(rt; image.bytes.len(), length);
     // Each quarter lies on one side of the line, and is decided.
-    assert_eq!(rt; trial.tally.points(), 0);
-    assert_eq!(rt; trial.tally.spans(), 5);
+    assert_eq!(rt; image.work.points, 0);
+    assert_eq!(rt; image.work.spans, 5);
     Ok(())
 }
 
@@ -119,23 +133,29 @@ const RIGHT: &[u8] = b"@ render 19\nP5\n8 1\n255\n\x00\x00\x00\x00\xff\xff\xff\x
 
 const NONE: &[u8] = b"@ render 19\nP5\n8 1\n255\n\x00\x00\x00\x00\x00\x00\x00\x00";
 
+// Counts the work of a row of eight samples, which should be told so.
+fn count_row(alloc: Global, text: &str, counts: &str) -> Result<Ending, AllocError> {
+    let trial = Trial::new(&["count", "w=8", "h=1"], text.as_bytes());
+    Ok(trial.run(alloc, counts.as_bytes(), b"")?.ending)
+}
+
 #[test]
 fn each_clause_of_a_chain_is_counted(rt: HostRuntime) -> Result<(), Fail> {
     // The eight samples are one box, which is not decided: 65,535 steps are traced over it and evaluated
-    // at each sample, and two where the others are not live.
-    let cases = [
-        (
-            chain(rt.alloc(), "n0 var-x\n", "")?,
-            "points 524280\nspans 65535\nplain 524280\n",
-        ),
-        (fan(rt.alloc())?, "points 16\nspans 2\nplain 524280\n"),
-    ];
-    for (text, counts) in cases {
-        let mut trial = Trial::new(rt.alloc(), text.as_bytes())?;
-        let words = &["count", "w=8", "h=1"];
-        assert_eq!(rt; trial.run(rt.alloc(), words)?, Status::Done);
-        trial.assert_holds(&rt, counts.as_bytes(), b"");
-    }
+    // at each sample.
+    let text = chain(rt.alloc(), "n0 var-x\n", "")?;
+    let counts = "points 524280\nspans 65535\nplain 524280\n";
+    let ending = count_row(rt.alloc(), &text, counts)?;
+    assert_eq!(rt; ending, Ending::wanted(Status::Done));
+    Ok(())
+}
+
+#[test]
+fn two_clauses_of_a_fan_are_counted(rt: HostRuntime) -> Result<(), Fail> {
+    // Two steps are, where the others are not live.
+    let text = fan(rt.alloc())?;
+    let ending = count_row(rt.alloc(), &text, "points 16\nspans 2\nplain 524280\n")?;
+    assert_eq!(rt; ending, Ending::wanted(Status::Done));
     Ok(())
 }
 
@@ -156,40 +176,50 @@ const EDITS: [(&str, &[u8], &str); 4] = [
     ),
 ];
 
-#[test]
-fn an_edit_anywhere_in_a_chain_is_seen(rt: HostRuntime) -> Result<(), Fail> {
-    let mut script = chain(rt.alloc(), "n0 var-x\n", "")?;
+// A chain, and a script of these edits, each with an image and its cost behind it.
+fn edited_chain(alloc: Global) -> Result<String, AllocError> {
+    let mut script = chain(alloc, "n0 var-x\n", "")?;
     script.push_str("%%\n")?;
-    let mut written = Vec::new(rt.alloc());
-    for (edit, image, cost) in EDITS {
+    for (edit, _, _) in EDITS {
         writeln!(script, "{edit}render w=8 h=1\ncost")?;
+    }
+    Ok(script)
+}
+
+// What it writes.
+fn edited_images(alloc: Global) -> Result<Vec<u8>, AllocError> {
+    let mut written = Vec::new(alloc);
+    for (_, image, cost) in EDITS {
         written.extend_from_slice(image)?;
         written.extend_from_slice(cost.as_bytes())?;
     }
-    assert_written(&rt, rt.alloc(), &script, &written)?;
-    Ok(())
+    Ok(written)
 }
 
 #[test]
-fn a_chain_is_put_together_by_edits(rt: HostRuntime) -> Result<(), Fail> {
-    let mut script = chain(rt.alloc(), "n0 var-x\n%%\n", "add ")?;
-    script.push_str("render w=8 h=1\ncost\n")?;
-    let mut written = LEFT.to_vec(rt.alloc())?;
-    written.extend_from_slice(b"@ cost 13\n524280 65535\n")?;
-    assert_written(&rt, rt.alloc(), &script, &written)?;
+fn an_edit_anywhere_in_a_chain_is_seen(rt: HostRuntime) -> Result<(), Fail> {
+    let script = edited_chain(rt.alloc())?;
+    let written = edited_images(rt.alloc())?;
+    let ran = Trial::new(&["replay"], script.as_bytes()).run(rt.alloc(), &written, b"")?;
+    assert_eq!(rt; ran.ending, Ending::wanted(Status::Done));
     Ok(())
 }
 
-// Replays a script and asserts what it writes.
-fn assert_written(
-    rt: &impl Abort,
-    alloc: Global,
-    script: &str,
-    written: &[u8],
-) -> Result<(), AllocError> {
-    let mut trial = Trial::new(alloc, script.as_bytes())?;
-    trial.out = MemSink::new(8192, Vec::new(alloc), vec![in alloc; 0; 256]?);
-    assert_eq!(rt; trial.run(alloc, &["replay"])?, Status::Done);
-    trial.assert_holds(rt, written, b"");
+// A script that makes a chain out of its first clause, draws an image, and tells its cost.
+fn growing_chain(alloc: Global) -> Result<String, AllocError> {
+    let mut script = chain(alloc, "n0 var-x\n%%\n", "add ")?;
+    script.push_str("render w=8 h=1\ncost\n")?;
+    Ok(script)
+}
+
+// What it writes: the image where the left half is inside, and the cost of all clauses.
+const GROWN: &[u8] = b"@ render 19\nP5\n8 1\n255\n\xff\xff\xff\xff\x00\x00\x00\x00\
+    @ cost 13\n524280 65535\n";
+
+#[test]
+fn a_chain_is_put_together_by_edits(rt: HostRuntime) -> Result<(), Fail> {
+    let script = growing_chain(rt.alloc())?;
+    let ran = Trial::new(&["replay"], script.as_bytes()).run(rt.alloc(), GROWN, b"")?;
+    assert_eq!(rt; ran.ending, Ending::wanted(Status::Done));
     Ok(())
 }

@@ -1,7 +1,8 @@
 // Texts that are no model, each with the line and the reason of its first defect.
-use crate::trial::{DISC, DISC_PICTURE, THREE_BY_THREE, Trial};
 use modeller_cmd::Status;
+use std::alloc::{AllocError, Global};
 use std::test::Fail;
+use trial_runs::{DISC, DISC_PICTURE, Ending, Ran, THREE_BY_THREE, Trial};
 
 // Texts, the lines that are noted, and the reasons. Line 0 stands for the whole text.
 pub const CASES: [(&str, u32, &str); 28] = [
@@ -47,12 +48,10 @@ pub const CASES: [(&str, u32, &str); 28] = [
 #[test]
 fn the_line_and_the_reason_of_the_first_defect_are_noted(rt: HostRuntime) -> Result<(), Fail> {
     for (text, line, reason) in CASES {
-        let mut trial = Trial::new(rt.alloc(), text.as_bytes())?;
-        let status = trial.run(rt.alloc(), &["render"])?;
-        assert_eq!(rt; status, Status::BadModel, "{text:?}");
-        let note = format!(in rt.alloc(); "modeller: line {line}: {reason}\n")?;
-        trial.assert_holds(&rt, b"", note.as_bytes());
-        assert_eq!(rt; trial.tally.points(), 0);
+        let trial = Trial::new(&["render"], text.as_bytes());
+        let ran = trial.run_refused(rt.alloc(), "line", line, reason)?;
+        assert_eq!(rt; ran.ending, Ending::wanted(Status::BadModel), "{text:?}");
+        assert_eq!(rt; ran.work.points, 0, "{text:?}");
     }
     Ok(())
 }
@@ -98,21 +97,33 @@ const CUTS: [(u8, &[u8], u32, &str); 27] = [
     (68, DISC_PICTURE, 0, ""),
 ];
 
+// Draws so many bytes of the disc.
+fn draw_front(
+    alloc: Global,
+    length: usize,
+    picture: &[u8],
+    line: u32,
+    reason: &str,
+) -> Result<Ran, AllocError> {
+    let trial = Trial::new(THREE_BY_THREE, &DISC[..length.min(DISC.len())]);
+    if reason.is_empty() {
+        return trial.run(alloc, picture, b"");
+    }
+    trial.run_refused(alloc, "line", line, reason)
+}
+
 #[test]
 fn a_text_that_is_cut_is_another_text(rt: HostRuntime) -> Result<(), Fail> {
     let mut count = 0;
     for (last, picture, line, reason) in CUTS {
+        let status = if reason.is_empty() {
+            Status::Done
+        } else {
+            Status::BadModel
+        };
         for length in count..=usize::from(last) {
-            let mut trial = Trial::new(rt.alloc(), &DISC[..length.min(DISC.len())])?;
-            let status = trial.run(rt.alloc(), THREE_BY_THREE)?;
-            if reason.is_empty() {
-                assert_eq!(rt; status, Status::Done, "{length}");
-                trial.assert_holds(&rt, picture, b"");
-            } else {
-                assert_eq!(rt; status, Status::BadModel, "{length}");
-                let note = format!(in rt.alloc(); "modeller: line {line}: {reason}\n")?;
-                trial.assert_holds(&rt, b"", note.as_bytes());
-            }
+            let ran = draw_front(rt.alloc(), length, picture, line, reason)?;
+            assert_eq!(rt; ran.ending, Ending::wanted(status), "{length}");
         }
         count = usize::from(last) + 1;
     }

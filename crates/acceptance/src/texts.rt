@@ -1,8 +1,8 @@
 // Models that are written back.
-use crate::trial::Trial;
 use modeller_cmd::Status;
 use std::alloc::{AllocError, Global};
 use std::test::Fail;
+use trial_runs::{Ending, Trial};
 
 // Inputs, and the texts of their models.
 const CASES: [(&str, &str); 7] = [
@@ -27,14 +27,9 @@ const CASES: [(&str, &str); 7] = [
 #[test]
 fn a_model_is_written_back(rt: HostRuntime) -> Result<(), Fail> {
     for (input, text) in CASES {
-        let mut trial = Trial::new(rt.alloc(), input.as_bytes())?;
-        assert_eq!(rt;
-            trial.run(rt.alloc(), &["text"])?,
-            Status::Done,
-            "{input:?}"
-        );
-        trial.assert_holds(&rt, text.as_bytes(), b"");
-        assert_eq!(rt; trial.tally.points(), 0);
+        let ran = Trial::new(&["text"], input.as_bytes()).run(rt.alloc(), text.as_bytes(), b"")?;
+        assert_eq!(rt; ran.ending, Ending::wanted(Status::Done), "{input:?}");
+        assert_eq!(rt; ran.work.points, 0, "{input:?}");
     }
     Ok(())
 }
@@ -52,8 +47,8 @@ fn long_one(alloc: Global) -> Result<String, AllocError> {
 #[test]
 fn a_long_numeral_is_read_exactly(rt: HostRuntime) -> Result<(), Fail> {
     let text = long_one(rt.alloc())?;
-    let mut trial = Trial::new(rt.alloc(), text.as_bytes())?;
-    assert_eq!(rt; trial.run(rt.alloc(), &["text"])?, Status::Done);
-    trial.assert_holds(&rt, b"a const 1.0000000000\n", b"");
+    let trial = Trial::new(&["text"], text.as_bytes());
+    let ran = trial.run(rt.alloc(), b"a const 1.0000000000\n", b"")?;
+    assert_eq!(rt; ran.ending, Ending::wanted(Status::Done));
     Ok(())
 }

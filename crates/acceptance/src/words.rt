@@ -1,10 +1,7 @@
-// Words that ask for nothing that can be done.
-use crate::trial::{DISC, Trial};
+// Words that ask for nothing that can be done. Nothing is written or read then, and the note tells why.
 use modeller_cmd::Status;
-use modeller_io::Source;
-use std::alloc::Global;
-use std::process::Abort;
 use std::test::Fail;
+use trial_runs::{DISC, Ending, Rest, Trial};
 
 // Words, the number of the one that is noted, and the reason.
 type Case = (&'static [&'static str], u32, &'static str);
@@ -167,7 +164,9 @@ const OTHERS: [Case; 34] = [
 #[test]
 fn words_of_images_that_are_refused_leave_the_source(rt: HostRuntime) -> Result<(), Fail> {
     for (words, number, reason) in IMAGES {
-        assert_refused(&rt, rt.alloc(), words, number, reason)?;
+        let ran = Trial::new(words, DISC).run_refused(rt.alloc(), "word", number, reason)?;
+        assert_eq!(rt; ran.ending, Ending::wanted(Status::Usage), "{words:?}");
+        assert_eq!(rt; ran.rest, Rest::All, "{words:?}");
     }
     Ok(())
 }
@@ -175,7 +174,9 @@ fn words_of_images_that_are_refused_leave_the_source(rt: HostRuntime) -> Result<
 #[test]
 fn words_of_meshes_that_are_refused_leave_the_source(rt: HostRuntime) -> Result<(), Fail> {
     for (words, number, reason) in MESHES {
-        assert_refused(&rt, rt.alloc(), words, number, reason)?;
+        let ran = Trial::new(words, DISC).run_refused(rt.alloc(), "word", number, reason)?;
+        assert_eq!(rt; ran.ending, Ending::wanted(Status::Usage), "{words:?}");
+        assert_eq!(rt; ran.rest, Rest::All, "{words:?}");
     }
     Ok(())
 }
@@ -183,26 +184,9 @@ fn words_of_meshes_that_are_refused_leave_the_source(rt: HostRuntime) -> Result<
 #[test]
 fn other_words_that_are_refused_leave_the_source(rt: HostRuntime) -> Result<(), Fail> {
     for (words, number, reason) in OTHERS {
-        assert_refused(&rt, rt.alloc(), words, number, reason)?;
+        let ran = Trial::new(words, DISC).run_refused(rt.alloc(), "word", number, reason)?;
+        assert_eq!(rt; ran.ending, Ending::wanted(Status::Usage), "{words:?}");
+        assert_eq!(rt; ran.rest, Rest::All, "{words:?}");
     }
-    Ok(())
-}
-
-// Asserts that a run notes this word and reason, writes nothing, and leaves the whole input.
-fn assert_refused(
-    rt: &impl Abort,
-    alloc: Global,
-    words: &[&str],
-    number: u32,
-    reason: &str,
-) -> Result<(), Fail> {
-    let mut trial = Trial::new(alloc, DISC)?;
-    let status = trial.run(alloc, words)?;
-    assert_eq!(rt; status, Status::Usage, "{words:?}");
-    let note = format!(in alloc; "modeller: word {number}: {reason}\n")?;
-    trial.assert_holds(rt, b"", note.as_bytes());
-    let mut left = [0; 80];
-    let count = trial.source.read(&mut left)?;
-    assert_eq!(rt; &left[..count], DISC);
     Ok(())
 }

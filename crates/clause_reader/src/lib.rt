@@ -37,6 +37,3 @@ pub use text_reason::TextReason;
 pub use token::{begins_comment, next_token};
 pub use tokens::Tokens;
 pub use writer::write_model;
-
-#[cfg(test)]
-mod tests;

@@ -18,6 +18,3 @@ pub use mark::split_input;
 pub use script::read_script;
 pub use script_fault::ScriptFault;
 pub use script_reason::ScriptReason;
-
-#[cfg(test)]
-mod tests;

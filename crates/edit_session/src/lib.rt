@@ -6,14 +6,3 @@ mod session;
 
 pub use laws::{opening_stands, refusals_begin_anew};
 pub use session::Session;
-
-#[cfg(test)]
-mod fixtures;
-#[cfg(test)]
-mod playing;
-#[cfg(test)]
-mod refusal_tests;
-#[cfg(test)]
-mod row_tests;
-#[cfg(test)]
-mod tests;

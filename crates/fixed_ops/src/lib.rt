@@ -33,6 +33,3 @@ pub use operation::{Op, arity};
 pub use shading::light;
 pub use tally::{Tally, count_points, count_span};
 pub use text_before::{LONGEST_NUMBER, byte_before, number_before};
-
-#[cfg(test)]
-mod tests;

@@ -16,6 +16,3 @@ pub use hull::span_apply;
 pub use laws::{hull_counts, hulls};
 pub use region::Region;
 pub use span::Span;
-
-#[cfg(test)]
-mod tests;

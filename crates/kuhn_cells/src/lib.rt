@@ -24,6 +24,3 @@ pub use laws::{
 pub use ring::around;
 pub use tetrahedron::triangles;
 pub use triple::Triple;
-
-#[cfg(test)]
-mod tests;

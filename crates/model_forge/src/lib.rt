@@ -8,6 +8,3 @@ mod label;
 mod stream;
 
 pub use forge::forge_model;
-
-#[cfg(test)]
-mod tests;

@@ -22,6 +22,3 @@ pub use redrawn::redraw_image;
 pub use remeshed::{mesh_text_in, redraw_mesh};
 pub use render::{draw_image, image_text};
 pub use shading::shade_pixels;
-
-#[cfg(test)]
-mod tests;

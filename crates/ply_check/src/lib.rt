@@ -20,6 +20,3 @@ pub use ply_fault::PlyFault;
 pub use ply_file::PlyFile;
 pub use ply_reason::PlyReason;
 pub use reader::read_ply;
-
-#[cfg(test)]
-mod tests;

@@ -15,6 +15,3 @@ pub use line::{FACE_LINE, VERTEX_LINE};
 pub use ply::ply_text;
 pub use ply_block::{BLOCK, PlyBlock};
 pub use room::room_for;
-
-#[cfg(test)]
-mod tests;

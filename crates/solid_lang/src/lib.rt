@@ -40,5 +40,3 @@ pub use translating::translate;
 
 #[cfg(test)]
 mod compiled_tests;
-#[cfg(test)]
-mod tests;

@@ -36,6 +36,3 @@ pub use model::Model;
 pub use model_builder::ModelBuilder;
 pub use name::{Name, NameFault};
 pub use push_fault::PushFault;
-
-#[cfg(test)]
-mod tests;

@@ -2,7 +2,6 @@ mod Examples
 pub mod Bits
 pub mod EdgeLaws
 pub mod FaceLaws
-pub mod GridExamples
 pub mod GridLaws
 pub mod NumberLaws
 pub mod PointLaws

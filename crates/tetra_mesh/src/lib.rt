@@ -32,8 +32,3 @@ pub use place::vertex_raw;
 pub use sided_cell::SidedCell;
 pub use vertex::Vertex;
 pub use vertices::cell_vertices;
-
-#[cfg(test)]
-mod building_tests;
-#[cfg(test)]
-mod tests;

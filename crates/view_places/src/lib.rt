@@ -18,6 +18,3 @@ pub use laws::{halves_part, ranges_hold};
 pub use place::{raw_place, root, sample, samples_along};
 pub use span::span_of;
 pub use view::View;
-
-#[cfg(test)]
-mod tests;

@@ -27,6 +27,3 @@ pub use view_places::{
 };
 pub use word_fault::{WordFault, WordReason};
 pub use words::read_words;
-
-#[cfg(test)]
-mod tests;

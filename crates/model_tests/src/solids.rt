@@ -1,0 +1,194 @@
+use solid_lang::{Solid, SolidFault, SolidReason, judge, read_short_solid, read_solid};
+use std::alloc::{AllocError, Global};
+use std::process::Abort;
+use std::test::Fail;
+
+const TOO_MANY: SolidFault = SolidFault {
+    line: 0,
+    reason: SolidReason::TooMany,
+};
+
+// What is judged of a text, which is read unless it is refused for more than its length.
+fn expect(rt: &impl Abort, alloc: Global, text: &[u8], judgement: Result<u32, SolidFault>) {
+    assert!(rt; text.len() < 1 << 32);
+    assert_eq!(rt; judge(text), judgement, "{text:?}");
+    let short = match read_short_solid(alloc, text) {
+        Ok(_) => None,
+        Err(fault) => Some(fault),
+    };
+    assert_eq!(rt; short, judgement.err(), "{text:?}");
+    match read_solid(alloc, text) {
+        Ok(_) => assert!(rt; short.is_none_or(|fault| fault == TOO_MANY), "{text:?}"),
+        Err(fault) => assert_eq!(rt; short, Some(fault), "{text:?}"),
+    }
+}
+
+#[test]
+fn tells_the_first_bad_token(rt: HostRuntime) {
+    let cases: [(&[u8], u32, SolidReason); 26] = [
+        (b"cone 1", 1, SolidReason::UnknownForm),
+        (b"Ball 1", 1, SolidReason::UnknownForm),
+        (b"# a\n\nball\0 1", 3, SolidReason::UnknownForm),
+        (b"\xff\xfe", 1, SolidReason::UnknownForm),
+        (b"ball x", 1, SolidReason::BadNumeral),
+        (b"ball #5", 1, SolidReason::BadNumeral),
+        (b"move 1 2 cone ball 1", 1, SolidReason::BadNumeral),
+        (b"scale ball 1", 1, SolidReason::BadNumeral),
+        (b"ball\n-\nball 0", 2, SolidReason::BadNumeral),
+        (b"ball -1", 1, SolidReason::NotPositive),
+        (b"box 1 1 0", 1, SolidReason::NotPositive),
+        (b"ball 0.0000000001", 1, SolidReason::NotPositive),
+        (b"scale 0 ball 1", 1, SolidReason::NotPositive),
+        (b"cylinder 1\n-1e-9 x", 2, SolidReason::NotPositive),
+        (b"union", 1, SolidReason::Unended),
+        (b"union ball 1", 1, SolidReason::Unended),
+        (b"move 0 0 0", 1, SolidReason::Unended),
+        (b"union\nball 1\nball", 3, SolidReason::Unended),
+        (b"union\nball 1\nball\n# x\n\n", 3, SolidReason::Unended),
+        (b"ball 1 # note", 1, SolidReason::Trailing),
+        (b"ball 1 ball 2", 1, SolidReason::Trailing),
+        (b"ball 1\n\n\ncone", 4, SolidReason::Trailing),
+        (b"intersect ball 1 ball 1\nball x", 2, SolidReason::Trailing),
+        (b"", 0, SolidReason::Empty),
+        (b"# a\n \t\r\n", 0, SolidReason::Empty),
+        (b"\n\n", 0, SolidReason::Empty),
+    ];
+    for (text, line, reason) in cases {
+        expect(&rt, rt.alloc(), text, Err(SolidFault { line, reason }));
+    }
+}
+
+#[test]
+fn counts_the_clauses(rt: HostRuntime) {
+    let cases: [(&[u8], u32); 15] = [
+        (b"ball\n# note\n1", 11),
+        (b"ball 1.", 11),
+        (b"ball .5", 11),
+        (b"ball +.5e0", 11),
+        (b"ball 1e400", 11),
+        (b"ball 0.0000000002", 11),
+        (b" \r\nball\r\n1\r\n", 11),
+        (b"box 1 2 3", 14),
+        (b"cylinder 1 2", 13),
+        (b"move 0 -1 1e-1 ball 1", 17),
+        (b"scale 2 ball 0.5", 15),
+        (b"union ball 1 ball 1", 20),
+        (b"intersect ball 1 ball 1", 20),
+        (b"difference ball 1 ball 1", 21),
+        (b"difference box 1 1 1 move 0.5 0 0 ball 0.25", 30),
+    ];
+    for (text, clauses) in cases {
+        expect(&rt, rt.alloc(), text, Ok(clauses));
+    }
+}
+
+#[test]
+fn reads_the_tree(rt: HostRuntime) -> Result<(), Fail> {
+    let text = b"difference\nmove 1 2 3 scale 2 ball 0.5\nintersect box 1 2 3 cylinder 1 2";
+    let Solid::Difference(first, second) = read_solid(rt.alloc(), text)? else {
+        return Err(Fail::from("no difference"));
+    };
+    match &*first {
+        Solid::Move(_, _, _, inner) => match &**inner {
+            Solid::Scale(_, ball) => assert!(rt; matches!(&**ball, Solid::Ball(_))),
+            other => assert!(rt; false, "{other:?}"),
+        },
+        other => assert!(rt; false, "{other:?}"),
+    }
+    match &*second {
+        Solid::Intersect(a, b) => {
+            assert!(rt; matches!(&**a, Solid::Block(_, _, _)));
+            assert!(rt; matches!(&**b, Solid::Cylinder(_, _)));
+        }
+        other => assert!(rt; false, "{other:?}"),
+    }
+    Ok(())
+}
+
+// The text of so many moves, each within the others, and what follows them.
+fn moves(alloc: Global, count: u32, last: &[u8]) -> Result<Vec<u8>, AllocError> {
+    let mut text = Vec::new(alloc);
+    for _ in 0..count {
+        text.extend_from_slice(b"move 0 0 0\n")?;
+    }
+    text.extend_from_slice(last)?;
+    Ok(text)
+}
+
+#[test]
+fn forms_stand_within_255_others(rt: HostRuntime) -> Result<(), Fail> {
+    let alloc = rt.alloc();
+    expect(
+        &rt,
+        alloc,
+        moves(alloc, 255, b"ball 1")?.as_slice(),
+        Ok(1541),
+    );
+    let (line, reason) = (257, SolidReason::TooDeep);
+    expect(
+        &rt,
+        alloc,
+        moves(alloc, 256, b"ball 1")?.as_slice(),
+        Err(SolidFault { line, reason }),
+    );
+    let reason = SolidReason::UnknownForm;
+    expect(
+        &rt,
+        alloc,
+        moves(alloc, 256, b"cone 1")?.as_slice(),
+        Err(SolidFault { line, reason }),
+    );
+    Ok(())
+}
+
+// Adds the text of so many balls, united in halves.
+fn push_balls(text: &mut Vec<u8>, count: u32) -> Result<(), AllocError> {
+    if count < 2 {
+        return text.extend_from_slice(b"ball 0.5\n");
+    }
+    text.extend_from_slice(b"union\n")?;
+    push_balls(text, count / 2)?;
+    push_balls(text, count - count / 2)
+}
+
+// The text of 7,281 balls that are united, but for the first two forms, and what follows them.
+fn balls(alloc: Global, start: &[u8], last: &[u8]) -> Result<Vec<u8>, AllocError> {
+    let mut text = Vec::new(alloc);
+    text.extend_from_slice(start)?;
+    push_balls(&mut text, 3640)?;
+    push_balls(&mut text, 3641)?;
+    text.extend_from_slice(last)?;
+    Ok(text)
+}
+
+#[test]
+fn clauses_are_at_most_65535(rt: HostRuntime) -> Result<(), Fail> {
+    let alloc = rt.alloc();
+    expect(
+        &rt,
+        alloc,
+        balls(alloc, b"union\n", b"")?.as_slice(),
+        Ok(65_531),
+    );
+    expect(
+        &rt,
+        alloc,
+        balls(alloc, b"scale 1 union\n", b"")?.as_slice(),
+        Ok(65_535),
+    );
+    expect(
+        &rt,
+        alloc,
+        balls(alloc, b"scale 1 difference\n", b"")?.as_slice(),
+        Err(TOO_MANY),
+    );
+    let (line, reason) = (14_562, SolidReason::Trailing);
+    let fault = SolidFault { line, reason };
+    expect(
+        &rt,
+        alloc,
+        balls(alloc, b"scale 1 difference\n", b"1")?.as_slice(),
+        Err(fault),
+    );
+    Ok(())
+}
