@@ -1,6 +1,6 @@
 -- The mesh of a grid of two cells along each axis of which the middle point alone is inside, worked out by hand.
 use Rattle.std.proofs.Common.{◌≡◌, ℕ, ◌≤◌, pos, negsuc, true, false, [], ◌∷◌, ◌++◌, refl, ap, arith, inl, inr}
-use Rattle.std.specs.Prelude.{ℤ, List, get_or, map, replicate}
+use Rattle.std.specs.Prelude.{ℤ, List, ◌+◌, ◌*◌, get_or, if◌then◌else◌, map, replicate}
 use Rattle.std.specs.List.{range_with_len}
 use Rattle.std.proofs.lemmas.Bool.{cases_lt}
 use Rattle.std.proofs.lemmas.List.{get_or-replicate, get_or_past, length-replicate}
@@ -9,12 +9,14 @@ use Rattle.kuhn_cells.specs.declared.cell_list.CellValues.{CellValues}
 use Rattle.kuhn_cells.specs.declared.edge_key.EdgeKey.{EdgeKey}
 use Rattle.kuhn_cells.specs.declared.grid_size.GridSize.{GridSize}
 use Rattle.kuhn_cells.specs.Arrangement.{arranged}
-use Rattle.kuhn_cells.specs.Cells.{IsBordered, cell_at, is_mixed_cell, is_outermost}
+use Rattle.kuhn_cells.specs.Cells.{HasCell, IsBordered, cell_at, is_mixed_cell, is_outermost}
+use Rattle.kuhn_cells.specs.Corners.{corner, corner_determinant, is_negative}
 use Rattle.kuhn_cells.specs.Faces.{Face, faces, all_triangles}
-use Rattle.kuhn_cells.specs.Grids.{Grid, bordered, is_point, over_block, value_at, vertices}
-use Rattle.kuhn_cells.specs.Lists.{ListsCells}
+use Rattle.kuhn_cells.specs.Grids.{Grid, bordered, grid_over, is_point, over_block, value_at, vertices}
+use Rattle.kuhn_cells.specs.Laws.{IsCellBefore, SignsAreDeterminants}
+use Rattle.kuhn_cells.specs.Lists.{ListsCells, listed_size}
 use Rattle.kuhn_cells.specs.Rings.{HasEdge, IsRing, corners_off, in_turn, sides}
-use Rattle.kuhn_cells.specs.Sizes.{IsBounded}
+use Rattle.kuhn_cells.specs.Sizes.{IsBounded, SameSize}
 use Rattle.kuhn_cells.specs.Triangles.{point}
 use Rattle.kuhn_cells.specs.Vectors.{Vector}
 
@@ -194,3 +196,31 @@ most_cells = record { x = omega arith; y = omega arith; z = omega arith; all = o
 
 too_many_along_y : IsBounded (sized 1 513 1) → ⊥
 too_many_along_y h = omega (arith, h.y)
+
+-- ---- sizes, orders and laws that hold to the last
+
+-- the last point of a grid of one cell, two and three has the value of that point
+last_of_made : value_at (grid_over (sized 1 2 3) (λ p. pos (p.z * 100 + p.y * 10 + p.x))) (point 1 2 3) ≡ pos 321
+last_of_made = refl
+
+counts_of_list : (list : CellList) → (listed_size list).y ≡ list.ny
+counts_of_list list = refl
+
+other_along_z : SameSize (sized 1 2 3) (sized 1 2 4) → ⊥
+other_along_z h = omega (arith, h.1.1)
+
+-- no cell stands before itself
+not_before_itself : (c : CellValues) → IsCellBefore c c → ⊥
+not_before_itself c h =
+    elim h [
+      | inl z ↦ omega (arith, z)
+      | inr zs ↦ elim zs.1 [ inl y ↦ omega (arith, y) | inr ys ↦ omega (arith, ys.1) ]
+    ]
+
+-- the signs are those of all six tetrahedra
+sign_of_the_last : SignsAreDeterminants → corner_determinant (corner 5 0) (corner 5 1) (corner 5 2) (corner 5 3) ≡ (if is_negative 5 then negsuc 0 else pos 1)
+sign_of_the_last law = law 5 (omega arith)
+
+-- two layers above a cell no edge of it begins
+two_layers_off : (cells : List CellValues) (c : CellValues) (e : EdgeKey) → e.z ≡ c.z + 2 → HasCell cells c e → ⊥
+two_layers_off cells c e is h = omega (arith, is, h.near)
