@@ -9,6 +9,8 @@ mod grids;
 #[cfg(test)]
 mod regrids;
 #[cfg(test)]
+mod roots;
+#[cfg(test)]
 mod shades;
 #[cfg(test)]
 mod tapes;

@@ -3,6 +3,8 @@
 #![tactic(auto)]
 
 #[cfg(test)]
+mod compiled;
+#[cfg(test)]
 mod discs;
 #[cfg(test)]
 mod models;

@@ -10,6 +10,3 @@ pub use head::{pgm_head, raster_length};
 pub use pgm::pgm_text;
 pub use pixel_grid::PixelGrid;
 pub use samples::samples_text;
-
-#[cfg(test)]
-mod tests;

@@ -37,6 +37,3 @@ pub use solid_fault::SolidFault;
 pub use solid_reason::SolidReason;
 pub use text::solid_text;
 pub use translating::translate;
-
-#[cfg(test)]
-mod compiled_tests;

@@ -1,6 +1,8 @@
-//! Tests of views, of the places of their samples, and of the words that set them.
+//! Tests of views, of the places of their samples, of the words that set them, and of the bytes of images.
 #![tactic(auto)]
 
+#[cfg(test)]
+mod images;
 #[cfg(test)]
 mod places;
 #[cfg(test)]

@@ -1,5 +1,6 @@
-use crate::{Solid, compile, solid_text};
+// Solids that are compiled, and their texts.
 use fixed_ops::{Fx, Op};
+use solid_lang::{Solid, compile, solid_text};
 use std::test::Fail;
 
 // The raw number of 1.

@@ -1,6 +1,6 @@
 // Images with their bytes written out by hand.
-use super::*;
 use arrayvec::ArrayVec;
+use raster_pgm::{PixelGrid, pgm_head, pgm_text, raster_length, samples_text};
 use std::test::Fail;
 
 #[test]

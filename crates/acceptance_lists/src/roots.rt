@@ -1,10 +1,11 @@
+// Root lists of models that are made clause by clause, and what shortening leaves of them.
 ghost use Rattle.std.specs.Prelude.{◌≡◌, ◌≢◌, ◌<◌, ◌≤◌, length, IfOk, vec_len};
 ghost use Rattle.fixed_ops.specs.Arity.{arity_of};
 ghost use Rattle.live_clauses.specs.Choices.{AreChoices};
 
-use crate::{Lists, RootRoom, Step, Tape, prune, root_tape, same};
 use fixed_ops::{Fx, Op};
 use interval_ops::Choice;
+use live_clauses::{Lists, RootRoom, Step, Tape, prune, root_tape, same};
 use solid_model::{Edit, Form, Model, Name};
 use std::alloc::{AllocError, Global};
 use std::process::Abort;
