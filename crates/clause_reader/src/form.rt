@@ -6,13 +6,14 @@ ghost use Rattle.clause_reader.specs.Gives.{Gives};
 ghost use Rattle.clause_reader.specs.Lines.{begins_comment};
 ghost use Rattle.clause_reader.specs.Scan.{line_tokens};
 ghost use Rattle.clause_reader.specs.Written.{names_in, parts_in};
+ghost use Rattle.solid_model.specs.LentArgs.{args_seen};
 ghost use Rattle.solid_model.specs.Parts.{IsForm};
 
 use crate::operands::Operands;
 use crate::token::begins_comment;
 use crate::written_form::{WrittenForm, form_of};
 use crate::{FormDefect, FormFault, ReadError, Tokens};
-use solid_model::{Form, Name};
+use solid_model::{ArgsRef, Form, FormRef, Name};
 use std::alloc::{AllocError, Global};
 
 /// The form that a line says: an operation and its arguments. A line feed ends the line.
@@ -41,6 +42,39 @@ pub fn find_form(alloc: Global, rest: &[u8]) -> Result<Option<Form>, ReadError<F
     match form_of(Tokens::new(rest)) {
         Ok(form) => Ok(make_form(alloc, form)?),
         Err(defect) => Err(ReadError::Defect(defect)),
+    }
+}
+
+/// The form that a line says, the names of its operands lent, as `find_form` tells it. No memory is asked for.
+pub fn lent_form(rest: &[u8]) -> Result<Option<FormRef<'_>>, FormDefect>
+    ensures { result ≡ form_said (line_tokens rest.now) }
+{
+    match form_of(Tokens::new(rest)) {
+        Ok(form) => Ok(lend(form)),
+        Err(defect) => Err(defect),
+    }
+}
+
+// The form of an operation with its operands, whose names are lent. `None`: one of them begins a comment.
+fn lend(form: WrittenForm<'_>) -> Option<FormRef<'_>>
+    requires { IsForm (parts_in form) }
+    ensures { result ≡ unless_comment (parts_in form.entry) }
+{
+    if has_comment(form.operands) {
+        return None;
+    }
+    Some(FormRef::new(form.op, args(form.operands), form.value))
+}
+
+// The names of operands, which are lent.
+#[inline]
+fn args(operands: Operands<'_>) -> ArgsRef<'_>
+    ensures { args_seen result ≡ names_in operands.entry }
+{
+    match operands {
+        Operands::Zero => ArgsRef::Zero,
+        Operands::One(first) => ArgsRef::One(first),
+        Operands::Two(first, second) => ArgsRef::Two(first, second),
     }
 }
 

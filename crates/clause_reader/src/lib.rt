@@ -20,7 +20,7 @@ mod writer;
 mod written_form;
 
 pub use comments::Comments;
-pub use form::{find_form, read_form};
+pub use form::{find_form, lent_form, read_form};
 pub use form_defect::FormDefect;
 pub use form_fault::FormFault;
 pub use laws::{

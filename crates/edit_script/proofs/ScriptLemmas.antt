@@ -16,7 +16,7 @@ use Rattle.edit_script.specs.declared.script_reason.ScriptReason.{ScriptReason}
 use Rattle.edit_script.specs.declared.script_reason.ScriptReason.TheVariants.{NoMark, NoMemory}
 use Rattle.edit_script.specs.Commands.{command_read, IsCommand}
 use Rattle.edit_script.specs.Marks.{line_start, mark_place}
-use Rattle.edit_script.specs.Scripts.{all_or_first, command_at, commands_after, pushed, script_read, IsCommandLine, RefusesScript}
+use Rattle.edit_script.specs.Scripts.{all_or_first, command_at, commands_after, commands_of, lines_read, pushed, script_read, IsCommandLine, RefusesScript}
 use Rattle.edit_script.proofs.LineStarts.{lines_of-from_line}
 use Rattle.edit_script.proofs.ReasonLemmas.{never-memory}
 
@@ -163,3 +163,54 @@ reads-all input commands reads = reads.so_far ∙ ap Ok (append-nil commands)
 -- no command breaks a law
 pub keeps-none : All IsCommand []
 keeps-none = λ k d h. absurd (omega arith)
+
+-- a line that is refused, where the lines before it say commands
+pub reads-stopped : (input : List ℕ) (commands : List Command) (number : ℕ) (tokens : List (List ℕ)) (left : List (ℕ × List (List ℕ))) (reason : ScriptReason)
+    → GivenLinesStand → Reads input commands ((number, tokens) ∷ left) → command_read number tokens ≡ Err reason → RefusesScript input (record { line = number; reason = reason })
+reads-stopped input commands number tokens left reason stand reads refused =
+    reads-refused input commands number tokens left (Defect reason) stand reads (ap (pushed commands) refused)
+
+-- the commands so far, whatever they are
+pub record Checks (input : List ℕ) (left : List (ℕ × List (List ℕ))) : Type 0 where
+  pub commands : List Command
+  pub reads : Reads input commands left
+
+pub checks-more : (input : List ℕ) (number : ℕ) (tokens : List (List ℕ)) (left : List (ℕ × List (List ℕ))) (command : Command)
+    → Checks input ((number, tokens) ∷ left) → command_read number tokens ≡ Ok command → Checks input left
+checks-more input number tokens left command checks said = record {
+  commands = checks.commands ++ command ∷ [];
+  reads = reads-more input checks.commands (checks.commands ++ command ∷ []) number tokens left checks.reads (ap (pushed checks.commands) said);
+}
+
+-- the lines after the mark are read where all of them were looked at
+whole : (input : List ℕ) (lines : List (ℕ × List (List ℕ))) (commands : List Command) → Reads input [] lines → script_read input ≡ Ok commands → lines_read lines ≡ Ok commands
+whole input lines commands reads is = joined-none (lines_read lines) ∙ sym reads.so_far ∙ is
+
+pub opens-read : (input : List ℕ) (lines : List (ℕ × List (List ℕ))) → Reads input [] lines → Checks input [] → IsOk (lines_read lines)
+opens-read input lines reads checks = rw (whole input lines checks.commands reads (reads-all input checks.commands checks.reads)) refl
+
+pub opens-said : (input : List ℕ) (lines : List (ℕ × List (List ℕ))) → Reads input [] lines → Checks input [] → script_read input ≡ Ok (commands_of lines)
+opens-said input lines reads checks =
+    let all = reads-all input checks.commands checks.reads in
+    rw (whole input lines checks.commands reads all) all
+
+-- of lines that are read the first says the first command, and the others say the others
+pub first-said : (number : ℕ) (tokens : List (List ℕ)) (left : List (ℕ × List (List ℕ))) (command : Command)
+    → IsOk (lines_read ((number, tokens) ∷ left)) → command_read number tokens ≡ Ok command → commands_of ((number, tokens) ∷ left) ≡ command ∷ commands_of left
+first-said number tokens left command ok is = by (lines_read left) refl
+  where
+    by : (later : Result (List Command) ScriptFault) → lines_read left ≡ later → commands_of ((number, tokens) ∷ left) ≡ command ∷ commands_of left
+    by (Ok more) rest = rw (is, rest) refl
+    by (Err fault) rest = let none = rw (is, rest) at ok in (cc)
+
+pub later-read : (number : ℕ) (tokens : List (List ℕ)) (left : List (ℕ × List (List ℕ))) → IsOk (lines_read ((number, tokens) ∷ left)) → IsOk (lines_read left)
+later-read number tokens left ok = by (command_read number tokens) (lines_read left) refl refl
+  where
+    by : (r : Result Command ScriptReason) (later : Result (List Command) ScriptFault) → command_read number tokens ≡ r → lines_read left ≡ later → IsOk (lines_read left)
+    by (Ok command) (Ok more) is rest = rw rest refl
+    by (Ok command) (Err fault) is rest = let none = rw (is, rest) at ok in (cc)
+    by (Err reason) later is rest = let none = rw is at ok in (cc)
+
+pub none-refused : (number : ℕ) (tokens : List (List ℕ)) (left : List (ℕ × List (List ℕ))) (reason : ScriptReason)
+    → IsOk (lines_read ((number, tokens) ∷ left)) → command_read number tokens ≡ Err reason → ⊥
+none-refused number tokens left reason ok is = let none = rw is at ok in (cc)

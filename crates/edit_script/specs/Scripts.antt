@@ -30,10 +30,18 @@ all_or_first (result ∷ results) =
     (λ value. on_result (all_or_first results) (λ values. Ok (value ∷ values)) (λ fault. Err fault))
     (λ fault. Err fault)
 
+-- what lines say as commands, or the first fault
+abbrev pub lines_read : List (ℕ × List (List ℕ)) → Result (List Command) ScriptFault
+lines_read lines = all_or_first (map command_at lines)
+
+-- the commands that lines say, none of which is refused
+abbrev pub commands_of : List (ℕ × List (List ℕ)) → List Command
+commands_of lines = on_result (lines_read lines) (λ commands. commands) (λ fault. [])
+
 -- the commands after the mark line, or line 0 where there is none
 abbrev pub commands_after : List ℕ → Option ℕ → Result (List Command) ScriptFault
 commands_after input None = Err (record { line = 0; reason = NoMark })
-commands_after input (Some mark) = all_or_first (map command_at (command_lines input mark))
+commands_after input (Some mark) = lines_read (command_lines input mark)
 
 -- the commands of an input, or the line on which it is refused and the reason
 abbrev pub script_read : List ℕ → Result (List Command) ScriptFault

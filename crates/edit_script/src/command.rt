@@ -1,13 +1,13 @@
 // One command of a script.
 
-use solid_model::Edit;
+use solid_model::EditRef;
 use view_settings::View;
 
-/// One command of a script.
+/// One command of a script, which lends its names.
 #[derive(Debug, Drop)]
-pub enum Command {
+pub enum Command<'t> {
     /// An edit, and the number of its line among all lines of the input.
-    Edit(u32, Edit),
+    Edit(u32, EditRef<'t>),
     /// An edit with a token that begins with `#` where it should name a clause, so that it can name
     /// none, by the number of its line. It is refused as one of a name that is unknown.
     Stray(u32),

@@ -1,25 +1,24 @@
 // Draws.
 ghost use Rattle.std.specs.Prelude.{◌≡◌, IfOk};
-ghost use Rattle.clause_reader.specs.Gives.{Gives};
 ghost use Rattle.edit_script.specs.Commands.{draw_read, job_or_bad, IsCommand};
 ghost use Rattle.view_settings.specs.Verbs.{IsJob};
 ghost use Rattle.view_settings.specs.Words.{job_after};
 
 use crate::{Command, ScriptReason};
-use clause_reader::{ReadError, Tokens};
+use clause_reader::Tokens;
 use view_settings::{Job, Settings, Verb};
 
 /// The command that draws as this verb, with these settings. A script draws what is named here, and
 /// nothing else.
-pub(crate) fn read_draw(verb: Verb, tokens: Tokens<'_>) -> Result<Command, ReadError<ScriptReason>>
-    ensures gives { Gives (draw_read verb tokens.entry) result }
+pub(crate) fn read_draw(verb: Verb, tokens: Tokens<'_>) -> Result<Command<'_>, ScriptReason>
+    ensures value { result ≡ draw_read verb tokens.entry }
     ensures keeps { IfOk result IsCommand }
 {
     match read_settings(verb, tokens)? {
         Job::Render(view) => Ok(Command::Render(view)),
         Job::Height(view) => Ok(Command::Height(view)),
         Job::Mesh(view) => Ok(Command::Mesh(view)),
-        _ => Err(ReadError::Defect(ScriptReason::BadSetting)),
+        _ => Err(ScriptReason::BadSetting),
     }
 }
 

@@ -2,6 +2,7 @@
 #![tactic(auto)]
 
 mod command;
+mod commands;
 mod draw;
 mod edit_line;
 mod keyword;
@@ -13,6 +14,7 @@ mod script_fault;
 mod script_reason;
 
 pub use command::Command;
+pub use commands::Commands;
 pub use laws::{draws_may_be_drawn, inputs_are_split, reasons_are_lowest, scripts_are_exact};
 pub use mark::split_input;
 pub use script::read_script;

@@ -15,7 +15,7 @@ use std::alloc::Global;
 ///
 /// An `Err` tells the first line that is refused and the first reason that holds in it, `NoMark` on
 /// line 0 where there is no mark, or `NoMemory` on a line up to which none is refused.
-pub fn read_script(alloc: Global, input: &[u8]) -> Result<Vec<Command>, ScriptFault>
+pub fn read_script(alloc: Global, input: &[u8]) -> Result<Vec<Command<'_>>, ScriptFault>
     requires { length input.now < 2 ^ 32 }
     ensures script { MatchResult result (λ commands. script_read input.now ≡ Ok commands.items)
         (RefusesScript input.now) }
@@ -33,7 +33,7 @@ pub fn read_script(alloc: Global, input: &[u8]) -> Result<Vec<Command>, ScriptFa
     let mut lines = Lines::after(passed, &input[mark.end..], Comments::Skipped);
     while let Some(line) = lines.next() {
         let number = line.number;
-        if let Err(error) = push_command(alloc, &mut commands, line) {
+        if let Err(error) = push_command(&mut commands, line) {
             return Err(fault(number, error.defect_or(ScriptReason::NoMemory)));
         }
     }
@@ -41,10 +41,9 @@ pub fn read_script(alloc: Global, input: &[u8]) -> Result<Vec<Command>, ScriptFa
 }
 
 // Adds the command that a line says.
-fn push_command(
-    alloc: Global,
-    commands: &mut Vec<Command>,
-    line: Line<'_>,
+fn push_command<'t>(
+    commands: &mut Vec<Command<'t>>,
+    line: Line<'t>,
 ) -> Result<(), ReadError<ScriptReason>>
     ensures gives { Gives (pushed commands.old.items
         (command_read line.entry.number (line.entry.first.now ∷ line.entry.others)))
@@ -52,12 +51,12 @@ fn push_command(
     ensures keeps { All IsCommand commands.old.items
         → OnOk result (All IsCommand commands.new.items) }
 {
-    let command = read_line(alloc, line)?;
+    let command = read_line(line)?;
     Ok(commands.push(command)?)
 }
 
-// A refusal of the line of this number.
-fn fault(line: u32, reason: ScriptReason) -> ScriptFault
+/// A refusal of the line of this number.
+pub(crate) fn fault(line: u32, reason: ScriptReason) -> ScriptFault
     ensures { result ≡ record { line = line; reason = reason } }
 {
     ScriptFault { line, reason }

@@ -19,7 +19,7 @@ use live_clauses::RootRoom;
 use model_frames::{Frame, frames_add_up, image_text, mesh_text_in, redraw_image, redraw_mesh};
 use oct_descent::OctTree;
 use quad_descent::{QuadTree, RowSource, rows};
-use solid_model::{Edit, EditFault, EditedModel, Model};
+use solid_model::{Edit, EditFault, EditRef, EditedModel, Model};
 use std::alloc::{AllocError, Global};
 use view_places::View;
 
@@ -92,7 +92,21 @@ impl Session {
         ensures err { OnErr result (self.new ≡ self.old) }
         ensures opening { opening_of self.new ≡ opening_of self.old }
     {
-        self.model.edit(edit)
+        self.apply_lent(&edit.lent())
+    }
+
+    /// Applies a change to the model, as `apply` does, whose names are lent.
+    pub fn apply_lent(&mut self, edit: &EditRef<'_>) -> Result<(), EditFault>
+        ensures ok { OnOk result (edited self.old.clauses edit.now ≡ Ok self.new.clauses) }
+        ensures kept { OnOk result (self.new ≡ after_edit self.old edit.now self.new.clauses) }
+        ensures stands { self.new ≡ with_model self.old (model_of self.new) }
+        ensures fault { RefusesAs (edited self.old.clauses edit.now) EditFault.NoMemory result }
+        ensures no_memory { WantsMemoryFor (edited self.old.clauses edit.now) EditFault.NoMemory result }
+        ensures not_undo { IfErr result (λ fault. fault ≢ EditFault.NothingToUndo) }
+        ensures err { OnErr result (self.new ≡ self.old) }
+        ensures opening { opening_of self.new ≡ opening_of self.old }
+    {
+        self.model.edit_lent(edit)
     }
 
     /// Applies a change to the model, as `apply` does, and drops it.

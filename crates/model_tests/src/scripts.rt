@@ -1,8 +1,8 @@
 ghost use Rattle.std.specs.Prelude.{◌^◌, ◌<◌, length};
 
-use edit_script::{Command, ScriptFault, ScriptReason, read_script, split_input};
-use fixed_ops::{Fx, Op};
-use solid_model::Edit;
+use clause_reader::{read_model, write_model};
+use edit_script::{Command, Commands, ScriptFault, ScriptReason, read_script, split_input};
+use solid_model::EditedModel;
 use std::alloc::Global;
 use std::process::Abort;
 use std::test::Fail;
@@ -29,6 +29,10 @@ fn finds_the_first_mark_line(rt: HostRuntime) {
 fn expect_refusal(rt: &impl Abort, alloc: Global, input: &[u8], fault: ScriptFault)
     requires { length input.now < 2 ^ 32 }
 {
+    match Commands::of(input) {
+        Ok(_) => assert!(rt; false, "{input:?} is read"),
+        Err(found) => assert_eq!(rt; found, fault),
+    }
     match read_script(alloc, input) {
         Ok(_) => assert!(rt; false, "{input:?} is read"),
         Err(found) => assert_eq!(rt; found, fault),
@@ -108,6 +112,31 @@ fn refuses_settings(rt: HostRuntime) {
     }
 }
 
+// The model of a text, and then what it says after each of some edits, each on its line.
+fn expect_edits(
+    rt: &impl Abort,
+    alloc: Global,
+    text: &[u8],
+    commands: &[Command<'_>],
+    steps: &[(u32, &[u8])],
+) -> Result<(), Fail>
+    requires { length text.now < 2 ^ 32 }
+{
+    let mut model = EditedModel::start(alloc, read_model(alloc, text)?);
+    for (at, (line, after)) in steps.iter().enumerate() {
+        match commands.get(at) {
+            Some(Command::Edit(number, edit)) => {
+                assert_eq!(rt; number, line);
+                model.edit_lent(edit)?;
+            }
+            other => assert!(rt; false, "{other:?}"),
+        }
+        let told = write_model(alloc, model.model())?;
+        assert!(rt; told.as_slice() == *after, "after line {line}: {told:?}");
+    }
+    Ok(())
+}
+
 #[test]
 fn reads_each_command(rt: HostRuntime) -> Result<(), Fail> {
     let input = b"x var-x\n%%\r\nset x neg #y\nset #x var-x\nput #x y var-x\ncut #x\n\n# c\n\
@@ -119,28 +148,29 @@ fn reads_each_command(rt: HostRuntime) -> Result<(), Fail> {
         let stray = matches!(&commands[at], Command::Stray(number) if *number == line);
         assert!(rt; stray, "at {at}");
     }
-    assert!(rt;
-        matches!(&commands[4], Command::Edit(9, Edit::Add(name, form))
-        if name.bytes() == b"y".as_slice() && form.op == Op::Min && form.args.len() == 2)
-    );
-    assert!(rt;
-        matches!(&commands[5], Command::Edit(10, Edit::Put(next, name, form))
-        if next.bytes() == b"y".as_slice() && name.bytes() == b"c".as_slice()
-            && form.op == Op::Const && form.value == Fx::from_raw(1 << 31))
-    );
-    assert!(rt;
-        matches!(&commands[6], Command::Edit(11, Edit::Set(name, form))
-        if name.bytes() == b"y".as_slice() && form.op == Op::Z && form.args.is_empty())
-    );
-    assert!(rt;
-        matches!(&commands[7], Command::Edit(12, Edit::Cut(name))
-        if name.bytes() == b"y".as_slice())
-    );
+    let steps: [(u32, &[u8]); 4] = [
+        (9, b"x var-x\ny min x x\n"),
+        (10, b"x var-x\nc const 0.5000000000\ny min x x\n"),
+        (11, b"x var-x\nc const 0.5000000000\ny var-z\n"),
+        (12, b"x var-x\nc const 0.5000000000\n"),
+    ];
+    expect_edits(&rt, rt.alloc(), b"x var-x\n", &commands[4..8], &steps)?;
     assert!(rt; matches!(&commands[8], Command::Render(view) if view.w == 3 && view.z == 1 << 31));
     assert!(rt; matches!(&commands[9], Command::Height(view) if view.w == 1024 && view.d == 300));
     assert!(rt; matches!(&commands[10], Command::Mesh(view) if view.nx == 5 && view.h == 512));
     assert!(rt; matches!(&commands[11], Command::Text));
     assert!(rt; matches!(&commands[12], Command::Cost));
     assert!(rt; matches!(&commands[13], Command::Undo(18)));
+    Ok(())
+}
+
+#[test]
+fn gives_the_commands_one_by_one(rt: HostRuntime) -> Result<(), Fail> {
+    let mut commands = Commands::of(b"x var-x\n%%\ntext\n\n# c\nundo\nset #x var-x")?;
+    assert!(rt; matches!(commands.next(), Some(Command::Text)));
+    assert!(rt; matches!(commands.next(), Some(Command::Undo(6))));
+    assert!(rt; matches!(commands.next(), Some(Command::Stray(7))));
+    assert!(rt; commands.next().is_none());
+    assert!(rt; commands.next().is_none());
     Ok(())
 }

@@ -1,8 +1,5 @@
 -- What a list of commands writes, command by command.
-use Rattle.std.proofs.Common.{◌≡◌, ◌≢◌, ℕ, List, [], ◌∷◌, ◌++◌, refl, sym, ap, ◌∙◌, append_assoc, append-nil}
-use Rattle.std.specs.Iterator.{Yields}
-use Rattle.std.specs.Vec.Iter.{into_iter_items, into_iter_steps}
-use Rattle.std.specs.declared.vec.IntoIter.{IntoIter}
+use Rattle.std.proofs.Common.{◌≡◌, ◌≢◌, ℕ, Option, List, [], ◌∷◌, ◌++◌, refl, sym, ap, ◌∙◌, append_assoc, append-nil}
 use Rattle.std.proofs.lemmas.List.Sums.{fold-append}
 use Rattle.clause_reader.specs.declared.text_reason.TextReason.{TextReason}
 use Rattle.clause_reader.specs.declared.text_reason.TextReason.TheVariants as text
@@ -10,7 +7,9 @@ use Rattle.edit_script.specs.declared.command.Command.{Command}
 use Rattle.edit_script.specs.declared.script_reason.ScriptReason.{ScriptReason}
 use Rattle.edit_script.specs.declared.script_reason.ScriptReason.TheVariants as script
 use Rattle.edit_session.specs.Sessions.{State}
+use Rattle.fixed_ops.specs.Counts.{Counts}
 use Rattle.modeller_cmd.specs.Replays.{parts_at, replayed, standing, state_after}
+use Rattle.modeller_cmd.specs.Writing.{Written}
 use Rattle.modeller_cmd.specs.Stops.{stop_of_script, stop_of_text}
 use Rattle.modeller_cmd.specs.declared.stop.Stop.TheVariants.{WriteFault}
 
@@ -48,16 +47,12 @@ unfolding replayed
 replayed-more state xs x =
     replayed-append state xs (x ∷ []) ∙ ap (λ parts. replayed state xs ++ parts) (append-nil (parts_at (standing state xs) x))
 
--- what the iterator of a vector has given is a front of its items
-taken-front : {X A : Type 0} (s : IntoIter X A) (xs : List X) (t : IntoIter X A) → Yields into_iter_steps s xs t → into_iter_items s ≡ xs ++ into_iter_items t
-taken-front s [] t y = ap into_iter_items y
-taken-front s (x ∷ xs) t y = y.1.0 ∙ ap (λ ys. x ∷ ys) (taken-front y.0 xs t y.2)
-
--- and the next item stands behind it
-pub items-between : {X A : Type 0} (s : IntoIter X A) (items xs : List X) (t u : IntoIter X A) (x : X) → into_iter_items s ≡ items → Yields into_iter_steps s xs t
-    → into_iter_items t ≡ x ∷ into_iter_items u → items ≡ xs ++ x ∷ into_iter_items u
-items-between s items xs t u x is y next =
-    sym is ∙ taken-front s xs t y ∙ ap (λ l. xs ++ l) next
+-- of some commands the first were replayed, and the others are left
+pub record Passed {K : Type 0} (held : K → Option (List ℕ)) (faults : K → ℕ) (before after : K) (first last : Counts) (opened state : State) (commands left : List Command) : Type 0 where
+  pub earlier : List Command
+  pub parts : commands ≡ earlier ++ left
+  pub stands : state ≡ standing opened earlier
+  pub written : Written held faults before after first last (replayed opened earlier)
 
 -- no text and no script halts a run as a fault of its sink does
 pub text-other : (line : ℕ) (reason : TextReason) → stop_of_text (record { line = line; reason = reason }) ≢ WriteFault

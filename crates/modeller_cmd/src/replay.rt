@@ -1,5 +1,5 @@
 // A script that is replayed on the model before its mark.
-ghost use Rattle.std.specs.Prelude.{◌≡◌, ◌≢◌, ◌≤◌, [], ◌∷◌, length, Err, All, IfErr, IfOk, IsErr, IsOk, OnOk};
+ghost use Rattle.std.specs.Prelude.{◌≡◌, ◌≢◌, ◌≤◌, [], ◌∷◌, length, Err, IfErr, IfOk, IsErr, IsOk, OnOk};
 ghost use Rattle.edit_script.specs.Commands.{IsCommand};
 ghost use Rattle.edit_script.specs.Marks.{before_mark};
 ghost use Rattle.edit_script.specs.Scripts.{script_read};
@@ -20,12 +20,12 @@ use crate::frame::{cost_line, write_frame, write_image_frame, write_refused};
 use crate::image::make_room;
 use crate::stop::Stop;
 use clause_reader::read_model;
-use edit_script::{Command, read_script, split_input};
+use edit_script::{Command, Commands, split_input};
 use edit_session::Session;
 use fixed_ops::Tally;
 use model_frames::{Frame, frames_add_up};
 use modeller_io::Sink;
-use solid_model::{Edit, EditFault};
+use solid_model::{EditFault, EditRef};
 use std::alloc::Global;
 use view_settings::{Job, View};
 
@@ -55,7 +55,7 @@ pub fn replay<K: Sink>(
 {
     frames_add_up();
     let model = read_model(alloc, model_text(input))?;
-    let commands = read_script(alloc, input)?;
+    let commands = Commands::of(input)?;
     let session = Session::start(alloc, model);
     replay_commands(session, commands, Vec::new(alloc), out, tally)
 }
@@ -73,22 +73,21 @@ fn model_text(input: &[u8]) -> &[u8]
 // Replays commands one after the other. The images and meshes are written from one buffer.
 fn replay_commands<K: Sink>(
     mut session: Session,
-    commands: Vec<Command>,
+    mut commands: Commands<'_>,
     mut buffer: Vec<u8>,
     out: &mut K,
     tally: &mut Tally,
 ) -> Result<(), Stop>
-    requires { All IsCommand commands.items }
     ensures stop { IfErr result IsHalt }
     ensures written { OnOk result (Written K.held K.faults out.old out.new tally.old tally.new
-        (replayed session commands.items)) }
+        (replayed session commands.entry)) }
     ensures halted { IfErr result (Halted K.held K.faults out.old out.new tally.old tally.new
-        (replayed session commands.items)) }
+        (replayed session commands.entry)) }
     ensures ends { IfErr result (HaltsAt K.held K.faults out.old out.new tally.old tally.new
-        session commands.items) }
+        session commands.entry) }
 {
     frames_add_up();
-    for command in commands {
+    while let Some(command) = commands.next() {
         step(&mut session, command, &mut buffer, out, tally)?;
     }
     Ok(())
@@ -97,23 +96,23 @@ fn replay_commands<K: Sink>(
 // Replays one command, and drops it.
 fn step<K: Sink>(
     session: &mut Session,
-    command: Command,
+    command: Command<'_>,
     buffer: &mut Vec<u8>,
     out: &mut K,
     tally: &mut Tally,
 ) -> Result<(), Stop>
     requires { IsCommand command }
     ensures stop { IfErr result IsHalt }
-    ensures stands { OnOk result (session.new ≡ state_after session.old command) }
+    ensures stands { OnOk result (session.new ≡ state_after session.old command.entry) }
     ensures written { OnOk result (Written K.held K.faults out.old out.new tally.old tally.new
-        (parts_at session.old command)) }
+        (parts_at session.old command.entry)) }
     ensures halted { IfErr result (Halted K.held K.faults out.old out.new tally.old tally.new
-        (parts_at session.old command)) }
+        (parts_at session.old command.entry)) }
     ensures unwritten { result ≡ Err Stop.NoMemory → out.new ≡ out.old }
-    ensures wants { result ≡ Err Stop.NoMemory → WantsMemory session.old command }
-    ensures writes { result ≡ Err Stop.WriteFault → WritesSomething session.old command }
+    ensures wants { result ≡ Err Stop.NoMemory → WantsMemory session.old command.entry }
+    ensures writes { result ≡ Err Stop.WriteFault → WritesSomething session.old command.entry }
     ensures counted { result ≡ Err Stop.WriteFault
-        → CountsWork tally.old tally.new (work_of_parts (parts_at session.old command)) }
+        → CountsWork tally.old tally.new (work_of_parts (parts_at session.old command.entry)) }
 {
     play(session, &command, buffer, out, tally)
 }
@@ -121,7 +120,7 @@ fn step<K: Sink>(
 // Replays one command.
 fn play<K: Sink>(
     session: &mut Session,
-    command: &Command,
+    command: &Command<'_>,
     buffer: &mut Vec<u8>,
     out: &mut K,
     tally: &mut Tally,
@@ -240,7 +239,12 @@ fn tell_cost<K: Sink>(session: &Session, out: &mut K) -> Result<(), Stop>
 }
 
 // Makes the edit of the line of this number, or writes why it is refused. Nothing is counted.
-fn change<K: Sink>(session: &mut Session, line: u32, edit: &Edit, out: &mut K) -> Result<(), Stop>
+fn change<K: Sink>(
+    session: &mut Session,
+    line: u32,
+    edit: &EditRef<'_>,
+    out: &mut K,
+) -> Result<(), Stop>
     ensures stop { IfErr result IsHalt }
     ensures stands { OnOk result (session.new ≡ state_after session.old (Command.Edit line edit.now)) }
     ensures written { OnOk result ((counts : Counts)
@@ -254,7 +258,7 @@ fn change<K: Sink>(session: &mut Session, line: u32, edit: &Edit, out: &mut K) -
     ensures writes { result ≡ Err Stop.WriteFault → IsErr (edited session.old.clauses edit.now) }
 {
     frames_add_up();
-    match session.apply(edit) {
+    match session.apply_lent(edit) {
         Ok(()) => Ok(()),
         Err(fault) => refuse(out, line, fault),
     }

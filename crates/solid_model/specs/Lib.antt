@@ -7,6 +7,8 @@ pub mod Inverses
 pub mod Keys
 pub mod Labels
 pub mod Laws
+pub mod LentArgs
+pub mod LentEdits
 pub mod Moves
 pub mod Named
 pub mod Names

@@ -1,7 +1,8 @@
 // A change to a model, and why one is refused.
+ghost use Rattle.std.specs.Prelude.{◌≡◌};
 ghost use Rattle.solid_model.specs.Edits.{IsEdit};
 
-use crate::{Form, Name};
+use crate::{EditRef, Form, Name};
 use thiserror::Error;
 
 /// A change to a model.
@@ -19,6 +20,19 @@ pub enum Edit {
 }
 
 impl Edit {
+    /// The same change, its names lent.
+    #[inline]
+    pub fn lent(&self) -> EditRef<'_>
+        ensures { result ≡ self.now }
+    {
+        match self {
+            Edit::Set(name, form) => EditRef::set(name.bytes(), form.lent()),
+            Edit::Add(name, form) => EditRef::add(name.bytes(), form.lent()),
+            Edit::Put(next, name, form) => EditRef::put(next.bytes(), name.bytes(), form.lent()),
+            Edit::Cut(name) => EditRef::cut(name.bytes()),
+        }
+    }
+
     // Lets a proof know that its name is a name, and that its form is one.
     #[inline]
     pub(crate) fn holds(&self)

@@ -6,7 +6,7 @@ ghost use Rattle.solid_model.specs.Inverses.{inverse_of};
 ghost use Rattle.solid_model.specs.Refusals.{RefusesAs, WantsMemoryFor};
 
 use crate::reversal::Reversal;
-use crate::{Edit, EditFault, Model};
+use crate::{Edit, EditFault, EditRef, Model};
 use std::alloc::{AllocError, Global};
 
 /// A model that is edited, with what takes its edits back. Contracts see its clauses, and the edits that
@@ -57,6 +57,21 @@ impl EditedModel {
     /// it was, and the change is dropped. The faults are those of `Model::apply`, but `NoMemory` may come
     /// for each change that is accepted.
     pub fn edit(&mut self, edit: &Edit) -> Result<(), EditFault>
+        ensures ok { OnOk result (edited self.old.clauses edit.now ≡ Ok self.new.clauses) }
+        ensures undo { OnOk result
+            (self.new.undo ≡ inverse_of self.old.clauses edit.now ∷ self.old.undo) }
+        ensures fault { RefusesAs (edited self.old.clauses edit.now) EditFault.NoMemory result }
+        ensures no_memory { WantsMemoryFor (edited self.old.clauses edit.now) EditFault.NoMemory
+            result }
+        ensures not_undo { IfErr result (λ fault. fault ≢ EditFault.NothingToUndo) }
+        ensures err { OnErr result (self.new ≡ self.old) }
+        ensures opening { opening self.new ≡ opening self.old }
+    {
+        self.edit_lent(&edit.lent())
+    }
+
+    /// Applies a change whose names are lent, as `edit` does.
+    pub fn edit_lent(&mut self, edit: &EditRef<'_>) -> Result<(), EditFault>
         ensures ok { OnOk result (edited self.old.clauses edit.now ≡ Ok self.new.clauses) }
         ensures undo { OnOk result
             (self.new.undo ≡ inverse_of self.old.clauses edit.now ∷ self.old.undo) }

@@ -1,9 +1,10 @@
 // What a clause says beside its name.
-ghost use Rattle.std.specs.Prelude.{◌≡◌, ◌≢◌, pos, length};
+ghost use Rattle.std.specs.Prelude.{◌≡◌, ◌≢◌, ◌≤◌, pos, length};
+ghost use Rattle.solid_model.specs.LentArgs.{args_seen};
 ghost use Rattle.fixed_ops.specs.Arity.{arity_of};
 
-use crate::Name;
-use fixed_ops::{Fx, Op, raw_range};
+use crate::{ArgsRef, FormRef, Name};
+use fixed_ops::{Fx, Op, arity, raw_range};
 use std::marker::Model;
 
 /// An operation with the names of its operands, and with the number of a constant.
@@ -38,5 +39,26 @@ impl Form {
     {
         raw_range(value);
         Form { op, args, value }
+    }
+
+    /// The same form, the names of its operands lent.
+    #[inline]
+    pub fn lent(&self) -> FormRef<'_>
+        ensures { result ≡ self.now }
+    {
+        FormRef::new(self.op, names_of(&self.args, arity(self.op)), self.value)
+    }
+}
+
+// So many names, which are all.
+fn names_of(names: &[Name], count: u32) -> ArgsRef<'_>
+    requires all { length names.now ≡ count }
+    requires few { count ≤ 2 }
+    ensures { args_seen result ≡ names.now }
+{
+    match names {
+        [] => ArgsRef::Zero,
+        [first] => ArgsRef::One(first.bytes()),
+        [first, second, ..] => ArgsRef::Two(first.bytes(), second.bytes()),
     }
 }

@@ -12,7 +12,7 @@ ghost use Rattle.solid_model.specs.Tables.{clauses_in};
 
 use crate::reversal::Reversal;
 use crate::table::Table;
-use crate::{ClauseRef, Edit, EditFault, Form, Name};
+use crate::{ClauseRef, Edit, EditFault, EditRef, Form, Name};
 use std::alloc::{AllocError, Global};
 
 /// A solid: from 1 to 65,535 clauses of distinct names, each of whose operands stands before it.
@@ -50,7 +50,7 @@ impl Model {
             → (fault ≡ EditFault.UnknownName) × (form.args ≢ [])) }
     {
         let mut table = Table::new(alloc);
-        match table.apply(&Edit::Add(name, form)) {
+        match table.apply(&Edit::Add(name, form).lent()) {
             Ok(()) => Ok(Model { table }),
             Err(fault) => Err(fault),
         }
@@ -71,7 +71,7 @@ impl Model {
         ensures not_undo { IfErr result (λ fault. fault ≢ EditFault.NothingToUndo) }
         ensures err { OnErr result (self.new ≡ self.old) }
     {
-        self.table.apply(&edit)
+        self.table.apply(&edit.lent())
     }
 
     /// Whether the model accepts a change. Where it does not, the fault is the one that `apply` answers.
@@ -82,7 +82,7 @@ impl Model {
         ensures memory { IfErr result (λ fault. fault ≢ EditFault.NoMemory) }
         ensures not_undo { IfErr result (λ fault. fault ≢ EditFault.NothingToUndo) }
     {
-        match self.table.change(edit) {
+        match self.table.change(&edit.lent()) {
             Ok(_) => Ok(()),
             Err(refusal) => Err(refusal.fault()),
         }
@@ -104,7 +104,7 @@ impl Model {
     // they were. It answers as `apply` does, but wants memory for each change that is accepted.
     pub(crate) fn apply_and_keep(
         &mut self,
-        edit: &Edit,
+        edit: &EditRef<'_>,
         backs: &mut Vec<Reversal>,
     ) -> Result<(), EditFault>
         ensures ok { OnOk result (edited self.old edit.now ≡ Ok self.new) }

@@ -10,7 +10,7 @@ ghost use Rattle.solid_model.specs.Tables.{clauses_in};
 use crate::change::Change;
 use crate::reversal::Reversal;
 use crate::table::Table;
-use crate::{Edit, EditFault};
+use crate::{EditFault, EditRef};
 use std::alloc::AllocError;
 
 impl Table {
@@ -33,7 +33,7 @@ impl Table {
     // Makes an edit, and puts what takes it back behind others, or leaves both as they are.
     pub(crate) fn apply_and_keep(
         &mut self,
-        edit: &Edit,
+        edit: &EditRef<'_>,
         backs: &mut Vec<Reversal>,
     ) -> Result<(), EditFault>
         requires in_order { AreInOrder (clauses_in self.old) }

@@ -22,7 +22,7 @@ use crate::refusal::Refusal;
 use crate::row::Row;
 use crate::users::{first_reader, keep_user, kept_user};
 use crate::uses::{count_operands, uncount_operands};
-use crate::{ClauseRef, Edit, EditFault, Form, Name, PushFault};
+use crate::{ClauseRef, EditFault, EditRef, Form, Name, PushFault};
 use fixed_ops::arity;
 use indexmap::IndexSet;
 use std::alloc::{AllocError, Global};
@@ -173,7 +173,7 @@ impl Table {
     }
 
     // Makes an edit, or leaves the clauses as they are.
-    pub(crate) fn apply(&mut self, edit: &Edit) -> Result<(), EditFault>
+    pub(crate) fn apply(&mut self, edit: &EditRef<'_>) -> Result<(), EditFault>
         requires in_order { AreInOrder (clauses_in self.old) }
         ensures ok { OnOk result (surgery (clauses_in self.old) edit.now
             ≡ Ok (clauses_in self.new)) }

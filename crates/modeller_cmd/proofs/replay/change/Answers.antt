@@ -5,10 +5,10 @@ use Rattle.modeller_cmd.proofs.replay.change.Goals as goal
 
 pub returns-in-Ok-clause-written : goal.returns-in-Ok-clause-written
 returns-in-Ok-clause-written g c = λ counts.
-    edit-written c.frames_add_up.ensures g.K.Sink.held g.K.Sink.faults c.args.out.now counts c.args.session.now c.apply.new.self.clauses c.args.line c.args.edit.now c.in-Ok.ensures.ok
+    edit-written c.frames_add_up.ensures g.K.Sink.held g.K.Sink.faults c.args.out.now counts c.args.session.now c.apply_lent.new.self.clauses c.args.line c.args.edit.now c.in-Ok.ensures.ok
 
 pub returns-in-Ok-clause-stands : goal.returns-in-Ok-clause-stands
-returns-in-Ok-clause-stands g c = edit-kept c.args.session.now c.apply.new.self c.args.line c.args.edit.now c.in-Ok.ensures.ok c.in-Ok.ensures.kept
+returns-in-Ok-clause-stands g c = edit-kept c.args.session.now c.apply_lent.new.self c.args.line c.args.edit.now c.in-Ok.ensures.ok c.in-Ok.ensures.kept
 
 pub returns-in-Err-clause-written : goal.returns-in-Err-clause-written
 returns-in-Err-clause-written g c =
@@ -24,5 +24,5 @@ pub returns-in-Err-clause-stands : goal.returns-in-Err-clause-stands
 returns-in-Err-clause-stands g c =
     refused-stands c.frames_add_up.ensures g.K.Sink.held g.K.Sink.faults c.args.out.now c.refuse.new.out (parts_at c.args.session.now (Command.Edit c.args.line c.args.edit.now)) c.args.line c.in-Err.fault c.refuse.result
     (λ h. edit-refused c.args.session.now c.args.line c.args.edit.now c.in-Err.fault (c.in-Err.ensures.fault h)) c.refuse.ensures.memory
-    c.args.session.now c.apply.new.self (state_after c.args.session.now (Command.Edit c.args.line c.args.edit.now))
+    c.args.session.now c.apply_lent.new.self (state_after c.args.session.now (Command.Edit c.args.line c.args.edit.now))
     (λ h. edit-stands c.args.session.now c.args.line c.args.edit.now c.in-Err.fault (c.in-Err.ensures.fault h)) c.in-Err.ensures.err

@@ -46,7 +46,7 @@ returns-in_err-commands-clause-halts g c =
 
 pub returns-clause-halts : goal.returns-clause-halts
 returns-clause-halts g c =
-    halts-replay g.K.Sink.held g.K.Sink.faults c.args.out.now c.replay_commands.new.out c.args.tally.now c.replay_commands.new.tally c.args.input.now c.replay_commands.result c.in_ok-model.model c.in_ok-commands.commands.items
+    halts-replay g.K.Sink.held g.K.Sink.faults c.args.out.now c.replay_commands.new.out c.args.tally.now c.replay_commands.new.tally c.args.input.now c.replay_commands.result c.in_ok-model.model c.in_ok-commands.commands
     (ap text_read (sym c.model_text.ensures) ∙ c.in_ok-model.ensures) c.in_ok-commands.ensures.script
-    (subst (λ state. IfErr c.replay_commands.result (HaltsAt g.K.Sink.held g.K.Sink.faults c.args.out.now c.replay_commands.new.out c.args.tally.now c.replay_commands.new.tally state c.in_ok-commands.commands.items))
+    (subst (λ state. IfErr c.replay_commands.result (HaltsAt g.K.Sink.held g.K.Sink.faults c.args.out.now c.replay_commands.new.out c.args.tally.now c.replay_commands.new.tally state c.in_ok-commands.commands))
     c.start-session.ensures c.replay_commands.ensures.ends)

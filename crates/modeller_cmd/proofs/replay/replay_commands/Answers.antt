@@ -1,15 +1,16 @@
-use Rattle.std.proofs.Common.{Err, sym, ap, subst, ◌∙◌}
-use Rattle.std.specs.Vec.Iter.{into_iter_items}
+use Rattle.std.proofs.Common.{◌≡◌, [], ◌∷◌, ◌++◌, Err, refl, sym, ap, subst, ◌∙◌, append_assoc, append-nil}
 use Rattle.modeller_cmd.specs.Endings.{IsHalt}
 use Rattle.modeller_cmd.specs.Writing.{Halted, Written}
 use Rattle.modeller_cmd.specs.Replays.{parts_at, replayed, standing, state_after}
 use Rattle.modeller_cmd.specs.Halting.{HaltsAt, HaltsIn}
-use Rattle.modeller_cmd.proofs.ReplayLaws.{items-between, replayed-between, replayed-more, replayed-none, standing-more, standing-none}
+use Rattle.modeller_cmd.proofs.ReplayLaws.{replayed-between, replayed-more, replayed-none, standing-more, standing-none}
 use Rattle.modeller_cmd.proofs.Writing.{written-none, written-then, halted-after, ends-with}
 use Rattle.modeller_cmd.proofs.replay.replay_commands.Goals as goal
 
 pub loop-command-init : goal.loop-command-init
 loop-command-init g c = record {
+  earlier = [];
+  parts = refl;
   stands = sym (standing-none c.args.session);
   written = subst (Written g.K.Sink.held g.K.Sink.faults c.args.out.now c.args.out.now c.args.tally.now c.args.tally.now) (sym (replayed-none c.args.session))
       (written-none c.frames_add_up.ensures g.K.Sink.held g.K.Sink.faults c.args.out.now c.args.tally.now);
@@ -18,10 +19,13 @@ loop-command-init g c = record {
 pub loop-command-preserved : goal.loop-command-preserved
 loop-command-preserved g c =
     let so_far = c.loop-command.invariant in
-    let before = c.loop-command.yielded in
+    let before = so_far.earlier in
     let command = c.in-Some.command in
+    let after = c.next.new.self in
     let shown = standing c.args.session before in
     record {
+      earlier = before ++ command ∷ [];
+      parts = so_far.parts ∙ ap (λ left. before ++ left) c.in-Some.ensures.next ∙ sym (append_assoc before (command ∷ []) after);
       stands = c.in_ok-step.ensures.stands ∙ ap (λ state. state_after state command) so_far.stands ∙ sym (standing-more c.args.session before command);
       written = subst (Written g.K.Sink.held g.K.Sink.faults c.args.out.now c.step.new.out c.args.tally.now c.step.new.tally)
           (sym (replayed-more c.args.session before command))
@@ -38,14 +42,13 @@ returns-in_err-step-clause-stop g c =
 pub returns-in_err-step-clause-halted : goal.returns-in_err-step-clause-halted
 returns-in_err-step-clause-halted g c =
     let so_far = c.loop-command.invariant in
-    let before = c.loop-command.yielded in
+    let before = so_far.earlier in
     let command = c.in-Some.command in
-    let after = into_iter_items c.next.new.self in
+    let after = c.next.new.self in
     let shown = standing c.args.session before in
-    let items = items-between c.into_iter-command-iterator.result c.args.commands.items before c.loop-command.command-iterator c.next.new.self command c.into_iter-command-iterator.ensures.into_iter_gives.0 c.loop-command.yielded_by
-    c.in-Some.ensures.steps.0 in
+    let items = so_far.parts ∙ ap (λ left. before ++ left) c.in-Some.ensures.next in
     ends-with c.from_residual.result c.in_err-step.field-0.0
-    (Halted g.K.Sink.held g.K.Sink.faults c.args.out.now c.step.new.out c.args.tally.now c.step.new.tally (replayed c.args.session c.args.commands.items))
+    (Halted g.K.Sink.held g.K.Sink.faults c.args.out.now c.step.new.out c.args.tally.now c.step.new.tally (replayed c.args.session c.args.commands))
     c.from_residual.ensures.1
     (subst (λ parts. Halted g.K.Sink.held g.K.Sink.faults c.args.out.now c.step.new.out c.args.tally.now c.step.new.tally parts c.in_err-step.field-0.0)
     (sym (ap (replayed c.args.session) items ∙ replayed-between c.args.session before command after))
@@ -57,14 +60,13 @@ returns-in_err-step-clause-halted g c =
 pub returns-in_err-step-clause-ends : goal.returns-in_err-step-clause-ends
 returns-in_err-step-clause-ends g c =
     let so_far = c.loop-command.invariant in
-    let before = c.loop-command.yielded in
+    let before = so_far.earlier in
     let command = c.in-Some.command in
-    let after = into_iter_items c.next.new.self in
+    let after = c.next.new.self in
     let stop = c.in_err-step.field-0.0 in
-    let items = items-between c.into_iter-command-iterator.result c.args.commands.items before c.loop-command.command-iterator c.next.new.self command c.into_iter-command-iterator.ensures.into_iter_gives.0 c.loop-command.yielded_by
-    c.in-Some.ensures.steps.0 in
+    let items = so_far.parts ∙ ap (λ left. before ++ left) c.in-Some.ensures.next in
     ends-with c.from_residual.result stop
-    (HaltsAt g.K.Sink.held g.K.Sink.faults c.args.out.now c.step.new.out c.args.tally.now c.step.new.tally c.args.session c.args.commands.items)
+    (HaltsAt g.K.Sink.held g.K.Sink.faults c.args.out.now c.step.new.out c.args.tally.now c.step.new.tally c.args.session c.args.commands)
     c.from_residual.ensures.1
     (record {
       earlier = before;
@@ -83,3 +85,9 @@ returns-in_err-step-clause-ends g c =
             halted = c.in_err-step.ensures.halted;
           });
     })
+
+pub returns-clause-written : goal.returns-clause-written
+returns-clause-written g c =
+    let so_far = c.loop-command.invariant in
+    let all = so_far.parts ∙ ap (λ left. so_far.earlier ++ left) c.in_default.ensures.next.0 ∙ append-nil so_far.earlier in
+    subst (λ commands. Written g.K.Sink.held g.K.Sink.faults c.args.out.now c.loop-command.out c.args.tally.now c.loop-command.tally (replayed c.args.session commands)) (sym all) so_far.written

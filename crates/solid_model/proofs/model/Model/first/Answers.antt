@@ -12,12 +12,12 @@ use Rattle.solid_model.specs.Tables.{clauses_in}
 pub invariant_of-result : goal.invariant_of-result
 invariant_of-result c =
     let made : added [] c.args.name c.args.form ≡ Ok (clauses_in c.apply.new.self) = grind (arith, common_steps) in
-    IsModel-added [] c.args.name c.args.form _ AreClauses-nil c.apply.ensures.edit.0 c.apply.ensures.edit.1 made
+    IsModel-added [] c.args.name c.args.form _ AreClauses-nil (rw c.lent.ensures at c.apply.ensures.edit).0 (rw c.lent.ensures at c.apply.ensures.edit).1 made
 
 pub returns-in-Ok-clause-ok : goal.returns-in-Ok-clause-ok
 returns-in-Ok-clause-ok c =
     let made : added [] c.args.name c.args.form ≡ Ok (clauses_in c.apply.new.self) = grind (arith, common_steps) in
-    edited-added [] c.args.name c.args.form AreClauses-nil c.apply.ensures.edit.1 ∙ made
+    edited-added [] c.args.name c.args.form AreClauses-nil (rw c.lent.ensures at c.apply.ensures.edit).1 ∙ made
 
 pub returns-in-Ok-clause-no_argument : goal.returns-in-Ok-clause-no_argument
 returns-in-Ok-clause-no_argument c =
@@ -26,21 +26,21 @@ returns-in-Ok-clause-no_argument c =
 
 pub returns-in-Err-clause-fault : goal.returns-in-Err-clause-fault
 returns-in-Err-clause-fault c =
-    λ h. edited-added [] c.args.name c.args.form AreClauses-nil c.apply.ensures.edit.1
-    ∙ subst (λ before. added before c.args.name c.args.form ≡ Err c.in-Err.fault) c.new-table.ensures (c.in-Err.ensures.fault h)
+    λ h. edited-added [] c.args.name c.args.form AreClauses-nil (rw c.lent.ensures at c.apply.ensures.edit).1
+    ∙ subst (λ before. added before c.args.name c.args.form ≡ Err c.in-Err.fault) c.new-table.ensures (rw c.lent.ensures at c.in-Err.ensures.fault h)
 
 pub returns-in-Err-clause-no_memory : goal.returns-in-Err-clause-no_memory
 returns-in-Err-clause-no_memory c =
-    rw (edited-added [] c.args.name c.args.form AreClauses-nil c.apply.ensures.edit.1)
-    (λ h. subst (λ before. IsOk (added before c.args.name c.args.form)) c.new-table.ensures (c.in-Err.ensures.no_memory h))
+    rw (edited-added [] c.args.name c.args.form AreClauses-nil (rw c.lent.ensures at c.apply.ensures.edit).1)
+    (λ h. subst (λ before. IsOk (added before c.args.name c.args.form)) c.new-table.ensures (rw c.lent.ensures at c.in-Err.ensures.no_memory h))
 
 pub returns-in-Err-clause-argument : goal.returns-in-Err-clause-argument
 returns-in-Err-clause-argument c =
     λ h. first-fault c.args.name c.args.form c.in-Err.fault
-    (subst (λ before. added before c.args.name c.args.form ≡ Err c.in-Err.fault) c.new-table.ensures (c.in-Err.ensures.fault h))
+    (subst (λ before. added before c.args.name c.args.form ≡ Err c.in-Err.fault) c.new-table.ensures (rw c.lent.ensures at c.in-Err.ensures.fault h))
 
 pub returns-in-Err-clause-not_undo : goal.returns-in-Err-clause-not_undo
 returns-in-Err-clause-not_undo c =
     λ is. edited-not-undo [] (Add c.args.name c.args.form) c.in-Err.fault
-    (edited-added [] c.args.name c.args.form AreClauses-nil c.apply.ensures.edit.1
-    ∙ subst (λ before. added before c.args.name c.args.form ≡ Err c.in-Err.fault) c.new-table.ensures (c.in-Err.ensures.fault (λ memory. (cc)))) is
+    (edited-added [] c.args.name c.args.form AreClauses-nil (rw c.lent.ensures at c.apply.ensures.edit).1
+    ∙ subst (λ before. added before c.args.name c.args.form ≡ Err c.in-Err.fault) c.new-table.ensures (rw c.lent.ensures at c.in-Err.ensures.fault (λ memory. (cc)))) is

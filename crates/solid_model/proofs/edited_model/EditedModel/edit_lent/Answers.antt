@@ -1,7 +1,7 @@
 -- What takes the edit back comes before the others, which lead back from where it leads.
 use Rattle.solid_model.proofs.ChangeLemmas.{not-undo}
 use Rattle.solid_model.proofs.ReversalLemmas.{kept-allow, kept-opening, kept-undo}
-use Rattle.solid_model.proofs.edited_model.EditedModel.edit.Goals as goal
+use Rattle.solid_model.proofs.edited_model.EditedModel.edit_lent.Goals as goal
 
 pub invariant_of-self : goal.invariant_of-self
 invariant_of-self c =

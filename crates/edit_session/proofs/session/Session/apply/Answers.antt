@@ -1,4 +1,0 @@
-use Rattle.edit_session.proofs.session.Session.apply.Goals as goal
-
-pub returns-clause-fault : goal.returns-clause-fault
-returns-clause-fault c = rw (← c.self.view_is) c.edit.ensures.fault
