@@ -18,6 +18,30 @@ fn a_ball_is_written(rt: HostRuntime) -> Result<(), Fail> {
 }
 
 #[test]
+fn scaled_and_joined_solids_are_written(rt: HostRuntime) -> Result<(), Fail> {
+    let one = Fx::from_raw(ONE);
+    let alloc = rt.alloc();
+    let cylinder = Box::new(alloc, Solid::Cylinder(one, Fx::from_raw(ONE / 2)))?;
+    let scaled = Box::new(alloc, Solid::Scale(Fx::from_raw(2 * ONE), cylinder))?;
+    let first = Box::new(alloc, Solid::Ball(one))?;
+    let second = Box::new(alloc, Solid::Ball(one))?;
+    let balls = Box::new(alloc, Solid::Union(first, second))?;
+    let solid = Solid::Intersect(scaled, balls);
+    let text = solid_text(alloc, &solid)?;
+    let lines: &[u8] = b"_0 var-x\n_1 var-y\n_2 var-z\n_3 const 2.0000000000\n_4 div _0 _3\n\
+        _5 div _1 _3\n_6 div _2 _3\n_7 square _4\n_8 square _5\n_9 add _7 _8\n\
+        _10 const 1.0000000000\n_11 square _10\n_12 sub _9 _11\n_13 abs _6\n\
+        _14 const 0.5000000000\n_15 sub _13 _14\n_16 max _12 _15\n_17 square _0\n\
+        _18 square _1\n_19 add _17 _18\n_20 square _2\n_21 add _19 _20\n\
+        _22 const 1.0000000000\n_23 square _22\n_24 sub _21 _23\n_25 square _0\n\
+        _26 square _1\n_27 add _25 _26\n_28 square _2\n_29 add _27 _28\n\
+        _30 const 1.0000000000\n_31 square _30\n_32 sub _29 _31\n_33 min _24 _32\n\
+        _34 max _16 _33\n";
+    assert_eq!(rt; text.as_slice(), lines);
+    Ok(())
+}
+
+#[test]
 fn a_cut_box_is_compiled(rt: HostRuntime) -> Result<(), Fail> {
     let one = Fx::from_raw(ONE);
     let half = Fx::from_raw(ONE / 2);

@@ -1,6 +1,5 @@
 ghost use Rattle.std.specs.Prelude.{◌≡◌, ◌≢◌, ◌<◌, pos};
 
-use clause_reader::read_model;
 use fixed_ops::{Fx, Op, arity};
 use solid_model::{
     Edit, EditFault, EditedModel, Form, Model, ModelBuilder, Name, NameFault, PushFault,
@@ -97,10 +96,50 @@ fn edit_of(alloc: Global, verb: Verb, letters: &[u8; 4], op: Op) -> Result<Edit,
     })
 }
 
+// What such an edit gives, which `check` tells before it is made.
+fn apply(
+    alloc: Global,
+    model: &mut Model,
+    verb: Verb,
+    letters: &[u8; 4],
+    op: Op,
+) -> Result<Result<(), EditFault>, Fail> {
+    let edit = edit_of(alloc, verb, letters, op)?;
+    let told = model.check(&edit);
+    let given = model.apply(edit);
+    if told != given {
+        return Err(Fail::new("told otherwise"));
+    }
+    Ok(given)
+}
+
 // x * x + y * y - 0.5, whose inside is a disc.
 fn disc(alloc: Global) -> Result<Model, Fail> {
-    let text = b"a var-x\nb var-y\nc mul a a\nd mul b b\ne add c d\nr const 0.5\nf sub e r\n";
-    Ok(read_model(alloc, text)?)
+    let later = [
+        (b"b   ", Op::Y),
+        (b"c aa", Op::Mul),
+        (b"d bb", Op::Mul),
+        (b"e cd", Op::Add),
+        (b"r   ", Op::Const),
+        (b"f er", Op::Sub),
+    ];
+    let mut model = first(alloc, Op::X, b"", b"")??;
+    for (letters, op) in later {
+        apply(alloc, &mut model, Verb::Add, letters, op)??;
+    }
+    Ok(model)
+}
+
+// The model of one clause, whose name is a.
+fn first(
+    alloc: Global,
+    op: Op,
+    first: &[u8],
+    second: &[u8],
+) -> Result<Result<Model, EditFault>, Fail> {
+    let form = form(alloc, op, first, second)?;
+    let name = Name::new(alloc, b"a")?;
+    Ok(Model::first(alloc, name, form))
 }
 
 // Whether the clause at a place has this name, this operation, operands at these places and this
@@ -140,6 +179,50 @@ fn places_the_operands_of_a_disc(rt: HostRuntime) -> Result<(), Fail> {
     Ok(())
 }
 
+#[test]
+fn refused_edits_tell_the_first_fault(rt: HostRuntime) -> Result<(), Fail> {
+    let mut model = disc(rt.alloc())?;
+    let cases = [
+        (Verb::Add, b"g ag", EditFault::UnknownName),
+        (Verb::Add, b"g an", EditFault::UnknownName),
+        (Verb::Add, b"a an", EditFault::UnknownName),
+        (Verb::Add, b"a af", EditFault::DoubleName),
+        (Verb::Set, b"g ab", EditFault::UnknownName),
+        (Verb::Set, b"c fg", EditFault::UnknownName),
+        (Verb::Set, b"c ac", EditFault::NotEarlier),
+        (Verb::Put, b"hgab", EditFault::UnknownName),
+        (Verb::Put, b"acag", EditFault::UnknownName),
+        (Verb::Put, b"acaf", EditFault::DoubleName),
+        (Verb::Put, b"gcac", EditFault::NotEarlier),
+        (Verb::Cut, b"g   ", EditFault::UnknownName),
+        (Verb::Cut, b"a   ", EditFault::InUse(2)),
+        (Verb::Cut, b"e   ", EditFault::InUse(6)),
+    ];
+    for (verb, letters, fault) in cases {
+        let given = apply(rt.alloc(), &mut model, verb, letters, Op::Add)?;
+        let stays = model.len() == 7 && model.position(b"g").is_none();
+        assert!(rt; given == Err(fault) && stays, "at {letters:?}");
+    }
+    apply(rt.alloc(), &mut model, Verb::Add, b"g af", Op::Add)??;
+    assert!(rt; is_clause(&model, 7, b"g", Op::Add, (0, 6), Fx::from_raw(0)));
+    Ok(())
+}
+
+#[test]
+fn the_only_clause_stays(rt: HostRuntime) -> Result<(), Fail> {
+    let mut only = first(rt.alloc(), Op::X, b"", b"")??;
+    let cut = apply(rt.alloc(), &mut only, Verb::Cut, b"a   ", Op::X)?;
+    assert!(rt; cut == Err(EditFault::LastClause));
+    Ok(())
+}
+
+#[test]
+fn the_first_clause_has_no_argument(rt: HostRuntime) -> Result<(), Fail> {
+    let refused = first(rt.alloc(), Op::Add, b"a", b"a")?.err();
+    assert!(rt; refused == Some(EditFault::UnknownName));
+    Ok(())
+}
+
 // Whether the clauses are as many as these pairs of digits, and have operands at their places.
 fn has_operands(model: &Model, digits: &[u8]) -> bool {
     let mut rest = digits;
@@ -154,6 +237,24 @@ fn has_operands(model: &Model, digits: &[u8]) -> bool {
         rest = &rest[2..];
     }
     rest.is_empty()
+}
+
+#[test]
+fn edits_move_the_operands(rt: HostRuntime) -> Result<(), Fail> {
+    let mut model = disc(rt.alloc())?;
+    let cases: [(Verb, &[u8; 4], Op, Option<u32>, &[u8]); 4] = [
+        (Verb::Put, b"gcab", Op::Min, Some(2), b"0000010011340056"),
+        (Verb::Cut, b"g   ", Op::X, None, b"00000011230045"),
+        (Verb::Set, b"f re", Op::Sub, Some(6), b"00000011230054"),
+        (Verb::Cut, b"f   ", Op::X, None, b"000000112300"),
+    ];
+    for (verb, letters, op, place, operands) in cases {
+        apply(rt.alloc(), &mut model, verb, letters, op)??;
+        let found = model.position(word(letters, 0)) == place;
+        assert!(rt; found && has_operands(&model, operands), "at {letters:?}");
+    }
+    assert!(rt; is_clause(&model, 5, b"r", Op::Const, (0, 0), value_of(Op::Const)));
+    Ok(())
 }
 
 // Edits, and the operands of the clauses after each of them.
@@ -234,6 +335,24 @@ fn an_inverse_takes_its_edit_back(rt: HostRuntime) -> Result<(), Fail> {
             is_taken_back(rt.alloc(), verb, letters, op)?,
             "at {letters:?}"
         );
+    }
+    Ok(())
+}
+
+#[test]
+fn the_first_user_is_that_of_the_clauses_now(rt: HostRuntime) -> Result<(), Fail> {
+    let mut model = disc(rt.alloc())?;
+    let cases = [
+        (Verb::Cut, b"a   ", Err(EditFault::InUse(2))),
+        (Verb::Cut, b"a   ", Err(EditFault::InUse(2))),
+        (Verb::Put, b"gbaa", Ok(())),
+        (Verb::Cut, b"a   ", Err(EditFault::InUse(1))),
+        (Verb::Cut, b"g   ", Ok(())),
+        (Verb::Cut, b"a   ", Err(EditFault::InUse(2))),
+    ];
+    for (verb, letters, wanted) in cases {
+        let given = apply(rt.alloc(), &mut model, verb, letters, Op::Min)?;
+        assert!(rt; given == wanted, "at {letters:?}");
     }
     Ok(())
 }

@@ -71,6 +71,47 @@ fn refuses_the_first_bad_line(rt: HostRuntime) {
     }
 }
 
+#[test]
+fn tells_the_lowest_reason(rt: HostRuntime) {
+    let cases: [(&[u8], ScriptReason); 12] = [
+        (b"%%\nset #x", ScriptReason::TooShort),
+        (b"%%\nadd #x", ScriptReason::TooShort),
+        (b"%%\nput x #y", ScriptReason::TooShort),
+        (b"%%\nput x", ScriptReason::TooShort),
+        (b"%%\nput x #y paint", ScriptReason::BadName),
+        (b"%%\nset #x #y", ScriptReason::UnknownOperation),
+        (b"%%\nput #x y neg", ScriptReason::WrongArity),
+        (b"%%\nset x min #a", ScriptReason::WrongArity),
+        (b"%%\nset x const 1 a", ScriptReason::WrongArity),
+        (b"%%\ncut #x #y", ScriptReason::WrongArity),
+        (b"%%\nset x const #1", ScriptReason::BadNumeral),
+        (b"%%\nadd x const 1e", ScriptReason::BadNumeral),
+    ];
+    for (input, reason) in cases {
+        expect_refusal(&rt, rt.alloc(), input, ScriptFault { line: 2, reason });
+    }
+}
+
+#[test]
+fn refuses_settings(rt: HostRuntime) {
+    let cases: [&[u8]; 10] = [
+        b"%%\nrender w",
+        b"%%\nrender d=1",
+        b"%%\nheight w=1025",
+        b"%%\nrender w=1 w=1",
+        b"%%\nrender x0=a",
+        b"%%\nmesh x0=0 x1=0",
+        b"%%\nmesh nx=513",
+        b"%%\nmesh nx=512 ny=512 nz=65",
+        b"%%\nheight nx=3",
+        b"%%\nrender x0=1 x1=0",
+    ];
+    for input in cases {
+        let reason = ScriptReason::BadSetting;
+        expect_refusal(&rt, rt.alloc(), input, ScriptFault { line: 2, reason });
+    }
+}
+
 // The model of a text, and then what it says after each of some edits, each on its line.
 fn expect_edits(
     rt: &impl Abort,

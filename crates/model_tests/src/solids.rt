@@ -3,7 +3,12 @@ use std::alloc::{AllocError, Global};
 use std::process::Abort;
 use std::test::Fail;
 
-// What is judged of a text, and whether it is read.
+const TOO_MANY: SolidFault = SolidFault {
+    line: 0,
+    reason: SolidReason::TooMany,
+};
+
+// What is judged of a text, which is read unless it is refused for more than its length.
 fn expect(rt: &impl Abort, alloc: Global, text: &[u8], judgement: Result<u32, SolidFault>) {
     assert!(rt; text.len() < 1 << 32);
     assert_eq!(rt; judge(text), judgement, "{text:?}");
@@ -13,8 +18,43 @@ fn expect(rt: &impl Abort, alloc: Global, text: &[u8], judgement: Result<u32, So
     };
     assert_eq!(rt; short, judgement.err(), "{text:?}");
     match read_solid(alloc, text) {
-        Ok(_) => assert!(rt; short.is_none(), "{text:?}"),
+        Ok(_) => assert!(rt; short.is_none_or(|fault| fault == TOO_MANY), "{text:?}"),
         Err(fault) => assert_eq!(rt; short, Some(fault), "{text:?}"),
+    }
+}
+
+#[test]
+fn tells_the_first_bad_token(rt: HostRuntime) {
+    let cases: [(&[u8], u32, SolidReason); 26] = [
+        (b"cone 1", 1, SolidReason::UnknownForm),
+        (b"Ball 1", 1, SolidReason::UnknownForm),
+        (b"# a\n\nball\0 1", 3, SolidReason::UnknownForm),
+        (b"\xff\xfe", 1, SolidReason::UnknownForm),
+        (b"ball x", 1, SolidReason::BadNumeral),
+        (b"ball #5", 1, SolidReason::BadNumeral),
+        (b"move 1 2 cone ball 1", 1, SolidReason::BadNumeral),
+        (b"scale ball 1", 1, SolidReason::BadNumeral),
+        (b"ball\n-\nball 0", 2, SolidReason::BadNumeral),
+        (b"ball -1", 1, SolidReason::NotPositive),
+        (b"box 1 1 0", 1, SolidReason::NotPositive),
+        (b"ball 0.0000000001", 1, SolidReason::NotPositive),
+        (b"scale 0 ball 1", 1, SolidReason::NotPositive),
+        (b"cylinder 1\n-1e-9 x", 2, SolidReason::NotPositive),
+        (b"union", 1, SolidReason::Unended),
+        (b"union ball 1", 1, SolidReason::Unended),
+        (b"move 0 0 0", 1, SolidReason::Unended),
+        (b"union\nball 1\nball", 3, SolidReason::Unended),
+        (b"union\nball 1\nball\n# x\n\n", 3, SolidReason::Unended),
+        (b"ball 1 # note", 1, SolidReason::Trailing),
+        (b"ball 1 ball 2", 1, SolidReason::Trailing),
+        (b"ball 1\n\n\ncone", 4, SolidReason::Trailing),
+        (b"intersect ball 1 ball 1\nball x", 2, SolidReason::Trailing),
+        (b"", 0, SolidReason::Empty),
+        (b"# a\n \t\r\n", 0, SolidReason::Empty),
+        (b"\n\n", 0, SolidReason::Empty),
+    ];
+    for (text, line, reason) in cases {
+        expect(&rt, rt.alloc(), text, Err(SolidFault { line, reason }));
     }
 }
 
@@ -97,6 +137,58 @@ fn forms_stand_within_255_others(rt: HostRuntime) -> Result<(), Fail> {
         alloc,
         moves(alloc, 256, b"cone 1")?.as_slice(),
         Err(SolidFault { line, reason }),
+    );
+    Ok(())
+}
+
+// Adds the text of so many balls, united in halves.
+fn push_balls(text: &mut Vec<u8>, count: u32) -> Result<(), AllocError> {
+    if count < 2 {
+        return text.extend_from_slice(b"ball 0.5\n");
+    }
+    text.extend_from_slice(b"union\n")?;
+    push_balls(text, count / 2)?;
+    push_balls(text, count - count / 2)
+}
+
+// The text of 7,281 balls that are united, but for the first two forms, and what follows them.
+fn balls(alloc: Global, start: &[u8], last: &[u8]) -> Result<Vec<u8>, AllocError> {
+    let mut text = Vec::new(alloc);
+    text.extend_from_slice(start)?;
+    push_balls(&mut text, 3640)?;
+    push_balls(&mut text, 3641)?;
+    text.extend_from_slice(last)?;
+    Ok(text)
+}
+
+#[test]
+fn clauses_are_at_most_65535(rt: HostRuntime) -> Result<(), Fail> {
+    let alloc = rt.alloc();
+    expect(
+        &rt,
+        alloc,
+        balls(alloc, b"union\n", b"")?.as_slice(),
+        Ok(65_531),
+    );
+    expect(
+        &rt,
+        alloc,
+        balls(alloc, b"scale 1 union\n", b"")?.as_slice(),
+        Ok(65_535),
+    );
+    expect(
+        &rt,
+        alloc,
+        balls(alloc, b"scale 1 difference\n", b"")?.as_slice(),
+        Err(TOO_MANY),
+    );
+    let (line, reason) = (14_562, SolidReason::Trailing);
+    let fault = SolidFault { line, reason };
+    expect(
+        &rt,
+        alloc,
+        balls(alloc, b"scale 1 difference\n", b"1")?.as_slice(),
+        Err(fault),
     );
     Ok(())
 }
