@@ -1,5 +1,5 @@
 // Pieces of the text of a mesh, made in one block.
-ghost use Rattle.std.specs.Prelude.{◌≡◌, ◌+◌, ◌*◌, ◌≤◌, ◌^◌, ◌++◌, [], All, IfOk, length};
+ghost use Rattle.std.specs.Prelude.{◌≡◌, ◌+◌, ◌*◌, ◌≤◌, ◌^◌, ◌++◌, [], All, IfOk, OnErr, OnOk, length};
 ghost use Rattle.std.specs.List.{flat_map};
 ghost use Rattle.tetra_mesh.specs.Places.{IsPlaced};
 ghost use Rattle.ply_writer.specs.Ply.{face_line, ply_header, vertex_line};
@@ -20,7 +20,7 @@ pub const BLOCK: usize = 949 * VERTEX_LINE;
 /// Contracts see the view, the piece, and how many bytes have room in front of it.
 #[derive(Debug, Drop)]
 pub struct PlyBlock {
-    places: GridPlaces,
+    places: Box<GridPlaces>,
     texts: PointTexts,
     triples: Triples,
     // The piece stands at its end, from `start` on.
@@ -35,12 +35,12 @@ impl Model for PlyBlock {
     ghost Value = { Piece };
 
     ghost view = { λ b. record {
-      view = b.places;
+      view = b.places.value;
       room = b.start;
       bytes = drop b.start b.block.items;
     } };
 
-    ghost invariant = { λ b. IsBlock b.places b.texts b.triples b.block.items b.start };
+    ghost invariant = { λ b. IsBlock b.places.value b.texts b.triples b.block.items b.start };
 }
 
 impl PlyBlock {
@@ -51,7 +51,7 @@ impl PlyBlock {
         ensures room { IfOk result (λ b. b.room ≡ BLOCK) }
         ensures none { IfOk result (λ b. b.bytes ≡ []) }
     {
-        let places = GridPlaces::new(view);
+        let places = Box::new(alloc, GridPlaces::new(view))?;
         let texts = PointTexts::new(alloc, view)?;
         let triples = Triples::new(alloc)?;
         let block = vec![in alloc; 0; BLOCK]?;
@@ -62,6 +62,33 @@ impl PlyBlock {
             block,
             start: BLOCK,
         })
+    }
+
+    /// Begins another text, over another view perhaps, in the same memory: the piece is given up.
+    /// AllocError: there is no memory for the texts of the places of that view's points, and the block is
+    /// as it was.
+    pub fn restart(&mut self, alloc: Global, view: &View) -> Result<(), AllocError>
+        ensures view { OnOk result (self.new.view ≡ view.now) }
+        ensures room { OnOk result (self.new.room ≡ BLOCK) }
+        ensures none { OnOk result (self.new.bytes ≡ []) }
+        ensures err { OnErr result (self.new ≡ self.old) }
+    {
+        if !self.places.serves(view) {
+            self.take_view(alloc, view)?;
+        }
+        self.clear();
+        Ok(())
+    }
+
+    // Makes the places and their texts anew for another view. AllocError: there is no memory for them,
+    // and the block is as it was.
+    fn take_view(&mut self, alloc: Global, view: &View) -> Result<(), AllocError>
+        ensures view { OnOk result (self.new.view ≡ view.now) }
+        ensures err { OnErr result (self.new ≡ self.old) }
+    {
+        self.texts = PointTexts::new(alloc, view)?;
+        *self.places = GridPlaces::new(view);
+        Ok(())
     }
 
     /// The piece.

@@ -1,5 +1,5 @@
 -- The points of a view's grid are few along each axis.
-use Rattle.std.proofs.Common.{ℕ, ◌≤◌}
+use Rattle.std.proofs.Common.{◌≤◌}
 use Rattle.view_places.specs.declared.lattice.Axis.{Axis}
 use Rattle.view_places.specs.declared.lattice.Axis.TheVariants as axes
 use Rattle.view_places.specs.declared.lattice.Lattice.TheVariants.{Grid}

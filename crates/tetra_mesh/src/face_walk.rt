@@ -8,6 +8,7 @@ use crate::Face;
 use crate::counts::{count_faces, count_vertices};
 use crate::faces::{FACES, push_faces};
 use crate::numbering::Numbering;
+use crate::shape_room::ShapeRoom;
 use crate::shapes::Shapes;
 use crate::sided_cell::SidedCell;
 use arrayvec::ArrayVec;
@@ -46,14 +47,35 @@ impl FaceWalk {
         requires { HaveCells n sided.items }
         ensures { IfOk result (λ walk. walk ≡ record { n = n; sided = sided.items; made = 0 }) }
     {
+        FaceWalk::over(alloc, n, sided, ShapeRoom::new(alloc)?)
+    }
+
+    /// The same with shapes that are made already. AllocError: there is no memory for the numbers of
+    /// the vertices or for other shapes, and all shapes are given up.
+    pub fn over(
+        alloc: Global,
+        n: GridSize,
+        sided: Vec<SidedCell>,
+        room: ShapeRoom,
+    ) -> Result<FaceWalk, AllocError>
+        requires { HaveCells n sided.items }
+        ensures { IfOk result (λ walk. walk ≡ record { n = n; sided = sided.items; made = 0 }) }
+    {
         let numbering = Numbering::new(alloc, n)?;
-        let shapes = Shapes::new(alloc, &sided)?;
+        let shapes = room.shapes.with(alloc, &sided)?;
         Ok(FaceWalk {
             sided,
             made: 0,
             numbering,
             shapes,
         })
+    }
+
+    /// The shapes that are made by then, for other grids.
+    pub fn into_room(self) -> ShapeRoom {
+        ShapeRoom {
+            shapes: self.shapes,
+        }
     }
 
     /// The mixed cells.

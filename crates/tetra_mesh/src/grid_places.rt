@@ -1,5 +1,5 @@
 // The places of the points of a grid.
-ghost use Rattle.std.specs.Prelude.{◌≡◌, ◌≤◌, IfNone, IfSome};
+ghost use Rattle.std.specs.Prelude.{◌≡◌, ◌≤◌, ◌↔◌, IfNone, IfSome, IsTrue};
 ghost use Rattle.fixed_ops.specs.Raw.{IsRaw};
 ghost use Rattle.view_places.specs.declared.lattice.Lattice.TheVariants.{Grid};
 ghost use Rattle.view_places.specs.Places.{sample_place, steps_of};
@@ -47,6 +47,13 @@ impl GridPlaces {
             y: table(view, Axis::Y),
             z: table(view, Axis::Z),
         }
+    }
+
+    /// Whether they are those of the points of this view's grid.
+    pub fn serves(&self, view: &View) -> bool
+        ensures { IsTrue result ↔ self.now ≡ view.now }
+    {
+        self.view == *view
     }
 
     /// The raw place of a vertex along an axis, as `vertex_raw` gives it.

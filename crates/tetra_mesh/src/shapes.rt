@@ -20,15 +20,23 @@ pub(crate) struct Shapes {
 }
 
 impl Shapes {
-    // Those of these cells. AllocError: there is no memory for them.
-    pub(crate) fn new(alloc: Global, sided: &[SidedCell]) -> Result<Shapes, AllocError>
-        ensures { IfOk result (AreShapes sided.now) }
+    // None of them. AllocError: there is no memory for the tables that all need.
+    pub(crate) fn none(alloc: Global) -> Result<Shapes, AllocError>
+        ensures { IfOk result AreMade }
     {
-        let mut shapes = Shapes {
+        Ok(Shapes {
             places: vec![in alloc; 0; 256]?,
             shapes: Vec::new(alloc),
             ranks: ranks(alloc)?,
-        };
+        })
+    }
+
+    // Those of these cells too. AllocError: there is no memory for them, and all are given up.
+    pub(crate) fn with(self, alloc: Global, sided: &[SidedCell]) -> Result<Shapes, AllocError>
+        requires { AreMade self }
+        ensures { IfOk result (AreShapes sided.now) }
+    {
+        let mut shapes = self;
         let mut triples = Vec::new(alloc);
         for cell in sided {
             shapes.make(cell.signs, &mut triples)?;

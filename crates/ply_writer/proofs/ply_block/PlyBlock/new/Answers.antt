@@ -6,6 +6,6 @@ pub invariant_of-result : goal.invariant_of-result
 invariant_of-result c = record {
   full = omega (arith, c.in_ok-block.ensures.len);
   within = omega arith;
-  points = rw c.new-places.ensures c.in_ok-texts.ensures;
+  points = rw (c.in_ok-places.ensures.ok, c.new.ensures) c.in_ok-texts.ensures;
   written = c.in_ok-triples.ensures;
 }

@@ -10,4 +10,4 @@ pub returns-clause-more : goal.returns-clause-more
 returns-clause-more c =
     let kept : length c.vertex_lines-self-inside.new.block ≡ c.self.inside.block.len = grind arith in
     rw (take_at c.vertex_lines-self-inside.new.block _ c.self.inside.block.len kept, c.vertex_lines-self-inside.ensures.lines, c.deref_mut.ensures.value, ← c.self.view_is)
-    (omega (arith, length-append (flat_map (vertex_line c.self.inside.places) c.args.vertices.now) (drop c.self.inside.start c.self.inside.block.items), vertex_lines_long c.self.inside.places c.args.vertices.now))
+    (omega (arith, length-append (flat_map (vertex_line c.deref.result.now) c.args.vertices.now) (drop c.self.inside.start c.self.inside.block.items), vertex_lines_long c.deref.result.now c.args.vertices.now))

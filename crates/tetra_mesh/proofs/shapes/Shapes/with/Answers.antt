@@ -5,13 +5,12 @@ use Rattle.std.proofs.lemmas.List.{take_all}
 use Rattle.std.proofs.lemmas.List.Elements.{All-more, All-same, All-weaker}
 use Rattle.tetra_mesh.specs.Shapes.{IsMade}
 use Rattle.tetra_mesh.specs.declared.sided_cell.SidedCell.{SidedCell}
-use Rattle.tetra_mesh.proofs.ShapeLaws.{none_made}
 use Rattle.tetra_mesh.proofs.SideLaws.{no_sides}
-use Rattle.tetra_mesh.proofs.shapes.Shapes.new.Goals as goal
+use Rattle.tetra_mesh.proofs.shapes.Shapes.with.Goals as goal
 
 pub loop-cell-init : goal.loop-cell-init
 loop-cell-init c = record {
-  made = none_made _ (c.in_ok-vec.ensures.items_if_clones_equal (λ y h. h)) c.in_ok-ranks.ensures;
+  made = c.requires;
   each = λ k d less. absurd (omega (arith, less));
 }
 

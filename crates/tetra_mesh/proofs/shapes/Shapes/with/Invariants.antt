@@ -1,7 +1,7 @@
 use Rattle.std.specs.Prelude.{All, take}
 use Rattle.tetra_mesh.specs.Shapes.{AreMade, IsMade}
 use Rattle.tetra_mesh.specs.declared.sided_cell.SidedCell.{SidedCell}
-use Rattle.tetra_mesh.proofs.shapes.Shapes.new.Given as goal
+use Rattle.tetra_mesh.proofs.shapes.Shapes.with.Given as goal
 
 abbrev pub invariant-loop-cell : goal.invariant-loop-cell
 invariant-loop-cell l = record {

@@ -1,0 +1,65 @@
+-- The test of whether two views are one.
+use Rattle.std.proofs.Common.{◌≡◌, Bool, true, false, ◌&&◌, refl}
+use Rattle.std.specs.Ordering.{int_eq}
+use Rattle.std.specs.Prelude.{◌==◌}
+use Rattle.std.proofs.lemmas.Bool.{false≢true}
+use Rattle.std.proofs.lemmas.Bool.Decides.{Decides-eqb, Decides-int_eq}
+use Rattle.view_places.specs.Window.{Window}
+
+-- each field is tested
+abbrev pub same_fields : Window → Window → Bool
+same_fields a b =
+    int_eq a.x0 b.x0 && (int_eq a.x1 b.x1 && (int_eq a.y0 b.y0 && (int_eq a.y1 b.y1
+    && (int_eq a.z0 b.z0 && (int_eq a.z1 b.z1 && (int_eq a.z b.z
+    && (a.w == b.w && (a.h == b.h && (a.d == b.d
+    && (a.nx == b.nx && (a.ny == b.ny && a.nz == b.nz)))))))))))
+
+both : (x y : Bool) → x && y ≡ true → (x ≡ true) × (y ≡ true)
+both true y h = (refl, h)
+both false y h = absurd (false≢true h)
+
+-- views with the same fields are one
+pub one_view : (a b : Window) → same_fields a b ≡ true → a ≡ b
+one_view a b e =
+    let x0 = both _ _ e in
+    let x1 = both _ _ x0.1 in
+    let y0 = both _ _ x1.1 in
+    let y1 = both _ _ y0.1 in
+    let z0 = both _ _ y1.1 in
+    let z1 = both _ _ z0.1 in
+    let z = both _ _ z1.1 in
+    let w = both _ _ z.1 in
+    let h = both _ _ w.1 in
+    let d = both _ _ h.1 in
+    let nx = both _ _ d.1 in
+    let ny = both _ _ nx.1 in
+    λ k. record {
+      x0 = (Decides-int_eq a.x0 b.x0).0 x0.0 k;
+      x1 = (Decides-int_eq a.x1 b.x1).0 x1.0 k;
+      y0 = (Decides-int_eq a.y0 b.y0).0 y0.0 k;
+      y1 = (Decides-int_eq a.y1 b.y1).0 y1.0 k;
+      z0 = (Decides-int_eq a.z0 b.z0).0 z0.0 k;
+      z1 = (Decides-int_eq a.z1 b.z1).0 z1.0 k;
+      z = (Decides-int_eq a.z b.z).0 z.0 k;
+      w = (Decides-eqb a.w b.w).0 w.0 k;
+      h = (Decides-eqb a.h b.h).0 h.0 k;
+      d = (Decides-eqb a.d b.d).0 d.0 k;
+      nx = (Decides-eqb a.nx b.nx).0 nx.0 k;
+      ny = (Decides-eqb a.ny b.ny).0 ny.0 k;
+      nz = (Decides-eqb a.nz b.nz).0 ny.1 k;
+    }
+
+and_then : (x y : Bool) → x ≡ true → y ≡ true → x && y ≡ true
+and_then true y h own = own
+and_then false y h own = h
+
+-- one view has the same fields
+pub same_view : (a : Window) → same_fields a a ≡ true
+same_view a =
+    and_then _ _ ((Decides-int_eq a.x0 a.x0).1 refl) (and_then _ _ ((Decides-int_eq a.x1 a.x1).1 refl)
+    (and_then _ _ ((Decides-int_eq a.y0 a.y0).1 refl) (and_then _ _ ((Decides-int_eq a.y1 a.y1).1 refl)
+    (and_then _ _ ((Decides-int_eq a.z0 a.z0).1 refl) (and_then _ _ ((Decides-int_eq a.z1 a.z1).1 refl)
+    (and_then _ _ ((Decides-int_eq a.z a.z).1 refl)
+    (and_then _ _ ((Decides-eqb a.w a.w).1 refl) (and_then _ _ ((Decides-eqb a.h a.h).1 refl)
+    (and_then _ _ ((Decides-eqb a.d a.d).1 refl) (and_then _ _ ((Decides-eqb a.nx a.nx).1 refl)
+    (and_then _ _ ((Decides-eqb a.ny a.ny).1 refl) ((Decides-eqb a.nz a.nz).1 refl))))))))))))
