@@ -15,6 +15,7 @@ ghost use Rattle.edit_session.specs.Sessions.{after_edit, after_frame, after_ref
 
 use clause_reader::write_model;
 use fixed_ops::Tally;
+use grid_text::TextRoom;
 use live_clauses::RootRoom;
 use model_frames::{Frame, frames_add_up, image_text, mesh_text_in, redraw_image, redraw_mesh};
 use oct_descent::OctTree;
@@ -40,6 +41,8 @@ pub struct Session {
     mesh: Option<OctTree>,
     // Memory for root lists.
     room: RootRoom,
+    // Memory for the texts of meshes, once one was made.
+    texts: Option<TextRoom>,
 }
 
 impl std::marker::Model for Session {
@@ -70,6 +73,7 @@ impl Session {
             spans: 0,
             mesh: None,
             room: RootRoom::new(alloc),
+            texts: None,
         }
     }
 
@@ -310,11 +314,12 @@ impl Session {
     /// Makes the text of the last mesh in a buffer, in place of what stood there, and nothing where no
     /// mesh stands. It is that of the model that stood when the mesh was drawn, whatever was edited
     /// since. AllocError: memory was refused, and what stands in the buffer is of no use.
-    pub fn mesh_text_in(&self, buffer: &mut Vec<u8>) -> Result<(), AllocError>
-        ensures { OnOk result (buffer.new.items ≡ meshed_text self.now.mesh) }
+    pub fn mesh_text_in(&mut self, buffer: &mut Vec<u8>) -> Result<(), AllocError>
+        ensures text { OnOk result (buffer.new.items ≡ meshed_text self.old.mesh) }
+        ensures kept { self.new ≡ self.old }
     {
         match &self.mesh {
-            Some(tree) => mesh_text_in(self.alloc, tree, buffer),
+            Some(tree) => mesh_text_in(self.alloc, tree, &mut self.texts, buffer),
             None => {
                 buffer.clear();
                 Ok(())
@@ -323,8 +328,9 @@ impl Session {
     }
 
     // The text of the last mesh, and none where none stands. AllocError: memory was refused.
-    fn last_mesh(&self) -> Result<Vec<u8>, AllocError>
-        ensures { IfOk result (λ text. text.items ≡ meshed_text self.now.mesh) }
+    fn last_mesh(&mut self) -> Result<Vec<u8>, AllocError>
+        ensures text { IfOk result (λ text. text.items ≡ meshed_text self.old.mesh) }
+        ensures kept { self.new ≡ self.old }
     {
         let mut text = Vec::new(self.alloc);
         self.mesh_text_in(&mut text)?;

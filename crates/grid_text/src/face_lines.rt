@@ -6,10 +6,11 @@ ghost use Rattle.tetra_mesh.specs.Sides.{OfCells};
 
 use arrayvec::ArrayVec;
 use ply_writer::{BLOCK, PlyBlock};
-use tetra_mesh::FaceWalk;
+use tetra_mesh::{FACES, Face, FaceWalk};
 
-/// Makes the lines of the faces of the next cells, as many as a block has room for.
-pub fn put_faces(walk: &mut FaceWalk, block: &mut PlyBlock)
+/// Makes the lines of the faces of the next cells, as many as a block has room for. `faces` is memory
+/// for these faces.
+pub fn put_faces(walk: &mut FaceWalk, faces: &mut ArrayVec<Face, FACES>, block: &mut PlyBlock)
     requires room { block.old.room ≡ BLOCK }
     requires none { block.old.bytes ≡ [] }
     ensures n { walk.new.n ≡ walk.old.n }
@@ -20,7 +21,7 @@ pub fn put_faces(walk: &mut FaceWalk, block: &mut PlyBlock)
         ≡ block.new.bytes ++ flat_map face_line (all_faces cells (drop walk.new.made cells))) }
     ensures full { walk.new.made < length walk.new.sided → 0 < length block.new.bytes }
 {
-    let mut faces = ArrayVec::new();
-    walk.fill(&mut faces);
+    faces.clear();
+    walk.fill(faces);
     block.put_faces(faces.as_slice());
 }

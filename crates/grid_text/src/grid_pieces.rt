@@ -4,13 +4,15 @@ ghost use Rattle.grid_text.specs.Texts.{text_of};
 
 use crate::face_lines::put_faces;
 use crate::sided_cells::sided_cells;
+use crate::text_room::TextRoom;
 use crate::vertex_lines::put_vertices;
+use arrayvec::ArrayVec;
 use kuhn_cells::mixed_cells_suffice;
 use oct_descent::{CellGrid, grids_are_bordered};
 use ply_writer::{PlyBlock, room_for};
 use std::alloc::{AllocError, Global};
 use std::marker::Model;
-use tetra_mesh::{FaceWalk, cells_make_meshes};
+use tetra_mesh::{FACES, Face, FaceWalk, cells_make_meshes};
 
 /// The text of the mesh of a grid, made piece by piece in one block. Of a cell its place and sides
 /// stand in memory, and no list of vertices or faces. Contracts see the piece that was made last and
@@ -21,6 +23,8 @@ pub struct GridPieces<'a> {
     walk: FaceWalk,
     // Of how many cells the lines of the vertices are made.
     lined: usize,
+    // Memory for the faces of the next cells.
+    faces: Box<ArrayVec<Face, FACES>>,
     block: PlyBlock,
 }
 
@@ -45,19 +49,46 @@ impl<'a> GridPieces<'a> {
     pub fn new(alloc: Global, grid: &'a CellGrid) -> Result<GridPieces<'a>, AllocError>
         ensures { IfOk result (λ p. p.piece ++ p.rest ≡ text_of grid.now.view grid.now.list) }
     {
+        GridPieces::over(alloc, grid, TextRoom::new(alloc, grid.view())?)
+    }
+
+    // The same in memory that there is already. AllocError: there is not enough of it, and it is given
+    // up.
+    pub(crate) fn over(
+        alloc: Global,
+        grid: &'a CellGrid,
+        room: TextRoom,
+    ) -> Result<GridPieces<'a>, AllocError>
+        ensures { IfOk result (λ p. p.piece ++ p.rest ≡ text_of grid.now.view grid.now.list) }
+    {
         grids_are_bordered();
         mixed_cells_suffice();
         cells_make_meshes();
         let sided = sided_cells(alloc, grid)?;
-        let walk = FaceWalk::new(alloc, grid.n(), sided)?;
-        let mut block = PlyBlock::new(alloc, grid.view())?;
+        let TextRoom {
+            shapes,
+            faces,
+            mut block,
+        } = room;
+        let walk = FaceWalk::over(alloc, grid.n(), sided, shapes)?;
+        block.restart(alloc, grid.view())?;
         block.put_header(walk.vertex_count() as u32, walk.face_count() as u32);
         Ok(GridPieces {
             grid,
             walk,
             lined: 0,
+            faces,
             block,
         })
+    }
+
+    // Its memory, for other texts.
+    pub(crate) fn into_room(self) -> TextRoom {
+        TextRoom {
+            shapes: self.walk.into_room(),
+            faces: self.faces,
+            block: self.block,
+        }
     }
 
     // A bound on the bytes of the whole text, near to them.
@@ -90,7 +121,7 @@ impl<'a> GridPieces<'a> {
         if !self.block.piece().is_empty() {
             return true;
         }
-        put_faces(&mut self.walk, &mut self.block);
+        put_faces(&mut self.walk, &mut self.faces, &mut self.block);
         !self.block.piece().is_empty()
     }
 }

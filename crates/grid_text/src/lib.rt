@@ -5,7 +5,9 @@ mod face_lines;
 mod grid_pieces;
 mod sided_cells;
 mod text;
+mod text_room;
 mod vertex_lines;
 
 pub use grid_pieces::GridPieces;
 pub use text::{grid_text, grid_text_in};
+pub use text_room::TextRoom;

@@ -2,7 +2,7 @@
 ghost use Rattle.std.specs.Prelude.{◌≡◌, IfOk, OnOk};
 ghost use Rattle.grid_text.specs.Texts.{text_of};
 
-use crate::GridPieces;
+use crate::{GridPieces, TextRoom};
 use oct_descent::CellGrid;
 use std::alloc::{AllocError, Global};
 
@@ -12,22 +12,33 @@ pub fn grid_text(alloc: Global, grid: &CellGrid) -> Result<Vec<u8>, AllocError>
     ensures { IfOk result (λ text. text.items ≡ text_of grid.now.view grid.now.list) }
 {
     let mut text = Vec::new(alloc);
-    grid_text_in(alloc, grid, &mut text)?;
+    grid_text_in(alloc, grid, &mut None, &mut text)?;
     Ok(text)
 }
 
 /// Makes the text of the mesh of a grid in a buffer, in place of what stood there: a buffer that had
-/// room for it takes no memory of its own. AllocError: there is no memory for the text, and what stands
-/// in the buffer is of no use.
-pub fn grid_text_in(alloc: Global, grid: &CellGrid, buffer: &mut Vec<u8>) -> Result<(), AllocError>
+/// room for it takes no memory of its own. `room` is memory for making it, which is made where there is
+/// none. AllocError: there is no memory for the text, what stands in the buffer is of no use, and the
+/// other memory is given up.
+pub fn grid_text_in(
+    alloc: Global,
+    grid: &CellGrid,
+    room: &mut Option<TextRoom>,
+    buffer: &mut Vec<u8>,
+) -> Result<(), AllocError>
     ensures { OnOk result (buffer.new.items ≡ text_of grid.now.view grid.now.list) }
 {
-    let mut pieces = GridPieces::new(alloc, grid)?;
+    let memory = match room.take() {
+        Some(memory) => memory,
+        None => TextRoom::new(alloc, grid.view())?,
+    };
+    let mut pieces = GridPieces::over(alloc, grid, memory)?;
     buffer.clear();
     buffer.reserve(pieces.room())?;
     buffer.extend_from_slice(pieces.piece())?;
     while pieces.advance() {
         buffer.extend_from_slice(pieces.piece())?;
     }
+    *room = Some(pieces.into_room());
     Ok(())
 }

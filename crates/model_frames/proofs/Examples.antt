@@ -1,5 +1,5 @@
 -- The definitions of frames, computed on models and views that were worked out by hand.
-use Rattle.std.proofs.Common.{◌≡◌, ℕ, pos, negsuc, List, [], ◌∷◌, ◌++◌, map, Option, Some, None, Result, Ok, Err, refl, arith}
+use Rattle.std.proofs.Common.{◌≡◌, ℕ, pos, negsuc, List, [], ◌∷◌, ◌++◌, map, Some, None, Result, Ok, Err, refl, arith}
 use Rattle.std.specs.Prelude.{codes, replicate, take}
 use Rattle.std.specs.Fmt.{digits}
 use Rattle.box_chains.specs.Chains.{chain_within}

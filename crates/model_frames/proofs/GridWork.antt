@@ -1,6 +1,6 @@
 -- What looking into the boxes of a grid takes.
 use Rattle.std.proofs.Common.{◌≡◌, ℕ, ◌+◌, ◌*◌, ◌≤◌, List, length, max, Ok, Err, ap, refl, subst, sym, ◌∙◌, arith, mul-le-mul_left}
-use Rattle.std.specs.Prelude.{IfOk, OnOk, Option, Some, None, Result}
+use Rattle.std.specs.Prelude.{IfOk, OnOk, None, Result}
 use Rattle.box_chains.specs.Tallied.{CountsAtMost, work_of}
 use Rattle.fixed_ops.specs.Counts.{Counts, RisesWithin, risen}
 use Rattle.fixed_ops.specs.Points.{Point}

@@ -16,7 +16,7 @@ use Rattle.view_places.specs.Window.{IsWindow, Window}
 use Rattle.model_frames.specs.Images.{same_view}
 use Rattle.model_frames.specs.Meshes.{grid_before, plain_grid}
 use Rattle.model_frames.specs.Work.{CountsWithin, CountsWork, PointsRiseAtMost, grid_work, mesh_work_after}
-use Rattle.model_frames.proofs.Frames.{on_ok, plain-within}
+use Rattle.model_frames.proofs.Frames.{plain-within}
 use Rattle.model_frames.proofs.GridWork.{between, mesh-done, mesh-few}
 use Rattle.model_frames.proofs.LeastWork.{after-long}
 

@@ -11,7 +11,7 @@ ghost use Rattle.model_frames.specs.Work.{CountsWithin, CountsWork, PointsRiseAt
 use crate::redrawn::is_same;
 use crate::render::window_holds;
 use fixed_ops::{Tally, tallies_add_up};
-use grid_text::grid_text_in;
+use grid_text::{TextRoom, grid_text_in};
 use live_clauses::{RootRoom, Tape};
 use oct_descent::{OctTree, cells, grid_work_is_bounded, meshes_after_add_up, recells};
 use solid_model::Model;
@@ -50,12 +50,18 @@ pub fn redraw_mesh(
     look_after(alloc, &list, view, before, tally)
 }
 
-/// Makes the text of the mesh of a grid in a buffer, in place of what stood there. AllocError: there is
-/// no memory for it, and what stands in the buffer is of no use.
-pub fn mesh_text_in(alloc: Global, tree: &OctTree, buffer: &mut Vec<u8>) -> Result<(), AllocError>
+/// Makes the text of the mesh of a grid in a buffer, in place of what stood there. `room` is memory for
+/// making it, which is made where there is none. AllocError: there is no memory for the text, what stands
+/// in the buffer is of no use, and the other memory is given up.
+pub fn mesh_text_in(
+    alloc: Global,
+    tree: &OctTree,
+    room: &mut Option<TextRoom>,
+    buffer: &mut Vec<u8>,
+) -> Result<(), AllocError>
     ensures { OnOk result (buffer.new.items ≡ meshed_text (Some tree.now)) }
 {
-    grid_text_in(alloc, tree.grid(), buffer)
+    grid_text_in(alloc, tree.grid(), room, buffer)
 }
 
 // The root list of a model: that of a mesh before, where it is equal.

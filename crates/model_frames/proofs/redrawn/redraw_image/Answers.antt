@@ -1,6 +1,6 @@
 use Rattle.std.proofs.Common.{length, subst}
 use Rattle.live_clauses.specs.Steps.{IsTape}
-use Rattle.model_frames.specs.Images.{drawn_text, image_of, plain_points}
+use Rattle.model_frames.specs.Images.{plain_points}
 use Rattle.model_frames.specs.Work.{image_work}
 use Rattle.model_frames.proofs.WorkLaws.{within-none}
 use Rattle.model_frames.proofs.Frames.{after-few, after-fits, image_counted, image_within, on_ok, plain-within, text-drawn}
