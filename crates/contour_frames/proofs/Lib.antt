@@ -1,3 +1,4 @@
 mod Closed
 mod ContourWork
+mod Examples
 mod LeastWork

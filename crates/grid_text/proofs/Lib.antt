@@ -1,1 +1,2 @@
 mod CellLaws
+mod Examples
