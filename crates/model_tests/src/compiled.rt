@@ -1,6 +1,8 @@
 // Solids that are compiled, and their texts.
+use crate::starts::Start;
+use crate::walks::{Deed, expect};
 use fixed_ops::{Fx, Op};
-use solid_lang::{Solid, compile, solid_text};
+use solid_lang::{Solid, solid_text};
 use std::test::Fail;
 
 // The raw number of 1.
@@ -46,34 +48,20 @@ fn a_cut_box_is_compiled(rt: HostRuntime) -> Result<(), Fail> {
     let one = Fx::from_raw(ONE);
     let half = Fx::from_raw(ONE / 2);
     let none = Fx::from_raw(0);
-    let alloc = rt.alloc();
-    let ball = Box::new(alloc, Solid::Ball(Fx::from_raw(ONE / 4)))?;
-    let moved = Box::new(alloc, Solid::Move(half, none, none, ball))?;
-    let block = Box::new(alloc, Solid::Block(one, one, one))?;
-    let model = compile(alloc, &Solid::Difference(block, moved))?;
-    let cases: [(u32, &[u8], Op, u32, u32, Fx); 12] = [
-        (0, b"_0", Op::X, 0, 0, none),
-        (2, b"_2", Op::Z, 0, 0, none),
-        (4, b"_4", Op::Const, 0, 0, one),
-        (8, b"_8", Op::Sub, 6, 7, none),
-        (9, b"_9", Op::Max, 5, 8, none),
-        (13, b"_13", Op::Max, 9, 12, none),
-        (14, b"_14", Op::Const, 0, 0, half),
-        (15, b"_15", Op::Sub, 0, 14, none),
-        (19, b"_19", Op::Sub, 2, 18, none),
-        (27, b"_27", Op::Sub, 24, 26, none),
-        (28, b"_28", Op::Neg, 27, 0, none),
-        (29, b"_29", Op::Max, 13, 28, none),
+    let deeds = [
+        Deed::Len(30),
+        Deed::Clause(0, b"_0", Op::X, (0, 0), none),
+        Deed::Clause(2, b"_2", Op::Z, (0, 0), none),
+        Deed::Clause(4, b"_4", Op::Const, (0, 0), one),
+        Deed::Clause(8, b"_8", Op::Sub, (6, 7), none),
+        Deed::Clause(9, b"_9", Op::Max, (5, 8), none),
+        Deed::Clause(13, b"_13", Op::Max, (9, 12), none),
+        Deed::Clause(14, b"_14", Op::Const, (0, 0), half),
+        Deed::Clause(15, b"_15", Op::Sub, (0, 14), none),
+        Deed::Clause(19, b"_19", Op::Sub, (2, 18), none),
+        Deed::Clause(27, b"_27", Op::Sub, (24, 26), none),
+        Deed::Clause(28, b"_28", Op::Neg, (27, 0), none),
+        Deed::Clause(29, b"_29", Op::Max, (13, 28), none),
     ];
-    assert_eq!(rt; model.len(), 30);
-    for (at, name, op, a, b, value) in cases {
-        assert!(rt; at < model.len());
-        let clause = model.clause(at);
-        assert_eq!(rt; clause.name, name);
-        assert_eq!(rt; clause.op, op, "at {at}");
-        assert_eq!(rt; clause.a, a, "at {at}");
-        assert_eq!(rt; clause.b, b, "at {at}");
-        assert!(rt; clause.value == value, "at {at}");
-    }
-    Ok(())
+    expect(&rt, rt.alloc(), Start::CutBox, &deeds)
 }

@@ -3,14 +3,24 @@
 #![tactic(auto)]
 
 #[cfg(test)]
+mod changes;
+#[cfg(test)]
 mod compiled;
 #[cfg(test)]
 mod discs;
 #[cfg(test)]
+mod edited;
+#[cfg(test)]
 mod models;
+#[cfg(test)]
+mod names;
 #[cfg(test)]
 mod scripts;
 #[cfg(test)]
 mod solids;
 #[cfg(test)]
+mod starts;
+#[cfg(test)]
 mod texts;
+#[cfg(test)]
+mod walks;

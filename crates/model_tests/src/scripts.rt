@@ -1,8 +1,7 @@
 ghost use Rattle.std.specs.Prelude.{◌^◌, ◌<◌, length};
 
-use clause_reader::{read_model, write_model};
+use crate::edited::{Step, expect_edits};
 use edit_script::{Command, Commands, ScriptFault, ScriptReason, read_script, split_input};
-use solid_model::EditedModel;
 use std::alloc::Global;
 use std::process::Abort;
 use std::test::Fail;
@@ -29,14 +28,8 @@ fn finds_the_first_mark_line(rt: HostRuntime) {
 fn expect_refusal(rt: &impl Abort, alloc: Global, input: &[u8], fault: ScriptFault)
     requires { length input.now < 2 ^ 32 }
 {
-    match Commands::of(input) {
-        Ok(_) => assert!(rt; false, "{input:?} is read"),
-        Err(found) => assert_eq!(rt; found, fault),
-    }
-    match read_script(alloc, input) {
-        Ok(_) => assert!(rt; false, "{input:?} is read"),
-        Err(found) => assert_eq!(rt; found, fault),
-    }
+    assert_eq!(rt; Commands::of(input).err(), Some(fault), "{input:?}");
+    assert_eq!(rt; read_script(alloc, input).err(), Some(fault), "{input:?}");
 }
 
 #[test]
@@ -112,56 +105,52 @@ fn refuses_settings(rt: HostRuntime) {
     }
 }
 
-// The model of a text, and then what it says after each of some edits, each on its line.
-fn expect_edits(
-    rt: &impl Abort,
-    alloc: Global,
-    text: &[u8],
-    commands: &[Command<'_>],
-    steps: &[(u32, &[u8])],
-) -> Result<(), Fail>
-    requires { length text.now < 2 ^ 32 }
-{
-    let mut model = EditedModel::start(alloc, read_model(alloc, text)?);
-    for (at, (line, after)) in steps.iter().enumerate() {
-        match commands.get(at) {
-            Some(Command::Edit(number, edit)) => {
-                assert_eq!(rt; number, line);
-                model.edit_lent(edit)?;
-            }
-            other => assert!(rt; false, "{other:?}"),
-        }
-        let told = write_model(alloc, model.model())?;
-        assert!(rt; told.as_slice() == *after, "after line {line}: {told:?}");
-    }
-    Ok(())
-}
-
 #[test]
 fn reads_each_command(rt: HostRuntime) -> Result<(), Fail> {
     let input = b"x var-x\n%%\r\nset x neg #y\nset #x var-x\nput #x y var-x\ncut #x\n\n# c\n\
         add y min x x\nput y c const 0.5\nset y var-z\ncut y\n\
         render w=3 z=0.5\nheight w=1024 d=300\nmesh n=5\ntext\n cost \n undo ";
     let commands = read_script(rt.alloc(), input)?;
-    assert_eq!(rt; commands.len(), 14);
-    for (at, line) in [3, 4, 5, 6].into_iter().enumerate() {
-        let stray = matches!(&commands[at], Command::Stray(number) if *number == line);
-        assert!(rt; stray, "at {at}");
+    expect_commands(&rt, rt.alloc(), &commands)
+}
+
+fn expect_commands(rt: &impl Abort, alloc: Global, commands: &[Command<'_>]) -> Result<(), Fail> {
+    let [
+        a,
+        b,
+        c,
+        d,
+        e,
+        f,
+        g,
+        h,
+        render,
+        height,
+        mesh,
+        text,
+        cost,
+        undo,
+    ] = commands
+    else {
+        return Err(Fail::new("not fourteen commands"));
+    };
+    for (stray, line) in [(a, 3), (b, 4), (c, 5), (d, 6)] {
+        let told = matches!(stray, Command::Stray(number) if *number == line);
+        assert!(rt; told, "on line {line}");
     }
-    let steps: [(u32, &[u8]); 4] = [
-        (9, b"x var-x\ny min x x\n"),
-        (10, b"x var-x\nc const 0.5000000000\ny min x x\n"),
-        (11, b"x var-x\nc const 0.5000000000\ny var-z\n"),
-        (12, b"x var-x\nc const 0.5000000000\n"),
+    assert!(rt; matches!(render, Command::Render(view) if view.w == 3 && view.z == 1 << 31));
+    assert!(rt; matches!(height, Command::Height(view) if view.w == 1024 && view.d == 300));
+    assert!(rt; matches!(mesh, Command::Mesh(view) if view.nx == 5 && view.h == 512));
+    assert!(rt; matches!(text, Command::Text));
+    assert!(rt; matches!(cost, Command::Cost));
+    assert!(rt; matches!(undo, Command::Undo(18)));
+    let steps = [
+        Step::Command(e, 9, b"x var-x\ny min x x\n"),
+        Step::Command(f, 10, b"x var-x\nc const 0.5000000000\ny min x x\n"),
+        Step::Command(g, 11, b"x var-x\nc const 0.5000000000\ny var-z\n"),
+        Step::Command(h, 12, b"x var-x\nc const 0.5000000000\n"),
     ];
-    expect_edits(&rt, rt.alloc(), b"x var-x\n", &commands[4..8], &steps)?;
-    assert!(rt; matches!(&commands[8], Command::Render(view) if view.w == 3 && view.z == 1 << 31));
-    assert!(rt; matches!(&commands[9], Command::Height(view) if view.w == 1024 && view.d == 300));
-    assert!(rt; matches!(&commands[10], Command::Mesh(view) if view.nx == 5 && view.h == 512));
-    assert!(rt; matches!(&commands[11], Command::Text));
-    assert!(rt; matches!(&commands[12], Command::Cost));
-    assert!(rt; matches!(&commands[13], Command::Undo(18)));
-    Ok(())
+    expect_edits(rt, alloc, b"x var-x\n", &steps)
 }
 
 #[test]

@@ -12,15 +12,14 @@ const TOO_MANY: SolidFault = SolidFault {
 fn expect(rt: &impl Abort, alloc: Global, text: &[u8], judgement: Result<u32, SolidFault>) {
     assert!(rt; text.len() < 1 << 32);
     assert_eq!(rt; judge(text), judgement, "{text:?}");
-    let short = match read_short_solid(alloc, text) {
-        Ok(_) => None,
-        Err(fault) => Some(fault),
+    let refused = judgement.err();
+    assert_eq!(rt; read_short_solid(alloc, text).err(), refused, "{text:?}");
+    let long = if refused == Some(TOO_MANY) {
+        None
+    } else {
+        refused
     };
-    assert_eq!(rt; short, judgement.err(), "{text:?}");
-    match read_solid(alloc, text) {
-        Ok(_) => assert!(rt; short.is_none_or(|fault| fault == TOO_MANY), "{text:?}"),
-        Err(fault) => assert_eq!(rt; short, Some(fault), "{text:?}"),
-    }
+    assert_eq!(rt; read_solid(alloc, text).err(), long, "{text:?}");
 }
 
 #[test]
@@ -85,24 +84,31 @@ fn counts_the_clauses(rt: HostRuntime) {
 #[test]
 fn reads_the_tree(rt: HostRuntime) -> Result<(), Fail> {
     let text = b"difference\nmove 1 2 3 scale 2 ball 0.5\nintersect box 1 2 3 cylinder 1 2";
-    let Solid::Difference(first, second) = read_solid(rt.alloc(), text)? else {
+    let solid = read_solid(rt.alloc(), text)?;
+    let Solid::Difference(first, second) = &solid else {
         return Err(Fail::from("no difference"));
     };
-    match &*first {
-        Solid::Move(_, _, _, inner) => match &**inner {
-            Solid::Scale(_, ball) => assert!(rt; matches!(&**ball, Solid::Ball(_))),
-            other => assert!(rt; false, "{other:?}"),
-        },
-        other => assert!(rt; false, "{other:?}"),
-    }
-    match &*second {
-        Solid::Intersect(a, b) => {
-            assert!(rt; matches!(&**a, Solid::Block(_, _, _)));
-            assert!(rt; matches!(&**b, Solid::Cylinder(_, _)));
-        }
-        other => assert!(rt; false, "{other:?}"),
-    }
+    assert!(rt; is_moved_ball(first) && is_cut_block(second));
     Ok(())
+}
+
+fn is_moved_ball(solid: &Solid) -> bool {
+    match solid {
+        Solid::Move(_, _, _, inner) => match &**inner {
+            Solid::Scale(_, ball) => matches!(&**ball, Solid::Ball(_)),
+            _ => false,
+        },
+        _ => false,
+    }
+}
+
+fn is_cut_block(solid: &Solid) -> bool {
+    match solid {
+        Solid::Intersect(a, b) => {
+            matches!(&**a, Solid::Block(_, _, _)) && matches!(&**b, Solid::Cylinder(_, _))
+        }
+        _ => false,
+    }
 }
 
 // The text of so many moves, each within the others, and what follows them.
@@ -115,29 +121,33 @@ fn moves(alloc: Global, count: u32, last: &[u8]) -> Result<Vec<u8>, AllocError> 
     Ok(text)
 }
 
+// What is judged of such a text.
+fn expect_moves(
+    rt: &impl Abort,
+    alloc: Global,
+    count: u32,
+    last: &[u8],
+    judgement: Result<u32, SolidFault>,
+) -> Result<(), AllocError> {
+    let text = moves(alloc, count, last)?;
+    expect(rt, alloc, &text, judgement);
+    Ok(())
+}
+
 #[test]
 fn forms_stand_within_255_others(rt: HostRuntime) -> Result<(), Fail> {
-    let alloc = rt.alloc();
-    expect(
-        &rt,
-        alloc,
-        moves(alloc, 255, b"ball 1")?.as_slice(),
-        Ok(1541),
-    );
-    let (line, reason) = (257, SolidReason::TooDeep);
-    expect(
-        &rt,
-        alloc,
-        moves(alloc, 256, b"ball 1")?.as_slice(),
-        Err(SolidFault { line, reason }),
-    );
-    let reason = SolidReason::UnknownForm;
-    expect(
-        &rt,
-        alloc,
-        moves(alloc, 256, b"cone 1")?.as_slice(),
-        Err(SolidFault { line, reason }),
-    );
+    let line = 257;
+    let too_deep = SolidFault {
+        line,
+        reason: SolidReason::TooDeep,
+    };
+    let unknown = SolidFault {
+        line,
+        reason: SolidReason::UnknownForm,
+    };
+    expect_moves(&rt, rt.alloc(), 255, b"ball 1", Ok(1541))?;
+    expect_moves(&rt, rt.alloc(), 256, b"ball 1", Err(too_deep))?;
+    expect_moves(&rt, rt.alloc(), 256, b"cone 1", Err(unknown))?;
     Ok(())
 }
 
@@ -161,34 +171,34 @@ fn balls(alloc: Global, start: &[u8], last: &[u8]) -> Result<Vec<u8>, AllocError
     Ok(text)
 }
 
+// What is judged of such a text.
+fn expect_balls(
+    rt: &impl Abort,
+    alloc: Global,
+    start: &[u8],
+    last: &[u8],
+    judgement: Result<u32, SolidFault>,
+) -> Result<(), AllocError> {
+    let text = balls(alloc, start, last)?;
+    expect(rt, alloc, &text, judgement);
+    Ok(())
+}
+
 #[test]
 fn clauses_are_at_most_65535(rt: HostRuntime) -> Result<(), Fail> {
-    let alloc = rt.alloc();
-    expect(
+    let trailing = SolidFault {
+        line: 14_562,
+        reason: SolidReason::Trailing,
+    };
+    expect_balls(&rt, rt.alloc(), b"union\n", b"", Ok(65_531))?;
+    expect_balls(&rt, rt.alloc(), b"scale 1 union\n", b"", Ok(65_535))?;
+    expect_balls(&rt, rt.alloc(), b"scale 1 difference\n", b"", Err(TOO_MANY))?;
+    expect_balls(
         &rt,
-        alloc,
-        balls(alloc, b"union\n", b"")?.as_slice(),
-        Ok(65_531),
-    );
-    expect(
-        &rt,
-        alloc,
-        balls(alloc, b"scale 1 union\n", b"")?.as_slice(),
-        Ok(65_535),
-    );
-    expect(
-        &rt,
-        alloc,
-        balls(alloc, b"scale 1 difference\n", b"")?.as_slice(),
-        Err(TOO_MANY),
-    );
-    let (line, reason) = (14_562, SolidReason::Trailing);
-    let fault = SolidFault { line, reason };
-    expect(
-        &rt,
-        alloc,
-        balls(alloc, b"scale 1 difference\n", b"1")?.as_slice(),
-        Err(fault),
-    );
+        rt.alloc(),
+        b"scale 1 difference\n",
+        b"1",
+        Err(trailing),
+    )?;
     Ok(())
 }

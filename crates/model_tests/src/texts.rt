@@ -1,35 +1,28 @@
+use crate::starts::Start;
+use crate::walks::{Deed, expect};
 use clause_reader::{
     Comments, FormFault, Lines, TextFault, TextReason, next_token, read_form, read_model,
-    write_model,
 };
 use fixed_ops::{Fx, Op};
+use std::alloc::Global;
 use std::test::Fail;
 
 #[test]
 fn reads_a_disc(rt: HostRuntime) -> Result<(), Fail> {
     let text =
         b"#\na var-x\n\nb\tvar-y\r\nc square a\n d square b\ne add c d\nr const -5e-1\nf add e r";
-    let model = read_model(rt.alloc(), text)?;
-    let cases: [(&[u8], Op, u32, u32); 7] = [
-        (b"a", Op::X, 0, 0),
-        (b"b", Op::Y, 0, 0),
-        (b"c", Op::Square, 0, 0),
-        (b"d", Op::Square, 1, 0),
-        (b"e", Op::Add, 2, 3),
-        (b"r", Op::Const, 0, 0),
-        (b"f", Op::Add, 4, 5),
+    let none = Fx::from_raw(0);
+    let deeds = [
+        Deed::Len(7),
+        Deed::Clause(0, b"a", Op::X, (0, 0), none),
+        Deed::Clause(1, b"b", Op::Y, (0, 0), none),
+        Deed::Clause(2, b"c", Op::Square, (0, 0), none),
+        Deed::Clause(3, b"d", Op::Square, (1, 0), none),
+        Deed::Clause(4, b"e", Op::Add, (2, 3), none),
+        Deed::Clause(5, b"r", Op::Const, (0, 0), Fx::from_raw(-(1 << 31))),
+        Deed::Clause(6, b"f", Op::Add, (4, 5), none),
     ];
-    assert_eq!(rt; model.len(), 7);
-    for at in 0..7u32 {
-        let (name, op, a, b) = cases[at as usize];
-        let clause = model.clause(at);
-        assert_eq!(rt; clause.name, name);
-        assert_eq!(rt; clause.op, op, "at {at}");
-        assert_eq!(rt; clause.a, a, "at {at}");
-        assert_eq!(rt; clause.b, b, "at {at}");
-    }
-    assert!(rt; model.clause(5).value == Fx::from_raw(-(1 << 31)));
-    Ok(())
+    expect(&rt, rt.alloc(), Start::Text(text), &deeds)
 }
 
 #[test]
@@ -49,10 +42,8 @@ fn refuses_the_first_bad_line(rt: HostRuntime) {
         (b"", 0, TextReason::Empty),
     ];
     for (text, line, reason) in cases {
-        match read_model(rt.alloc(), text) {
-            Ok(_) => assert!(rt; false, "{text:?} is read"),
-            Err(fault) => assert_eq!(rt; fault, TextFault { line, reason }),
-        }
+        let fault = read_model(rt.alloc(), text).err();
+        assert_eq!(rt; fault, Some(TextFault { line, reason }), "{text:?}");
     }
 }
 
@@ -84,11 +75,15 @@ fn walks_lines_and_their_tokens(rt: HostRuntime) {
     assert!(rt; lines.next().is_none());
 }
 
+// The operation of a form that is read, and how many operands it has.
+fn read_parts(alloc: Global, bytes: &[u8]) -> Result<(Op, usize), FormFault> {
+    let form = read_form(alloc, bytes)?;
+    Ok((form.op, form.args.len()))
+}
+
 #[test]
 fn reads_forms(rt: HostRuntime) -> Result<(), Fail> {
-    let form = read_form(rt.alloc(), b" min a\tb ")?;
-    assert_eq!(rt; form.op, Op::Min);
-    assert_eq!(rt; form.args.len(), 2);
+    assert_eq!(rt; read_parts(rt.alloc(), b" min a\tb ")?, (Op::Min, 2));
     let cases: [(&[u8], FormFault); 5] = [
         (b" ", FormFault::NoOperation),
         (b"minus a b", FormFault::UnknownOperation),
@@ -97,10 +92,8 @@ fn reads_forms(rt: HostRuntime) -> Result<(), Fail> {
         (b"min a #b", FormFault::BadName),
     ];
     for (bytes, expected) in cases {
-        match read_form(rt.alloc(), bytes) {
-            Ok(_) => assert!(rt; false, "{bytes:?} is read"),
-            Err(fault) => assert_eq!(rt; fault, expected),
-        }
+        let fault = read_form(rt.alloc(), bytes).err();
+        assert_eq!(rt; fault, Some(expected), "{bytes:?}");
     }
     assert_eq!(rt; next_token(b" min  a", 4), Some((6, 7)));
     assert_eq!(rt; next_token(b"a \t", 1), None);
@@ -118,8 +111,7 @@ fn writes_what_it_reads(rt: HostRuntime) -> Result<(), Fail> {
         (b"a const 99999999999", b"a const 1073741823.9999999997\n"),
     ];
     for (text, written) in cases {
-        let model = read_model(rt.alloc(), text)?;
-        assert_eq!(rt; write_model(rt.alloc(), &model)?.as_slice(), written);
+        expect(&rt, rt.alloc(), Start::Text(text), &[Deed::Text(written)])?;
     }
     Ok(())
 }
