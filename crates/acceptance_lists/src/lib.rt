@@ -1,14 +1,20 @@
-//! Tests that cross crates below whole runs: lists of steps, evaluated, differentiated and traced, the
+//! Tests that cross crates below whole runs: lists of steps, shortened, evaluated, differentiated and traced, the
 //! shading of their height maps, and the grids of their meshes.
 #![tactic(auto)]
 
 #[cfg(test)]
-mod gradients;
-#[cfg(test)]
 mod grids;
 #[cfg(test)]
-mod regrids;
+mod lists;
+#[cfg(test)]
+mod rooms;
 #[cfg(test)]
 mod shades;
 #[cfg(test)]
-mod tapes;
+mod shortened;
+#[cfg(test)]
+mod slopes;
+#[cfg(test)]
+mod steps;
+#[cfg(test)]
+mod traces;

@@ -1,11 +1,11 @@
 // The light on height maps of models, worked out by hand.
-
-use clause_reader::read_model;
+use crate::lists::root;
 use fixed_ops::Tally;
 use height_map::heights;
-use live_clauses::root_tape;
+use live_clauses::Tape;
 use normal_shade::shade;
 use std::alloc::Global;
+use std::process::Abort;
 use std::test::Fail;
 use view_places::View;
 
@@ -33,44 +33,69 @@ fn view(w: u8, h: u8, d: u8) -> Option<View> {
     })
 }
 
-// The light on a model's text over a view, and the work that it took beside that of the height map.
-fn light_on(alloc: Global, text: &[u8], view: &View) -> Result<(Vec<u8>, Tally), Fail> {
-    if text.len() > 200 || !view.fits_height() {
-        return Err(Fail::new("a text that is too long, or a view that is too large"));
+// This is the light on the root list of a text over so many columns, rows and samples of a column, with so many
+// evaluations at most beside those of the height map.
+fn expect(
+    rt: &impl Abort,
+    alloc: Global,
+    text: &[u8],
+    counts: (u8, u8, u8),
+    light: &[u8],
+    points: u64,
+) -> Result<(), Fail> {
+    let list = root(alloc, text)?;
+    expect_light(rt, alloc, &list, counts, light, points)
+}
+
+// The same of a list.
+fn expect_light(
+    rt: &impl Abort,
+    alloc: Global,
+    list: &Tape,
+    counts: (u8, u8, u8),
+    light: &[u8],
+    points: u64,
+) -> Result<(), Fail> {
+    let Some(view) = view(counts.0, counts.1, counts.2) else {
+        return Err(Fail::new("a count of 0"));
+    };
+    if !view.fits_height() {
+        return Err(Fail::new("a view that is too large"));
     }
-    let model = read_model(alloc, text)?;
-    let tape = root_tape(alloc, &model)?;
-    let map = heights(alloc, &tape, view, &mut Tally::new())?;
+    let map = heights(alloc, list, &view, &mut Tally::new())?;
     let mut tally = Tally::new();
-    let pixels = shade(alloc, &tape, view, &map.tops, &mut tally)?;
-    Ok((pixels, tally))
+    let pixels = shade(alloc, list, &view, &map.tops, &mut tally)?;
+    assert_eq!(rt; pixels.as_slice(), light);
+    assert!(rt; tally.points() <= points);
+    Ok(())
 }
 
 // A model's text, the columns, rows and samples of a column, the light, and the most evaluations.
-type Case = (&'static [u8], u8, u8, u8, &'static [u8], u64);
+type Case = (&'static [u8], (u8, u8, u8), &'static [u8], u64);
 
 const CASES: [Case; 7] = [
-    (b"z var-z", 1, 1, 3, &[255], 10),
-    (b"x var-x\nz var-z\nf add x z", 1, 1, 3, &[128], 30),
-    (b"a const -1", 1, 1, 3, &[255], 10),
-    (b"a const 1", 1, 1, 3, &[0], 0),
+    (b"z var-z", (1, 1, 3), &[255], 10),
+    (b"x var-x\nz var-z\nf add x z", (1, 1, 3), &[128], 30),
+    (b"a const -1", (1, 1, 3), &[255], 10),
+    (b"a const 1", (1, 1, 3), &[0], 0),
     // Where x is 1 nothing is inside.
-    (b"x var-x\nz var-z\nf add x z", 3, 1, 3, &[128, 128, 0], 60),
+    (
+        b"x var-x\nz var-z\nf add x z",
+        (3, 1, 3),
+        &[128, 128, 0],
+        60,
+    ),
     // Where x is 0 the surface lies flat. In the lower row y is -1.
     (
         b"x var-x\ny var-y\nz var-z\na square x\nb mul y a\nf add z b",
-        3,
-        2,
-        3,
+        (3, 2, 3),
         &[0, 255, 0, 64, 255, 64],
         240,
     ),
     // A wall: the light is the same all over, in boxes that are decided too.
     (
         b"x var-x\nh const 0.5\nf sub x h",
-        4,
-        1,
-        40,
+        (4, 1, 40),
         &[1, 1, 1, 0],
         90,
     ),
@@ -78,13 +103,8 @@ const CASES: [Case; 7] = [
 
 #[test]
 fn what_lies_nearest_is_lit_by_its_slopes(rt: HostRuntime) -> Result<(), Fail> {
-    for (text, w, h, d, light, points) in CASES {
-        let Some(view) = view(w, h, d) else {
-            return Err(Fail::new("a count of 0"));
-        };
-        let (pixels, tally) = light_on(rt.alloc(), text, &view)?;
-        assert_eq!(rt; pixels.as_slice(), light);
-        assert!(rt; tally.points() <= points);
+    for (text, counts, light, points) in CASES {
+        expect(&rt, rt.alloc(), text, counts, light, points)?;
     }
     Ok(())
 }

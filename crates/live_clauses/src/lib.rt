@@ -30,6 +30,3 @@ pub use roots::{RootRoom, root_tape};
 pub use shortening::prune;
 pub use step::Step;
 pub use tape::{Steps, Tape, same};
-
-#[cfg(test)]
-mod tests;

@@ -1,10 +1,10 @@
 // The values of lists with their slopes, from a model's text on.
-
-use clause_reader::read_model;
+use crate::lists::root;
 use fixed_ops::{Fx, Tally};
-use live_clauses::root_tape;
+use live_clauses::Tape;
 use normal_shade::{Dual, gradient};
 use std::alloc::Global;
+use std::process::Abort;
 use std::test::Fail;
 
 const QUARTER: i64 = 1 << 30;
@@ -24,25 +24,38 @@ fn quarters(value: i8, dx: i8, dy: i8, dz: i8) -> Dual {
     }
 }
 
-// The value of a model's text with its slopes, where x is -1, y is 0.5 and z so many quarters, and the
-// work that it took.
-fn slopes_of(alloc: Global, text: &[u8], z: i8) -> Result<(Dual, Tally), Fail> {
-    if text.len() > 200 {
-        return Err(Fail::new("a text that is too long"));
-    }
-    let model = read_model(alloc, text)?;
-    let tape = root_tape(alloc, &model)?;
-    let mut regs = vec![in alloc; quarters(0, 0, 0, 0); tape.len() as usize]?;
+// The root list of a text has this value with its slopes, where x is -1, y is 0.5 and z so many quarters, and so
+// many steps.
+fn expect(
+    rt: &impl Abort,
+    alloc: Global,
+    text: &[u8],
+    z: i8,
+    slopes: Dual,
+    steps: u64,
+) -> Result<(), Fail> {
+    let list = root(alloc, text)?;
+    expect_slopes(rt, alloc, &list, z, slopes, steps)
+}
+
+// The same of a list. Each step counts ten evaluations.
+fn expect_slopes(
+    rt: &impl Abort,
+    alloc: Global,
+    list: &Tape,
+    z: i8,
+    slopes: Dual,
+    steps: u64,
+) -> Result<(), Fail> {
+    let mut regs = vec![in alloc; quarters(0, 0, 0, 0); list.len() as usize]?;
     let mut tally = Tally::new();
-    let slopes = gradient(
-        &tape,
-        quarter(-4),
-        quarter(2),
-        quarter(z),
-        &mut regs,
-        &mut tally,
-    );
-    Ok((slopes, tally))
+    let (x, y) = (quarter(-4), quarter(2));
+    let found = gradient(list, x, y, quarter(z), &mut regs, &mut tally);
+    assert_eq!(rt; found, slopes);
+    assert_eq!(rt; tally.points() / 10, steps);
+    assert_eq!(rt; tally.points() % 10, 0);
+    assert_eq!(rt; (tally.spans(), tally.corners()), (0, 0));
+    Ok(())
 }
 
 #[test]
@@ -92,11 +105,8 @@ fn slopes_follow_the_rules(rt: HostRuntime) -> Result<(), Fail> {
         // A clause that the last one does not need counts nothing.
         (b"z var-z\nu neg z\ny var-y", 0, quarters(2, 0, 4, 0), 1),
     ];
-    for (text, z, expected, steps) in cases {
-        let (slopes, tally) = slopes_of(rt.alloc(), text, z)?;
-        assert_eq!(rt; slopes, expected, "{text:?}");
-        assert_eq!(rt; tally.points(), 10 * steps);
-        assert_eq!(rt; (tally.spans(), tally.corners()), (0, 0));
+    for (text, z, slopes, steps) in cases {
+        expect(&rt, rt.alloc(), text, z, slopes, steps)?;
     }
     Ok(())
 }
@@ -109,22 +119,19 @@ fn slopes_stop_at_the_greatest_number(rt: HostRuntime) -> Result<(), Fail> {
     // 10^18 times x and as much times z.
     let text =
         b"x var-x\nz var-z\nk const 1e9\na mul x k\nb mul a k\nc mul z k\nd mul c k\nf add b d";
-    let (slopes, _) = slopes_of(rt.alloc(), text, -4)?;
-    let expected = Dual {
+    let steep = Dual {
         value: least,
         dx: greatest,
         dy: none,
         dz: greatest,
     };
-    assert_eq!(rt; slopes, expected);
+    expect(&rt, rt.alloc(), text, -4, steep, 8)?;
     // Divided by 0, nothing has a slope.
-    let (slopes, _) = slopes_of(rt.alloc(), b"x var-x\nz var-z\nf div x z", 0)?;
-    let expected = Dual {
+    let flat = Dual {
         value: least,
         dx: none,
         dy: none,
         dz: none,
     };
-    assert_eq!(rt; slopes, expected);
-    Ok(())
+    expect(&rt, rt.alloc(), b"x var-x\nz var-z\nf div x z", 0, flat, 3)
 }

@@ -1,7 +1,7 @@
 -- The choices are those of the last list.
 use Rattle.std.proofs.Common.{sym, subst}
 use Rattle.live_clauses.specs.Choices.{AreChoices}
-use Rattle.live_clauses.proofs.tests.push_last.Goals as goal
+use Rattle.acceptance_lists.proofs.shortened.push_last.Goals as goal
 
 pub push_live-requires-clause-choices : goal.push_live-requires-clause-choices
 push_live-requires-clause-choices c =

@@ -3,7 +3,7 @@ use Rattle.fixed_ops.specs.declared.operation.Op.TheVariants.{Min, Max}
 use Rattle.interval_ops.specs.declared.choice.Choice.TheVariants.{Both}
 use Rattle.live_clauses.specs.declared.step.Step.{Step}
 use Rattle.live_clauses.specs.Choices.{choice_at}
-use Rattle.live_clauses.proofs.tests.at_each.Given as goal
+use Rattle.acceptance_lists.proofs.shortened.at_each.Given as goal
 
 abbrev pub invariant-loop-place : goal.invariant-loop-place
 invariant-loop-place l = record {
