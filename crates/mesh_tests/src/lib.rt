@@ -4,6 +4,8 @@
 #[cfg(test)]
 mod cells;
 #[cfg(test)]
+mod contours;
+#[cfg(test)]
 mod files;
 #[cfg(test)]
 mod meshes;

@@ -16,6 +16,3 @@ pub use laws::{inside_is_left, loops_are_long, one_contour, one_segment_each_way
 pub use linking::link_loops;
 pub use loops::Loops;
 pub use plane_vertex::PlaneVertex;
-
-#[cfg(test)]
-mod tests;

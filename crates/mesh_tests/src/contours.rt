@@ -1,6 +1,6 @@
 // Contours worked out by hand.
-use crate::{PlaneVertex, link_loops};
 use fixed_ops::Fx;
+use plane_loops::{PlaneVertex, link_loops};
 use std::test::Fail;
 
 // The middle point of three along each axis lies one raw unit below 0, and all others at 0.

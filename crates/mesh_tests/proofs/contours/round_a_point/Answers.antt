@@ -1,6 +1,6 @@
 -- The tables are those of the grid of which the middle point alone is inside.
 use Rattle.plane_loops.proofs.Examples.{middle_inside, middle_tables}
-use Rattle.plane_loops.proofs.tests.round_a_point.Goals as goal
+use Rattle.mesh_tests.proofs.contours.round_a_point.Goals as goal
 
 pub link_loops-requires-clause-tables : goal.link_loops-requires-clause-tables
 link_loops-requires-clause-tables g c =
