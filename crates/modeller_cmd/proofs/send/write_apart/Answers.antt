@@ -1,7 +1,7 @@
 -- A front of the second text behind the whole first one is a front of both.
 use Rattle.std.proofs.lemmas.Result.{on_err_weaker}
 use Rattle.modeller_cmd.proofs.Bands.{front-then}
-use Rattle.modeller_cmd.proofs.send.write_texts.Goals as goal
+use Rattle.modeller_cmd.proofs.send.write_apart.Goals as goal
 
 pub returns-clause-err : goal.returns-clause-err
 returns-clause-err g c =
