@@ -417,23 +417,32 @@ fn images_of_other_lists_take_the_work_that_they_take_alone(rt: HostRuntime) -> 
     Ok(())
 }
 
-// The numbers of the write that fails, and what is written before it. Each frame is written by two calls: its
-// line, and its bytes.
-const FRONTS: [(u64, &[u8]); 5] = [
-    (1, b""),
-    (2, b"@ text 8\n"),
-    (3, b"@ text 8\nx var-x\n"),
-    (4, b"@ text 8\nx var-x\n@ refused 4 UnknownName\n"),
-    (5, b"@ text 8\nx var-x\n@ refused 4 UnknownName\n@ text 8\n"),
+// How many bytes a write takes, the number of the write that fails, and what is written before it. A short frame
+// goes out at once with its line.
+const FRONTS: [(u64, u64, &[u8]); 10] = [
+    (64, 1, b""),
+    (64, 2, b"@ text 8\nx var-x\n"),
+    (64, 3, b"@ text 8\nx var-x\n@ refused 4 UnknownName\n"),
+    (9, 1, b""),
+    (9, 2, b"@ text 8\n"),
+    (9, 3, b"@ text 8\nx var-x\n"),
+    (9, 4, b"@ text 8\nx var-x\n@ refused"),
+    (9, 5, b"@ text 8\nx var-x\n@ refused 4 Unknow"),
+    (9, 6, b"@ text 8\nx var-x\n@ refused 4 UnknownName\n"),
+    (
+        9,
+        7,
+        b"@ text 8\nx var-x\n@ refused 4 UnknownName\n@ text 8\n",
+    ),
 ];
 
 #[test]
 fn a_write_that_fails_leaves_a_front_of_the_frames(rt: HostRuntime) -> Result<(), Fail> {
     let mut trial = Trial::new(&["replay"], b"x var-x\n%%\ntext\ncut y\ntext\n");
-    for (call, front) in FRONTS {
-        trial.writes.failing = call;
+    for (chunk, failing, front) in FRONTS {
+        trial.writes = Calls { chunk, failing };
         let ran = trial.run(rt.alloc(), front, b"modeller: write fault\n")?;
-        assert_eq!(rt; ran.ending, Ending::wanted(Status::WriteFault), "{call}");
+        assert_eq!(rt; ran.ending, Ending::wanted(Status::WriteFault), "{failing}");
     }
     Ok(())
 }
