@@ -118,12 +118,16 @@ fn the_work_is_that_of_the_map_and_of_its_tops(rt: HostRuntime) -> Result<(), Fa
 #[test]
 fn a_picture_that_can_not_be_written_leaves_a_front(rt: HostRuntime) -> Result<(), Fail> {
     let mut trial = Trial::new(&["shade", "w=1", "h=1"], b"z var-z");
-    // The header goes out in four pieces, and the pixel in one.
-    trial.writes = Calls {
-        chunk: 3,
-        failing: 5,
-    };
-    let ran = trial.run(rt.alloc(), b"P5\n1 1\n255\n", b"modeller: write fault\n")?;
-    assert_eq!(rt; ran.ending, Ending::wanted(Status::WriteFault));
+    // The header has eleven bytes, and goes out at once with the pixel.
+    let fronts: [(u64, u64, &[u8]); 3] = [
+        (12, 1, b""),
+        (11, 2, b"P5\n1 1\n255\n"),
+        (3, 4, b"P5\n1 1\n25"),
+    ];
+    for (chunk, failing, front) in fronts {
+        trial.writes = Calls { chunk, failing };
+        let ran = trial.run(rt.alloc(), front, b"modeller: write fault\n")?;
+        assert_eq!(rt; ran.ending, Ending::wanted(Status::WriteFault));
+    }
     Ok(())
 }
