@@ -4,6 +4,8 @@
 #[cfg(test)]
 mod edited_meshes;
 #[cfg(test)]
+mod failing_writes;
+#[cfg(test)]
 mod replays;
 #[cfg(test)]
 mod scripts;

@@ -2,7 +2,7 @@
 ghost use Rattle.std.specs.Prelude.{◌≡◌, ◌≢◌, ◌↔◌, length, [], None, Ok, IfErr, IfOk, IsErrOf, OnErr, OnOk};
 ghost use Rattle.clause_reader.specs.ModelText.{model_text};
 ghost use Rattle.solid_model.specs.Edited.{IsUndone};
-ghost use Rattle.solid_model.specs.Edits.{edited};
+ghost use Rattle.solid_model.specs.Edits.{edited, FirstMakesClause};
 ghost use Rattle.solid_model.specs.Refusals.{RefusesAs, WantsMemoryFor};
 ghost use Rattle.view_places.specs.Window.{FitsHeight, FitsMesh};
 ghost use Rattle.model_frames.specs.Frames.{CanDraw};
@@ -138,6 +138,7 @@ impl Session {
         ensures nothing { IsErrOf result EditFault.NothingToUndo ↔ self.old.undo ≡ [] }
         ensures fault { IfErr result (λ fault.
             fault ≢ EditFault.NoMemory → fault ≡ EditFault.NothingToUndo) }
+        ensures memory { IsErrOf result EditFault.NoMemory → FirstMakesClause self.old.undo }
         ensures err { OnErr result (self.new ≡ self.old) }
         ensures opening { opening_of self.new ≡ opening_of self.old }
     {

@@ -8,5 +8,4 @@ mod MeshLaws
 mod MeshesAfter
 mod SoundTexts
 mod Shades
-pub mod Views
 pub mod WorkLaws

@@ -12,8 +12,7 @@ use Rattle.oct_descent.specs.Bound.{CountsAtLeast, CountsHullsAtLeast, mesh_leas
 use Rattle.oct_descent.specs.Laws.{MeshPointsAreBounded}
 use Rattle.oct_descent.specs.Trees.{Gridding}
 use Rattle.solid_model.specs.declared.clause.Clause.{Clause}
-use Rattle.view_places.specs.Window.{IsWindow, Window}
-use Rattle.model_frames.specs.Images.{same_view}
+use Rattle.view_places.specs.Window.{IsWindow, Window, same_view}
 use Rattle.model_frames.specs.Meshes.{grid_before, plain_grid}
 use Rattle.model_frames.specs.Work.{CountsWithin, CountsWork, PointsRiseAtMost, grid_work, mesh_work_after}
 use Rattle.model_frames.proofs.Frames.{plain-within}

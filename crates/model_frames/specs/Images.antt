@@ -1,7 +1,6 @@
 -- The image of a solid over a view: 255 inside and 0 outside, row by row from the top.
-use Rattle.std.specs.Prelude.{◌==◌, ℕ, ◌*◌, Bool, ◌&&◌, List, [], Option, Some, None, map, if◌then◌else◌}
+use Rattle.std.specs.Prelude.{ℕ, ◌*◌, List, [], Option, Some, None, map, if◌then◌else◌}
 use Rattle.std.specs.List.{flat_map, range_with_len}
-use Rattle.std.specs.Ordering.{int_eq}
 use Rattle.fixed_ops.specs.Raw.{is_inside}
 use Rattle.live_clauses.specs.declared.step.Step.{Step}
 use Rattle.quad_descent.specs.Pixels.{pixels_of}
@@ -10,7 +9,7 @@ use Rattle.raster_pgm.specs.Pgm.{pgm_of}
 use Rattle.solid_model.specs.Values.{solid_value}
 use Rattle.solid_model.specs.declared.clause.Clause.{Clause}
 use Rattle.view_places.specs.Places.{raster_point}
-use Rattle.view_places.specs.Window.{Window}
+use Rattle.view_places.specs.Window.{Window, same_view}
 
 -- the byte of the pixel in column i, counted from the left, and row j, counted from the top
 abbrev pub pixel_at : Window → List Clause → ℕ → ℕ → ℕ
@@ -38,14 +37,6 @@ drawn_text (Some image) =
 -- how many evaluations evaluating each of so many clauses once at each sample takes
 abbrev pub plain_points : Window → ℕ → ℕ
 plain_points view clauses = view.w * view.h * clauses
-
--- two views are one
-abbrev pub same_view : Window → Window → Bool
-same_view a b =
-    int_eq a.x0 b.x0 && (int_eq a.x1 b.x1 && (int_eq a.y0 b.y0 && (int_eq a.y1 b.y1
-    && (int_eq a.z0 b.z0 && (int_eq a.z1 b.z1 && (int_eq a.z b.z
-    && (a.w == b.w && (a.h == b.h && (a.d == b.d
-    && (a.nx == b.nx && (a.ny == b.ny && a.nz == b.nz)))))))))))
 
 -- the list of the image before, where there was one of this very view
 abbrev pub list_before : Option Drawing → Window → Option (List Step)

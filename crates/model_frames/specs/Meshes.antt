@@ -11,9 +11,8 @@ use Rattle.solid_model.specs.Values.{solid_value}
 use Rattle.solid_model.specs.declared.clause.Clause.{Clause}
 use Rattle.tetra_mesh.specs.Cuts.{mesh_of}
 use Rattle.view_places.specs.Places.{point_of}
-use Rattle.view_places.specs.Window.{Window, size_of}
+use Rattle.view_places.specs.Window.{Window, same_view, size_of}
 use Rattle.view_places.specs.declared.lattice.Lattice.TheVariants as lattices
-use Rattle.model_frames.specs.Images.{same_view}
 
 -- The value of a point of a view's grid, where each place has a value of its own: that of its
 -- place, or, on the outermost layer, the greater of that and 0. So no point of the outermost layer

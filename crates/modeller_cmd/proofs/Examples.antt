@@ -505,7 +505,7 @@ unwritten_part written = let same : [] ≡ codes "a" = written.gained in (cc)
 part_without_memory : HaltsIn (λ (s : List ℕ). Some s) (λ s. 0) [] (codes "@") no_counts no_counts (started []) commands.Text stop.NoMemory → ⊥
 part_without_memory halts = let same : codes "@" ≡ [] = halts.unwritten refl in (cc)
 
--- memory is wanted for a frame, for an edit that is accepted and for an undo that finds one, and for no edit that is refused
+-- memory is wanted for a frame, for an edit that is accepted and for an undo that brings a clause back, and for no edit that is refused
 abbrev two : List Clause
 two = record { name = codes "x"; op = op.X; a = 0; b = 0; value = pos 0 } ∷ record { name = codes "f"; op = op.Neg; a = 0; b = 0; value = pos 0 } ∷ []
 
@@ -525,10 +525,13 @@ cut_wants_memory : WantsMemory shown (commands.Edit 4 (edits.Cut (codes "f")))
 cut_wants_memory = refl
 
 undo_wants_none : WantsMemory shown (commands.Undo 4) → ⊥
-undo_wants_none wants = wants refl
+undo_wants_none wants = wants
 
 undo_wants_memory : WantsMemory (state_after shown (commands.Edit 3 (edits.Cut (codes "f")))) (commands.Undo 4)
-undo_wants_memory = λ none. (cc)
+undo_wants_memory = tt
+
+undo_of_a_set_wants_none : WantsMemory (state_after shown (commands.Edit 3 (edits.Set (codes "x") (record { op = op.Z; args = []; value = pos 0 })))) (commands.Undo 4) → ⊥
+undo_of_a_set_wants_none wants = wants
 
 stray_wants_none : WantsMemory shown (commands.Stray 4) → ⊥
 stray_wants_none wants = wants

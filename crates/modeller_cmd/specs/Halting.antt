@@ -1,5 +1,5 @@
 -- Where the commands of a script are halted: by a fault, or for want of memory.
-use Rattle.std.specs.Prelude.{◌≡◌, ◌≢◌, ◌⊎◌, ℕ, List, [], ◌∷◌, ◌++◌, Option, Ok, IsOk, IsErr, ⊤}
+use Rattle.std.specs.Prelude.{◌≡◌, ◌⊎◌, ℕ, List, [], ◌∷◌, ◌++◌, Option, Ok, IsOk, IsErr, ⊤}
 use Rattle.clause_reader.specs.Reading.{text_read}
 use Rattle.edit_script.specs.Marks.{before_mark}
 use Rattle.edit_script.specs.Scripts.{script_read}
@@ -8,7 +8,7 @@ use Rattle.edit_script.specs.declared.command.Command.TheVariants as commands
 use Rattle.edit_session.specs.Sessions.{State, started}
 use Rattle.model_frames.specs.Work.{CountsWork}
 use Rattle.fixed_ops.specs.Counts.{Counts}
-use Rattle.solid_model.specs.Edits.{edited}
+use Rattle.solid_model.specs.Edits.{edited, FirstMakesClause}
 use Rattle.solid_model.specs.declared.clause.Clause.{Clause}
 use Rattle.view_settings.specs.declared.job.Job.TheVariants.{Replay}
 use Rattle.modeller_cmd.specs.Asking.{asked}
@@ -21,13 +21,13 @@ use Rattle.modeller_cmd.specs.declared.status.Status.{Status}
 use Rattle.modeller_cmd.specs.declared.stop.Stop.{Stop}
 use Rattle.modeller_cmd.specs.declared.stop.Stop.TheVariants.{Refused, ReadFault, WriteFault, NoMemory}
 
--- Memory may be wanted for a command: for an edit only where it is accepted, for an undo only where an
--- edit is taken back, and never for an edit with a token that begins with `#`, nor for the cost of an
+-- Memory may be wanted for a command: for an edit only where it is accepted, for an undo only where a
+-- clause comes back, and never for an edit with a token that begins with `#`, nor for the cost of an
 -- image.
 abbrev pub WantsMemory : State → Command → Type 0
 WantsMemory state (commands.Edit line edit) = IsOk (edited state.clauses edit)
 WantsMemory state (commands.Stray line) = ⊥
-WantsMemory state (commands.Undo line) = state.undo ≢ []
+WantsMemory state (commands.Undo line) = FirstMakesClause state.undo
 WantsMemory state commands.Cost = ⊥
 WantsMemory state other = ⊤
 

@@ -13,7 +13,7 @@ ghost use Rattle.modeller_cmd.specs.Halting.{HaltsAt, HaltsReplay, WantsMemory, 
 ghost use Rattle.modeller_cmd.specs.Parts.{work_of_parts};
 ghost use Rattle.model_frames.specs.Frames.{CanDraw};
 ghost use Rattle.model_frames.specs.Work.{CountsWork};
-ghost use Rattle.solid_model.specs.Edits.{edited};
+ghost use Rattle.solid_model.specs.Edits.{edited, FirstMakesClause};
 ghost use Rattle.view_places.specs.Window.{FitsMesh};
 
 use crate::frame::{cost_line, write_frame, write_image_frame, write_refused};
@@ -275,7 +275,7 @@ fn take_back<K: Sink>(session: &mut Session, line: u32, out: &mut K) -> Result<(
         → Halted K.held K.faults out.old out.new counts counts
         (parts_at session.old (Command.Undo line)) stop) }
     ensures unwritten { result ≡ Err Stop.NoMemory → out.new ≡ out.old }
-    ensures wants { result ≡ Err Stop.NoMemory → session.old.undo ≢ [] }
+    ensures wants { result ≡ Err Stop.NoMemory → FirstMakesClause session.old.undo }
     ensures writes { result ≡ Err Stop.WriteFault → session.old.undo ≡ [] }
 {
     frames_add_up();

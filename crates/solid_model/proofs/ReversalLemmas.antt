@@ -17,7 +17,7 @@ use Rattle.solid_model.specs.Adding.{clause_after}
 use Rattle.solid_model.specs.Changes.{done, surgery, Allows, DoesEdit}
 use Rattle.solid_model.specs.Clauses.{place_of, names_of, AreClauses, IsClauseAt, IsModel}
 use Rattle.solid_model.specs.Edited.{after_edits, given_or, IsUndone}
-use Rattle.solid_model.specs.Edits.{edited, IsEdit}
+use Rattle.solid_model.specs.Edits.{edited, FirstMakesClause, IsEdit, MakesClause}
 use Rattle.solid_model.specs.Inverses.{behind, inverse_of, put_before}
 use Rattle.solid_model.specs.Named.{Named, by_name, name_at, named_of, operand_names}
 use Rattle.solid_model.specs.Names.{IsName}
@@ -323,6 +323,10 @@ module _ (clauses : List Clause) (xs : List Reversal) (x : Reversal) (latest : s
   pub latest-stands : edits_back clauses (reverse xs) ≢ []
   unfolding edits_back
   latest-stands = λ none. let is = sym none ∙ ap (edits_back clauses) turned in (cc)
+
+  pub latest-makes : MakesClause (edit_back clauses x) → FirstMakesClause (edits_back clauses (reverse xs))
+  unfolding edits_back
+  latest-makes makes = subst (λ rs. FirstMakesClause (edits_back clauses rs)) (sym turned) makes
 
   module _ (new : List Clause) (ys : List Reversal) (rest : ys ≡ take (length xs - 1) xs) (is : new ≡ reverted clauses x) where
     pub others-allowed : AllowBack clauses (reverse xs) → AllowBack new (reverse ys)

@@ -97,3 +97,8 @@ MakesClause (Set name form) = ⊥
 MakesClause (Add name form) = ⊤
 MakesClause (Put next name form) = ⊤
 MakesClause (Cut name) = ⊥
+
+-- the first of some edits makes a clause
+abbrev pub FirstMakesClause : List Edit → Type 0
+FirstMakesClause [] = ⊥
+FirstMakesClause (e ∷ es) = MakesClause e

@@ -1,7 +1,7 @@
 // A model that is edited.
 ghost use Rattle.std.specs.Prelude.{◌≡◌, ◌≢◌, [], ◌∷◌, true, false, IfErr, IfOk, OnErr, OnOk, Ok};
 ghost use Rattle.solid_model.specs.Edited.{opening, IsUndone};
-ghost use Rattle.solid_model.specs.Edits.{edited};
+ghost use Rattle.solid_model.specs.Edits.{edited, FirstMakesClause};
 ghost use Rattle.solid_model.specs.Inverses.{inverse_of};
 ghost use Rattle.solid_model.specs.Refusals.{RefusesAs, WantsMemoryFor};
 
@@ -90,7 +90,7 @@ impl EditedModel {
     pub fn undo(&mut self) -> Result<bool, AllocError>
         ensures undone { IfOk result (λ some. some ≡ true → IsUndone self.old self.new) }
         ensures none { IfOk result (λ some. some ≡ false → (self.old.undo ≡ []) × (self.new ≡ self.old)) }
-        ensures memory { OnErr result (self.old.undo ≢ []) }
+        ensures memory { OnErr result (FirstMakesClause self.old.undo) }
         ensures err { OnErr result (self.new ≡ self.old) }
         ensures opening { opening self.new ≡ opening self.old }
     {

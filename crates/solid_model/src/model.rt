@@ -118,11 +118,13 @@ impl Model {
         self.table.apply_and_keep(edit, backs)
     }
 
-    // Takes a change back. AllocError: memory was refused, and the model is as it was.
+    // Takes a change back. AllocError: memory was refused for a clause that comes back, and the model is as
+    // it was.
     pub(crate) fn revert(&mut self, back: &Reversal) -> Result<(), AllocError>
         requires { AllowsBack self.old back.now }
         ensures ok { OnOk result (self.new ≡ reverted self.old back.now) }
         ensures edit { edited self.old (edit_back self.old back.now) ≡ Ok (reverted self.old back.now) }
+        ensures makes { OnErr result (MakesClause (edit_back self.old back.now)) }
         ensures err { OnErr result (self.new ≡ self.old) }
     {
         self.table.revert(back)

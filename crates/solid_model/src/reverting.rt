@@ -2,9 +2,9 @@
 ghost use Rattle.std.specs.Prelude.{◌≡◌, [], ◌∷◌, ◌++◌, Ok, IfOk, OnErr, OnOk};
 ghost use Rattle.solid_model.specs.Changes.{done, surgery, Allows};
 ghost use Rattle.solid_model.specs.Clauses.{AreClauses, AreInOrder};
-ghost use Rattle.solid_model.specs.Edits.{IsEdit};
+ghost use Rattle.solid_model.specs.Edits.{IsEdit, MakesClause};
 ghost use Rattle.solid_model.specs.Refusals.{RefusesAs, WantsMemoryFor};
-ghost use Rattle.solid_model.specs.Reversals.{reversal_of, reverted, AllowsBack, IsMadeAndKept};
+ghost use Rattle.solid_model.specs.Reversals.{edit_back, reversal_of, reverted, AllowsBack, IsMadeAndKept};
 ghost use Rattle.solid_model.specs.Tables.{clauses_in};
 
 use crate::change::Change;
@@ -91,6 +91,7 @@ impl Table {
         requires clauses { AreClauses (clauses_in self.old) }
         requires allowed { AllowsBack (clauses_in self.old) back.now }
         ensures ok { OnOk result (clauses_in self.new ≡ reverted (clauses_in self.old) back.now) }
+        ensures makes { OnErr result (MakesClause (edit_back (clauses_in self.old) back.now)) }
         ensures err { OnErr result (clauses_in self.new ≡ clauses_in self.old) }
     {
         match back {

@@ -9,7 +9,6 @@ pub mod RankLaws
 pub mod ReachLaws
 pub mod TriangleLaws
 pub mod VertexLaws
-pub mod ViewLaws
 pub mod WayLaws
 pub mod ShapeLaws
 pub mod SideLaws

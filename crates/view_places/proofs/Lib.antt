@@ -1,4 +1,5 @@
 pub mod BoxLaws
 mod Examples
 pub mod SpanLaws
+pub mod ViewLaws
 pub mod WindowLaws

@@ -1,5 +1,6 @@
 -- A window onto a solid, and how finely it is sampled.
 use Rattle.std.specs.Prelude.{◌≡◌, ℕ, ◌*◌, ◌≤◌, ◌==◌, ℤ, pos, ◌-ℤ◌, ◌≤ℤ◌, int_le, nat_le, Bool, ◌&&◌}
+use Rattle.std.specs.Ordering.{int_eq}
 use Rattle.fixed_ops.specs.Raw.{IsRaw}
 use Rattle.kuhn_cells.specs.declared.grid_size.GridSize.{GridSize}
 
@@ -19,6 +20,14 @@ pub record Window : Type 0 where
   pub nx : ℕ
   pub ny : ℕ
   pub nz : ℕ
+
+-- two views are one: all their numbers are equal
+abbrev pub same_view : Window → Window → Bool
+same_view a b =
+    int_eq a.x0 b.x0 && (int_eq a.x1 b.x1 && (int_eq a.y0 b.y0 && (int_eq a.y1 b.y1
+    && (int_eq a.z0 b.z0 && (int_eq a.z1 b.z1 && (int_eq a.z b.z
+    && (a.w == b.w && (a.h == b.h && (a.d == b.d
+    && (a.nx == b.nx && (a.ny == b.ny && a.nz == b.nz)))))))))))
 
 -- ends of an axis, which are raw numbers in order
 pub record AreEnds (low high : ℤ) : Type 0 where

@@ -1,5 +1,5 @@
 use Rattle.std.proofs.Common.{sym, ◌∙◌}
-use Rattle.model_frames.proofs.Views.{one_view}
+use Rattle.view_places.proofs.ViewLaws.{one_view}
 use Rattle.model_frames.proofs.redrawn.is_same.Goals as goal
 
 pub returns-clause-same : goal.returns-clause-same

@@ -1,7 +1,7 @@
 -- After a grid of this very view, after one of another view, and after none.
 use Rattle.std.proofs.Common.{◌≡◌, true, false, ap, subst, sym, ◌∙◌}
 use Rattle.std.specs.Prelude.{OnOk, Some, None, if◌then◌else◌}
-use Rattle.model_frames.specs.Images.{same_view}
+use Rattle.view_places.specs.Window.{same_view}
 use Rattle.model_frames.specs.Meshes.{grid_before}
 use Rattle.model_frames.specs.Work.{CountsWithin, CountsWork, grid_work}
 use Rattle.model_frames.proofs.MeshesAfter.{fresh-counted, fresh-within, same-counted, same-within}

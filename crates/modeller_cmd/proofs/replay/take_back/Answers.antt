@@ -27,3 +27,6 @@ returns-in-Err-clause-stands g c =
     (λ h. undo-refused c.args.session.now c.args.line c.in-Err.fault (c.in-Err.ensures.fault h) (c.in-Err.ensures.nothing.0 (ap (λ fault. Err fault) (c.in-Err.ensures.fault h)))) c.refuse.ensures.memory
     c.args.session.now c.undo.new.self (state_after c.args.session.now (Command.Undo c.args.line))
     (λ h. undo-idle c.args.session.now c.args.line (c.in-Err.ensures.nothing.0 (ap (λ fault. Err fault) (c.in-Err.ensures.fault h)))) c.in-Err.ensures.err
+
+pub returns-in-Err-clause-wants : goal.returns-in-Err-clause-wants
+returns-in-Err-clause-wants g c = λ h. c.in-Err.ensures.memory (ap (λ fault. Err fault) (c.refuse.ensures.no_memory h))

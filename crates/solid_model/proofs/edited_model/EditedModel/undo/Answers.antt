@@ -3,7 +3,7 @@ use Rattle.std.proofs.Common.{◌≡◌, ◌-◌, List, Result, Ok, Err, OnErr, 
 use Rattle.std.specs.Option.{option_copied}
 use Rattle.solid_model.specs.declared.reversal.Reversal.{Reversal}
 use Rattle.solid_model.specs.Reversals.{edits_back}
-use Rattle.solid_model.proofs.ReversalLemmas.{latest-allowed, latest-stands, latest-undone, none-left, others-allowed, undone-opening}
+use Rattle.solid_model.proofs.ReversalLemmas.{latest-allowed, latest-makes, latest-undone, none-left, others-allowed, undone-opening}
 use Rattle.solid_model.proofs.edited_model.EditedModel.undo.Goals as goal
 
 pub returns-in_default-clause-none : goal.returns-in_default-clause-none
@@ -17,7 +17,7 @@ pub returns-in_err-revert-clause-memory : goal.returns-in_err-revert-clause-memo
 returns-in_err-revert-clause-memory c =
     let latest : slice_get c.self.inside.backs.items (length c.self.inside.backs.items - 1) ≡ Some c.in-Some.back.now =
     ap (λ (xs : List Reversal). slice_get xs (length xs - 1)) (sym c.deref.ensures.value) ∙ sym c.last.ensures.value ∙ ap option_copied c.in-Some.is in
-    on-err c.from_residual.result (rw (← c.self.view_is) (latest-stands c.self.inside.model c.self.inside.backs.items c.in-Some.back.now latest))
+    on-err c.from_residual.result (rw (← c.self.view_is) (latest-makes c.self.inside.model c.self.inside.backs.items c.in-Some.back.now latest c.in_err-revert.ensures.makes))
   where
     on-err : {A E P : Type 0} (r : Result A E) → P → OnErr r P
     on-err (Ok done) p = tt

@@ -2,8 +2,7 @@
 use Rattle.std.proofs.Common.{◌≡◌, Bool, true, false, ◌&&◌, refl}
 use Rattle.std.proofs.lemmas.Bool.{false≢true}
 use Rattle.std.proofs.lemmas.Bool.Decides.{Decides-eqb, Decides-int_eq}
-use Rattle.view_places.specs.Window.{Window}
-use Rattle.model_frames.specs.Images.{same_view}
+use Rattle.view_places.specs.Window.{Window, same_view}
 
 both : (x y : Bool) → x && y ≡ true → (x ≡ true) × (y ≡ true)
 both true y h = (refl, h)
@@ -39,3 +38,18 @@ one_view a b e =
       ny = (Decides-eqb a.ny b.ny).0 ny.0 k;
       nz = (Decides-eqb a.nz b.nz).0 ny.1 k;
     }
+
+and_then : (x y : Bool) → x ≡ true → y ≡ true → x && y ≡ true
+and_then true y h own = own
+and_then false y h own = h
+
+-- a view is one with itself
+pub same_as_itself : (a : Window) → same_view a a ≡ true
+same_as_itself a =
+    and_then _ _ ((Decides-int_eq a.x0 a.x0).1 refl) (and_then _ _ ((Decides-int_eq a.x1 a.x1).1 refl)
+    (and_then _ _ ((Decides-int_eq a.y0 a.y0).1 refl) (and_then _ _ ((Decides-int_eq a.y1 a.y1).1 refl)
+    (and_then _ _ ((Decides-int_eq a.z0 a.z0).1 refl) (and_then _ _ ((Decides-int_eq a.z1 a.z1).1 refl)
+    (and_then _ _ ((Decides-int_eq a.z a.z).1 refl)
+    (and_then _ _ ((Decides-eqb a.w a.w).1 refl) (and_then _ _ ((Decides-eqb a.h a.h).1 refl)
+    (and_then _ _ ((Decides-eqb a.d a.d).1 refl) (and_then _ _ ((Decides-eqb a.nx a.nx).1 refl)
+    (and_then _ _ ((Decides-eqb a.ny a.ny).1 refl) ((Decides-eqb a.nz a.nz).1 refl))))))))))))
