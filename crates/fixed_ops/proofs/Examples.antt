@@ -1,12 +1,13 @@
 -- Steps, slopes, light, counts of work, numbers, cuts, numerals and roots, worked out by hand.
-use Rattle.std.proofs.Common.{◌≡◌, ◌≤◌, ℕ, ℤ, pos, negsuc, true, false, Some, [], ◌∷◌, refl, ap, arith, inl, inr}
+use Rattle.std.proofs.Common.{◌≡◌, ◌≤◌, ℕ, ℤ, pos, negsuc, true, false, Some, None, [], ◌∷◌, refl, ap, arith, inl, inr}
 use Rattle.std.specs.Prelude.{codes}
 use Rattle.std.proofs.lemmas.Int.{ints}
 use Rattle.fixed_ops.proofs.DigitLaws.{digits_from_test}
-use Rattle.fixed_ops.specs.Counts.{Counts, IsAtMost, RisesAtMost, corners_of, joined, no_counts, plus, points_of, risen, spans_of, times}
+use Rattle.fixed_ops.specs.Counts.{Counts, IsAtMost, RisesAtMost, RisesWithin, corners_of, joined, no_counts, plus, points_of, risen, spans_of, times}
 use Rattle.fixed_ops.specs.Cut.{cut_of}
 use Rattle.fixed_ops.specs.Laws.{IsClamped, IsOverZero}
-use Rattle.fixed_ops.specs.Numerals.{cut_magnitude, is_unsigned_numeral, nearest_raw, numeral, unsigned_raw}
+use Rattle.fixed_ops.specs.Numerals.{cut_magnitude, digits_read, is_unsigned_numeral, nearest_raw, numeral, unsigned_raw}
+use Rattle.fixed_ops.specs.OpNames.{name_of}
 use Rattle.fixed_ops.specs.Points.{IsRawPoint, Point, step_value}
 use Rattle.fixed_ops.specs.Raw.{IsInside, IsRaw, greatest}
 use Rattle.fixed_ops.specs.Root.{IsRawRoot, IsRoot}
@@ -25,6 +26,15 @@ step op = step_value op here (pos 7) (pos 8) (pos 9)
 steps : step X ∷ step Y ∷ step Z ∷ step Const ∷ step Sub ∷ [] ≡
     pos 1 ∷ pos 2 ∷ pos 3 ∷ pos 7 ∷ negsuc 0 ∷ []
 steps = refl
+
+-- the word that each operation is written as
+words_of_operations : name_of X ∷ name_of Y ∷ name_of Z ∷ name_of Const ∷ name_of Neg ∷ name_of Square ∷ name_of Sqrt
+    ∷ name_of Abs ∷ name_of Floor ∷ name_of Add ∷ name_of Sub ∷ name_of Mul ∷ name_of Div ∷ name_of Min ∷ name_of Max
+    ∷ [] ≡
+    codes "var-x" ∷ codes "var-y" ∷ codes "var-z" ∷ codes "const" ∷ codes "neg" ∷ codes "square" ∷ codes "sqrt"
+    ∷ codes "abs" ∷ codes "floor" ∷ codes "add" ∷ codes "sub" ∷ codes "mul" ∷ codes "div" ∷ codes "min" ∷ codes "max"
+    ∷ []
+words_of_operations = refl
 
 -- each coordinate of a raw point is raw
 raw_coordinates : (p : Point) → IsRawPoint p → IsRaw p.x × IsRaw p.y × IsRaw p.z
@@ -162,6 +172,29 @@ six_corners rise =
     let risen_by : 6 ≡ risen 0 rise.by.corners = ap (λ c. c.corners) rise.rises in
     omega (arith, rise.within.corners, risen_by)
 
+-- a tally rises by more than the least and by less than the most, and also by just the one or the other
+rises_between : RisesWithin (counts 10 20 30) (counts 12 23 36) (counts 1 2 5) (counts 3 4 8)
+rises_between = record {
+  by = counts 2 3 6;
+  enough = record { points = omega arith; spans = omega arith; corners = omega arith };
+  within = record { points = omega arith; spans = omega arith; corners = omega arith };
+  rises = refl;
+}
+
+rises_by_the_ends : RisesWithin (counts 10 20 30) (counts 11 22 35) work work
+rises_by_the_ends = record { by = work; enough = as_much; within = as_much; rises = refl }
+
+-- but neither by one corner less than the least nor by one more than the most
+four_corners : RisesWithin no_counts (counts 1 2 4) work (counts 3 4 8) → ⊥
+four_corners rise =
+    let risen_by : 4 ≡ risen 0 rise.by.corners = ap (λ c. c.corners) rise.rises in
+    omega (arith, rise.enough.corners, risen_by)
+
+nine_corners : RisesWithin no_counts (counts 1 2 9) work (counts 3 4 8) → ⊥
+nine_corners rise =
+    let risen_by : 9 ≡ risen 0 rise.by.corners = ap (λ c. c.corners) rise.rises in
+    omega (arith, rise.within.corners, risen_by)
+
 -- ---- numbers
 
 -- the first number below 0 is inside, and 0 is not
@@ -193,6 +226,14 @@ minus_one_over_zero r is = is.negative (omega (arith, ints))
 -- two below 0 and one above: the cut lies at 43690.67 parts, and the part is left out
 cut_rounds_down : cut_of (negsuc 1) (pos 1) ≡ 43690
 cut_rounds_down = refl
+
+-- ---- digits
+
+-- one to three digits are a number, as any of them may be 0; none, four, or another byte among them are none
+digits : digits_read 3 (codes "7") ∷ digits_read 3 (codes "907") ∷ digits_read 3 (codes "050") ∷ digits_read 3 []
+    ∷ digits_read 3 (codes "1000") ∷ digits_read 3 (codes "1+2") ∷ [] ≡
+    Some 7 ∷ Some 907 ∷ Some 50 ∷ None ∷ None ∷ None ∷ []
+digits = refl
 
 -- ---- numerals
 
