@@ -1,5 +1,5 @@
 -- The mesh of a grid of two cells along each axis of which the middle point alone is inside, worked out by hand.
-use Rattle.std.proofs.Common.{◌≡◌, ℕ, ◌≤◌, pos, negsuc, true, false, [], ◌∷◌, ◌++◌, refl, ap, arith, inl, inr}
+use Rattle.std.proofs.Common.{◌≡◌, ℕ, ◌≤◌, Bool, pos, negsuc, true, false, [], ◌∷◌, ◌++◌, refl, ap, arith, inl, inr}
 use Rattle.std.specs.Prelude.{ℤ, List, ◌+◌, ◌*◌, get_or, if◌then◌else◌, map, replicate}
 use Rattle.std.specs.List.{range_with_len}
 use Rattle.std.proofs.lemmas.Bool.{cases_lt}
@@ -8,6 +8,8 @@ use Rattle.kuhn_cells.specs.declared.cell_list.CellList.{CellList}
 use Rattle.kuhn_cells.specs.declared.cell_list.CellValues.{CellValues}
 use Rattle.kuhn_cells.specs.declared.edge_key.EdgeKey.{EdgeKey}
 use Rattle.kuhn_cells.specs.declared.grid_size.GridSize.{GridSize}
+use Rattle.kuhn_cells.specs.declared.pattern.Pattern.{Pattern}
+use Rattle.kuhn_cells.specs.declared.triple.Triple.{Triple}
 use Rattle.kuhn_cells.specs.Arrangement.{arranged}
 use Rattle.kuhn_cells.specs.Cells.{HasCell, IsBordered, cell_at, is_mixed_cell, is_outermost}
 use Rattle.kuhn_cells.specs.Corners.{corner, corner_determinant, is_negative}
@@ -15,9 +17,10 @@ use Rattle.kuhn_cells.specs.Faces.{Face, faces, all_triangles}
 use Rattle.kuhn_cells.specs.Grids.{Grid, bordered, grid_over, is_point, over_block, value_at, vertices}
 use Rattle.kuhn_cells.specs.Laws.{IsCellBefore, SignsAreDeterminants}
 use Rattle.kuhn_cells.specs.Lists.{ListsCells, listed_size}
+use Rattle.kuhn_cells.specs.Patterns.{listed}
 use Rattle.kuhn_cells.specs.Rings.{HasEdge, IsRing, corners_off, in_turn, sides}
 use Rattle.kuhn_cells.specs.Sizes.{IsBounded, SameSize}
-use Rattle.kuhn_cells.specs.Triangles.{point}
+use Rattle.kuhn_cells.specs.Triangles.{has_sign, point, triangles_of}
 use Rattle.kuhn_cells.specs.Vectors.{Vector}
 
 abbrev middle_inside : Grid
@@ -39,6 +42,35 @@ faces_of_middle :
     faces middle_inside ≡ face 0 3 1 ∷ face 0 1 5 ∷ face 0 2 3 ∷ face 0 6 2 ∷ face 0 5 4 ∷ face 0 4 6 ∷ face 1 3 7 ∷ face 1 7 5 ∷ face 2 8 3 ∷ face 2 6 8 ∷ face 3 9 7 ∷ face 3 8 9 ∷ face 4 5 10 ∷ face 4 10 6 ∷ face 5 7 11 ∷ face 5 11 10 ∷ face 6 12 8 ∷ face 6 10 12 ∷ face 7 9 13 ∷ face 7 13 11 ∷ face 8 13 9 ∷ face 8 12 13 ∷ face 10 11 13 ∷ face 10 13 12 ∷ []
 unfolding faces all_triangles vertices arranged
 faces_of_middle = refl
+
+-- ---- signs, patterns and triangles
+
+-- the first corner's truth value first
+abbrev pattern : Bool → Bool → Bool → Bool → Pattern
+pattern a b c d = record { v0 = a; v1 = b; v2 = c; v3 = d }
+
+patterns_in_order : listed (pattern true true false false) ∷ listed (pattern true false true false) ∷ []
+    ≡ (true ∷ true ∷ false ∷ false ∷ []) ∷ (true ∷ false ∷ true ∷ false ∷ []) ∷ []
+patterns_in_order = refl
+
+-- the signs 38, which are 2 and 4 and 32, have the corners 1, 2 and 5 inside
+corners_of_signs : map (has_sign 38) (range_with_len 0 8)
+    ≡ false ∷ true ∷ true ∷ false ∷ false ∷ true ∷ false ∷ false ∷ []
+corners_of_signs = refl
+
+-- In the cell at 2, 3 and 5 corner 1 alone is inside. The second tetrahedron, with the corners 0, 1, 5 and 7, is cut
+-- by one triangle, on the edges from corner 1 to the corners 0, 5 and 7, counterclockwise as seen from corner 0.
+abbrev triangle : EdgeKey → EdgeKey → EdgeKey → Triple
+triangle a b c = record { a = a; b = b; c = c }
+
+triangles_of_a_tetrahedron : triangles_of 2 3 5 1 2 ≡ triangle (key 2 3 5 1) (key 3 3 5 4) (key 3 3 5 6) ∷ []
+unfolding arranged
+triangles_of_a_tetrahedron = refl
+
+-- the fourth, with the corners 0, 2, 6 and 7, does not have that corner
+no_triangle_of_another : triangles_of 2 3 5 3 2 ≡ []
+unfolding arranged
+no_triangle_of_another = refl
 
 -- ---- other sizes along each axis
 
