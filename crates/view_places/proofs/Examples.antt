@@ -7,7 +7,7 @@ use Rattle.view_places.specs.declared.lattice.Lattice.TheVariants.{Raster, Heigh
 use Rattle.view_places.specs.Boxes.{Indices, IsBox, middle, one_sample}
 use Rattle.view_places.specs.Places.{sample_place, point_of, raster_point, steps_of}
 use Rattle.view_places.specs.Spans.{IsInRoot, IsPlaceAmong, region_of, root_box_of}
-use Rattle.view_places.specs.Window.{AreEnds, FitsHeight, IsCount, IsWindow, Window, fits_contour, fits_mesh, has_room}
+use Rattle.view_places.specs.Window.{AreEnds, FitsHeight, IsCount, IsWindow, Window, fits_contour, fits_mesh, has_room, size_of}
 
 -- from -1 to 1, with this count along each axis
 abbrev counted : ℕ → Window
@@ -47,6 +47,10 @@ lone_sample = refl
 
 last_sample : raster_point (counted 2) 1 1 ≡ record { x = pos 4294967296; y = negsuc 4294967295; z = pos 0 }
 last_sample = refl
+
+-- a grid has as many cells along each axis as its view says for that axis
+cells_along_each_axis : size_of (record (counted 4) { nx = 2; ny = 3; nz = 5 }) ≡ record { x = 2; y = 3; z = 5 }
+cells_along_each_axis = refl
 
 -- a contour needs room along x and along y, but none along z
 contour_needs_no_depth : fits_contour (record (counted 4) { z0 = pos 5; z1 = pos 5 }) ≡ true
