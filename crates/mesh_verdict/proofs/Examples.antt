@@ -1,13 +1,16 @@
--- What is found of small sets of faces, worked out by hand.
+-- What is found of small sets of faces, and tables of their vertices, worked out by hand.
 use Rattle.std.proofs.Common.{◌≡◌, ℕ, zero, suc, ◌<◌, Bool, true, List, [], ◌∷◌, refl, arith}
-use Rattle.std.specs.Prelude.{◌==◌, ◌&&◌, not, All}
+use Rattle.std.specs.Prelude.{◌+◌, ◌==◌, ◌&&◌, not, All, get_or}
 use Rattle.std.specs.Bool.{Decides}
 use Rattle.std.specs.List.{HoldsAt, list_all}
+use Rattle.std.proofs.lemmas.List.Elements.{All-cons, All-nil}
 use Rattle.std.proofs.lemmas.Bool.Decides.{Decides-and, Decides-by_and, Decides-eqb, Decides-like, Decides-not}
 use Rattle.kuhn_cells.specs.Faces.{Face as Triple}
 use Rattle.mesh_laws.specs.Closed.{IsTriangle, directed_edges, occurrences}
 use Rattle.mesh_laws.specs.Manifold.{HasFan, arcs}
 use Rattle.mesh_verdict.specs.declared.finding.Finding.TheVariants.{Closed, Edge, Face, Vertex}
+use Rattle.mesh_verdict.specs.Buckets.{AreSums, below}
+use Rattle.mesh_verdict.specs.Faults.{AreClear}
 use Rattle.mesh_verdict.specs.Findings.{after, is_paired, is_triangle}
 use Rattle.mesh_verdict.specs.Verdicts.{ArePaired, IsPaired, Verdict}
 use Rattle.mesh_verdict.proofs.Decisions.{fan_goes_round, linked, round_is_fan}
@@ -208,3 +211,49 @@ flat_face = record { within = omega arith; fails = λ h. (h (triple 0 0 0)).ab r
     below : (j : ℕ) → j < 1 → HoldsAt IsTriangle flat j
     below zero less = λ d. record { ab = λ e. omega (arith, e); bc = λ e. omega (arith, e); ca = λ e. omega (arith, e) }
     below (suc j) less = absurd (omega (arith, less))
+
+-- ---- tables
+
+-- of the numbers 2, 0, 2 and 1 one is at most 0, two are at most 1, and all four are at most 2, not three of them
+sums_of_four : AreSums (2 ∷ 0 ∷ 2 ∷ 1 ∷ []) (1 ∷ 2 ∷ 4 ∷ [])
+sums_of_four = record { sum = sum }
+  where
+    sum : (u : ℕ) → u < 3 → get_or (1 ∷ 2 ∷ 4 ∷ []) u 0 ≡ below (2 ∷ 0 ∷ 2 ∷ 1 ∷ []) (u + 1)
+    sum zero less = refl
+    sum (suc zero) less = refl
+    sum (suc (suc zero)) less = refl
+    sum (suc (suc (suc u))) less = absurd (omega (arith, less))
+
+last_sum_of_three : AreSums (2 ∷ 0 ∷ 2 ∷ 1 ∷ []) (1 ∷ 2 ∷ 3 ∷ []) → ⊥
+last_sum_of_three are = let sum : 3 ≡ 4 = are.sum 2 (omega arith) in omega (arith, sum)
+
+-- no edge at either of two vertices
+abbrev nothing : List ℕ
+nothing = 0 ∷ 0 ∷ []
+
+-- the vertex 1 is the last of two, which may be the next one of a vertex
+two_vertices : AreClear 2 nothing nothing (1 ∷ 0 ∷ [])
+two_vertices = record {
+  degrees = record { firsts = refl; seconds = refl; leave = none; arrive = none };
+  size = refl;
+  below = All-cons (λ v. v < 2) 1 (0 ∷ []) (omega arith) (All-cons (λ v. v < 2) 0 [] (omega arith) (All-nil (λ v. v < 2)));
+}
+  where
+    none : (v : ℕ) → get_or nothing v 0 ≡ 0
+    none zero = refl
+    none (suc zero) = refl
+    none (suc (suc v)) = refl
+
+-- something is noted where an edge leaves a vertex, and where one comes back to it
+edge_there : (next : List ℕ) → AreClear 2 (0 ∷ 1 ∷ []) nothing next → ⊥
+edge_there next clear = let one : 1 ≡ 0 = clear.degrees.leave 1 in omega (arith, one)
+
+edge_back : (next : List ℕ) → AreClear 2 nothing (0 ∷ 1 ∷ []) next → ⊥
+edge_back next clear = let one : 1 ≡ 0 = clear.degrees.arrive 1 in omega (arith, one)
+
+-- a table of one vertex is too short, and no third vertex is next
+one_vertex : AreClear 2 nothing nothing (1 ∷ []) → ⊥
+one_vertex clear = let size : 1 ≡ 2 = clear.size in omega (arith, size)
+
+third_vertex : AreClear 2 nothing nothing (0 ∷ 2 ∷ []) → ⊥
+third_vertex clear = let less : 2 < 2 = clear.below 1 0 (omega arith) in omega (arith, less)
