@@ -1,12 +1,12 @@
 -- What is found of small sets of faces, and tables of their vertices, worked out by hand.
 use Rattle.std.proofs.Common.{◌≡◌, ℕ, zero, suc, ◌<◌, Bool, true, List, [], ◌∷◌, refl, arith}
-use Rattle.std.specs.Prelude.{◌+◌, ◌==◌, ◌&&◌, not, All, get_or}
+use Rattle.std.specs.Prelude.{◌+◌, All, get_or}
 use Rattle.std.specs.Bool.{Decides}
 use Rattle.std.specs.List.{HoldsAt, list_all}
 use Rattle.std.proofs.lemmas.List.Elements.{All-cons, All-nil}
-use Rattle.std.proofs.lemmas.Bool.Decides.{Decides-and, Decides-by_and, Decides-eqb, Decides-like, Decides-not}
+use Rattle.std.proofs.lemmas.Bool.Decides.{Decides-by_and}
 use Rattle.kuhn_cells.specs.Faces.{Face as Triple}
-use Rattle.mesh_laws.specs.Closed.{IsTriangle, directed_edges, occurrences}
+use Rattle.mesh_laws.specs.Closed.{IsTriangle, directed_edges}
 use Rattle.mesh_laws.specs.Manifold.{HasFan, arcs}
 use Rattle.mesh_verdict.specs.declared.finding.Finding.TheVariants.{Closed, Edge, Face, Vertex}
 use Rattle.mesh_verdict.specs.Buckets.{AreSums, below}
