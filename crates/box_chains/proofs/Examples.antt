@@ -1,17 +1,26 @@
 -- The work of boxes that hand on less than they receive, computed on a list that was worked out by hand.
-use Rattle.std.proofs.Common.{◌≡◌, ◌+◌, ◌≤◌, ℕ, true, false, pos, negsuc, [], ◌∷◌, List, arith, refl}
+use Rattle.std.proofs.Common.{◌≡◌, ◌+◌, ◌*◌, ◌≤◌, ℕ, zero, suc, Bool, true, false, pos, negsuc, [], ◌∷◌, List, length, map, ltb, arith, ap, refl, subst}
 use Rattle.fixed_ops.specs.Counts.{Counts}
 use Rattle.fixed_ops.specs.declared.operation.Op.{Op}
 use Rattle.fixed_ops.specs.declared.operation.Op.TheVariants.{X, Y, Const, Neg, Sub, Max}
+use Rattle.interval_ops.specs.Hulls.{between}
+use Rattle.interval_ops.specs.declared.choice.Choice.TheVariants.{Left, Both}
 use Rattle.live_clauses.specs.declared.step.Step.{Step}
 use Rattle.view_places.specs.Window.{Window}
 use Rattle.view_places.specs.Boxes.{Indices}
 use Rattle.view_places.specs.declared.lattice.Axis.TheVariants as axes
 use Rattle.view_places.specs.declared.lattice.Lattice.TheVariants.{Raster, Height, Grid}
-use Rattle.box_chains.specs.Chains.{Descent, chain_within, is_long}
-use Rattle.box_chains.specs.Counts.{points_in, root_visit, spans_in}
+use Rattle.box_chains.specs.Chains.{Descent, chain_within, is_long, sum_over, visit}
+use Rattle.box_chains.specs.Counts.{halves_points, halves_spans, open_points, open_spans, points_in, root_visit, spans_in}
+use Rattle.box_chains.specs.Desks.{HasRoomFor, MayOpen, Tracing, list_of}
+use Rattle.box_chains.specs.Opened.{outcome_points, outcome_spans, spans_below}
+use Rattle.box_chains.specs.Outcomes.{ChoosesNone, is_shortened}
 use Rattle.box_chains.specs.Placing.{places_along}
+use Rattle.box_chains.specs.Sums.{Sample, maximum}
 use Rattle.box_chains.specs.Tallied.{CountsAtMost, CountsExactly}
+use Rattle.box_chains.specs.Tested.{halves_points_where, halves_spans_where, open_points_where, open_spans_where, points_where, spans_where}
+use Rattle.box_chains.specs.declared.asked_box.AskedBox.{AskedBox}
+use Rattle.box_chains.specs.declared.outcome.Outcome.TheVariants.{Inside, Outside, Open}
 
 -- rasters from -1 to 1, at the height 0, by boxes with sides of at most 8
 abbrev pub raster : ℕ → ℕ → Descent
@@ -150,3 +159,191 @@ bounded_work = record {
 
 bounded_corners : (work : CountsAtMost 3 2 (counts 10 20 30) (counts 12 22 38)) → work.by.corners ≤ 8
 bounded_corners work = work.few.corners
+
+-- ---- halves and open boxes
+
+-- the slab along x but for its last maximum: five steps
+abbrev bare : List Step
+bare =
+    record { op = X; a = 0; b = 0; value = pos 0 }
+    ∷ record { op = Neg; a = 0; b = 0; value = pos 0 }
+    ∷ record { op = Max; a = 0; b = 1; value = pos 0 }
+    ∷ record { op = Const; a = 0; b = 0; value = pos 2147483648 }
+    ∷ record { op = Sub; a = 2; b = 3; value = pos 0 }
+    ∷ []
+
+-- columns from one on, before another, of a raster of one row
+abbrev columns_of_row : ℕ → ℕ → Indices
+columns_of_row low high = record { x0 = low; x1 = high; y0 = 0; y1 = 1; z0 = 0; z1 = 1 }
+
+abbrev halves : List Indices
+halves = columns_of_row 0 8 ∷ columns_of_row 8 16 ∷ []
+
+-- a box with the list that it receives, and a sum over two of them: 100 times where they end, and five steps each
+received : visit (box 1 2 3) bare ≡ record { box = box 1 2 3; list = bare }
+received = refl
+
+sum_of_two : sum_over (λ v. v.box.x1 * 100 + length v.list) bare halves ≡ 2410
+sum_of_two = refl
+
+-- Eight samples take four evaluations each in the left half, and eight take three each in the right one. Both are
+-- traced over five steps.
+points_of_halves : halves_points (raster 16 1) bare halves ≡ 56
+unfolding points_in chain_within
+points_of_halves = refl
+
+spans_of_halves : halves_spans (raster 16 1) bare halves ≡ 10
+unfolding spans_in chain_within
+spans_of_halves = refl
+
+-- so does an open box with these halves, and an open leaf takes all five steps at each of its three samples
+points_of_open : open_points (raster 16 1) (columns_of_row 0 16) bare ≡ 56
+unfolding points_in chain_within
+points_of_open = refl
+
+spans_of_open : open_spans (raster 16 1) (columns_of_row 0 16) bare ≡ 10
+unfolding spans_in chain_within
+spans_of_open = refl
+
+points_of_leaf : open_points (raster 16 1) (columns_of_row 4 7) bare ≡ 15
+points_of_leaf = refl
+
+spans_of_leaf : open_spans (raster 16 1) (columns_of_row 4 7) bare ≡ 0
+spans_of_leaf = refl
+
+-- a box that is open takes that, and one that is decided takes nothing
+points_of_outcomes :
+    map (outcome_points (raster 16 1) (columns_of_row 0 16)) (Inside ∷ Outside ∷ Open bare ∷ []) ≡ 0 ∷ 0 ∷ 56 ∷ []
+unfolding points_in chain_within
+points_of_outcomes = refl
+
+spans_of_outcomes :
+    map (outcome_spans (raster 16 1) (columns_of_row 0 16)) (Inside ∷ Outside ∷ Open bare ∷ []) ≡ 0 ∷ 0 ∷ 10 ∷ []
+unfolding spans_in chain_within
+spans_of_outcomes = refl
+
+-- the box of all samples receives seven steps and hands on these five
+spans_below_root : spans_below (raster 16 1) (slab X) (columns_of_row 0 16) ≡ 10
+unfolding spans_in chain_within
+spans_below_root = refl
+
+-- of the samples from column 10 on all six lie in the right half, so the left one is not traced
+abbrev late : Sample → Bool
+late s = ltb 9 s.i
+
+late_points : halves_points_where late (raster 16 1) bare halves ≡ 18
+unfolding points_where chain_within
+late_points = refl
+
+late_spans : halves_spans_where late (raster 16 1) bare halves ≡ 5
+unfolding spans_where chain_within
+late_spans = refl
+
+late_points_of_open : open_points_where late (raster 16 1) (columns_of_row 0 16) bare ≡ 18
+unfolding points_where chain_within
+late_points_of_open = refl
+
+late_spans_of_open : open_spans_where late (raster 16 1) (columns_of_row 0 16) bare ≡ 5
+unfolding spans_where chain_within
+late_spans_of_open = refl
+
+-- and two of them in an open leaf of four, which takes five steps at each
+late_points_of_leaf : open_points_where late (raster 16 1) (columns_of_row 8 12) bare ≡ 10
+late_points_of_leaf = refl
+
+late_spans_of_leaf : open_spans_where late (raster 16 1) (columns_of_row 8 12) bare ≡ 0
+late_spans_of_leaf = refl
+
+greatest : maximum (3 ∷ 7 ∷ 5 ∷ []) ≡ 7
+greatest = refl
+
+greatest_of_none : maximum [] ≡ 0
+greatest_of_none = refl
+
+-- ---- desks
+
+-- x, y and the negation of x, where nothing needs y
+abbrev idle : List Step
+idle =
+    record { op = X; a = 0; b = 0; value = pos 0 }
+    ∷ record { op = Y; a = 0; b = 0; value = pos 0 }
+    ∷ record { op = Neg; a = 0; b = 0; value = pos 0 }
+    ∷ []
+
+-- three lists of three, seven and five steps, where a list may have five
+abbrev desk : Tracing
+desk = record { view = uneven; lattice = Raster; room = 5; lists = idle ∷ slab X ∷ bare ∷ [] }
+
+list_of_one : list_of desk 1 ≡ slab X
+list_of_one = refl
+
+-- there is room for the last one, and not for one whose steps are not all needed, nor for a longer one, nor for
+-- one that is not there
+room_for_five : HasRoomFor desk 2
+room_for_five = record { among = omega arith; room = omega arith; whole = refl }
+
+no_room_for_idle : HasRoomFor desk 0 → ⊥
+no_room_for_idle has = let fewer : 2 ≡ 3 = ap length has.whole in omega (arith, fewer)
+
+no_room_for_seven : HasRoomFor desk 1 → ⊥
+no_room_for_seven has = let few : 7 ≤ 5 = has.room in omega (arith, few)
+
+no_room_for_none : HasRoomFor desk 3 → ⊥
+no_room_for_none has = omega (arith, has.among)
+
+-- all samples of five columns and three rows are a box that may hand that list on
+abbrev all_samples : Indices
+all_samples = record { x0 = 0; x1 = 5; y0 = 0; y1 = 3; z0 = 0; z1 = 1 }
+
+opens_with_five : MayOpen Raster desk all_samples (Open 2)
+opens_with_five = record {
+  lattice = refl;
+  box = record { x = omega arith; y = omega arith; z = omega arith };
+  within = record { x = omega arith; y = omega arith; z = omega arith };
+  hands = λ at is. let same : 2 ≡ at = cc in subst (HasRoomFor desk) same room_for_five;
+}
+
+-- and may be decided; it may not hand on the longer list, be a box of another lattice, have no sample, or have one
+-- that is no sample of the desk's
+may_be_outside : MayOpen Raster desk all_samples Outside
+may_be_outside = record {
+  lattice = refl;
+  box = record { x = omega arith; y = omega arith; z = omega arith };
+  within = record { x = omega arith; y = omega arith; z = omega arith };
+  hands = λ at is. (cc);
+}
+
+opens_with_seven : MayOpen Raster desk all_samples (Open 1) → ⊥
+opens_with_seven may = no_room_for_seven (may.hands 1 refl)
+
+another_lattice : MayOpen Height desk all_samples Outside → ⊥
+another_lattice may = let same : Raster ≡ Height = may.lattice in (cc)
+
+no_sample : MayOpen Raster desk (record all_samples { y0 = 3 }) Outside → ⊥
+no_sample may = omega (arith, may.box.y)
+
+too_many_columns : MayOpen Raster desk (record all_samples { x1 = 6 }) Outside → ⊥
+too_many_columns may = omega (arith, may.within.x)
+
+-- ---- outcomes
+
+-- no step chooses an operand, or the second one does
+chooses_none : ChoosesNone (Both ∷ Both ∷ [])
+chooses_none zero = refl
+chooses_none (suc zero) = refl
+chooses_none (suc (suc place)) = refl
+
+chooses_some : ChoosesNone (Both ∷ Left ∷ []) → ⊥
+chooses_some none = let choice : Left ≡ Both = none 1 in (cc)
+
+-- A box hands on a shorter list where it is undecided and some step chooses, and where it is held open though it is
+-- inside; and not where no step chooses, or where it is inside and not held.
+abbrev asked : Bool → AskedBox
+asked held = record { range = all_samples; held = held }
+
+shortened_lanes : map
+    (is_shortened (asked false ∷ asked false ∷ asked true ∷ asked false ∷ [])
+    (between (negsuc 0) (pos 1) ∷ between (negsuc 0) (pos 1) ∷ between (negsuc 1) (negsuc 0) ∷ between (negsuc 1) (negsuc 0) ∷ [])
+    (true ∷ false ∷ true ∷ true ∷ []))
+    (0 ∷ 1 ∷ 2 ∷ 3 ∷ []) ≡ true ∷ false ∷ true ∷ false ∷ []
+shortened_lanes = refl

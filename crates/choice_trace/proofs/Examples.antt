@@ -8,7 +8,7 @@ use Rattle.interval_ops.specs.Spans.{all_numbers}
 use Rattle.interval_ops.specs.declared.choice.Choice.TheVariants.{Left, Right, Both}
 use Rattle.interval_ops.specs.declared.region.Region.{Region}
 use Rattle.live_clauses.specs.declared.step.Step.{Step}
-use Rattle.choice_trace.specs.Halves.{flag_in, region_in}
+use Rattle.choice_trace.specs.Halves.{flag_in, region_in, region_of}
 use Rattle.choice_trace.specs.Hulls.{choices_over, tape_hull}
 use Rattle.choice_trace.specs.Meaning.{StandForPoint, StandsForResults}
 
@@ -77,6 +77,14 @@ second_flag = refl
 
 no_flag : flag_in (true ∷ true ∷ []) 2 ≡ false
 no_flag = refl
+
+-- the region of the second lane has the second range of each row, and all numbers where a row ends before it
+second_of_rows : region_of (record {
+  x = between (pos 1) (pos 2) ∷ between (pos 3) (pos 4) ∷ [];
+  y = between (pos 5) (pos 6) ∷ between (pos 7) (pos 8) ∷ [];
+  z = between (pos 9) (pos 10) ∷ [];
+}) 1 ≡ record { x = between (pos 3) (pos 4); y = between (pos 7) (pos 8); z = all_numbers }
+second_of_rows = refl
 
 -- three numbers stand for the point with just these coordinates
 coordinates : StandForPoint (λ a v. a ≡ v) (record { x = pos 1; y = pos 2; z = pos 3 }) (record { x = pos 1; y = pos 2; z = pos 3 })

@@ -1,13 +1,18 @@
 -- The tops and the work of height maps, computed on lists that were worked out by hand.
-use Rattle.std.proofs.Common.{◌≡◌, ℕ, pos, negsuc, [], ◌∷◌, List, refl}
+use Rattle.std.proofs.Common.{◌≡◌, ℕ, pos, negsuc, [], ◌∷◌, List, refl, arith}
 use Rattle.box_chains.specs.Chains.{chain_within}
 use Rattle.box_chains.specs.Counts.{spans_in}
 use Rattle.fixed_ops.specs.Counts.{Counts}
 use Rattle.fixed_ops.specs.declared.operation.Op.TheVariants.{X, Y, Z, Const, Neg, Sub, Max}
 use Rattle.live_clauses.specs.declared.step.Step.{Step}
+use Rattle.view_places.specs.Boxes.{Indices}
 use Rattle.view_places.specs.Window.{Window}
+use Rattle.view_places.specs.declared.lattice.Lattice.{Lattice}
+use Rattle.view_places.specs.declared.lattice.Lattice.TheVariants.{Raster, Height}
 use Rattle.height_map.specs.Bound.{CountsPoints, CountsSpans, height_points, height_spans, near_spans}
+use Rattle.box_chains.specs.Placing.{Sampling}
 use Rattle.box_chains.specs.Tested.{points_where, spans_where}
+use Rattle.height_map.specs.Columns.{IsLeafOf}
 use Rattle.height_map.specs.Tops.{tops_of}
 
 -- from -1 to 1
@@ -138,3 +143,36 @@ three_evaluations = refl
 
 three_hulls : CountsSpans 3 (counted 1 20) (counted 1 23)
 three_hulls = refl
+
+-- the samples of three columns, two rows and so many layers, and the box of all of them below a layer and a row
+abbrev layers : Lattice → ℕ → Sampling
+layers lattice d = record { view = window 3 2 d; lattice = lattice }
+
+abbrev below : ℕ → ℕ → Indices
+below y1 z1 = record { x0 = 0; x1 = 3; y0 = 0; y1 = y1; z0 = 0; z1 = z1 }
+
+-- the box of all samples is one of the height map's, which has six tops and at most 1024 layers
+all_are_leaf : IsLeafOf (layers Height 1024) 3 (below 2 1024) 6
+all_are_leaf = record {
+  lattice = refl;
+  within = record { x = omega arith; y = omega arith; z = omega arith };
+  width = refl;
+  among = record { columns = omega arith; rows = omega arith; few = omega arith };
+  high = omega arith;
+}
+
+-- no box is one of a raster's, reaches below the last row, has tops in wider rows or fewer tops, or has more layers
+raster_leaf : IsLeafOf (layers Raster 1024) 3 (below 2 1) 6 → ⊥
+raster_leaf is = let same : Raster ≡ Height = is.lattice in (cc)
+
+leaf_below : IsLeafOf (layers Height 8) 3 (below 3 8) 9 → ⊥
+leaf_below is = omega (arith, is.within.y)
+
+wider_leaf : IsLeafOf (layers Height 8) 4 (below 2 8) 8 → ⊥
+wider_leaf is = let same : 4 ≡ 3 = is.width in omega (arith, same)
+
+fewer_tops : IsLeafOf (layers Height 8) 3 (below 2 8) 5 → ⊥
+fewer_tops is = omega (arith, is.among.rows)
+
+higher_leaf : IsLeafOf (layers Height 1025) 3 (below 2 1025) 6 → ⊥
+higher_leaf is = omega (arith, is.high)

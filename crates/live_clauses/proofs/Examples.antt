@@ -1,5 +1,5 @@
 -- Lists of steps, their values, and what choices leave of them, worked out by hand.
-use Rattle.std.proofs.Common.{◌≡◌, ℕ, ◌+◌, ℤ, pos, negsuc, ◌≤◌, List, [], ◌∷◌, length, refl, ap, arith}
+use Rattle.std.proofs.Common.{◌≡◌, ℕ, ◌+◌, ℤ, pos, negsuc, zero, suc, ◌<◌, ◌≤◌, true, false, List, [], ◌∷◌, length, refl, ap, sym, arith}
 use Rattle.fixed_ops.specs.Points.{Point}
 use Rattle.fixed_ops.specs.Raw.{IsRaw}
 use Rattle.fixed_ops.specs.Slopes.{Sloped, one}
@@ -8,8 +8,10 @@ use Rattle.fixed_ops.specs.declared.operation.Op.TheVariants.{X, Y, Z, Neg, Sub,
 use Rattle.interval_ops.specs.declared.choice.Choice.TheVariants.{Left, Right, Both}
 use Rattle.live_clauses.specs.declared.choice_row.ChoiceRow.{ChoiceRow}
 use Rattle.live_clauses.specs.declared.step.Step.{Step}
+use Rattle.live_clauses.specs.Blocks.{list_at}
 use Rattle.live_clauses.specs.Choices.{AreChoices, AreRight, lane}
-use Rattle.live_clauses.specs.Live.{live_of, IsWhole}
+use Rattle.live_clauses.specs.Live.{live_of, IsLiveOf, IsWhole}
+use Rattle.live_clauses.specs.Marks.{IsNextMarked, is_marked}
 use Rattle.live_clauses.specs.Meanings.{Meaning, MeanTheirChoices, ReadsItsOperands, meanings, sloped_at, tape_meaning}
 use Rattle.live_clauses.specs.Steps.{IsStepAt, IsTape, tape_value, values}
 
@@ -144,3 +146,63 @@ second_lane = refl
 
 third_lane : lane 2 two_rows ≡ Both ∷ Right ∷ []
 third_lane = refl
+
+-- the second of two lists, and one that is not there
+second_list : list_at (idle ∷ lesser ∷ []) 1 ≡ lesser
+second_list = refl
+
+no_list : list_at (idle ∷ lesser ∷ []) 2 ≡ []
+no_list = refl
+
+-- the negation of x is what is live where nothing needs y, and nothing more is
+negation_is_live : IsTape idle → IsLiveOf (step X 0 0 ∷ step Neg 0 0 ∷ []) idle
+negation_is_live tape = record { tape = tape; live = refl }
+
+idle_is_not_live : IsLiveOf idle idle → ⊥
+idle_is_not_live is = idle_is_not_whole (sym is.live)
+
+live_of_a_tape : (list steps : List Step) → IsLiveOf list steps → IsTape steps
+live_of_a_tape list steps is = is.tape
+
+-- memory with a byte for each of five places: places 0, 3 and 4 are marked in the second lane
+abbrev marks : List ℕ
+marks = 2 ∷ 1 ∷ 4 ∷ 3 ∷ 2 ∷ []
+
+-- from place 1 on the next one there is 3, also where the look begins with it, and the end where that comes before
+next_is_three : IsNextMarked 1 marks 1 5 3
+next_is_three = record { onward = omega arith; within = omega arith; idle = idle_before; there = λ before. refl }
+  where
+    idle_before : (place : ℕ) → 1 ≤ place → place < 3 → is_marked 1 marks place ≡ false
+    idle_before zero from to = absurd (omega (arith, from))
+    idle_before (suc zero) from to = refl
+    idle_before (suc (suc zero)) from to = refl
+    idle_before (suc (suc (suc place))) from to = absurd (omega (arith, to))
+
+next_is_the_first : IsNextMarked 1 marks 3 5 3
+next_is_the_first = record {
+  onward = omega arith;
+  within = omega arith;
+  idle = λ place from to. absurd (omega (arith, from, to));
+  there = λ before. refl;
+}
+
+next_is_the_end : IsNextMarked 1 marks 2 2 2
+next_is_the_end = record {
+  onward = omega arith;
+  within = omega arith;
+  idle = λ place from to. absurd (omega (arith, from, to));
+  there = λ before. absurd (omega (arith, before));
+}
+
+-- none is passed over, none is next that is not marked, and none before the first or behind the end
+passed_over : IsNextMarked 1 marks 1 5 4 → ⊥
+passed_over next = let mark : true ≡ false = next.idle 3 (omega arith) (omega arith) in (cc)
+
+not_marked : IsNextMarked 1 marks 1 5 2 → ⊥
+not_marked next = let mark : false ≡ true = next.there (omega arith) in (cc)
+
+before_the_first : IsNextMarked 1 marks 3 5 0 → ⊥
+before_the_first next = omega (arith, next.onward)
+
+behind_the_end : IsNextMarked 1 marks 1 2 3 → ⊥
+behind_the_end next = omega (arith, next.within)
