@@ -1,9 +1,20 @@
 -- Places, computed on vertices that were worked out by hand.
-use Rattle.std.proofs.Common.{◌≡◌, ℕ, ◌≤◌, pos, negsuc, refl, arith}
+use Rattle.std.proofs.Common.{◌≡◌, ℕ, zero, suc, ◌+◌, ◌*◌, ◌/◌, ◌≤◌, ℤ, pos, negsuc, List, [], ◌∷◌, get_or, length, ap, subst, sym, refl, arith}
+use Rattle.std.specs.Prelude.{◌≤ℤ◌, All, replicate, slice_index_or}
+use Rattle.std.proofs.lemmas.List.{get_or-replicate}
+use Rattle.fixed_ops.specs.Raw.{greatest}
+use Rattle.tetra_mesh.specs.declared.numbering.Numbering.{Numbering}
+use Rattle.tetra_mesh.specs.declared.shapes.Shapes.{Shapes}
+use Rattle.tetra_mesh.specs.declared.sided_cell.SidedCell.{SidedCell}
 use Rattle.tetra_mesh.specs.declared.vertex.Vertex.{Vertex}
 use Rattle.mesh_laws.specs.Places.{way_up}
 use Rattle.tetra_mesh.specs.Places.{IsPlaced, lattice_place_along, vertex_place}
+use Rattle.tetra_mesh.specs.Numbering.{HasReached, IsNumbered}
+use Rattle.tetra_mesh.specs.Shapes.{AreMade, AreShapes, IsMade}
+use Rattle.tetra_mesh.specs.Sides.{HaveCells, OfCells}
 use Rattle.tetra_mesh.specs.Sound.{lattice_of, raw_of}
+use Rattle.tetra_mesh.specs.Tables.{AreTables, IsPointPlace, IsTable}
+use Rattle.tetra_mesh.specs.Walks.{CanGoOn}
 use Rattle.view_places.specs.declared.lattice.Axis.TheVariants.{X, Y, Z}
 use Rattle.view_places.specs.Window.{Window}
 
@@ -169,3 +180,124 @@ none_beyond_three h = let x : 4 ≤ 3 = h.upper_end.x in omega (arith, x)
 
 none_beyond_two : IsPlaced uneven (at 0 0 2 4 1) → ⊥
 none_beyond_two h = let z : 3 ≤ 2 = h.upper_end.z in omega (arith, z)
+
+-- ---- tables of the places of points
+
+-- an end of an axis may be the greatest raw number, and nothing lies beyond that
+abbrev up_to : ℤ → Window
+up_to x1 = record uneven { x1 = x1; nx = 1 }
+
+greatest_place : IsPointPlace (up_to greatest) X 1 greatest
+greatest_place = record { is = refl; raw = (record { le = tt }, record { le = tt }) }
+
+place_beyond : IsPointPlace (up_to (pos 4611686018427387904)) X 1 (pos 4611686018427387904) → ⊥
+place_beyond h = let most : pos 4611686018427387904 ≤ℤ greatest = h.raw.1 in most.le
+
+-- the points of each axis have their own places: four along x, five along y and three along z
+abbrev places_along_x : List ℤ
+places_along_x = pos 0 ∷ pos 100 ∷ pos 200 ∷ pos 300 ∷ []
+
+abbrev places_along_y : List ℤ
+places_along_y = pos 1000 ∷ pos 1150 ∷ pos 1300 ∷ pos 1450 ∷ pos 1600 ∷ []
+
+abbrev places_along_z : List ℤ
+places_along_z = negsuc 29 ∷ pos 15 ∷ pos 60 ∷ []
+
+each_along_x : (i : ℕ) → i ≤ 3 → IsPointPlace uneven X i (slice_index_or places_along_x i (pos 0))
+each_along_x zero h = record { is = refl; raw = (record { le = tt }, record { le = tt }) }
+each_along_x (suc zero) h = record { is = refl; raw = (record { le = tt }, record { le = tt }) }
+each_along_x (suc (suc zero)) h = record { is = refl; raw = (record { le = tt }, record { le = tt }) }
+each_along_x (suc (suc (suc zero))) h = record { is = refl; raw = (record { le = tt }, record { le = tt }) }
+each_along_x (suc (suc (suc (suc i)))) h = absurd (omega (arith, h))
+
+each_along_y : (i : ℕ) → i ≤ 4 → IsPointPlace uneven Y i (slice_index_or places_along_y i (pos 0))
+each_along_y zero h = record { is = refl; raw = (record { le = tt }, record { le = tt }) }
+each_along_y (suc zero) h = record { is = refl; raw = (record { le = tt }, record { le = tt }) }
+each_along_y (suc (suc zero)) h = record { is = refl; raw = (record { le = tt }, record { le = tt }) }
+each_along_y (suc (suc (suc zero))) h = record { is = refl; raw = (record { le = tt }, record { le = tt }) }
+each_along_y (suc (suc (suc (suc zero)))) h = record { is = refl; raw = (record { le = tt }, record { le = tt }) }
+each_along_y (suc (suc (suc (suc (suc i))))) h = absurd (omega (arith, h))
+
+each_along_z : (i : ℕ) → i ≤ 2 → IsPointPlace uneven Z i (slice_index_or places_along_z i (pos 0))
+each_along_z zero h = record { is = refl; raw = (record { le = tt }, record { le = tt }) }
+each_along_z (suc zero) h = record { is = refl; raw = (record { le = tt }, record { le = tt }) }
+each_along_z (suc (suc zero)) h = record { is = refl; raw = (record { le = tt }, record { le = tt }) }
+each_along_z (suc (suc (suc i))) h = absurd (omega (arith, h))
+
+tables_of_uneven : AreTables uneven places_along_x places_along_y places_along_z
+tables_of_uneven = record {
+  along_x = record { few = omega arith; holds = each_along_x };
+  along_y = record { few = omega arith; holds = each_along_y };
+  along_z = record { few = omega arith; holds = each_along_z };
+}
+
+-- a table is none without the last point
+last_point_is_missing : IsTable uneven X (pos 0 ∷ pos 100 ∷ pos 200 ∷ []) → ⊥
+last_point_is_missing h =
+    let last = h.holds 3 (omega arith) in
+    let is : pos 0 ≡ pos 300 = last.is in
+    (cc)
+
+-- the points of 512 cells have a table, here of an axis without length, and those of 513 have none
+abbrev without_length : ℕ → Window
+without_length nx = record uneven { x0 = pos 0; x1 = pos 0; nx = nx }
+
+all_at_zero : (i : ℕ) → IsPointPlace (without_length 512) X i (pos 0)
+all_at_zero i = record {
+  is = let none : 0 ≡ 0 + 0 * i / 512 = omega arith in ap (λ (n : ℕ). pos n) none;
+  raw = (record { le = tt }, record { le = tt });
+}
+
+longest_table : IsTable (without_length 512) X (replicate 513 (pos 0))
+longest_table = record {
+  few = omega arith;
+  holds = λ i within.
+      subst (λ (place : ℤ). IsPointPlace (without_length 512) X i place)
+      (sym (get_or-replicate 513 i (pos 0) (pos 0) (omega (arith, within)))) (all_at_zero i);
+}
+
+no_longer_table : (table : List ℤ) → IsTable (without_length 513) X table → ⊥
+no_longer_table table h = let few : 513 ≤ 512 = h.few in omega (arith, few)
+
+-- ---- what the faces of cells need
+
+-- the triangles for the sides of each cell are made
+abbrev cell : SidedCell
+cell = record { x = 1; y = 2; z = 3; signs = 4 }
+
+shapes_of_a_cell : (shapes : Shapes) → AreMade shapes → IsMade shapes 4 → AreShapes (cell ∷ []) shapes
+shapes_of_a_cell shapes made is = record { made = made; each = each }
+  where
+    each : All (λ (c : SidedCell). IsMade shapes c.signs) (cell ∷ [])
+    each zero d h = is
+    each (suc i) d h = absurd (omega (arith, h))
+
+shape_that_is_missing : (shapes : Shapes) → get_or shapes.places.items 4 0 ≡ 0 → AreShapes (cell ∷ []) shapes → ⊥
+shape_that_is_missing shapes none h =
+    let is : IsMade shapes 4 = h.each 0 cell (omega arith) in
+    let at : get_or shapes.places.items 4 0 ≡ is.place + 1 = is.at in
+    omega (arith, none, at)
+
+shapes_without_places : (shapes : Shapes) → length shapes.places.items ≡ 0 → AreShapes [] shapes → ⊥
+shapes_without_places shapes none h =
+    let room : length shapes.places.items ≡ 256 = h.made.room in
+    omega (arith, none, room)
+
+-- the faces of all cells may be made, and of no more than there are
+all_may_be_made : (numbering : Numbering) (shapes : Shapes) → HaveCells numbering.n (cell ∷ [])
+    → OfCells numbering.n (cell ∷ []) (λ cells. IsNumbered cells numbering.n numbering)
+    → OfCells numbering.n (cell ∷ []) (λ cells. HasReached cells numbering.ahead 1)
+    → AreShapes (cell ∷ []) shapes → CanGoOn numbering shapes (cell ∷ []) 1
+all_may_be_made numbering shapes cells numbered reached tables =
+    record { cells = cells; within = omega arith; numbered = numbered; reached = reached; tables = tables }
+
+none_beyond_the_last : (numbering : Numbering) (shapes : Shapes) → CanGoOn numbering shapes (cell ∷ []) 2 → ⊥
+none_beyond_the_last numbering shapes h = let within : 2 ≤ 1 = h.within in omega (arith, within)
+
+-- and none are made of a cell that is not numbered
+none_before_its_number : (numbering : Numbering) (shapes : Shapes) → numbering.ahead ≡ 0
+    → CanGoOn numbering shapes (cell ∷ []) 1 → ⊥
+none_before_its_number numbering shapes none h =
+    let reached = h.reached h.cells.0 h.cells.1 in
+    let first : 1 ≤ numbering.ahead = reached.first in
+    omega (arith, none, first)
