@@ -1,12 +1,23 @@
 -- Edits and values of a few clauses, worked out by hand.
-use Rattle.std.proofs.Common.{◌≡◌, nat_le, pos, negsuc, [], ◌∷◌, ◌++◌, List, length, map, Ok, Err, true, false, refl}
+use Rattle.std.proofs.Common.{◌≡◌, nat_le, pos, negsuc, [], ◌∷◌, ◌++◌, List, length, map, Ok, Err, true, false, refl, arith}
 use Rattle.fixed_ops.specs.declared.operation.Op.TheVariants as ops
 use Rattle.fixed_ops.specs.Points.{Point}
 use Rattle.fixed_ops.specs.Slopes.{flat, one}
 use Rattle.solid_model.specs.declared.clause.Clause.{Clause}
 use Rattle.solid_model.specs.declared.edit.Edit.TheVariants.{Set, Add, Put, Cut}
 use Rattle.solid_model.specs.declared.edit.EditFault.TheVariants.{UnknownName, DoubleName, NotEarlier, InUse, LastClause, Full}
+use Rattle.solid_model.specs.declared.change.Change.TheVariants.{Write, Insert, Remove}
+use Rattle.solid_model.specs.declared.clause_ref.ClauseRef.{ClauseRef}
+use Rattle.solid_model.specs.declared.edit_ref.LentEdit.TheVariants as lent
+use Rattle.solid_model.specs.declared.form_ref.ArgsRef.TheVariants as args
+use Rattle.solid_model.specs.declared.key.KeyBytes.TheVariants as keys
+use Rattle.solid_model.specs.declared.refusal.Refusal.TheVariants as refusals
+use Rattle.solid_model.specs.Changes.{PutsIn, TellsUser, fault_of}
+use Rattle.solid_model.specs.Edited.{after_edits, opening}
 use Rattle.solid_model.specs.Edits.{before, edited, is_named, MakesClause}
+use Rattle.solid_model.specs.Keys.{key_bytes}
+use Rattle.solid_model.specs.LentArgs.{args_seen}
+use Rattle.solid_model.specs.LentEdits.{edit_seen}
 use Rattle.solid_model.specs.Named.{named_of, placed}
 use Rattle.solid_model.specs.Names.{is_name}
 use Rattle.solid_model.specs.Parts.{Parts}
@@ -115,3 +126,76 @@ cut_makes_none makes = makes
 names : map is_name ((97 ∷ []) ∷ (97 ∷ 35 ∷ []) ∷ [] ∷ (35 ∷ 97 ∷ []) ∷ (97 ∷ 32 ∷ 98 ∷ []) ∷ (97 ∷ 9 ∷ []) ∷ (13 ∷ 97 ∷ []) ∷ (97 ∷ 10 ∷ 98 ∷ []) ∷ [])
     ≡ true ∷ true ∷ false ∷ false ∷ false ∷ false ∷ false ∷ false ∷ []
 names = refl
+
+-- one change of three puts a clause in
+insert_puts_in : (clause : ClauseRef) → PutsIn (Insert 1 clause)
+insert_puts_in clause = tt
+
+write_puts_none_in : (clause : ClauseRef) → PutsIn (Write 1 clause) → ⊥
+write_puts_none_in clause puts = puts
+
+remove_puts_none_in : PutsIn (Remove 1) → ⊥
+remove_puts_none_in puts = puts
+
+-- a clause that is in use is refused with the place of its user, not with its own
+fault_of_a_user : fault_of (refusals.InUse 1 2) ≡ InUse 2
+fault_of_a_user = refl
+
+fault_alone : fault_of (refusals.Plain NotEarlier) ≡ NotEarlier
+fault_alone = refl
+
+-- the constant at the place 1 is read by the difference at the place 2
+user_of_the_constant : TellsUser model (refusals.InUse 1 2)
+user_of_the_constant = (omega arith, refl)
+
+-- of two users the first is told
+abbrev two_users : List Clause
+two_users = x ∷ record { name = 103 ∷ []; op = ops.Neg; a = 0; b = 0; value = pos 0 } ∷ f ∷ []
+
+first_of_two_users : TellsUser two_users (refusals.InUse 0 1)
+first_of_two_users = (omega arith, refl)
+
+-- a place behind the last one is no clause's, whoever reads it
+user_of_no_clause : TellsUser (x ∷ record f { b = 2 } ∷ []) (refusals.InUse 2 1) → ⊥
+user_of_no_clause tells = absurd (omega (arith, tells.0))
+
+-- another fault tells of no user
+no_user : TellsUser [] (refusals.Plain Full)
+no_user = tt
+
+-- the edits that lead back are followed from the first one on
+opens_with : opening (record { clauses = model; undo = Cut (102 ∷ []) ∷ Cut (99 ∷ []) ∷ [] }) ≡ x ∷ []
+unfolding after_edits
+opens_with = refl
+
+-- a name has the same bytes where a table keeps it and where it is lent
+kept_bytes : key_bytes (keys.Kept (120 ∷ 99 ∷ [])) ≡ 120 ∷ 99 ∷ []
+kept_bytes = refl
+
+lent_bytes : key_bytes (keys.Lent (record { ref_ptr = (0, 0); now = 120 ∷ 99 ∷ [] })) ≡ 120 ∷ 99 ∷ []
+lent_bytes = refl
+
+-- operands that are lent keep their order
+no_operand : args_seen args.Zero ≡ []
+no_operand = refl
+
+one_operand : args_seen (args.One (record { ref_ptr = (0, 0); now = 120 ∷ [] })) ≡ (120 ∷ []) ∷ []
+one_operand = refl
+
+two_operands : args_seen (args.Two (record { ref_ptr = (0, 0); now = 120 ∷ [] }) (record { ref_ptr = (0, 0); now = 99 ∷ [] }))
+    ≡ (120 ∷ []) ∷ (99 ∷ []) ∷ []
+two_operands = refl
+
+-- an edit that is lent is the edit of the same kind, of the same names in the same order
+set_seen : edit_seen (lent.Set (record { ref_ptr = (0, 0); now = 102 ∷ [] }) leaf) ≡ Set (102 ∷ []) leaf
+set_seen = refl
+
+add_seen : edit_seen (lent.Add (record { ref_ptr = (0, 0); now = 113 ∷ [] }) leaf) ≡ Add (113 ∷ []) leaf
+add_seen = refl
+
+put_seen : edit_seen (lent.Put (record { ref_ptr = (0, 0); now = 99 ∷ [] }) (record { ref_ptr = (0, 0); now = 103 ∷ [] }) leaf)
+    ≡ Put (99 ∷ []) (103 ∷ []) leaf
+put_seen = refl
+
+cut_seen : edit_seen (lent.Cut (record { ref_ptr = (0, 0); now = 102 ∷ [] })) ≡ Cut (102 ∷ [])
+cut_seen = refl
