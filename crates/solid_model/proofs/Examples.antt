@@ -14,7 +14,7 @@ use Rattle.solid_model.specs.declared.key.KeyBytes.TheVariants as keys
 use Rattle.solid_model.specs.declared.refusal.Refusal.TheVariants as refusals
 use Rattle.solid_model.specs.Changes.{PutsIn, TellsUser, fault_of}
 use Rattle.solid_model.specs.Edited.{after_edits, opening}
-use Rattle.solid_model.specs.Edits.{before, edited, is_named, MakesClause}
+use Rattle.solid_model.specs.Edits.{before, edited, is_named, FirstMakesClause, MakesClause}
 use Rattle.solid_model.specs.Keys.{key_bytes}
 use Rattle.solid_model.specs.LentArgs.{args_seen}
 use Rattle.solid_model.specs.LentEdits.{edit_seen}
@@ -121,6 +121,16 @@ set_makes_none makes = makes
 
 cut_makes_none : MakesClause (Cut (120 ∷ [])) → ⊥
 cut_makes_none makes = makes
+
+-- of some edits the first is asked, and none makes no clause
+no_edit_makes_none : FirstMakesClause [] → ⊥
+no_edit_makes_none makes = makes
+
+first_makes : FirstMakesClause (Add (120 ∷ []) leaf ∷ Cut (120 ∷ []) ∷ [])
+first_makes = tt
+
+second_is_not_asked : FirstMakesClause (Cut (120 ∷ []) ∷ Add (120 ∷ []) leaf ∷ []) → ⊥
+second_is_not_asked makes = makes
 
 -- a name is a token that does not begin with `#`: it is not empty, and has no space, tab, carriage return or line feed
 names : map is_name ((97 ∷ []) ∷ (97 ∷ 35 ∷ []) ∷ [] ∷ (35 ∷ 97 ∷ []) ∷ (97 ∷ 32 ∷ 98 ∷ []) ∷ (97 ∷ 9 ∷ []) ∷ (13 ∷ 97 ∷ []) ∷ (97 ∷ 10 ∷ 98 ∷ []) ∷ [])

@@ -1,13 +1,14 @@
 -- Places and boxes, computed on views that were worked out by hand.
-use Rattle.std.proofs.Common.{◌≡◌, ℕ, zero, suc, pos, negsuc, ◌≤◌, [], ◌∷◌, true, false, refl, arith}
-use Rattle.std.specs.Prelude.{◌≤ℤ◌}
+use Rattle.std.proofs.Common.{◌≡◌, ℕ, zero, suc, pos, negsuc, ◌≤◌, [], ◌∷◌, map, true, false, refl, arith}
+use Rattle.std.specs.List.{range_with_len}
+use Rattle.std.specs.Prelude.{◌==◌, ◌≤ℤ◌, if◌then◌else◌}
 use Rattle.fixed_ops.specs.Raw.{IsRaw, greatest, least}
 use Rattle.view_places.specs.declared.lattice.Axis.TheVariants as axes
 use Rattle.view_places.specs.declared.lattice.Lattice.TheVariants.{Raster, Height, Grid}
 use Rattle.view_places.specs.Boxes.{Indices, IsBox, middle, one_sample}
 use Rattle.view_places.specs.Places.{sample_place, point_of, raster_point, steps_of}
 use Rattle.view_places.specs.Spans.{IsInRoot, IsPlaceAmong, region_of, root_box_of}
-use Rattle.view_places.specs.Window.{AreEnds, FitsHeight, IsCount, IsWindow, Window, fits_contour, fits_mesh, has_room, size_of}
+use Rattle.view_places.specs.Window.{AreEnds, FitsHeight, IsCount, IsWindow, Window, fits_contour, fits_mesh, has_room, same_view, size_of}
 
 -- from -1 to 1, with this count along each axis
 abbrev counted : ℕ → Window
@@ -349,3 +350,31 @@ lower_ends_are_raw v is = (is.x.low_raw, is.y.low_raw, is.z_ends.low_raw, is.z)
 
 upper_ends_are_raw : (v : Window) → IsWindow v → IsRaw v.x1 × IsRaw v.y1 × IsRaw v.z1
 upper_ends_are_raw v is = (is.x.high_raw, is.y.high_raw, is.z_ends.high_raw)
+
+-- ---- views that are one
+
+abbrev one_at : ℕ → ℕ → ℕ
+one_at place at = if place == at then 1 else 0
+
+-- thirteen numbers, of which the one at this place is 1 and the others are 0
+abbrev marked : ℕ → Window
+marked at = record {
+  x0 = pos (one_at 0 at);
+  x1 = pos (one_at 1 at);
+  y0 = pos (one_at 2 at);
+  y1 = pos (one_at 3 at);
+  z0 = pos (one_at 4 at);
+  z1 = pos (one_at 5 at);
+  z = pos (one_at 6 at);
+  w = one_at 7 at;
+  h = one_at 8 at;
+  d = one_at 9 at;
+  nx = one_at 10 at;
+  ny = one_at 11 at;
+  nz = one_at 12 at;
+}
+
+-- each number tells two views apart
+each_number_counts : map (λ at. same_view (marked at) (marked 13)) (range_with_len 0 14)
+    ≡ false ∷ false ∷ false ∷ false ∷ false ∷ false ∷ false ∷ false ∷ false ∷ false ∷ false ∷ false ∷ false ∷ true ∷ []
+each_number_counts = refl
