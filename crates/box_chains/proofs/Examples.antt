@@ -196,7 +196,7 @@ spans_of_halves : halves_spans (raster 16 1) bare halves ≡ 10
 unfolding spans_in chain_within
 spans_of_halves = refl
 
--- so does an open box with these halves, and an open leaf takes all five steps at each of its three samples
+-- An open box with these halves takes the same, and an open leaf takes all five steps at each of its three samples.
 points_of_open : open_points (raster 16 1) (columns_of_row 0 16) bare ≡ 56
 unfolding points_in chain_within
 points_of_open = refl
@@ -327,7 +327,7 @@ too_many_columns may = omega (arith, may.within.x)
 
 -- ---- outcomes
 
--- no step chooses an operand, or the second one does
+-- of two steps neither chooses an operand, or the second one does
 chooses_none : ChoosesNone (Both ∷ Both ∷ [])
 chooses_none zero = refl
 chooses_none (suc zero) = refl

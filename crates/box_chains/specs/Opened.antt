@@ -1,6 +1,5 @@
 -- The work of a box whose outcome is known, but for its own trace.
 use Rattle.std.specs.Prelude.{ℕ, List}
-use Rattle.std.specs.List.{sum_by}
 use Rattle.live_clauses.specs.declared.step.Step.{Step}
 use Rattle.view_places.specs.Boxes.{Indices}
 use Rattle.box_chains.specs.Chains.{Descent}
@@ -25,9 +24,6 @@ outcome_spans d b Inside = 0
 outcome_spans d b Outside = 0
 outcome_spans d b (Open list) = open_spans d b list
 
--- the steps that are traced below a box which receives a list, and below some boxes
+-- the steps that are traced below a box which receives a list
 abbrev pub spans_below : Descent → List Step → Indices → ℕ
 spans_below d list b = outcome_spans d b (outcome_of (sampling d) list b)
-
-abbrev pub all_spans_below : Descent → List Step → List Indices → ℕ
-all_spans_below d list boxes = sum_by (spans_below d list) boxes

@@ -1,5 +1,5 @@
 -- Lists of steps, their values, and what choices leave of them, worked out by hand.
-use Rattle.std.proofs.Common.{◌≡◌, ℕ, ◌+◌, ℤ, pos, negsuc, zero, suc, ◌<◌, ◌≤◌, true, false, List, [], ◌∷◌, length, refl, ap, sym, arith}
+use Rattle.std.proofs.Common.{◌≡◌, ℕ, ◌+◌, ℤ, pos, negsuc, zero, suc, ◌<◌, ◌≤◌, true, false, List, [], ◌∷◌, length, refl, ap, arith}
 use Rattle.fixed_ops.specs.Points.{Point}
 use Rattle.fixed_ops.specs.Raw.{IsRaw}
 use Rattle.fixed_ops.specs.Slopes.{Sloped, one}
@@ -154,12 +154,12 @@ second_list = refl
 no_list : list_at (idle ∷ lesser ∷ []) 2 ≡ []
 no_list = refl
 
--- the negation of x is what is live where nothing needs y, and nothing more is
+-- the negation of x alone is the live list where nothing needs y, and no other list is
 negation_is_live : IsTape idle → IsLiveOf (step X 0 0 ∷ step Neg 0 0 ∷ []) idle
 negation_is_live tape = record { tape = tape; live = refl }
 
-idle_is_not_live : IsLiveOf idle idle → ⊥
-idle_is_not_live is = idle_is_not_whole (sym is.live)
+only_negation_is_live : (list : List Step) → IsLiveOf list idle → list ≡ step X 0 0 ∷ step Neg 0 0 ∷ []
+only_negation_is_live list is = is.live
 
 live_of_a_tape : (list steps : List Step) → IsLiveOf list steps → IsTape steps
 live_of_a_tape list steps is = is.tape
@@ -186,13 +186,18 @@ next_is_the_first = record {
   there = λ before. refl;
 }
 
-next_is_the_end : IsNextMarked 1 marks 2 2 2
+next_is_the_end : IsNextMarked 1 marks 1 2 2
 next_is_the_end = record {
   onward = omega arith;
   within = omega arith;
-  idle = λ place from to. absurd (omega (arith, from, to));
+  idle = idle_before;
   there = λ before. absurd (omega (arith, before));
 }
+  where
+    idle_before : (place : ℕ) → 1 ≤ place → place < 2 → is_marked 1 marks place ≡ false
+    idle_before zero from to = absurd (omega (arith, from))
+    idle_before (suc zero) from to = refl
+    idle_before (suc (suc place)) from to = absurd (omega (arith, to))
 
 -- none is passed over, none is next that is not marked, and none before the first or behind the end
 passed_over : IsNextMarked 1 marks 1 5 4 → ⊥
