@@ -1,12 +1,13 @@
 -- Which settings verbs take, and what they make, worked out by hand.
 use Rattle.std.proofs.Common.{◌≡◌, ℕ, pos, List, [], ◌∷◌, None, Some, Ok, Err, true, false, refl, arith}
-use Rattle.std.specs.Prelude.{codes}
+use Rattle.std.specs.Prelude.{codes, map}
 use Rattle.std.specs.List.{IsDistinct}
 use Rattle.view_settings.specs.declared.forge.Forge.{Forge as Forged}
 use Rattle.view_settings.specs.declared.job.Job.TheVariants as jobs
 use Rattle.view_settings.specs.declared.kind.Kind.TheVariants as kinds
 use Rattle.view_settings.specs.declared.name.Name.{Name}
 use Rattle.view_settings.specs.declared.name.Name.TheVariants.{X0, X1, Y0, Y1, Z0, Z1, Z, W, H, D, N, Nx, Ny, Nz, Seed, Solids}
+use Rattle.view_settings.specs.declared.reads.Reads.TheVariants as reading
 use Rattle.view_settings.specs.declared.setting.Setting.{Setting}
 use Rattle.view_settings.specs.declared.setting.Value.TheVariants.{Raw, Count}
 use Rattle.view_settings.specs.declared.verb.Verb.TheVariants.{Render, Count as Counts, Height as Heights, Mesh, Text, Replay, Forge}
@@ -15,7 +16,7 @@ use Rattle.view_settings.specs.Verbs.{kind_of}
 use Rattle.view_settings.specs.Names.{name_called}
 use Rattle.view_settings.specs.Setting.{IsSetting, value_read}
 use Rattle.view_settings.specs.Settings.{AreSettings}
-use Rattle.view_settings.specs.Verbs.{IsJob}
+use Rattle.view_settings.specs.Verbs.{IsJob, reads}
 use Rattle.view_settings.specs.Views.{forge_of, is_empty, window_of}
 use Rattle.view_places.specs.Window.{FitsContour, FitsHeight, FitsMesh, IsWindow, Window}
 
@@ -158,6 +159,19 @@ empty_along_y = refl
 
 empty_along_z : is_empty (record uneven { z1 = pos 99 }) ≡ true
 empty_along_z = refl
+
+-- ---- what a job reads
+
+-- A script is replayed, a solid is translated, a mesh is checked, and a model that is made from a seed has no input.
+-- The others draw, count or write a model.
+inputs : map reads
+    (jobs.Render uneven ∷ jobs.Height uneven ∷ jobs.Mesh uneven ∷ jobs.Count uneven ∷ jobs.Text ∷ jobs.Replay
+    ∷ jobs.Forge (record { seed = 7; solids = 3; view = uneven }) ∷ jobs.Shade uneven ∷ jobs.Contour uneven
+    ∷ jobs.Solid ∷ jobs.Check ∷ [])
+    ≡ reading.Model ∷ reading.Model ∷ reading.Model ∷ reading.Model ∷ reading.Model ∷ reading.Script
+    ∷ reading.Nothing ∷ reading.Model ∷ reading.Model
+    ∷ reading.Solid ∷ reading.Mesh ∷ []
+inputs = refl
 
 -- ---- what a job keeps
 
