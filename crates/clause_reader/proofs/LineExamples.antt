@@ -7,8 +7,9 @@ use Rattle.std.proofs.lemmas.List.Elements.{All-head, All-weaker}
 use Rattle.std.proofs.lemmas.List.Sums.{AllPass-from_list_all}
 use Rattle.solid_model.specs.Names.{is_blank}
 use Rattle.clause_reader.specs.declared.comments.Comments.TheVariants.{Skipped, Kept}
+use Rattle.clause_reader.specs.declared.line.Line.{Line}
 use Rattle.clause_reader.specs.LineLaws.{HasNoFeed, AreLines, AreBlanks, HasNoBlank, EndsToken, Spaced}
-use Rattle.clause_reader.specs.NumberedLines.{given_lines}
+use Rattle.clause_reader.specs.NumberedLines.{given_lines, line_seen}
 
 abbrev is_no_feed : ℕ → Bool
 is_no_feed byte = not (eqb byte 10)
@@ -117,3 +118,9 @@ without_comments = refl
 with_comments : given_lines Kept commented
     ≡ (1, codes "#" ∷ codes "a" ∷ []) ∷ (3, codes "b" ∷ codes "c" ∷ []) ∷ (4, codes "#d" ∷ []) ∷ (5, codes "e" ∷ []) ∷ []
 with_comments = refl
+
+-- a line is its number and its tokens, the first one before the others
+line_of_three : (line : Line) → line.number ≡ 7 → line.first.now ≡ codes "f"
+    → line.others ≡ codes "sub" ∷ codes "x" ∷ []
+    → line_seen line ≡ (7, codes "f" ∷ codes "sub" ∷ codes "x" ∷ [])
+line_of_three line number first others = rw (number, first, others) refl

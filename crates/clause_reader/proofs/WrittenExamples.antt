@@ -1,5 +1,6 @@
 -- What tokens say before their names are looked up, and where a token stands, worked out by hand.
 use Rattle.std.proofs.Common.{◌≡◌, ℕ, nat_le, List, [], ◌∷◌, ◌++◌, length, None, Some, Ok, Err, true, false, refl, arith}
+use Rattle.std.specs.Borrow.{Bor}
 use Rattle.std.specs.Prelude.{codes, map, pos}
 use Rattle.std.proofs.lemmas.List.Sums.{AllPass-from_list_all}
 use Rattle.fixed_ops.specs.declared.operation.Op.TheVariants.{X, Const, Sub}
@@ -13,9 +14,12 @@ use Rattle.clause_reader.specs.declared.form_defect.FormDefect.TheVariants.{NoOp
 use Rattle.clause_reader.specs.declared.form_fault.FormFault.TheVariants as form
 use Rattle.clause_reader.specs.declared.read_error.ReadError.TheVariants.{Memory, Defect}
 use Rattle.clause_reader.specs.declared.text_reason.TextReason.TheVariants as text
+use Rattle.clause_reader.specs.declared.operands.Operands.TheVariants.{Zero, One, Two}
+use Rattle.clause_reader.specs.declared.written_form.WrittenForm.{WrittenForm}
 use Rattle.clause_reader.specs.Forms.{with_arguments, with_names}
+use Rattle.clause_reader.specs.Gives.{made}
 use Rattle.clause_reader.specs.Tokens.{IsTokenAt}
-use Rattle.clause_reader.specs.Written.{as_error, as_fault, as_reason, extended, named}
+use Rattle.clause_reader.specs.Written.{as_error, as_fault, as_reason, extended, named, names_in, parts_in}
 
 defects_of_forms : map as_fault
     (Defect NoOperation ∷ Defect UnknownOperation ∷ Defect WrongArity ∷ Defect BadNumeral ∷ Memory ∷ [])
@@ -53,6 +57,25 @@ names_of_a_form = refl
 -- which is told as a fault
 faults_of_a_form : map named (Ok None ∷ Err WrongArity ∷ []) ≡ Err form.BadName ∷ Err form.WrongArity ∷ []
 faults_of_a_form = refl
+
+-- a form has its operation, its operands in their order, and its number
+parts_of_two : (written : WrittenForm) (x y : Bor (List ℕ)) → written.op ≡ Sub → written.operands ≡ Two x y
+    → written.value ≡ pos 7 → x.now ≡ codes "x" → y.now ≡ codes "y"
+    → parts_in written ≡ record { op = Sub; args = codes "x" ∷ codes "y" ∷ []; value = pos 7 }
+parts_of_two written x y op operands value first second = rw (op, operands, value, first, second) refl
+
+one_name : (x : Bor (List ℕ)) → x.now ≡ codes "x" → names_in (One x) ≡ codes "x" ∷ []
+one_name x is = rw is refl
+
+no_name : names_in Zero ≡ []
+no_name = refl
+
+-- what is there after a change that was made, or why none was
+change_made : made {A = ℕ} {T = ℕ} {E = ℕ} 7 (Ok 3) ≡ Ok 7
+change_made = refl
+
+change_refused : made {A = ℕ} {T = ℕ} {E = ℕ} 7 (Err 3) ≡ Err 3
+change_refused = refl
 
 -- the column of x, under the name q
 abbrev column : Clause
