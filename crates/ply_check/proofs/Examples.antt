@@ -1,5 +1,5 @@
 -- The definitions, computed on lines that were worked out by hand.
-use Rattle.std.proofs.Common.{◌≡◌, ℕ, false, List, [], ◌∷◌, ◌++◌, Ok, Err, refl, arith}
+use Rattle.std.proofs.Common.{◌≡◌, ℕ, false, List, [], ◌∷◌, ◌++◌, None, Some, Ok, Err, refl, arith}
 use Rattle.std.specs.Prelude.{codes}
 use Rattle.std.proofs.lemmas.List.Elements.{All-nil, All-cons}
 use Rattle.clause_reader.specs.Lines.{tokens_of}
@@ -7,7 +7,7 @@ use Rattle.ply_check.specs.declared.header_line.HeaderLine.TheVariants.{Format, 
 use Rattle.ply_check.specs.declared.ply_reason.PlyReason.TheVariants.{NotPly, BadHeader, BadFace, BadIndex, TooShort, TooLong}
 use Rattle.ply_check.specs.Answers.{fault_at, ply_answer}
 use Rattle.ply_check.specs.FaceLines.{face_line}
-use Rattle.ply_check.specs.HeaderLines.{header_line, is_ply}
+use Rattle.ply_check.specs.HeaderLines.{digits_said, header_line, is_ply}
 use Rattle.ply_check.specs.PlyFiles.{ply_lines, HasWidth, PlyReads}
 
 -- what the lines of headers say
@@ -55,6 +55,12 @@ end_with_more = refl
 
 first_line_alone : is_ply (tokens_of (codes "ply x")) ≡ false
 first_line_alone = refl
+
+-- digits are a number however many they are, and no number with another byte among them
+numbers_said : digits_said (codes "2048") ∷ digits_said (codes "00000000000000000007")
+    ∷ digits_said (codes "18446744073709551617") ∷ digits_said (codes "20a8") ∷ digits_said (codes "-1") ∷ []
+    ≡ Some 2048 ∷ Some 7 ∷ Some 18446744073709551617 ∷ None ∷ None ∷ []
+numbers_said = refl
 
 -- what the lines of faces say, of four vertices
 face_says : face_line 4 (tokens_of (codes "3 1 2 0000000003")) ≡ Ok (1 ∷ 2 ∷ 3 ∷ [])
