@@ -6,6 +6,7 @@ use Rattle.fixed_ops.specs.declared.operation.Op.TheVariants.{X, Y, Const, Neg, 
 use Rattle.model_forge.specs.declared.disc.Role.TheVariants.{Solid, Hole}
 use Rattle.model_forge.specs.Discs.{centre_of, radius_of, role_of}
 use Rattle.model_forge.specs.Forged.{constant, forged, of_disc, says, solid_before}
+use Rattle.model_forge.specs.Placed.{axes_at}
 use Rattle.model_forge.specs.Stream.{drawn}
 
 first_draw : drawn 0 0 ≡ 335903614
@@ -89,3 +90,9 @@ before_the_fourth = refl
 eleventh : of_disc (codes "a") 10 ≡ codes "a10"
 unfolding digits
 eleventh = refl
+
+-- each model begins with the clauses x and y, at the places 0 and 1
+first_clauses : axes_at
+    ≡ record { name = 120 ∷ []; op = X; a = 0; b = 0; value = pos 0 }
+    ∷ record { name = 121 ∷ []; op = Y; a = 0; b = 0; value = pos 0 } ∷ []
+first_clauses = refl
