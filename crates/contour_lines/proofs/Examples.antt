@@ -1,13 +1,20 @@
 -- Plane grids and their work, computed on lists that were worked out by hand.
-use Rattle.std.proofs.Common.{◌≡◌, ℕ, ℤ, pos, negsuc, [], ◌∷◌, List, refl}
+use Rattle.std.proofs.Common.{◌≡◌, ℕ, zero, suc, ◌<◌, ℤ, pos, negsuc, true, false, [], ◌∷◌, List, refl, arith}
+use Rattle.std.specs.Prelude.{◌||◌, All, None, Some, if◌then◌else◌}
 use Rattle.fixed_ops.specs.declared.operation.Op.TheVariants.{X, Z, Const}
+use Rattle.kuhn_cells.specs.Triangles.{further, point}
 use Rattle.live_clauses.specs.declared.step.Step.{Step}
 use Rattle.oct_descent.specs.Bound.{cell_spans_in}
+use Rattle.oct_descent.specs.Known.{Known}
+use Rattle.oct_descent.specs.Tables.{is_known, same_point}
 use Rattle.oct_descent.specs.Ways.{way_within}
 use Rattle.view_places.specs.Window.{Window}
-use Rattle.contour_lines.specs.Bound.{contour_least, contour_points, contour_spans, flat_least, flat_points}
-use Rattle.contour_lines.specs.Planes.{plane_value}
+use Rattle.contour_lines.specs.declared.gap.Gap.{Gap}
+use Rattle.contour_lines.specs.Bound.{contour_least, contour_points, contour_spans, flat_least, flat_points, plane_lengths, plane_working_lengths}
+use Rattle.contour_lines.specs.Gaps.{AreGaps, IsCornerBelow, StandsIn, has_gap, lies_at, spot}
+use Rattle.contour_lines.specs.Planes.{laid_flat, plane_value}
 use Rattle.contour_lines.specs.Signs.{signs_at}
+use Rattle.contour_lines.specs.Ways.{plane_root}
 
 -- from -1 to 1, at a height
 abbrev window : ℤ → ℕ → Window
@@ -84,3 +91,67 @@ up_spans = refl
 down_points : contour_points (window (negsuc 4294967295) 3) up ≡ 16
 unfolding flat_points way_within
 down_points = refl
+
+-- of the four cells at the inner point the two with x up to 0 receive the one step, and the others are no working ones
+lengths_at_inner : plane_lengths (laid_flat (window (pos 0) 2)) half (point 1 1 0) ≡ 1 ∷ 0 ∷ 1 ∷ 0 ∷ []
+unfolding way_within
+lengths_at_inner = refl
+
+working_lengths_at_inner : plane_working_lengths (laid_flat (window (pos 0) 2)) half (point 1 1 0) ≡ 1 ∷ 1 ∷ []
+unfolding way_within
+working_lengths_at_inner = refl
+
+-- the box of two cells along x and three along y, with the whole list
+root_of_six : plane_root (record (window (pos 0) 2) { ny = 3; nz = 1 }) half
+    ≡ record { box = record { x0 = 0; x1 = 2; y0 = 0; y1 = 3; z0 = 0; z1 = 1 }; list = half }
+root_of_six = refl
+
+-- ---- points without values
+
+-- four cells along each axis, from 0 to 8, from 10 to 50 and from 100 to 500: a point lies at the lower end of z
+gap_lies_at : lies_at (record (window (pos 7) 4) { x0 = pos 0; x1 = pos 8; y0 = pos 10; y1 = pos 50; z0 = pos 100; z1 = pos 500 }) (record { x = 1; y = 3 })
+    ≡ record { x = pos 2; y = pos 40; z = pos 100 }
+gap_lies_at = refl
+
+-- of one cell all corners are known but the one that lies furthest along both axes: that one is a gap
+abbrev three_known : Known
+three_known = record {
+  n = record { x = 1; y = 1; z = 1 };
+  points = record { x0 = 0; x1 = 2; y0 = 0; y1 = 2; z0 = 0; z1 = 1 };
+  at = λ p. if same_point p (point 1 1 0) then None else Some (pos 5);
+}
+
+abbrev last_corner : List Gap
+last_corner = record { x = 1; y = 1 } ∷ []
+
+last_corner_is_a_gap : AreGaps three_known (point 0 0 0) last_corner
+last_corner_is_a_gap = record {
+  stand = stand;
+  corners = corners;
+  unknown = unknown;
+  apart = λ i j d less within. absurd (omega (arith, less, within));
+  all = all;
+}
+  where
+    stand : All (StandsIn three_known) last_corner
+    stand zero d h = record { x = omega arith; y = omega arith }
+    stand (suc i) d h = absurd (omega (arith, h))
+
+    corners : All (λ (gap : Gap). IsCornerBelow 4 (point 0 0 0) (spot gap)) last_corner
+    corners zero d h = record { mask = 3; less = omega arith; at = refl }
+    corners (suc i) d h = absurd (omega (arith, h))
+
+    unknown : All (λ (gap : Gap). three_known.at (spot gap) ≡ None) last_corner
+    unknown zero d h = refl
+    unknown (suc i) d h = absurd (omega (arith, h))
+
+    all : (c : ℕ) → c < 4
+        → (has_gap last_corner (further (point 0 0 0) c) || is_known (three_known.at (further (point 0 0 0) c))) ≡ true
+    all zero h = refl
+    all (suc zero) h = refl
+    all (suc (suc zero)) h = refl
+    all (suc (suc (suc zero))) h = refl
+    all (suc (suc (suc (suc c)))) h = absurd (omega (arith, h))
+
+last_corner_is_missing : AreGaps three_known (point 0 0 0) [] → ⊥
+last_corner_is_missing h = let found : false ≡ true = h.all 3 (omega arith) in (cc)

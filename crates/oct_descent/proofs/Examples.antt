@@ -1,22 +1,33 @@
 -- The work of grids, computed on lists that were worked out by hand.
-use Rattle.std.proofs.Common.{◌≡◌, ℕ, suc, pos, negsuc, true, false, [], ◌∷◌, List, map, refl, ap, arith}
-use Rattle.std.specs.Prelude.{Bool, None, Some}
+use Rattle.std.proofs.Common.{◌≡◌, ℕ, zero, suc, ◌<◌, ◌≤◌, pos, negsuc, true, false, [], ◌∷◌, ◌++◌, List, map, refl, ap, arith}
+use Rattle.std.specs.Prelude.{Bool, ◌||◌, All, None, Some, replicate}
+use Rattle.box_chains.specs.Chains.{visit}
+use Rattle.box_chains.specs.Desks.{Tracing}
+use Rattle.box_chains.specs.Visits.{IsVisit}
 use Rattle.fixed_ops.specs.Counts.{Counts, no_counts, risen}
 use Rattle.fixed_ops.specs.declared.operation.Op.{Op}
 use Rattle.fixed_ops.specs.declared.operation.Op.TheVariants.{X, Y, Z, Add, Const, Max, Min, Neg}
-use Rattle.kuhn_cells.specs.Triangles.{point}
+use Rattle.kuhn_cells.specs.Sizes.{SameSize}
+use Rattle.kuhn_cells.specs.Triangles.{further, point}
 use Rattle.kuhn_cells.specs.Grids.{is_border}
 use Rattle.kuhn_cells.specs.declared.grid_size.GridSize.{GridSize}
 use Rattle.live_clauses.specs.declared.step.Step.{Step}
 use Rattle.view_places.specs.Boxes.{Indices}
 use Rattle.view_places.specs.Window.{Window}
 use Rattle.oct_descent.specs.Bound.{CountsAtLeast, CountsHullsAtLeast, least, long_spans_in, mesh_least, mesh_long_spans, mesh_points, mesh_spans, cell_spans_in}
+use Rattle.view_places.specs.declared.lattice.Lattice.TheVariants as lattices
 use Rattle.box_chains.specs.Sums.{maximum}
+use Rattle.oct_descent.specs.After.{half_before}
 use Rattle.oct_descent.specs.Corners.{are_mixed, places_to, side_seen}
+use Rattle.oct_descent.specs.Gaps.{AreGaps, IsCornerBelow, StandsIn, has_gap, lies_at, spot}
 use Rattle.oct_descent.specs.GridValues.{list_grid, list_grid_value}
+use Rattle.oct_descent.specs.Halves.{MayLook}
+use Rattle.oct_descent.specs.Kinds.{descent_of, mesh, value_in}
+use Rattle.oct_descent.specs.Known.{AreRight, Known}
+use Rattle.oct_descent.specs.declared.gap.Gap.{Gap}
 use Rattle.oct_descent.specs.declared.seen.Seen.{Seen}
-use Rattle.oct_descent.specs.Tables.{brick_of, is_within, same_point, slot, stand_in}
-use Rattle.oct_descent.specs.Ways.{is_open_by, meets_border, way_within}
+use Rattle.oct_descent.specs.Tables.{PointValues, brick_of, is_known, is_within, known_at, same_point, slot, stand, stand_in}
+use Rattle.oct_descent.specs.Ways.{grid_root, gridded, is_open_by, meets_border, way_within}
 
 -- from -1 to 1
 abbrev pub window : ℕ → Window
@@ -324,3 +335,107 @@ both_sides_are_mixed : map are_mixed
     ((negsuc 0 ∷ pos 0 ∷ []) ∷ (negsuc 0 ∷ negsuc 4 ∷ []) ∷ (pos 0 ∷ pos 4 ∷ []) ∷ [])
     ≡ true ∷ false ∷ false ∷ []
 both_sides_are_mixed = refl
+
+-- ---- halves in the mesh before
+
+-- The lesser of x and 9 is x everywhere: a half received that one step. Where the mesh before did not split the box,
+-- or there was none, it did not reach the half.
+abbrev lesser_of_nine : List Step
+lesser_of_nine = step X 0 0 ∷ record { op = Const; a = 0; b = 0; value = pos 38654705664 } ∷ step Min 0 1 ∷ []
+
+half_that_was_reached : half_before (gridded (window 2)) (Some (grid_root (window 2) lesser_of_nine)) (cell 0 1 0)
+    ≡ Some (visit (cell 0 1 0) (step X 0 0 ∷ []))
+half_that_was_reached = refl
+
+half_of_what_was_shut : half_before (gridded (window 2)) (Some (grid_root (window 2) empty)) (cell 0 1 0) ≡ None
+half_of_what_was_shut = refl
+
+half_of_no_box : half_before (gridded (window 2)) None (cell 0 1 0) ≡ None
+half_of_no_box = refl
+
+-- ---- points without values
+
+-- four cells along each axis, from 0 to 8, from 10 to 50 and from 100 to 500
+gap_lies_at :
+    lies_at
+    (record (window 4) { x0 = pos 0; x1 = pos 8; y0 = pos 10; y1 = pos 50; z0 = pos 100; z1 = pos 500 })
+    (record { x = 1; y = 3; z = 2; at = 4 })
+    ≡ record { x = pos 2; y = pos 40; z = pos 300 }
+gap_lies_at = refl
+
+-- of one cell all corners are known but the one that lies furthest along all axes: that one is a gap
+abbrev seven_known : PointValues
+seven_known = record {
+  n = cells 1;
+  places = 1 ∷ [];
+  kept = record { known = replicate 73 true ++ false ∷ []; values = [] };
+}
+
+abbrev last_corner : List Gap
+last_corner = record { x = 1; y = 1; z = 1; at = 73 } ∷ []
+
+last_corner_is_a_gap : AreGaps seven_known (point 0 0 0) last_corner
+unfolding known_at stand
+last_corner_is_a_gap = record {
+  stand = stands;
+  corners = corners;
+  unknown = unknown;
+  apart = λ i j d less within. absurd (omega (arith, less, within));
+  all = all;
+}
+  where
+    stands : All (StandsIn seven_known) last_corner
+    stands zero d h =
+        record { x = omega arith; y = omega arith; z = omega arith; stands = refl; within = omega arith }
+    stands (suc i) d h = absurd (omega (arith, h))
+
+    corners : All (λ (gap : Gap). IsCornerBelow 8 (point 0 0 0) (spot gap)) last_corner
+    corners zero d h = record { mask = 7; less = omega arith; at = refl }
+    corners (suc i) d h = absurd (omega (arith, h))
+
+    unknown : All (λ (gap : Gap). known_at seven_known (spot gap) ≡ None) last_corner
+    unknown zero d h = refl
+    unknown (suc i) d h = absurd (omega (arith, h))
+
+    all : (c : ℕ) → c < 8
+        → (has_gap last_corner (further (point 0 0 0) c) || is_known (known_at seven_known (further (point 0 0 0) c)))
+        ≡ true
+    all zero h = refl
+    all (suc zero) h = refl
+    all (suc (suc zero)) h = refl
+    all (suc (suc (suc zero))) h = refl
+    all (suc (suc (suc (suc zero)))) h = refl
+    all (suc (suc (suc (suc (suc zero))))) h = refl
+    all (suc (suc (suc (suc (suc (suc zero)))))) h = refl
+    all (suc (suc (suc (suc (suc (suc (suc zero))))))) h = refl
+    all (suc (suc (suc (suc (suc (suc (suc (suc c)))))))) h = absurd (omega (arith, h))
+
+last_corner_is_missing : AreGaps seven_known (point 0 0 0) [] → ⊥
+unfolding known_at stand
+last_corner_is_missing h = let found : false ≡ true = h.all 7 (omega arith) in (cc)
+
+-- ---- what looking into a box needs
+
+-- one list of three steps, and room for so many
+abbrev desk : ℕ → Tracing
+desk room = record { view = window 3; lattice = lattices.Grid; room = room; lists = lesser ∷ [] }
+
+just_room : (t : Known) (b : Indices) → IsVisit (descent_of mesh (window 3)).boxes (visit b lesser)
+    → SameSize t.n (cells 3) → AreRight (value_in mesh (window 3) lesser) b t → MayLook mesh (desk 3) b 0 t
+just_room t b is same right = record {
+  lattice = refl;
+  visit_is = is;
+  n = same;
+  among = omega arith;
+  room = omega arith;
+  right = right;
+}
+
+room_for_two_steps : (t : Known) (b : Indices) → MayLook mesh (desk 2) b 0 t → ⊥
+room_for_two_steps t b h = let room : 3 ≤ 2 = h.room in omega (arith, room)
+
+no_second_list : (t : Known) (b : Indices) → MayLook mesh (desk 3) b 1 t → ⊥
+no_second_list t b h = let among : 1 < 1 = h.among in omega (arith, among)
+
+other_lattice : (t : Known) (b : Indices) → MayLook mesh (record (desk 3) { lattice = lattices.Height }) b 0 t → ⊥
+other_lattice t b h = let lattice : lattices.Height ≡ lattices.Grid = h.lattice in (cc)

@@ -1,5 +1,5 @@
 -- A text of one triangle, and what it is made of, written out by hand.
-use Rattle.std.proofs.Common.{◌≡◌, ℕ, zero, suc, ◌+◌, ◌<◌, ◌≤◌, pos, negsuc, List, [], ◌∷◌, ◌++◌, get_or, length, map, ap, sym, ◌∙◌, refl, arith}
+use Rattle.std.proofs.Common.{◌≡◌, ℕ, zero, suc, ◌+◌, ◌<◌, ◌≤◌, pos, negsuc, List, [], ◌∷◌, ◌++◌, get_or, length, map, ap, refl, arith}
 use Rattle.std.specs.Fmt.{digits}
 use Rattle.std.specs.List.{range_with_len}
 use Rattle.std.specs.Prelude.{codes, replicate}
@@ -113,17 +113,17 @@ last_text_is_the_first h =
 
 -- ---- digits in threes
 
--- those of all thousand numbers
+-- a table has those of all thousand numbers
 abbrev entry : ℕ → List ℕ
 entry number = zeros_before number ∷ triple_text number
 
 thousand_entries : (triples : Triples) → triples.texts.items ≡ map entry (range_with_len 0 1000) → AreTriples triples
 thousand_entries triples e = record {
   room = rw e (length-map-range_with_len entry 0 1000);
-  each = λ number d few. rw e (get_or-map-range_with_len entry 0 1000 number number d few refl);
+  each = λ number d few. rw e (get_or-map-range_with_len entry 0 1000 number number d few (omega arith));
 }
 
--- 7 has two zeros in front of it, 42 one and 999 none
+-- of its numbers 7 has two zeros in front of it, 42 one and 999 none
 entry_of_7 : (triples : Triples) → AreTriples triples
     → get_or triples.texts.items 7 [] ≡ 2 ∷ 48 ∷ 48 ∷ 55 ∷ []
 unfolding digits
@@ -150,7 +150,7 @@ no_entry_more triples more h =
 empty_piece : (texts : PointTexts) (triples : Triples) → ArePointTexts one_cell texts → AreTriples triples
     → IsBlock one_cell texts triples (replicate BLOCK 0) BLOCK
 empty_piece texts triples points written =
-    record { full = length-replicate BLOCK 0; within = omega arith; points = points; written = written }
+    record { full = length-replicate {A = ℕ} BLOCK 0; within = omega arith; points = points; written = written }
 
 piece_beyond : (texts : PointTexts) (triples : Triples) (block : List ℕ)
     → IsBlock one_cell texts triples block (BLOCK + 1) → ⊥
