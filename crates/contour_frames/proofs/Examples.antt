@@ -1,5 +1,5 @@
 -- The contours of solids, computed on models and views that were worked out by hand.
-use Rattle.std.proofs.Common.{◌≡◌, pos, negsuc, List, [], ◌∷◌, refl}
+use Rattle.std.proofs.Common.{◌≡◌, pos, negsuc, List, [], ◌∷◌, ◌++◌, refl}
 use Rattle.std.specs.Prelude.{codes, replicate}
 use Rattle.std.specs.Fmt.{digits}
 use Rattle.box_chains.specs.Tallied.{work_of}
@@ -13,7 +13,7 @@ use Rattle.plane_loops.specs.Planes.{mixed_edges}
 use Rattle.plane_loops.specs.WorkedOut.{contour_of}
 use Rattle.solid_model.specs.declared.clause.Clause.{Clause}
 use Rattle.view_places.specs.Window.{Window}
-use Rattle.contour_frames.specs.Contours.{contour_text, contour_work, plain_contour, solid_plane}
+use Rattle.contour_frames.specs.Contours.{contour_part, contour_text, contour_work, plain_contour, solid_plane}
 
 -- two cells along each axis, from -1 to 1, at the height 0.5
 abbrev window : Window
@@ -62,3 +62,13 @@ work_of_one_loop = refl
 
 plain_points : plain_contour (record window { nx = 3 }) 7 ≡ 84
 plain_points = refl
+
+-- what is written for a contour is its path, and beside it stands its work
+part_of_one_loop : contour_part window inside
+    ≡ record {
+      bytes = codes "M -0.9999847412 -0.9999847412 L 0.0000000000 -0.9999847412 L 0.9999847412 0.0000000000 "
+          ++ codes "L 0.9999847412 0.9999847412 L 0.0000000000 0.9999847412 L -0.9999847412 0.0000000000 Z\n";
+      work = record { least = work_of 9 0 0; most = work_of 9 5 20; bound = work_of 9 5 20; plain = 18 };
+    }
+unfolding contour_of edges_before next_by walk mark_all loops_from mixed_edges digits size_text flat_points flat_least cell_spans_in way_within
+part_of_one_loop = refl

@@ -1,25 +1,38 @@
 -- The definitions of frames, computed on models and views that were worked out by hand.
 use Rattle.std.proofs.Common.{◌≡◌, ℕ, pos, negsuc, List, [], ◌∷◌, ◌++◌, map, Some, None, Result, Ok, Err, refl, arith}
-use Rattle.std.specs.Prelude.{codes, replicate, take}
+use Rattle.std.specs.Prelude.{Vec, codes, replicate, take}
 use Rattle.std.specs.Fmt.{digits}
+use Rattle.std.specs.declared.alloc.Global.{Global}
 use Rattle.box_chains.specs.Chains.{chain_within}
 use Rattle.box_chains.specs.Counts.{points_in, spans_in}
 use Rattle.clause_reader.specs.Reading.{text_read}
 use Rattle.clause_reader.specs.declared.text_fault.TextFault.{TextFault}
+use Rattle.box_chains.specs.Tallied.{work_of}
 use Rattle.box_chains.specs.Tested.{points_where, spans_where}
 use Rattle.oct_descent.specs.Bound.{long_spans_in, mesh_least, mesh_points, cell_spans_in as spans_of_cells}
+use Rattle.oct_descent.specs.GridValues.{list_grid}
+use Rattle.oct_descent.specs.Trees.{Gridding}
 use Rattle.oct_descent.specs.Ways.{way_within}
+use Rattle.fixed_ops.specs.declared.operation.Op.TheVariants.{Const}
 use Rattle.fixed_ops.specs.Numerals.{cut_magnitude, is_unsigned_numeral, nearest_raw, unsigned_raw}
 use Rattle.kuhn_cells.specs.Faces.{all_triangles, faces}
 use Rattle.kuhn_cells.specs.Grids.{vertices}
 use Rattle.solid_model.specs.declared.clause.Clause.{Clause}
 use Rattle.view_places.specs.Window.{Window}
+use Rattle.normal_shade.specs.Received.{received_where}
+use Rattle.model_frames.specs.Drawn.{drawn_bytes}
+use Rattle.model_frames.specs.Frames.{CanDraw, frame_name, frame_part, shade_part}
 use Rattle.model_frames.specs.Heights.{heights_of, plain_depths}
 use Rattle.live_clauses.specs.declared.step.Step.{Step}
 use Rattle.model_frames.specs.Images.{image_of, list_before, plain_points}
-use Rattle.model_frames.specs.Meshes.{grid_before, grid_of, mesh_text, plain_grid}
+use Rattle.model_frames.specs.Meshes.{grid_before, grid_of, mesh_text, meshed_text, plain_grid}
+use Rattle.model_frames.specs.Pieces.{stage_of}
+use Rattle.model_frames.specs.Shades.{shaded_of}
 use Rattle.fixed_ops.specs.Counts.{no_counts, points_of, spans_of}
 use Rattle.model_frames.specs.Work.{CountsWithin, CountsWork, FitsCounts, PointsRiseAtMost, Work, both, exactly, frame_work, height_work, mesh_work, mesh_work_after, no_work}
+use Rattle.model_frames.specs.declared.drawn.Drawn.TheVariants as drawings
+use Rattle.model_frames.specs.declared.frame.Frame.TheVariants as frames
+use Rattle.model_frames.specs.declared.pieces.Form.TheVariants as pieces
 
 -- the clauses of a text that is read
 abbrev solid : List ℕ → List Clause
@@ -200,3 +213,95 @@ hull_for_two counts = (grind (arith, counts.within.spans, counts.rises))
 
 three_above_two : PointsRiseAtMost no_counts (points_of 3) 2 → ⊥
 three_above_two rises = (grind (arith, rises.few, rises.rises))
+
+-- a frame is named by what it shows
+names_of_frames : map frame_name (frames.Render two_cells ∷ frames.Height two_cells ∷ frames.Mesh two_cells ∷ frames.Text ∷ [])
+    ≡ codes "render" ∷ codes "height" ∷ codes "mesh" ∷ codes "text" ∷ []
+names_of_frames = refl
+
+-- any view has an image, a map has at most 1024 columns, and a mesh at most 16777216 cells
+image_of_any_view : (view : Window) → CanDraw (frames.Render view)
+image_of_any_view view = tt
+
+text_of_any_model : CanDraw frames.Text
+text_of_any_model = tt
+
+map_of_many_cells : CanDraw (frames.Height (record (window 1024 1024 1) { nx = 512; ny = 512; nz = 512 }))
+map_of_many_cells = record { w = omega arith; h = omega arith }
+
+wide_map : CanDraw (frames.Height (window 1025 1 1)) → ⊥
+wide_map can = absurd (omega (arith, can.w))
+
+mesh_of_many_columns : CanDraw (frames.Mesh (window 4096 4096 1))
+mesh_of_many_columns = record { x = omega arith; y = omega arith; z = omega arith; all = omega arith }
+
+many_cells : CanDraw (frames.Mesh (record (window 1 1 1) { nx = 512; ny = 512; nz = 65 })) → ⊥
+many_cells can = absurd (omega (arith, can.all))
+
+-- The frames of one coordinate, each with its work. Of three columns the left one is below 0.
+part_of_an_image : frame_part (frames.Render (window 3 1 1)) (solid (codes "x var-x\n"))
+    ≡ record { bytes = codes "P5\n3 1\n255\n" ++ 255 ∷ 0 ∷ 0 ∷ []; work = exactly 3 1 3 }
+unfolding digits points_in spans_in chain_within
+part_of_an_image = refl
+
+part_of_a_map : frame_part (frames.Height (window 1 1 3)) (solid (codes "u var-x\nz var-z\n"))
+    ≡ record { bytes = codes "P5\n1 1\n3\n" ++ 1 ∷ []; work = exactly 3 1 6 }
+unfolding digits heights_of points_in spans_in points_where spans_where chain_within
+part_of_a_map = refl
+
+-- the text of a mesh that has nothing
+abbrev no_mesh : List ℕ
+no_mesh = codes "ply\nformat ascii 1.0\nelement vertex 0\nproperty double x\nproperty double y\nproperty double z\n"
+    ++ codes "element face 0\nproperty list uchar int vertex_indices\nend_header\n"
+
+part_of_a_mesh : frame_part (frames.Mesh (window 1 1 1)) (solid (codes "u var-x\na const -1\n"))
+    ≡ record { bytes = no_mesh; work = record (exactly 8 1 16) { least = points_of 8 } }
+unfolding digits grid_of mesh_text vertices faces all_triangles mesh_points mesh_least long_spans_in spans_of_cells way_within cut_magnitude is_unsigned_numeral nearest_raw unsigned_raw
+part_of_a_mesh = refl
+
+part_of_a_text : frame_part frames.Text (solid (codes " x  var-x")) ≡ record { bytes = codes "x var-x\n"; work = no_work }
+part_of_a_text = refl
+
+-- z and the product of y and the square of x, from the top on: the sides of the upper row are outside, those of the lower
+-- one rise by 1 along y and z and by 2 along x, and in the middle only z rises
+saddle_picture : shaded_of (window 3 2 3) (solid (codes "x var-x\ny var-y\nz var-z\ns square x\nm mul y s\na add z m\n"))
+    ≡ codes "P5\n3 2\n255\n" ++ 0 ∷ 255 ∷ 0 ∷ 64 ∷ 255 ∷ 64 ∷ []
+unfolding digits
+saddle_picture = refl
+
+-- Three samples, and for the slopes at most ten evaluations more; the one box is traced for both. Plain evaluation of two
+-- clauses takes 13 of each.
+part_of_a_picture : shade_part (window 1 1 3) (solid (codes "u var-x\nz var-z\n"))
+    ≡ record {
+      bytes = codes "P5\n1 1\n255\n" ++ 255 ∷ [];
+      work = record { least = work_of 3 2 0; most = work_of 13 2 8; bound = work_of 13 2 8; plain = 26 };
+    }
+unfolding digits points_in spans_in points_where spans_where received_where chain_within
+part_of_a_picture = refl
+
+-- what is drawn are the bytes that are there, or the text of a mesh, which begins with its 14 vertices
+bytes_that_are_there : (bytes : Vec ℕ Global) → bytes.items ≡ codes "ab" → drawn_bytes (drawings.Bytes bytes) ≡ codes "ab"
+bytes_that_are_there bytes are = are
+
+abbrev inner_mesh : Gridding
+inner_mesh = record { view = two_cells; list = record { op = Const; a = 0; b = 0; value = negsuc 4294967295 } ∷ [] }
+
+mesh_that_is_drawn : take 39 (drawn_bytes (drawings.Mesh inner_mesh)) ≡ codes "ply\nformat ascii 1.0\nelement vertex 14\n"
+unfolding digits list_grid vertices faces all_triangles
+mesh_that_is_drawn = refl
+
+-- the mesh that stands has its text, and where none stands there is no text
+mesh_that_stands : take 39 (meshed_text (Some inner_mesh)) ≡ codes "ply\nformat ascii 1.0\nelement vertex 14\n"
+unfolding digits list_grid vertices faces all_triangles
+mesh_that_stands = refl
+
+no_mesh_stands : meshed_text None ≡ []
+no_mesh_stands = refl
+
+-- of two texts the first one is the piece that stands first
+two_texts : stage_of (pieces.Texts (record { ref_ptr = (0, 0); now = codes "ab" }) (record { ref_ptr = (0, 0); now = codes "c" }))
+    ≡ record { piece = codes "ab"; rest = codes "c" }
+two_texts = refl
+
+text_of_a_mesh : stage_of (pieces.Mesh (record { piece = codes "ab"; rest = codes "c" })) ≡ record { piece = codes "ab"; rest = codes "c" }
+text_of_a_mesh = refl

@@ -1,17 +1,21 @@
 -- Solids, their clauses and their values, worked out by hand.
-use Rattle.std.proofs.Common.{◌≡◌, ℤ, pos, [], ◌∷◌, drop, length, refl}
+use Rattle.std.proofs.Common.{◌≡◌, ℕ, ℤ, pos, List, [], ◌∷◌, ◌++◌, drop, length, refl}
 use Rattle.std.specs.Prelude.{codes, negsuc}
 use Rattle.std.specs.Fmt.{digits}
 use Rattle.fixed_ops.specs.NumberTexts.{size_text}
 use Rattle.fixed_ops.specs.Points.{Point}
-use Rattle.fixed_ops.specs.declared.operation.Op.TheVariants.{Neg, Max}
+use Rattle.fixed_ops.specs.declared.operation.Op.TheVariants.{Neg, Square, Add, Max}
 use Rattle.solid_model.specs.Values.{solid_value}
+use Rattle.solid_model.specs.declared.clause.Clause.{Clause}
 use Rattle.clause_reader.specs.ModelText.{model_text}
-use Rattle.solid_lang.specs.Compiled.{clause_at, compiled}
+use Rattle.solid_lang.specs.AddUp.{clauses_add_up, lines_add_up, step_lines-append}
+use Rattle.solid_lang.specs.Compiled.{clause_at, clauses_at, compiled}
 use Rattle.solid_lang.specs.Counts.{clause_count}
 use Rattle.solid_lang.specs.Meaning.{value_at}
 use Rattle.solid_lang.specs.Solids.{SolidTree, Ball, Block, Cylinder, Move, Scale, Union, Intersect, Difference}
-use Rattle.solid_lang.specs.Steps.{on_one, on_two}
+use Rattle.solid_lang.specs.StepLines.{step_lines}
+use Rattle.solid_lang.specs.Steps.{constant, on_one, on_two}
+use Rattle.solid_lang.specs.declared.step.Step.{Step}
 
 -- the raw numbers of 1, 0.5 and 0.25
 abbrev one : ℤ
@@ -86,3 +90,28 @@ union_value = refl
 
 intersect_value : value_at (Intersect (Ball half) (Ball one)) origin ≡ negsuc 1073741823
 intersect_value = refl
+
+-- two steps from the place 3 on, and one behind them
+abbrev two_steps : List Step
+two_steps = on_one Square 0 ∷ on_two Add 3 1 ∷ []
+
+abbrev next_step : List Step
+next_step = constant half ∷ []
+
+two_lines : step_lines 3 two_steps ≡ codes "_3 square _0\n_4 add _3 _1\n"
+unfolding digits
+two_lines = refl
+
+-- the lines and the clauses of the three are those of the two, and then that of the place 5
+lines_of_three : step_lines 3 (two_steps ++ next_step) ≡ step_lines 3 two_steps ++ step_lines 5 next_step
+lines_of_three = step_lines-append 3 5 two_steps next_step refl
+
+lines_behind : (text : List ℕ)
+    → (text ++ step_lines 3 two_steps) ++ step_lines 5 next_step ≡ text ++ step_lines 3 (two_steps ++ next_step)
+lines_behind text = lines_add_up text (text ++ step_lines 3 two_steps) ((text ++ step_lines 3 two_steps) ++ step_lines 5 next_step)
+    3 5 two_steps next_step refl refl refl
+
+clauses_behind : (clauses : List Clause)
+    → (clauses ++ clauses_at 3 two_steps) ++ clauses_at 5 next_step ≡ clauses ++ clauses_at 3 (two_steps ++ next_step)
+clauses_behind clauses = clauses_add_up clauses (clauses ++ clauses_at 3 two_steps)
+    ((clauses ++ clauses_at 3 two_steps) ++ clauses_at 5 next_step) 3 5 two_steps next_step refl refl refl

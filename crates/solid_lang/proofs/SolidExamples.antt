@@ -1,13 +1,15 @@
 -- The definitions of solid texts, computed on texts that were worked out by hand.
-use Rattle.std.proofs.Common.{◌≡◌, ℕ, ℤ, pos, List, [], ◌∷◌, None, Some, Ok, Err, refl}
+use Rattle.std.proofs.Common.{◌≡◌, ℕ, ℤ, ◌+◌, ◌*◌, pos, inl, inr, List, [], ◌∷◌, Option, None, Some, Ok, Err, refl, arith}
 use Rattle.std.specs.Prelude.{codes, negsuc}
 use Rattle.fixed_ops.specs.Numerals.{is_unsigned_numeral, unsigned_raw, nearest_raw, cut_magnitude}
 use Rattle.solid_lang.specs.declared.solid_reason.SolidReason.TheVariants.{BadNumeral, Empty, NotPositive, TooDeep, Trailing, Unended, UnknownForm}
 use Rattle.solid_lang.specs.declared.want.Want.TheVariants.{Numeral, Size, Whole}
-use Rattle.solid_lang.specs.Building.{solid_read}
+use Rattle.solid_lang.specs.Building.{solid_read, ◌>>=◌}
 use Rattle.solid_lang.specs.Counts.{clause_count, depth}
+use Rattle.solid_lang.specs.Gives.{Judges}
 use Rattle.solid_lang.specs.Judged.{fault_at, judged}
 use Rattle.solid_lang.specs.NumberedTokens.{numbered_tokens}
+use Rattle.solid_lang.specs.Room.{FitsBefore, HaveRoom}
 use Rattle.solid_lang.specs.Solids.{Ball, Block, Difference, Move, Union}
 use Rattle.solid_lang.specs.Wants.{take_token, wants_after, whole_solid}
 
@@ -67,3 +69,70 @@ empty = refl
 all_taken : wants_after whole_solid (numbered_tokens (codes "scale 2 ball 1")) ≡ Ok []
 unfolding is_unsigned_numeral unsigned_raw nearest_raw cut_magnitude
 all_taken = refl
+
+-- what is read is handed on from the first step to the last, and nothing of nothing
+abbrev plus_four : ℕ → Option ℕ
+plus_four n = Some (n + 4)
+
+abbrev doubled : ℕ → Option ℕ
+doubled n = Some (n * 2)
+
+handed_on : (Some 3 >>= plus_four >>= doubled) ≡ Some 14
+handed_on = refl
+
+nothing_handed_on : (None >>= plus_four) ≡ None
+nothing_handed_on = refl
+
+-- a ball has eight clauses beside the three coordinates
+judged_ball : Judges (codes "ball 1") (Ok 11)
+unfolding is_unsigned_numeral unsigned_raw nearest_raw cut_magnitude
+judged_ball = record {
+  solid = Ball (pos 4294967296);
+  reads = record {
+    said = record { line = 1; numerals = (1, codes "1") ∷ []; parts = refl; spelled = refl };
+    sizes = omega arith;
+    shallow = omega arith;
+  };
+  count = refl;
+  few = omega arith;
+}
+
+-- a box behind it is one solid too many, on the second line
+judged_two : Judges (codes "ball 1\nbox") (Err (fault_at 2 Trailing))
+unfolding is_unsigned_numeral unsigned_raw nearest_raw cut_magnitude
+judged_two = inl (inr (inl (record {
+  before = (1, codes "ball") ∷ (1, codes "1") ∷ [];
+  token = codes "box";
+  after = [];
+  parts = refl;
+  wants = [];
+  good = refl;
+  bad = refl;
+})))
+
+-- a solid within 256 forms has at most 256 wants behind it, and none stands within more
+room_within : FitsBefore (Whole 256) 256
+room_within = (omega arith, omega arith)
+
+no_room_within : FitsBefore (Whole 255) 256 → ⊥
+no_room_within fits = absurd (omega (arith, fits.0))
+
+too_far_within : FitsBefore (Whole 257) 256 → ⊥
+too_far_within fits = absurd (omega (arith, fits.1))
+
+-- a numeral has at most 259 behind it, and so has a size
+room_of_a_numeral : FitsBefore Numeral 259
+room_of_a_numeral = omega arith
+
+room_of_a_size : FitsBefore Size 259
+room_of_a_size = omega arith
+
+no_room_of_a_size : FitsBefore Size 260 → ⊥
+no_room_of_a_size fits = absurd (omega (arith, fits))
+
+-- each of some wants has as many behind it as stand there
+have_room : HaveRoom (Numeral ∷ Whole 1 ∷ Size ∷ [])
+have_room = (omega arith, ((omega arith, omega arith), (omega arith, tt)))
+
+second_has_none : HaveRoom (Numeral ∷ Whole 0 ∷ Size ∷ []) → ⊥
+second_has_none have = absurd (omega (arith, have.1.0.0))
