@@ -11,6 +11,7 @@ mod Inputs
 mod NameExamples
 mod Outcomes
 mod ReplayLaws
+mod RunExamples
 mod Soundness
 mod Undoing
 mod WorkSums
