@@ -6,6 +6,7 @@ ghost use Rattle.live_clauses.specs.Live.{root_of};
 ghost use Rattle.live_clauses.specs.Steps.{tape_value};
 ghost use Rattle.quad_descent.specs.Raster.{frame_points, frame_spans};
 ghost use Rattle.solid_model.specs.Values.{solid_value};
+ghost use Rattle.view_places.specs.Window.{same_view};
 ghost use Rattle.model_frames.specs.Images.{drawn_text, image_of, list_before, plain_points};
 ghost use Rattle.model_frames.specs.Work.{CountsWithin, CountsWork, FitsCounts, PointsRiseAtMost, image_work};
 
