@@ -5,7 +5,7 @@ use Rattle.fixed_ops.specs.declared.operation.Op.TheVariants.{X, Y, Z, Const}
 use Rattle.fixed_ops.specs.Operations.{op_result}
 use Rattle.fixed_ops.specs.Raw.{IsRaw}
 
--- a point, as three raw numbers
+-- a point, as three whole numbers
 pub record Point : Type 0 where
   pub x : ℤ
   pub y : ℤ
