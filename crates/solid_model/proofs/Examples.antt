@@ -1,5 +1,7 @@
 -- Edits and values of a few clauses, worked out by hand.
-use Rattle.std.proofs.Common.{◌≡◌, nat_le, pos, negsuc, [], ◌∷◌, ◌++◌, List, length, map, Ok, Err, true, false, refl, arith}
+use Rattle.std.proofs.Common.{◌≡◌, nat_le, pos, negsuc, [], ◌∷◌, ◌++◌, List, length, map, Ok, Err, true, false, refl, subst, arith}
+use Rattle.std.specs.Prelude.{IsOk}
+use Rattle.std.proofs.lemmas.Bool.{false≢true}
 use Rattle.fixed_ops.specs.declared.operation.Op.TheVariants as ops
 use Rattle.fixed_ops.specs.Points.{Point}
 use Rattle.fixed_ops.specs.Slopes.{flat, one}
@@ -13,7 +15,7 @@ use Rattle.solid_model.specs.declared.form_ref.ArgsRef.TheVariants as args
 use Rattle.solid_model.specs.declared.key.KeyBytes.TheVariants as keys
 use Rattle.solid_model.specs.declared.refusal.Refusal.TheVariants as refusals
 use Rattle.solid_model.specs.Changes.{PutsIn, TellsUser, fault_of}
-use Rattle.solid_model.specs.Edited.{after_edits, opening}
+use Rattle.solid_model.specs.Edited.{after_edits, opening, AreAccepted}
 use Rattle.solid_model.specs.Edits.{before, edited, is_named, FirstMakesClause, MakesClause}
 use Rattle.solid_model.specs.Keys.{key_bytes}
 use Rattle.solid_model.specs.LentArgs.{args_seen}
@@ -177,6 +179,26 @@ no_user = tt
 opens_with : opening (record { clauses = model; undo = Cut (102 ∷ []) ∷ Cut (99 ∷ []) ∷ [] }) ≡ x ∷ []
 unfolding after_edits
 opens_with = refl
+
+-- the constant may go once the difference that reads it is gone
+cuts_in_turn : AreAccepted model (Cut (102 ∷ []) ∷ Cut (99 ∷ []) ∷ [])
+unfolding after_edits
+cuts_in_turn [] edit after parts = let same : Cut (102 ∷ []) ≡ edit = (cc) in subst (λ e. IsOk (edited model e)) same refl
+cuts_in_turn (d ∷ []) edit after parts =
+    let first : Cut (102 ∷ []) ≡ d = (cc) in
+    let same : Cut (99 ∷ []) ≡ edit = (cc) in
+    subst (λ e. IsOk (edited (after_edits model (d ∷ [])) e)) same (subst (λ e. IsOk (edited (after_edits model (e ∷ [])) (Cut (99 ∷ [])))) first refl)
+cuts_in_turn (d ∷ e ∷ []) edit after parts = (cc)
+cuts_in_turn (d ∷ e ∷ es ∷ others) edit after parts = (cc)
+
+-- and not before it, nor does the difference go twice
+cut_while_read : AreAccepted model (Cut (99 ∷ []) ∷ Cut (102 ∷ []) ∷ []) → ⊥
+unfolding after_edits
+cut_while_read all = false≢true (all [] (Cut (99 ∷ [])) (Cut (102 ∷ []) ∷ []) refl)
+
+cut_twice : AreAccepted model (Cut (102 ∷ []) ∷ Cut (102 ∷ []) ∷ []) → ⊥
+unfolding after_edits
+cut_twice all = false≢true (all (Cut (102 ∷ []) ∷ []) (Cut (102 ∷ [])) [] refl)
 
 -- a name has the same bytes where a table keeps it and where it is lent
 kept_bytes : key_bytes (keys.Kept (120 ∷ 99 ∷ [])) ≡ 120 ∷ 99 ∷ []

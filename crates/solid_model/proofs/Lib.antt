@@ -1,3 +1,4 @@
+pub mod AcceptedLemmas
 pub mod Arrivals
 mod ChangeLemmas
 pub mod Departures

@@ -1,5 +1,5 @@
 -- Models that are edited, and what leads back.
-use Rattle.std.specs.Prelude.{◌≡◌, List, [], ◌∷◌, Result, Ok, Err}
+use Rattle.std.specs.Prelude.{◌≡◌, List, [], ◌∷◌, ◌++◌, Result, Ok, Err, IsOk}
 use Rattle.solid_model.specs.declared.clause.Clause.{Clause}
 use Rattle.solid_model.specs.declared.edit.Edit.{Edit}
 use Rattle.solid_model.specs.declared.edit.EditFault.{EditFault}
@@ -20,6 +20,12 @@ given_or clauses (Err fault) = clauses
 unfoldable pub after_edits : List Clause → List Edit → List Clause
 after_edits clauses [] = clauses
 after_edits clauses (e ∷ es) = after_edits (given_or clauses (edited clauses e)) es
+
+-- each of some edits is accepted in its turn: by what the clauses become by those before it
+abbrev pub AreAccepted : List Clause → List Edit → Type 0
+AreAccepted clauses edits =
+    (before : List Edit) (edit : Edit) (after : List Edit) → edits ≡ before ++ edit ∷ after
+    → IsOk (edited (after_edits clauses before) edit)
 
 -- the clauses that a model had when its first edit was made: those that the edits lead back to
 abbrev pub opening : Edited → List Clause

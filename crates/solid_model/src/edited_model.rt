@@ -1,6 +1,6 @@
 // A model that is edited.
 ghost use Rattle.std.specs.Prelude.{◌≡◌, ◌≢◌, [], ◌∷◌, true, false, IfErr, IfOk, OnErr, OnOk, Ok};
-ghost use Rattle.solid_model.specs.Edited.{opening, IsUndone};
+ghost use Rattle.solid_model.specs.Edited.{opening, AreAccepted, IsUndone};
 ghost use Rattle.solid_model.specs.Edits.{edited, FirstMakesClause};
 ghost use Rattle.solid_model.specs.Inverses.{inverse_of};
 ghost use Rattle.solid_model.specs.Refusals.{RefusesAs, WantsMemoryFor};
@@ -45,12 +45,22 @@ impl EditedModel {
         }
     }
 
-    /// The model then standing.
+    /// The model then standing. Each of the edits that take one back is accepted in its turn.
     #[inline]
     pub fn model(&self) -> &Model
-        ensures { result.now ≡ self.now.clauses }
+        ensures model { result.now ≡ self.now.clauses }
+        ensures accepted { AreAccepted self.now.clauses self.now.undo }
     {
+        self.holds();
         &self.model
+    }
+
+    // Lets a proof know that each of the edits that take one back is accepted in its turn.
+    #[inline]
+    fn holds(&self)
+        ensures { AreAccepted self.now.clauses self.now.undo }
+    {
+        let _len = self.model.len();
     }
 
     /// Applies a change, and puts the edit that takes it back before the others. After an `Err` all is as
@@ -85,15 +95,18 @@ impl EditedModel {
         self.model.apply_and_keep(edit, &mut self.backs)
     }
 
-    /// Takes back the change that was accepted last, and says whether there was one. AllocError: memory was
-    /// refused for a clause that comes back. Then, and where there was none, all is as it was.
+    /// Takes back the change that was accepted last, and says whether there was one. Each of the edits that
+    /// take one back is accepted in its turn. AllocError: memory was refused for a clause that comes back.
+    /// Then, and where there was none, all is as it was.
     pub fn undo(&mut self) -> Result<bool, AllocError>
+        ensures accepted { AreAccepted self.old.clauses self.old.undo }
         ensures undone { IfOk result (λ some. some ≡ true → IsUndone self.old self.new) }
         ensures none { IfOk result (λ some. some ≡ false → (self.old.undo ≡ []) × (self.new ≡ self.old)) }
         ensures memory { OnErr result (FirstMakesClause self.old.undo) }
         ensures err { OnErr result (self.new ≡ self.old) }
         ensures opening { opening self.new ≡ opening self.old }
     {
+        self.holds();
         let Some(back) = self.backs.last() else {
             return Ok(false);
         };
