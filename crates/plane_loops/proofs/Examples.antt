@@ -1,13 +1,13 @@
 -- The contour of a grid of two cells along each axis of which the middle point alone is inside, worked out by hand.
-use Rattle.std.proofs.Common.{◌≡◌, ℕ, zero, suc, ◌<◌, ◌≤◌, ℤ, pos, negsuc, Bool, true, false, List, [], ◌∷◌, refl, arith, ◌∙◌, sym, get_or}
-use Rattle.std.specs.Prelude.{map}
+use Rattle.std.proofs.Common.{◌≡◌, ◌≢◌, ℕ, zero, suc, ◌<◌, ◌≤◌, ℤ, pos, negsuc, true, false, List, [], ◌∷◌, refl, arith, get_or}
 use Rattle.std.proofs.lemmas.Bool.{and_parts, false≢true, leb-true}
 use Rattle.plane_loops.specs.declared.plane_vertex.PlaneVertex.{PlaneVertex}
-use Rattle.plane_loops.specs.Contours.{Contour, contour_with, ends_from}
+use Rattle.plane_loops.specs.Contours.{contour_with, ends_from}
 use Rattle.plane_loops.specs.Following.{edges_before, loops_by, loops_from, mark_all, next_by, place_of, successors_by, walk}
-use Rattle.plane_loops.specs.Planes.{IsBordered, PlaneGrid, PlanePoint, further, is_border, is_inside_at, is_point, mixed_edges, point, value_at, vertices}
-use Rattle.plane_loops.specs.Segments.{Segment, segments}
-use Rattle.plane_loops.specs.Tables.{AreMixed, AreTables, signs_at}
+use Rattle.plane_loops.specs.Laws.{SegmentsAreDistinct}
+use Rattle.plane_loops.specs.Planes.{IsBordered, PlaneGrid, is_border, is_inside_at, mixed_edges, point, vertices}
+use Rattle.plane_loops.specs.Segments.{segments}
+use Rattle.plane_loops.specs.Tables.{AreTables, signs_at}
 use Rattle.plane_loops.specs.WorkedOut.{contour_of}
 use Rattle.plane_loops.proofs.NextLaws.{edge}
 use Rattle.plane_loops.proofs.TurnLaws.{segment}
@@ -34,6 +34,14 @@ segments_of_middle :
     segments middle_inside ≡ segment (edge 0 0 3) (edge 1 0 2) ∷ segment (edge 0 1 1) (edge 0 0 3) ∷ segment (edge 1 0 2) (edge 1 1 1) ∷ segment (edge 1 1 2) (edge 0 1 1) ∷ segment (edge 1 1 1) (edge 1 1 3) ∷ segment (edge 1 1 3) (edge 1 1 2) ∷ []
 unfolding segments
 segments_of_middle = refl
+
+-- a corner that is inside has a segment in each triangle of its cell, which differ, though it lies on the border
+abbrev corner_inside : PlaneGrid
+corner_inside = record { n = 1; values = negsuc 0 ∷ pos 0 ∷ pos 0 ∷ pos 0 ∷ [] }
+
+two_at_a_corner : SegmentsAreDistinct → segment (edge 0 0 1) (edge 0 0 3) ≢ segment (edge 0 0 3) (edge 0 0 2)
+unfolding segments
+two_at_a_corner distinct = distinct corner_inside 0 1 (segment (edge 0 0 1) (edge 0 0 1)) (omega arith) (omega arith)
 
 -- one loop of six
 loops_of_middle : loops_by (successors_by 2 middle_signs) ≡ (0 ∷ 1 ∷ 3 ∷ 5 ∷ 4 ∷ 2 ∷ []) ∷ []

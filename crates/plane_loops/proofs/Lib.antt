@@ -1,6 +1,7 @@
 pub mod Examples
 pub mod ArrivalLaws
 pub mod CompleteLaws
+pub mod DistinctLaws
 pub mod GridLaws
 pub mod JoinLaws
 pub mod LeftLaws

@@ -1,18 +1,17 @@
 -- Lists joined over the places of a square.
-use Rattle.std.proofs.Common.{◌≡◌, ℕ, zero, suc, ◌+◌, ◌*◌, ◌/◌, ◌%◌, ◌<◌, ◌≤◌, Bool, true, false, List, [], ◌∷◌, ◌++◌, refl, arith, ◌∙◌, ap, subst, sym, inl, inr, add-zero, cond}
-use Rattle.std.specs.Prelude.{◌⊎◌, map, filter, flat_map, get_or, length, All, Contains}
+use Rattle.std.proofs.Common.{◌≡◌, ℕ, zero, suc, ◌+◌, ◌*◌, ◌<◌, ◌≤◌, Bool, List, [], ◌∷◌, ◌++◌, refl, arith, ◌∙◌, ap, sym, inl, inr, add-zero}
+use Rattle.std.specs.Prelude.{◌⊎◌, map, filter, flat_map, get_or, length, Contains}
 use Rattle.std.specs.List.{range_with_len}
 use Rattle.std.proofs.lemmas.Bool.{cases_order}
-use Rattle.std.proofs.lemmas.List.{append_assoc, append-nil}
 use Rattle.std.proofs.lemmas.List.Concat.{flat_map-append}
-use Rattle.std.proofs.lemmas.List.Elements.{All-head, All-tail, Contains-append_cases, Contains-append_left, Contains-append_right, filter-append}
+use Rattle.std.proofs.lemmas.List.Elements.{Contains-append_cases, Contains-append_left, Contains-append_right, filter-append}
 use Rattle.std.proofs.lemmas.Nat.{div-mul-add, mod-mul-add}
 use Rattle.plane_loops.specs.Following.{cell_at}
 use Rattle.plane_loops.specs.Planes.{PlanePoint, over_square, point}
 
 -- ---- what lists have
 
-in_tail : {A : Type 0} (y : A) (xs : List A) (x : A) → Contains xs x → Contains (y ∷ xs) x
+pub in_tail : {A : Type 0} (y : A) (xs : List A) (x : A) → Contains xs x → Contains (y ∷ xs) x
 in_tail y xs x h = Contains-append_right (y ∷ []) xs x h
 
 pub in_head : {A : Type 0} (xs : List A) (x : A) → Contains (x ∷ xs) x
@@ -38,7 +37,7 @@ in_range a (suc n) k low high =
     by (inr (inl less)) next = in_tail a (range_with_len (a + 1) n) k (next less)
     by (inr (inr more)) next = absurd (omega (arith, low, more))
 
-from_range : (a n k : ℕ) → Contains (range_with_len a n) k → k < a + n
+pub from_range : (a n k : ℕ) → Contains (range_with_len a n) k → k < a + n
 from_range a zero k h = absurd (not_in_none k h)
 from_range a (suc n) k h = by (head_or_tail a (range_with_len (a + 1) n) k h) (λ later. from_range (a + 1) n k later)
   where
@@ -54,7 +53,7 @@ in_flat f (z ∷ zs) y x h k = by (head_or_tail z zs y h) (λ later. in_flat f z
     by (inl same) next = Contains-append_left (f z) (flat_map f zs) x (rw same k)
     by (inr later) next = Contains-append_right (f z) (flat_map f zs) x (next later)
 
-from_flat : {X A : Type 0} (f : X → List A) (xs : List X) (a : A) → Contains (flat_map f xs) a → (x : X) × Contains xs x × Contains (f x) a
+pub from_flat : {X A : Type 0} (f : X → List A) (xs : List X) (a : A) → Contains (flat_map f xs) a → (x : X) × Contains xs x × Contains (f x) a
 from_flat {X = X} {A = A} f [] a h = absurd (not_in_none a h)
 from_flat {X = X} {A = A} f (x ∷ xs) a h = by (Contains-append_cases (f x) (flat_map f xs) a h) (λ later. from_flat f xs a later)
   where

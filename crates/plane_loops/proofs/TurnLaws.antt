@@ -1,12 +1,12 @@
 -- The segment of one triangle.
-use Rattle.std.proofs.Common.{◌≡◌, ℕ, ◌+◌, ◌-◌, ◌/◌, ◌%◌, ◌<◌, ◌≤◌, Bool, true, false, List, [], ◌∷◌, ◌++◌, refl, arith, ◌∙◌, ap, subst, sym, inl, inr}
+use Rattle.std.proofs.Common.{◌≡◌, ℕ, ◌-◌, ◌≤◌, Bool, true, false, List, [], ◌∷◌, ◌++◌, refl, arith, ◌∙◌, ap, subst, sym, inl, inr}
 use Rattle.std.specs.Prelude.{◌⊎◌, ◌&&◌, min, max, Contains, if◌then◌else◌}
 use Rattle.std.proofs.lemmas.Bool.{cases_eq, false≢true, true≢false}
 use Rattle.std.proofs.lemmas.List.Elements.{Contains-append_cases, Contains-append_left, Contains-append_right}
 use Rattle.kuhn_cells.specs.Arrangement.{differ}
 use Rattle.plane_loops.specs.declared.left_triangle.LeftTriangle.{LeftTriangle}
-use Rattle.plane_loops.specs.Following.{cell_before, left_triangle, opposite_edge}
-use Rattle.plane_loops.specs.Planes.{PlaneEdge, PlanePoint, edge_from, further, is_mixed, lower, point, upper}
+use Rattle.plane_loops.specs.Following.{left_triangle}
+use Rattle.plane_loops.specs.Planes.{PlaneEdge, PlanePoint, edge_from, further}
 use Rattle.plane_loops.specs.Segments.{Segment, Triangle, cell_segments, edge_between, segments_in}
 use Rattle.plane_loops.proofs.Squares.{head_or_tail, in_head, not_in_none}
 
@@ -110,7 +110,7 @@ nothing : {A : Type 0} (xs : List A) (s : A) → xs ≡ [] → Contains xs s →
 nothing {A} xs s e h = let P : List A → Type 0 = λ l. Contains l s in not_in_none s (subst P e h)
 
 -- each segment of a triangle is one of three
-which_turn : (inside : PlanePoint → Bool) (cell : PlanePoint) (a b c : ℕ) (s : Segment) → Contains (segments_in inside cell (triangle a b c)) s → IsTurn inside cell a b c s ⊎ (IsTurn inside cell b c a s ⊎ IsTurn inside cell c a b s)
+pub which_turn : (inside : PlanePoint → Bool) (cell : PlanePoint) (a b c : ℕ) (s : Segment) → Contains (segments_in inside cell (triangle a b c)) s → IsTurn inside cell a b c s ⊎ (IsTurn inside cell b c a s ⊎ IsTurn inside cell c a b s)
 which_turn inside cell a b c s h = by (side inside cell a) (side inside cell b) (side inside cell c) refl refl refl
   where
     by : (sa sb sc : Bool) → side inside cell a ≡ sa → side inside cell b ≡ sb → side inside cell c ≡ sc → IsTurn inside cell a b c s ⊎ (IsTurn inside cell b c a s ⊎ IsTurn inside cell c a b s)

@@ -1,5 +1,5 @@
 -- What always holds of contours.
-use Rattle.std.specs.Prelude.{◌≡◌, ℕ, ◌≤◌, List, All, Contains, length}
+use Rattle.std.specs.Prelude.{◌≡◌, ◌≢◌, ℕ, ◌≤◌, List, All, AllPairs, Contains, length}
 use Rattle.plane_loops.specs.Contours.{AreJoined, AreLoops, Contour, IsContour}
 use Rattle.plane_loops.specs.Planes.{IsBordered, PlaneEdge, PlaneGrid, mixed_edges}
 use Rattle.plane_loops.specs.Segments.{Segment, segments}
@@ -17,6 +17,13 @@ OneContour = (g : PlaneGrid) → IsBordered g → HasOneContour g
 -- which is the one that is worked out
 abbrev pub ContoursAreWorkedOut : Type 0
 ContoursAreWorkedOut = (g : PlaneGrid) → IsBordered g → IsContour g (contour_of g)
+
+-- no segment of a grid is listed twice
+abbrev pub HasDistinctSegments : PlaneGrid → Type 0
+HasDistinctSegments g = AllPairs (λ s t. s ≢ t) (segments g)
+
+abbrev pub SegmentsAreDistinct : Type 0
+SegmentsAreDistinct = (g : PlaneGrid) → HasDistinctSegments g
 
 -- of the segments of a grid exactly one leaves the vertex on an edge, and exactly one arrives there
 pub record HasOneEachWay (g : PlaneGrid) (e : PlaneEdge) : Type 0 where

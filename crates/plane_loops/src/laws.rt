@@ -1,7 +1,7 @@
 // What always holds of the definitions that the contracts cite. The functions compute nothing: what
 // they ensure is the law.
 ghost use Rattle.plane_loops.specs.Sides.{InsideIsLeft};
-ghost use Rattle.plane_loops.specs.Laws.{ContoursAreWorkedOut, LoopsAreLong, OneContour, OneSegmentEachWay, SegmentsJoinVertices};
+ghost use Rattle.plane_loops.specs.Laws.{ContoursAreWorkedOut, LoopsAreLong, OneContour, OneSegmentEachWay, SegmentsAreDistinct, SegmentsJoinVertices};
 
 /// Each plane grid whose border is outside has exactly one contour: exactly one list of loops along
 /// its segments has each vertex on one loop, once, where each loop starts at its lowest vertex and the
@@ -11,10 +11,11 @@ pub fn one_contour()
     ensures worked_out { ContoursAreWorkedOut }
 {}
 
-/// The segments of such a grid run from vertices to vertices. Exactly one of them leaves each vertex,
-/// and exactly one arrives there.
+/// The segments of such a grid run from vertices to vertices, and none of them is listed twice. Exactly
+/// one of them leaves each vertex, and exactly one arrives there.
 pub fn one_segment_each_way()
     ensures vertices { SegmentsJoinVertices }
+    ensures distinct { SegmentsAreDistinct }
     ensures once { OneSegmentEachWay }
 {}
 
