@@ -1,21 +1,20 @@
 -- The segment that arrives at a vertex.
-use Rattle.std.proofs.Common.{◌≡◌, ℕ, ◌+◌, ◌-◌, ◌<◌, ◌≤◌, Bool, true, false, List, [], ◌∷◌, refl, arith, ◌∙◌, ap, subst, sym, length, get_or, inl, inr}
-use Rattle.std.specs.Prelude.{◌⊎◌, not, map, Contains}
-use Rattle.std.proofs.lemmas.List.Elements.{Contains-get_or}
+use Rattle.std.proofs.Common.{◌≡◌, ℕ, ◌+◌, ◌≤◌, Bool, true, false, List, refl, arith, ◌∙◌, ap, subst, sym}
+use Rattle.std.specs.Prelude.{not, Contains}
 use Rattle.kuhn_cells.specs.Arrangement.{differ}
 use Rattle.kuhn_cells.specs.Corners.{along_x}
 use Rattle.plane_loops.specs.Following.{cell_before, left_triangle, number_by}
 use Rattle.plane_loops.specs.Laws.{OneSegmentEachWay, SegmentsJoinVertices}
-use Rattle.plane_loops.specs.Planes.{IsBordered, PlaneEdge, PlaneGrid, PlanePoint, is_inside_at, is_mixed, lower, mixed_edges, upper}
+use Rattle.plane_loops.specs.Planes.{IsBordered, PlaneEdge, PlaneGrid, PlanePoint, is_inside_at, lower, mixed_edges, upper}
 use Rattle.plane_loops.specs.Segments.{Segment, cell_segments, edge_between, segments}
 use Rattle.plane_loops.proofs.GridLaws.{IsVertex, in_cell, inner, other_inside}
 use Rattle.plane_loops.proofs.JoinLaws.{has_number, held_at, leaves_grid, placed}
-use Rattle.plane_loops.proofs.NextLaws.{ArePairs, IsIn, IsLeaving, are_pairs, between, edge, leaves_at, left_of, next_in}
+use Rattle.plane_loops.proofs.NextLaws.{IsLeaving, are_pairs, between, leaves_at, left_of, next_in}
 use Rattle.plane_loops.proofs.Squares.{from_map, from_square, in_square}
 use Rattle.plane_loops.proofs.SwapLaws.{cell_swap, outside, swap}
-use Rattle.plane_loops.proofs.TableLaws.{HasSigns, has_signs, next_vertex}
-use Rattle.plane_loops.specs.WorkedOut.{contour_of, signs_of}
-use Rattle.plane_loops.proofs.TurnLaws.{HasTurn, each_dir, segment, side, turn_of}
+use Rattle.plane_loops.proofs.TableLaws.{has_signs, next_vertex}
+use Rattle.plane_loops.specs.WorkedOut.{signs_of}
+use Rattle.plane_loops.proofs.TurnLaws.{each_dir, segment, turn_of}
 
 -- ---- the sides exchanged
 

@@ -1,14 +1,13 @@
 -- The vertices of a bordered grid, and the cells beside them.
-use Rattle.std.proofs.Common.{◌≡◌, ℕ, zero, suc, ◌+◌, ◌-◌, ◌*◌, ◌/◌, ◌%◌, ◌<◌, ◌≤◌, Bool, true, false, cond, List, [], ◌∷◌, ◌++◌, refl, arith, ◌∙◌, ap, subst, sym, inl, inr, add-zero}
-use Rattle.std.specs.Prelude.{◌⊎◌, ◌==◌, ◌&&◌, ◌||◌, not, map, filter, get_or, length, All, Contains}
-use Rattle.std.specs.List.{range_with_len}
+use Rattle.std.proofs.Common.{◌≡◌, ℕ, ◌+◌, ◌<◌, ◌≤◌, Bool, true, false, cond, List, [], ◌∷◌, refl, arith, ◌∙◌, ap, subst, sym, inl, inr}
+use Rattle.std.specs.Prelude.{◌⊎◌, ◌==◌, ◌||◌, map, filter, All}
 use Rattle.std.proofs.lemmas.Bool.{and_from, and_parts, cases_eq, eq-eqb, false≢true, le-leb, leb-true, or_left, or_right}
 use Rattle.std.proofs.lemmas.List.Elements.{All-cons, All-head, All-nil, All-tail}
 use Rattle.kuhn_cells.specs.Arrangement.{differ}
 use Rattle.kuhn_cells.specs.Corners.{along_x, along_y}
 use Rattle.plane_loops.specs.Following.{left_triangle}
 use Rattle.plane_loops.specs.Planes.{IsBordered, PlaneEdge, PlaneGrid, PlanePoint, directions, edge_from, further, is_border, is_inside_at, is_mixed, is_point, lower, mixed_edges, over_square, point, upper}
-use Rattle.plane_loops.proofs.NextLaws.{IsIn, IsLeaving, left_of}
+use Rattle.plane_loops.proofs.NextLaws.{IsIn, IsLeaving}
 use Rattle.plane_loops.proofs.Squares.{filter_square, square_same, trimmed}
 use Rattle.plane_loops.proofs.TurnLaws.{each_dir}
 

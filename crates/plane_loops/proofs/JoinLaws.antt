@@ -1,7 +1,7 @@
 -- Which vertices are joined.
-use Rattle.std.proofs.Common.{◌≡◌, ℕ, zero, suc, ◌+◌, ◌-◌, ◌*◌, ◌<◌, ◌≤◌, Bool, true, false, List, [], ◌∷◌, ◌++◌, refl, arith, ◌∙◌, ap, subst, sym, length, get_or, set}
-use Rattle.std.specs.Prelude.{map, replicate, All, AllPairs, Contains}
-use Rattle.std.specs.List.{concat, range_with_len}
+use Rattle.std.proofs.Common.{◌≡◌, ℕ, ◌*◌, ◌<◌, Bool, true, false, List, [], ◌∷◌, refl, arith, ◌∙◌, ap, subst, sym, length, get_or}
+use Rattle.std.specs.Prelude.{replicate, All, Contains}
+use Rattle.std.specs.List.{concat}
 use Rattle.std.proofs.lemmas.Bool.{false≢true}
 use Rattle.std.proofs.lemmas.List.{get_or-map, get_or-replicate, length-map, length-replicate}
 use Rattle.std.proofs.lemmas.List.Elements.{All-cons, All-head, All-nil, All-tail}
@@ -10,13 +10,13 @@ use Rattle.plane_loops.specs.Contours.{AreJoined, AreLoops, IsContour, StartsLow
 use Rattle.plane_loops.specs.Following.{cell_before, edges_before, loops_by, next_by, number_by, successors_by}
 use Rattle.plane_loops.specs.Laws.{ContoursAreWorkedOut, OneContour}
 use Rattle.plane_loops.specs.Planes.{IsBordered, PlaneEdge, PlaneGrid, is_inside_at, mixed_edges}
-use Rattle.plane_loops.specs.Segments.{Segment, cell_segments, segments}
+use Rattle.plane_loops.specs.Segments.{cell_segments, segments}
 use Rattle.plane_loops.proofs.CompleteLaws.{all_left, all_right, complete, only}
 use Rattle.plane_loops.proofs.GridLaws.{IsVertex, leaving}
 use Rattle.plane_loops.proofs.Lists.{at, bit}
-use Rattle.plane_loops.proofs.LoopLaws.{Complete, Follows, IsCycle, IsFront, IsOneToOne, next_of}
-use Rattle.plane_loops.proofs.NextLaws.{IsFollowed, edge, followed, leaves_at, left_of, next_in}
-use Rattle.plane_loops.proofs.NumberLaws.{HasEdge, has_edge, numbered}
+use Rattle.plane_loops.proofs.LoopLaws.{Follows, IsCycle, IsFront, IsOneToOne, next_of}
+use Rattle.plane_loops.proofs.NextLaws.{edge, followed, leaves_at, left_of, next_in}
+use Rattle.plane_loops.proofs.NumberLaws.{has_edge, numbered}
 use Rattle.plane_loops.proofs.Squares.{from_square, in_square}
 use Rattle.plane_loops.proofs.SwapLaws.{arrived, outside}
 use Rattle.plane_loops.proofs.TableLaws.{HasSigns, edges_are, flag_same, has_signs, in_grid, next_is, next_vertex}

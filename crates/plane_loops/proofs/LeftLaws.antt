@@ -1,6 +1,6 @@
 -- The inside lies on the left of each segment.
-use Rattle.std.proofs.Common.{◌≡◌, ℕ, ◌+◌, ◌-◌, ◌*◌, ◌<◌, ◌≤◌, ℤ, pos, ◌+ℤ◌, ◌*ℤ◌, Bool, true, false, refl, arith, ◌∙◌, ap, subst, sym, inl, inr}
-use Rattle.std.specs.Prelude.{◌⊎◌, ◌/◌, ◌%◌, ◌-ℤ◌, ◌<ℤ◌, max, min, Contains, if◌then◌else◌}
+use Rattle.std.proofs.Common.{◌≡◌, ℕ, ◌+◌, ◌-◌, ◌*◌, ◌<◌, ◌≤◌, ℤ, pos, ◌*ℤ◌, Bool, true, false, refl, arith, ◌∙◌, ap, subst, sym, inl, inr}
+use Rattle.std.specs.Prelude.{◌⊎◌, ◌/◌, ◌%◌, ◌-ℤ◌, ◌<ℤ◌, max, min, if◌then◌else◌}
 use Rattle.std.proofs.lemmas.Bool.{cases_lt}
 use Rattle.std.proofs.lemmas.Int.{ints}
 use Rattle.std.proofs.Math.Nat.{mul-le-mul_left}
@@ -8,11 +8,10 @@ use borrow.Author.Differences.{up, down, product_is, same_in}
 use Rattle.fixed_ops.specs.Cut.{cut_of}
 use Rattle.fixed_ops.specs.Raw.{is_inside}
 use Rattle.kuhn_cells.specs.Corners.{along_x, along_y}
-use Rattle.mesh_laws.specs.Places.{way_up}
 use Rattle.plane_loops.specs.Following.{left_triangle}
-use Rattle.plane_loops.specs.Planes.{IsBordered, PlaneEdge, PlaneGrid, PlanePoint, further, is_inside_at, lower, share, upper, value_at}
+use Rattle.plane_loops.specs.Planes.{PlaneEdge, PlaneGrid, PlanePoint, further, is_inside_at, lower, share, upper, value_at}
 use Rattle.plane_loops.specs.Segments.{Segment, cell_segments, edge_between, segments}
-use Rattle.plane_loops.specs.Sides.{HasInsideLeft, InsideIsLeft, PlanePlace, determinant_at, inner_end, lattice_place, point_place}
+use Rattle.plane_loops.specs.Sides.{HasInsideLeft, InsideIsLeft, PlanePlace, determinant_at, point_place}
 use Rattle.plane_loops.proofs.NextLaws.{IsPair, are_pairs, point_same}
 use Rattle.plane_loops.proofs.Squares.{from_square}
 use Rattle.plane_loops.proofs.TurnLaws.{HasTurn, each_dir, side, turn_of}

@@ -1,16 +1,16 @@
 -- What tables of a grid give.
-use Rattle.std.proofs.Common.{◌≡◌, ℕ, zero, suc, ◌+◌, ◌-◌, ◌*◌, ◌/◌, ◌%◌, ◌<◌, ◌≤◌, ℤ, pos, Bool, true, false, List, [], ◌∷◌, refl, arith, ◌∙◌, ap, subst, sym, length, get_or}
-use Rattle.std.specs.Prelude.{◌≢◌, All, map}
+use Rattle.std.proofs.Common.{◌≡◌, ℕ, ◌+◌, ◌*◌, ◌<◌, ◌≤◌, ℤ, pos, Bool, true, false, List, [], ◌∷◌, refl, arith, ◌∙◌, ap, subst, sym, length, get_or}
+use Rattle.std.specs.Prelude.{All, map}
 use Rattle.std.specs.List.{concat}
 use Rattle.std.proofs.lemmas.Bool.{false≢true}
-use Rattle.std.proofs.lemmas.List.Elements.{All-head, All-map, All-same, All-tail}
+use Rattle.std.proofs.lemmas.List.Elements.{All-head, All-map, All-tail}
 use Rattle.fixed_ops.specs.Raw.{is_inside}
 use Rattle.kuhn_cells.specs.Arrangement.{differ}
 use Rattle.mesh_laws.specs.Places.{way_up}
 use Rattle.plane_loops.specs.declared.plane_vertex.PlaneVertex.{PlaneVertex}
 use Rattle.plane_loops.specs.Contours.{Contour, IsContour, contour_with, ends_from}
 use Rattle.plane_loops.specs.Following.{edge_of, edges_before, loops_by, next_by, number_by, place_of, successors_by, vertex_by}
-use Rattle.plane_loops.specs.Planes.{PlaneEdge, PlaneGrid, PlanePoint, further, is_inside_at, is_mixed, lower, mixed_edges, upper, value_at, vertex_on, vertices}
+use Rattle.plane_loops.specs.Planes.{PlaneEdge, PlaneGrid, PlanePoint, further, is_inside_at, lower, upper, value_at, vertex_on, vertices}
 use Rattle.plane_loops.specs.Steps.{HasNext, IsParted, bases_of}
 use Rattle.plane_loops.specs.Tables.{AreMixed, AreTables, one_if, signs_at}
 use Rattle.plane_loops.proofs.GridLaws.{IsVertex}

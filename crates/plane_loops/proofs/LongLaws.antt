@@ -1,15 +1,15 @@
 -- No loop has fewer than three vertices.
-use Rattle.std.proofs.Common.{◌≡◌, ℕ, ◌+◌, ◌*◌, ◌<◌, ◌≤◌, ℤ, pos, ◌+ℤ◌, ◌*ℤ◌, List, [], ◌∷◌, refl, arith, ◌∙◌, ap, subst, length, get_or}
-use Rattle.std.specs.Prelude.{◌-ℤ◌, ◌<ℤ◌, All, Contains, if◌then◌else◌}
+use Rattle.std.proofs.Common.{◌≡◌, ℕ, ◌+◌, ◌*◌, ◌<◌, ◌≤◌, ℤ, pos, ◌*ℤ◌, List, [], ◌∷◌, arith, ◌∙◌, ap, subst, length}
+use Rattle.std.specs.Prelude.{◌-ℤ◌, ◌<ℤ◌, All, Contains}
 use Rattle.std.proofs.lemmas.Int.{ints}
 use Rattle.std.proofs.lemmas.List.Elements.{All-head, All-tail}
 use Rattle.kuhn_cells.specs.Corners.{along_x, along_y}
-use Rattle.mesh_laws.specs.Manifold.{arcs_on, cycle_arcs}
-use Rattle.plane_loops.specs.Contours.{AreJoined, AreLoops, StartsLowest}
+use Rattle.mesh_laws.specs.Manifold.{cycle_arcs}
+use Rattle.plane_loops.specs.Contours.{AreJoined, StartsLowest}
 use Rattle.plane_loops.specs.Laws.{LoopsAreLong}
-use Rattle.plane_loops.specs.Planes.{IsBordered, PlaneEdge, PlaneGrid, PlanePoint, lower, mixed_edges, share, upper}
+use Rattle.plane_loops.specs.Planes.{IsBordered, PlaneEdge, PlaneGrid, share}
 use Rattle.plane_loops.specs.Segments.{segments}
-use Rattle.plane_loops.specs.Sides.{IsLeft, PlanePlace, determinant_at, inner_end}
+use Rattle.plane_loops.specs.Sides.{determinant_at, inner_end}
 use Rattle.plane_loops.proofs.LeftLaws.{diff, diff_is, diff_mul, diff_sub, inside_is_left, place}
 use Rattle.plane_loops.proofs.NextLaws.{edge}
 use Rattle.plane_loops.proofs.TurnLaws.{segment}

@@ -1,15 +1,14 @@
 -- Loops that follow a one-to-one successor: from the lowest vertex that is not marked on it comes back to it.
 use Rattle.std.proofs.Common.{◌≡◌, ℕ, zero, suc, ◌+◌, ◌<◌, ◌≤◌, Bool, true, false, List, [], ◌∷◌, ◌++◌, refl, arith, ap, sym, subst, ◌∙◌, inl, inr, length, get_or, set}
-use Rattle.std.specs.Prelude.{◌⊎◌, ◌==◌, All, AllPairs, Contains}
-use Rattle.std.specs.List.{concat, range_with_len}
+use Rattle.std.specs.Prelude.{◌⊎◌, ◌==◌, All, AllPairs}
+use Rattle.std.specs.List.{concat}
 use Rattle.std.proofs.lemmas.Bool.{cases_eq, cases_lt, false≢true}
 use Rattle.std.proofs.lemmas.List.{append_assoc, length-set}
-use Rattle.std.proofs.lemmas.List.Elements.{All-append, All-cons, All-head, All-nil, All-tail, All-weaker}
-use Rattle.std.proofs.lemmas.List.Kept.{AllPairs-cons}
+use Rattle.std.proofs.lemmas.List.Elements.{All-cons, All-head, All-nil, All-tail}
 use Rattle.plane_loops.specs.Contours.{start_of}
-use Rattle.plane_loops.specs.Following.{loops_from, mark_all, unmarked, walk}
-use Rattle.plane_loops.proofs.Lists.{at, at_set, bit, bit_other, bit_same, count, count_append, count_cons, counted_has, set_from, set_here, set_keeps, unmarked_less}
-use Rattle.plane_loops.proofs.WalkLaws.{loops_none, loops_skip, loops_take, mark_cons, mark_none, walk_off, walk_on}
+use Rattle.plane_loops.specs.Following.{mark_all, unmarked, walk}
+use Rattle.plane_loops.proofs.Lists.{at, at_set, bit, bit_same, count, count_append, count_cons, set_from, set_here, set_keeps, unmarked_less}
+use Rattle.plane_loops.proofs.WalkLaws.{mark_cons, mark_none, walk_off, walk_on}
 
 abbrev pub next_of : List ℕ → ℕ → ℕ
 next_of next v = get_or next v 0

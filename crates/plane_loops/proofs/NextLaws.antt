@@ -1,7 +1,7 @@
 -- The segment that leaves an edge, and where it ends.
-use Rattle.std.proofs.Common.{◌≡◌, ℕ, ◌+◌, ◌-◌, ◌/◌, ◌%◌, ◌<◌, ◌≤◌, Bool, true, false, List, [], ◌∷◌, refl, arith, ◌∙◌, ap, subst, sym, inl, inr}
+use Rattle.std.proofs.Common.{◌≡◌, ℕ, ◌+◌, ◌-◌, ◌/◌, ◌%◌, ◌<◌, ◌≤◌, Bool, true, false, refl, arith, ◌∙◌, ap, subst, sym, inl, inr}
 use Rattle.std.specs.Prelude.{◌⊎◌, min, max, not, Contains, if◌then◌else◌}
-use Rattle.std.proofs.lemmas.Bool.{cases_lt, false≢true}
+use Rattle.std.proofs.lemmas.Bool.{cases_lt}
 use Rattle.kuhn_cells.specs.Arrangement.{differ}
 use Rattle.plane_loops.specs.declared.left_triangle.LeftTriangle.{LeftTriangle}
 use Rattle.plane_loops.specs.Following.{cell_before, left_triangle, opposite_edge}

@@ -10,10 +10,9 @@ use Rattle.std.proofs.lemmas.Nat.{div-add-mod', mod_below}
 use Rattle.kuhn_cells.specs.Arrangement.{differ}
 use Rattle.kuhn_cells.specs.Triangles.{has_sign}
 use Rattle.plane_loops.specs.Following.{cell_at, edges_at, edges_before, mixed_directions, number_by, place_of, rank_of}
-use Rattle.plane_loops.specs.Planes.{PlaneEdge, PlanePoint, edge_from, lower, point}
+use Rattle.plane_loops.specs.Planes.{PlaneEdge, PlanePoint, edge_from, lower}
 use Rattle.plane_loops.specs.Steps.{IsInGrid}
 use Rattle.plane_loops.proofs.Lists.{range_step}
-use Rattle.plane_loops.proofs.NextLaws.{edge}
 use Rattle.plane_loops.proofs.Squares.{cell_is, range_append}
 use Rattle.plane_loops.proofs.TurnLaws.{each_dir}
 

@@ -1,5 +1,5 @@
 -- The segments run the other way where the sides are exchanged.
-use Rattle.std.proofs.Common.{◌≡◌, Bool, true, false, List, [], ◌∷◌, ◌++◌, refl, ◌∙◌, ap, subst, sym}
+use Rattle.std.proofs.Common.{◌≡◌, Bool, true, false, List, [], ◌++◌, refl, ◌∙◌, ap, subst, sym}
 use Rattle.std.specs.Prelude.{not, map, Contains}
 use Rattle.std.proofs.lemmas.List.{map-append}
 use Rattle.plane_loops.specs.Planes.{PlaneEdge, PlanePoint}

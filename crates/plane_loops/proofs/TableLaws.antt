@@ -1,20 +1,19 @@
 -- What a table of the signs of cells tells of a grid.
-use Rattle.std.proofs.Common.{◌≡◌, ℕ, zero, suc, ◌+◌, ◌-◌, ◌*◌, ◌/◌, ◌%◌, ◌<◌, ◌≤◌, Bool, true, false, List, [], ◌∷◌, refl, arith, ◌∙◌, ap, subst, sym, length, get_or}
-use Rattle.std.specs.Prelude.{map, flat_map}
-use Rattle.std.specs.List.{range_with_len}
+use Rattle.std.proofs.Common.{◌≡◌, ℕ, zero, suc, ◌+◌, ◌*◌, ◌/◌, ◌%◌, ◌<◌, ◌≤◌, Bool, true, false, List, refl, arith, ◌∙◌, ap, subst, sym, get_or}
+use Rattle.std.specs.Prelude.{map}
 use Rattle.std.proofs.Math.Nat.{div-lt_iff_lt-mul}
 use Rattle.std.proofs.lemmas.List.FromFn.{get_or-map-range_with_len}
 use Rattle.std.proofs.lemmas.Nat.{div-add-mod', mod_below}
 use Rattle.kuhn_cells.specs.Arrangement.{differ}
 use Rattle.kuhn_cells.specs.Triangles.{has_sign}
 use Rattle.plane_loops.specs.declared.left_triangle.LeftTriangle.{LeftTriangle}
-use Rattle.plane_loops.specs.Following.{cell_at, cell_before, edges_at, edges_before, left_triangle, mixed_directions, next_by, opposite_edge, place_of, triangle_by}
-use Rattle.plane_loops.specs.Planes.{IsBordered, PlaneEdge, PlaneGrid, PlanePoint, edge_from, further, is_inside_at, is_mixed, lower, mixed_edges, point}
+use Rattle.plane_loops.specs.Following.{cell_at, cell_before, edges_at, edges_before, left_triangle, next_by, opposite_edge, place_of, triangle_by}
+use Rattle.plane_loops.specs.Planes.{IsBordered, PlaneEdge, PlaneGrid, PlanePoint, edge_from, further, is_inside_at, is_mixed, lower, mixed_edges}
 use Rattle.plane_loops.specs.Steps.{HasNext, IsInGrid}
 use Rattle.plane_loops.specs.Tables.{one_if, signs_at}
 use Rattle.plane_loops.specs.WorkedOut.{signs_of}
 use Rattle.plane_loops.proofs.GridLaws.{IsVertex, in_cell, leaving, mixed_is, own}
-use Rattle.plane_loops.proofs.NextLaws.{IsLeaving, are_pairs, ends_in, left_of, next_in, point_same, sides_of}
+use Rattle.plane_loops.proofs.NextLaws.{are_pairs, ends_in, left_of, next_in, point_same, sides_of}
 use Rattle.plane_loops.proofs.NumberLaws.{flag, kept, place_less}
 use Rattle.plane_loops.proofs.Squares.{cell_is, flat_same, square_flat}
 use Rattle.plane_loops.proofs.TurnLaws.{each_dir}

@@ -1,5 +1,5 @@
 -- On which side of a segment the inside points lie.
-use Rattle.std.specs.Prelude.{◌≡◌, ℕ, ◌+◌, ◌*◌, ℤ, pos, ◌-ℤ◌, ◌*ℤ◌, ◌<ℤ◌, Contains, if◌then◌else◌}
+use Rattle.std.specs.Prelude.{◌+◌, ◌*◌, ℤ, pos, ◌-ℤ◌, ◌*ℤ◌, ◌<ℤ◌, Contains, if◌then◌else◌}
 use Rattle.kuhn_cells.specs.Corners.{along_x, along_y}
 use Rattle.plane_loops.specs.Planes.{IsBordered, PlaneEdge, PlaneGrid, PlanePoint, is_inside_at, lower, share, upper}
 use Rattle.plane_loops.specs.Segments.{Segment, segments}

@@ -1,5 +1,5 @@
 -- Tables of what is known of a plane grid.
-use Rattle.std.specs.Prelude.{◌≡◌, ◌≢◌, ℕ, ◌+◌, ◌*◌, ◌<◌, ◌≤◌, ℤ, pos, Bool, List, get_or, length, if◌then◌else◌}
+use Rattle.std.specs.Prelude.{◌≡◌, ◌≢◌, ℕ, ◌+◌, ◌*◌, ◌<◌, ℤ, pos, Bool, List, get_or, length, if◌then◌else◌}
 use Rattle.plane_loops.specs.Planes.{IsBordered, PlaneGrid, PlanePoint, further, is_inside_at, value_at}
 
 abbrev pub one_if : Bool → ℕ
