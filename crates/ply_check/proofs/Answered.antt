@@ -143,7 +143,7 @@ vertex_refused lines line is =
     let narrow = told_apart (length is.tokens) is.width is.bad in
     rw (is.parts, at_vertices is.opening is.before is.count is.width is.faces (suc left.0) ((line, is.tokens) ∷ is.after) is.opens is.wide left.1, narrow) refl
 
-face_refused : (lines : Lines) (line : ℕ) (reason : PlyReason) → HasBadFace lines line reason → ply_answer lines ≡ Err (fault_at line reason)
+pub face_refused : (lines : Lines) (line : ℕ) (reason : PlyReason) → HasBadFace lines line reason → ply_answer lines ≡ Err (fault_at line reason)
 face_refused lines line reason is =
     let left = what_is_left (length is.before) is.faces is.few in
     rw (is.parts, at_faces is.opening is.points is.before is.count is.width is.faces (suc left.0) is.corners ((line, is.tokens) ∷ is.after) is.opens is.as_many is.wide is.says left.1, is.bad) refl

@@ -7,6 +7,7 @@ use Rattle.ply_check.specs.declared.header_line.HeaderLine.TheVariants.{Format, 
 use Rattle.ply_check.specs.declared.ply_reason.PlyReason.TheVariants.{NotPly, BadHeader, BadFace, BadIndex, TooShort, TooLong}
 use Rattle.ply_check.specs.Answers.{fault_at, ply_answer}
 use Rattle.ply_check.specs.FaceLines.{face_line}
+use Rattle.ply_check.specs.Gives.{MayWantMemory}
 use Rattle.ply_check.specs.HeaderLines.{digits_said, header_line, is_ply}
 use Rattle.ply_check.specs.PlyFiles.{ply_lines, HasWidth, PlyReads}
 
@@ -137,6 +138,50 @@ one_face_is_said = record {
 
     points : List (ℕ × List (List ℕ))
     points = (11, codes "#" ∷ codes "0" ∷ []) ∷ second ∷ third ∷ []
+
+-- of two faces the second may want memory: it stands behind three vertices and the first
+abbrev two_faces : List ℕ
+two_faces =
+    codes "ply\nformat ascii 1.0\nelement vertex 3\nproperty int x\nelement face 2\nproperty list uchar int vertex_index\nend_header\n"
+    ++ codes "0\n1\n2\n3 0 1 2\n3 2 1 0\n"
+
+memory_for_the_second : MayWantMemory two_faces 12
+memory_for_the_second = record {
+  opening = (1, codes "ply" ∷ []) ∷ (front ++ last ∷ []);
+  points = (8, codes "0" ∷ []) ∷ (9, codes "1" ∷ []) ∷ (10, codes "2" ∷ []) ∷ [];
+  before = (11, codes "3" ∷ codes "0" ∷ codes "1" ∷ codes "2" ∷ []) ∷ [];
+  tokens = codes "3" ∷ codes "2" ∷ codes "1" ∷ codes "0" ∷ [];
+  after = [];
+  count = 3;
+  width = 1;
+  faces = 2;
+  corners = (0 ∷ 1 ∷ 2 ∷ []) ∷ [];
+  parts = refl;
+  opens = record {
+    first = (1, codes "ply" ∷ []);
+    header = front ++ last ∷ [];
+    parts = refl;
+    begins = refl;
+    says = record { front = front; last = last; parts = refl; ends = refl; some = omega arith; says = refl };
+  };
+  as_many = refl;
+  wide =
+      All-cons (HasWidth 1) (8, codes "0" ∷ []) ((9, codes "1" ∷ []) ∷ (10, codes "2" ∷ []) ∷ []) refl
+      (All-cons (HasWidth 1) (9, codes "1" ∷ []) ((10, codes "2" ∷ []) ∷ []) refl
+      (All-cons (HasWidth 1) (10, codes "2" ∷ []) [] refl (All-nil (HasWidth 1))));
+  says = refl;
+  few = omega arith;
+  good = refl;
+}
+  where
+    front : List (ℕ × List (List ℕ))
+    front =
+        (2, codes "format" ∷ codes "ascii" ∷ codes "1.0" ∷ []) ∷ (3, codes "element" ∷ codes "vertex" ∷ codes "3" ∷ [])
+        ∷ (4, codes "property" ∷ codes "int" ∷ codes "x" ∷ []) ∷ (5, codes "element" ∷ codes "face" ∷ codes "2" ∷ [])
+        ∷ (6, codes "property" ∷ codes "list" ∷ codes "uchar" ∷ codes "int" ∷ codes "vertex_index" ∷ []) ∷ []
+
+    last : ℕ × List (List ℕ)
+    last = (7, codes "end_header" ∷ [])
 
 nothing_at_all : ply_answer (ply_lines (codes " \n\t\r\n")) ≡ Err (fault_at 0 NotPly)
 nothing_at_all = refl

@@ -108,8 +108,12 @@ wants_face all count left read old lines new line face passed is some says = rec
   tokens = line.1;
   after = new;
   count = count;
+  left = left;
+  read = read;
   parts = passed.parts ∙ ap (λ xs. passed.front ++ xs) is;
   says = rw says refl;
+  some = some;
+  same = passed.same;
   good = subst (λ a. GoesOn a) (sym (passed.same (line ∷ []) ∙ faces_next count left read line face some says [])) (faces_go_on count (left - 1) (read ++ face ∷ []));
 }
 
@@ -120,8 +124,12 @@ wants_then all left old lines number passed wants = record {
   tokens = wants.tokens;
   after = wants.after;
   count = wants.count;
+  left = wants.left;
+  read = wants.read;
   parts = passed.parts ∙ ap (λ xs. passed.front ++ xs) wants.parts ∙ sym (append_assoc passed.front wants.front ((number, wants.tokens) ∷ wants.after));
   says = wants.says;
+  some = wants.some;
+  same = λ more. ap all (append_assoc passed.front wants.front more) ∙ passed.same (wants.front ++ more) ∙ wants.same more;
   good = subst (λ a. GoesOn a) (sym (ap all (append_assoc passed.front wants.front ((number, wants.tokens) ∷ [])) ∙ passed.same (wants.front ++ (number, wants.tokens) ∷ []))) wants.good;
 }
 

@@ -62,7 +62,7 @@ face_of-reasons count (Some a) (Some b) None reason e = inl (cc)
 face_of-reasons count (Some a) None c reason e = inl (cc)
 face_of-reasons count None b c reason e = inl (cc)
 
-face-reasons : (count : ℕ) (tokens : List (List ℕ)) (reason : PlyReason) → face_line count tokens ≡ Err reason → (reason ≡ BadFace) ⊎ (reason ≡ BadIndex)
+pub face-reasons : (count : ℕ) (tokens : List (List ℕ)) (reason : PlyReason) → face_line count tokens ≡ Err reason → (reason ≡ BadFace) ⊎ (reason ≡ BadIndex)
 face-reasons count (size ∷ a ∷ b ∷ c ∷ []) reason e = by (bytes_eq size (codes "3")) e
   where
     by : (t : Bool) → cond t (face_of count (digits_read 10 a) (digits_read 10 b) (digits_read 10 c)) (Err BadFace) ≡ Err reason → (reason ≡ BadFace) ⊎ (reason ≡ BadIndex)
