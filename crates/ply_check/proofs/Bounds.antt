@@ -1,6 +1,6 @@
 -- How great the numbers in a file are.
-use Rattle.std.proofs.Common.{◌≡◌, ℕ, ◌<◌, ◌≤◌, ◌^◌, Bool, true, false, List, [], ◌∷◌, ◌++◌, length, get_or, Option, Some, None, Result, Ok, Err, refl, sym, ap, subst, arith, inl, inr, ◌∙◌}
-use Rattle.std.specs.Prelude.{◌⊎◌, ◌&&◌, ◌||◌, nat_lt, not, map, filter, replicate, codes, ⊤, All, Contains, if◌then◌else◌}
+use Rattle.std.proofs.Common.{◌≡◌, ℕ, ◌<◌, ◌^◌, Bool, true, false, List, [], ◌∷◌, ◌++◌, length, get_or, Option, Some, None, Result, Ok, Err, refl, sym, ap, subst, arith, inl, inr, ◌∙◌}
+use Rattle.std.specs.Prelude.{◌⊎◌, ◌&&◌, ◌||◌, nat_lt, not, map, replicate, codes, ⊤, All, if◌then◌else◌}
 use Rattle.std.specs.Str.{bytes_eq}
 use Rattle.fixed_ops.specs.Numerals.{digits_read}
 use Rattle.std.proofs.lemmas.Bool.{and_parts, cases_Bool, ltb-true}
@@ -10,10 +10,10 @@ use Rattle.ply_check.specs.declared.header_line.HeaderLine.TheVariants.{Comment,
 use Rattle.ply_check.specs.declared.ply_reason.PlyReason.{PlyReason}
 use Rattle.ply_check.specs.declared.ply_reason.PlyReason.TheVariants.{BadFace, BadIndex}
 use Rattle.ply_check.specs.FaceLines.{face_line, face_of}
-use Rattle.ply_check.specs.HeaderLines.{element_count, element_line, element_said, end_line, format_line, header_line, if_small, list_line, property_line}
+use Rattle.ply_check.specs.HeaderLines.{element_line, element_said, end_line, format_line, header_line, if_small, list_line, property_line}
 use Rattle.ply_check.specs.Headers.{header_of, is_comment, said}
-use Rattle.ply_check.specs.Laws.{FilesAreSmall, IsSmall}
-use Rattle.ply_check.specs.PlyFiles.{IsFile, PlyReads, SayFaces, ply_lines}
+use Rattle.ply_check.specs.Laws.{FilesAreSmall}
+use Rattle.ply_check.specs.PlyFiles.{SayFaces}
 
 -- ---- the vertices of a face
 
