@@ -1,5 +1,5 @@
 -- The definitions of frames, computed on models and views that were worked out by hand.
-use Rattle.std.proofs.Common.{◌≡◌, ℕ, pos, negsuc, List, [], ◌∷◌, ◌++◌, map, Some, None, Result, Ok, Err, refl, arith}
+use Rattle.std.proofs.Common.{◌≡◌, ℕ, pos, negsuc, List, [], ◌∷◌, ◌++◌, map, Some, None, Result, Ok, Err, refl, ap, ◌∙◌, arith}
 use Rattle.std.specs.Prelude.{Vec, codes, replicate, take}
 use Rattle.std.specs.Fmt.{digits}
 use Rattle.std.specs.declared.alloc.Global.{Global}
@@ -17,7 +17,9 @@ use Rattle.fixed_ops.specs.declared.operation.Op.TheVariants.{Const}
 use Rattle.fixed_ops.specs.Numerals.{cut_magnitude, is_unsigned_numeral, nearest_raw, unsigned_raw}
 use Rattle.kuhn_cells.specs.Faces.{all_triangles, faces}
 use Rattle.kuhn_cells.specs.Grids.{vertices}
+use Rattle.ply_writer.specs.Ply.{ply_of}
 use Rattle.solid_model.specs.declared.clause.Clause.{Clause}
+use Rattle.tetra_mesh.specs.Meshes.{Triangulation}
 use Rattle.view_places.specs.Window.{Window}
 use Rattle.normal_shade.specs.Received.{received_where}
 use Rattle.model_frames.specs.Drawn.{drawn_bytes}
@@ -28,6 +30,7 @@ use Rattle.model_frames.specs.Images.{image_of, list_before, plain_points}
 use Rattle.model_frames.specs.Meshes.{grid_before, grid_of, mesh_text, meshed_text, plain_grid}
 use Rattle.model_frames.specs.Pieces.{stage_of}
 use Rattle.model_frames.specs.Shades.{shaded_of}
+use Rattle.model_frames.specs.SoundTexts.{IsSoundText}
 use Rattle.fixed_ops.specs.Counts.{no_counts, points_of, spans_of}
 use Rattle.model_frames.specs.Work.{CountsWithin, CountsWork, FitsCounts, PointsRiseAtMost, Work, both, exactly, frame_work, height_work, mesh_work, mesh_work_after, no_work}
 use Rattle.model_frames.specs.declared.drawn.Drawn.TheVariants as drawings
@@ -160,6 +163,11 @@ mesh_of_two_clauses : mesh_work (window 1 1 1) (solid (codes "u var-x\na const -
     ≡ record (exactly 8 1 16) { least = points_of 8 }
 unfolding mesh_points mesh_least long_spans_in spans_of_cells way_within cut_magnitude is_unsigned_numeral nearest_raw unsigned_raw
 mesh_of_two_clauses = refl
+
+-- a text that is sound is that of the very mesh of the solid, and of no other
+sound_text_is : (view : Window) (clauses : List Clause) (text : List ℕ) → IsSoundText view clauses text → text ≡ mesh_text view clauses
+unfolding mesh_text
+sound_text_is view clauses text sound = sound.text_is ∙ ap (λ (mesh : Triangulation). ply_of view mesh.vertices mesh.faces) sound.«is»
 
 -- the views that differ from one in a single number
 abbrev other_views : Window → List Window

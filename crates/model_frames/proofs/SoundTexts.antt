@@ -38,4 +38,4 @@ texts_are_sound sound apart view clauses window fits =
     let border = grid_bordered view value in
     let of_view : IsGridOf view g = record { x = refl; y = refl; z = refl } in
     let lie = apart view g window fits of_view border in
-    record { mesh = mesh_of g; text_is = refl; sound = sound g border; places = lie.raw; lines = lines_apart view (mesh_of g).vertices lie.lines }
+    record { mesh = mesh_of g; «is» = refl; text_is = refl; sound = sound g border; places = lie.raw; lines = lines_apart view (mesh_of g).vertices lie.lines }
