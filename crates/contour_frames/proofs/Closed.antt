@@ -8,7 +8,7 @@ use Rattle.live_clauses.specs.declared.step.Step.{Step}
 use Rattle.path_writer.specs.Laws.{ContoursHavePaths}
 use Rattle.path_writer.specs.Paths.{loops_of, path_of}
 use Rattle.plane_loops.specs.Contours.{Contour, IsContour}
-use Rattle.plane_loops.specs.Laws.{ContoursAreWorkedOut, LoopsAreLong, OneContour, OneSegmentEachWay}
+use Rattle.plane_loops.specs.Laws.{ContoursAreWorkedOut, LoopsAreLong, OneContour, OneSegmentEachWay, SegmentsAreDistinct}
 use Rattle.plane_loops.specs.Planes.{IsBordered, PlaneGrid}
 use Rattle.plane_loops.specs.WorkedOut.{contour_of}
 use Rattle.solid_model.specs.Values.{solid_value}
@@ -17,8 +17,8 @@ use Rattle.view_places.specs.Window.{FitsContour, Window}
 use Rattle.contour_frames.specs.ClosedTexts.{ContourTextsAreClosed}
 use Rattle.contour_frames.specs.Contours.{contour_text, solid_plane}
 
-pub texts_closed : PlanesAreBordered → ContoursAreWorkedOut → OneSegmentEachWay → LoopsAreLong → ContoursHavePaths → ContourTextsAreClosed
-texts_closed planes worked each long paths view clauses fits =
+pub texts_closed : PlanesAreBordered → ContoursAreWorkedOut → SegmentsAreDistinct → OneSegmentEachWay → LoopsAreLong → ContoursHavePaths → ContourTextsAreClosed
+texts_closed planes worked distinct each long paths view clauses fits =
     let g = solid_plane view clauses in
     let border = planes view (λ p. solid_value p clauses) fits.square in
     let contour = worked g border in
@@ -29,6 +29,7 @@ texts_closed planes worked each long paths view clauses fits =
       written = refl;
       follow = written.follow;
       long = long g border (loops_of (contour_of g)) written.follow;
+      distinct = distinct g;
       each_way = each g border;
     }
 

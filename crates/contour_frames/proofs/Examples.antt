@@ -1,5 +1,5 @@
 -- The contours of solids, computed on models and views that were worked out by hand.
-use Rattle.std.proofs.Common.{◌≡◌, pos, negsuc, List, [], ◌∷◌, ◌++◌, refl}
+use Rattle.std.proofs.Common.{◌≡◌, ◌≢◌, ℕ, pos, negsuc, List, [], ◌∷◌, ◌++◌, refl, arith}
 use Rattle.std.specs.Prelude.{codes, replicate}
 use Rattle.std.specs.Fmt.{digits}
 use Rattle.box_chains.specs.Tallied.{work_of}
@@ -10,9 +10,11 @@ use Rattle.oct_descent.specs.Bound.{cell_spans_in}
 use Rattle.oct_descent.specs.Ways.{way_within}
 use Rattle.plane_loops.specs.Following.{edges_before, loops_from, mark_all, next_by, walk}
 use Rattle.plane_loops.specs.Planes.{mixed_edges}
+use Rattle.plane_loops.specs.Segments.{Segment, segments}
 use Rattle.plane_loops.specs.WorkedOut.{contour_of}
 use Rattle.solid_model.specs.declared.clause.Clause.{Clause}
 use Rattle.view_places.specs.Window.{Window}
+use Rattle.contour_frames.specs.ClosedTexts.{IsClosedText}
 use Rattle.contour_frames.specs.Contours.{contour_part, contour_text, contour_work, plain_contour, solid_plane}
 
 -- two cells along each axis, from -1 to 1, at the height 0.5
@@ -42,6 +44,14 @@ inside =
 middle_point : (solid_plane window inside).values
     ≡ pos 0 ∷ pos 0 ∷ pos 0 ∷ pos 0 ∷ negsuc 4294967295 ∷ pos 0 ∷ pos 0 ∷ pos 0 ∷ pos 0 ∷ []
 middle_point = refl
+
+-- of the six segments round it none is listed twice
+abbrev segment : ℕ × ℕ × ℕ → ℕ × ℕ × ℕ → Segment
+segment from to = record { from = record { x = from.0; y = from.1; dir = from.2 }; to = record { x = to.0; y = to.1; dir = to.2 } }
+
+first_two_differ : (bytes : List ℕ) → IsClosedText window inside bytes → segment (0, 0, 3) (1, 0, 2) ≢ segment (0, 1, 1) (0, 0, 3)
+unfolding segments
+first_two_differ bytes closed = closed.distinct 0 1 (segment (0, 0, 0) (0, 0, 0)) (omega arith) (omega arith)
 
 -- values are those at the height of the view
 at_the_height : (solid_plane window (record { name = codes "z"; op = Z; a = 0; b = 0; value = pos 0 } ∷ [])).values ≡ replicate 9 (pos 2147483648)

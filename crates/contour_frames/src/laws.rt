@@ -6,8 +6,8 @@ use path_writer::contours_have_paths;
 use plane_loops::{loops_are_long, one_contour, one_segment_each_way};
 
 /// The paths of the contour of each solid are closed loops, over each view of which a contour may be
-/// drawn: exactly one segment leaves each vertex and exactly one arrives there, each vertex stands on
-/// one loop, once, and every loop has at least three.
+/// drawn: of the segments, none of which is listed twice, exactly one leaves each vertex and exactly one
+/// arrives there, each vertex stands on one loop, once, and every loop has at least three.
 pub fn contour_texts_are_closed()
     ensures { ContourTextsAreClosed }
 {
