@@ -1,7 +1,7 @@
 // A model that is edited and drawn.
 ghost use Rattle.std.specs.Prelude.{◌≡◌, ◌≢◌, ◌↔◌, length, [], None, Ok, IfErr, IfOk, IsErrOf, OnErr, OnOk};
 ghost use Rattle.clause_reader.specs.ModelText.{model_text};
-ghost use Rattle.solid_model.specs.Edited.{IsUndone};
+ghost use Rattle.solid_model.specs.Edited.{AreAccepted, IsUndone};
 ghost use Rattle.solid_model.specs.Edits.{edited, FirstMakesClause};
 ghost use Rattle.solid_model.specs.Refusals.{RefusesAs, WantsMemoryFor};
 ghost use Rattle.view_places.specs.Window.{FitsHeight, FitsMesh};
@@ -128,11 +128,13 @@ impl Session {
     }
 
     /// Takes back the edit that was accepted last. The last image with its cost and the last mesh stand,
-    /// and no undo takes this one back. After an `Err` the session is as it was.
+    /// and no undo takes this one back. Each of the edits that take one back is accepted in its turn. After
+    /// an `Err` the session is as it was.
     ///
     /// `NothingToUndo`: each edit that was accepted was taken back. `NoMemory`: memory was refused for a
     /// clause that comes back. No other fault is answered.
     pub fn undo(&mut self) -> Result<(), EditFault>
+        ensures accepted { AreAccepted self.old.clauses self.old.undo }
         ensures undone { OnOk result (IsUndone (model_of self.old) (model_of self.new)) }
         ensures stands { self.new ≡ with_model self.old (model_of self.new) }
         ensures nothing { IsErrOf result EditFault.NothingToUndo ↔ self.old.undo ≡ [] }

@@ -15,4 +15,4 @@ returns-clause-drawn c =
     (plain_points view (length clauses)) c.in_ok-tree.ensures.fits
     (subst (λ start. CountsWork start c.redraw_image-drawn.new.tally (image_work before view clauses)) c.new-own.ensures c.in_ok-tree.ensures.counted) in
     session-drawn c.args.self.now view clauses c.self.inside.model c.self.inside.image before c.self.inside.mesh _ c.in_ok-tree.tree c.points-self-inside.result c.spans-self-inside.result
-    c.self.view_is c.model.ensures c.take-before.ensures.value c.in_ok-tree.ensures.tree (c.points-self-inside.ensures ∙ told.0) (c.spans-self-inside.ensures ∙ told.1)
+    c.self.view_is c.model.ensures.model c.take-before.ensures.value c.in_ok-tree.ensures.tree (c.points-self-inside.ensures ∙ told.0) (c.spans-self-inside.ensures ∙ told.1)
