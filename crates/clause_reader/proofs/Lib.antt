@@ -5,6 +5,7 @@ pub mod LineSteps
 pub mod LineWalk
 pub mod OpLemmas
 pub mod ReadBack
+pub mod ReadModels
 mod ReadingExamples
 pub mod ReasonLemmas
 pub mod Runs

@@ -1,18 +1,20 @@
 -- The definitions of reading, computed on texts that were worked out by hand: each reason once, and what is read.
 use Rattle.std.proofs.Common.{◌≡◌, ℕ, Bool, pos, nat_le, List, [], ◌∷◌, ◌++◌, length, None, Some, Result, Ok, Err, true, false, refl, ap, arith}
-use Rattle.std.specs.Prelude.{codes, map, negsuc}
+use Rattle.std.specs.Prelude.{All, codes, map, negsuc}
 use Rattle.std.proofs.lemmas.List.Elements.{All-head}
 use Rattle.std.proofs.lemmas.List.Sums.{AllPass-from_list_all}
 use Rattle.fixed_ops.specs.declared.operation.Op.TheVariants.{X, Y, Z, Const, Neg, Square, Sqrt, Abs, Floor, Add, Sub, Mul, Div, Min, Max}
 use Rattle.fixed_ops.specs.Numerals.{is_unsigned_numeral, unsigned_raw, nearest_raw, cut_magnitude}
 use Rattle.solid_model.specs.declared.clause.Clause.{Clause}
-use Rattle.solid_model.specs.Clauses.{place_of}
+use Rattle.solid_model.specs.Clauses.{IsModel, place_of}
 use Rattle.solid_model.specs.Names.{is_blank}
+use Rattle.solid_model.specs.Parts.{IsForm}
 use Rattle.clause_reader.specs.declared.form_fault.FormFault.TheVariants.{BadName, WrongArity as FormWrongArity, NoMemory as FormNoMemory}
 use Rattle.clause_reader.specs.declared.text_fault.TextFault.{TextFault}
 use Rattle.clause_reader.specs.declared.text_reason.TextReason.TheVariants.{NoOperation, UnknownOperation, WrongArity, BadNumeral, UnknownName, DoubleName, TooMany, Empty, NoMemory}
 use Rattle.clause_reader.specs.Forms.{form_read, GivesForm, operation_of, operations, takes}
 use Rattle.clause_reader.specs.Lines.{begins_comment, lines_of, tokens_of, line_of}
+use Rattle.clause_reader.specs.ReadModels.{MayName, ReadTextsAreModels, SaidFormsAreForms, TokensMayName}
 use Rattle.clause_reader.specs.Reading.{clauses_with, clause_of, text_read, GivesModel, MayWantMemory}
 use Rattle.clause_reader.specs.Reasons.{holds}
 use Rattle.clause_reader.specs.Says.{clause_lines}
@@ -251,3 +253,23 @@ lines_that_say_a_clause = refl
 rest_after_the_first_line : map after_line (codes "a b\nc\nd" ∷ codes "a" ∷ codes "a\n" ∷ [])
     ≡ codes "c\nd" ∷ [] ∷ [] ∷ []
 rest_after_the_first_line = refl
+
+-- what is read is a model, of names and forms
+model_that_is_read : ReadTextsAreModels → IsModel (record { name = codes "x"; op = X; a = 0; b = 0; value = pos 0 }
+    ∷ record { name = codes "f"; op = Neg; a = 0; b = 0; value = pos 0 } ∷ [])
+model_that_is_read models = models (codes "x var-x\n# c\nf neg x\n") _ refl
+
+form_that_is_said : SaidFormsAreForms → IsForm (record { op = Neg; args = codes "x#" ∷ []; value = pos 0 })
+form_that_is_said forms = forms (codes "neg" ∷ codes "x#" ∷ []) _ refl
+
+names_of_two_lines : TokensMayName → All (All MayName) ((codes "x" ∷ codes "var-x" ∷ []) ∷ (codes "#" ∷ codes "c" ∷ []) ∷ [])
+names_of_two_lines names = names (codes "x var-x\n# c\n")
+
+name_with_a_mark : MayName (codes "x#")
+name_with_a_mark other = refl
+
+comment_is_no_name : MayName (codes "#x")
+comment_is_no_name other = (cc)
+
+blank_in_a_name : MayName (codes "x y") → ⊥
+blank_in_a_name may = let name : false ≡ true = may refl in (cc)

@@ -6,6 +6,7 @@ pub mod LineLaws
 pub mod Lines
 pub mod ModelText
 pub mod NumberedLines
+pub mod ReadModels
 pub mod Reading
 pub mod ReadingLaws
 pub mod Reasons

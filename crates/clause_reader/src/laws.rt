@@ -2,6 +2,7 @@
 ghost use Rattle.clause_reader.specs.FirstLines.{TextsBeginWithLines};
 ghost use Rattle.clause_reader.specs.GivenLines.{GivenLinesStand};
 ghost use Rattle.clause_reader.specs.LineLaws.{LinesAreExact, TokensAreExact};
+ghost use Rattle.clause_reader.specs.ReadModels.{ReadTextsAreModels, SaidFormsAreForms, TokensMayName};
 ghost use Rattle.clause_reader.specs.ReadingLaws.{ReadingIsExact, RefusingIsExact, EachTextIsAnswered, NoneIsReadAndRefused, OneReading, OneRefusal, MemoryIsNoReason, EachLineAddsOne};
 ghost use Rattle.clause_reader.specs.Reasons.{LineReasonsAreLowest};
 ghost use Rattle.clause_reader.specs.WritingLaws.{WrittenModelsAreRead, WrittenModelsAreSaid};
@@ -20,6 +21,14 @@ pub fn reading_is_exact()
     ensures one_refusal { OneRefusal }
     ensures never_memory { MemoryIsNoReason }
     ensures adds_one { EachLineAddsOne }
+{}
+
+/// The clauses of a text that is read are a model. What tokens say as a form is one, and a token of a text is
+/// a name unless it begins with `#`.
+pub fn read_texts_are_models()
+    ensures models { ReadTextsAreModels }
+    ensures forms { SaidFormsAreForms }
+    ensures names { TokensMayName }
 {}
 
 /// A clause line is refused for the lowest reason that holds in it, and says a clause where none does.

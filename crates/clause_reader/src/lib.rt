@@ -24,8 +24,8 @@ pub use form::{find_form, lent_form, read_form};
 pub use form_defect::FormDefect;
 pub use form_fault::FormFault;
 pub use laws::{
-    given_lines_stand, line_reasons_are_lowest, lines_and_tokens_are_exact, reading_is_exact,
-    texts_begin_with_lines, written_models_are_read,
+    given_lines_stand, line_reasons_are_lowest, lines_and_tokens_are_exact, read_texts_are_models,
+    reading_is_exact, texts_begin_with_lines, written_models_are_read,
 };
 pub use line::Line;
 pub use line_end::after_line;

@@ -1,6 +1,6 @@
 -- A small script, worked out by hand: which lines say commands, and on which of them memory may be wanted.
 use Rattle.std.proofs.Common.{◌≡◌, ℕ, pos, negsuc, true, false, Some, Ok, Err, List, [], ◌∷◌, refl, arith}
-use Rattle.std.specs.Prelude.{◌≢◌, ◌≤◌, codes, map, None, Option}
+use Rattle.std.specs.Prelude.{◌≢◌, ◌≤◌, All, codes, map, None, Option}
 use Rattle.std.proofs.lemmas.Int.{ints}
 use Rattle.fixed_ops.specs.Numerals.{cut_magnitude, is_unsigned_numeral, nearest_raw, unsigned_raw}
 use Rattle.fixed_ops.specs.declared.operation.Op.TheVariants as ops
@@ -19,6 +19,7 @@ use Rattle.edit_script.specs.declared.script_fault.ScriptFault.{ScriptFault}
 use Rattle.edit_script.specs.declared.script_reason.ScriptReason.{ScriptReason}
 use Rattle.edit_script.specs.declared.script_reason.ScriptReason.TheVariants.{UnknownCommand, TooShort, BadName, UnknownOperation, WrongArity, BadNumeral, BadSetting, NoMemory}
 use Rattle.edit_script.specs.Reasons.{holds, reason_in}
+use Rattle.edit_script.specs.ScriptLaws.{ReadScriptsAreCommands}
 use Rattle.edit_script.specs.Scripts.{pushed, script_read, IsCommandLine, RefusesScript}
 
 -- the mark is line 2, line 3 is a comment, and lines 4 and 5 are commands
@@ -155,6 +156,11 @@ many_in_all is = let all : 17039360 ≤ 16777216 = is.1.all in omega (arith, all
 
 small_cells : IsCommand (Mesh (record window { x1 = negsuc 4290772992 })) → ⊥
 small_cells is = absurd (omega (arith, ints, is.1.x))
+
+-- so do all commands of a script
+commands_keep : ReadScriptsAreCommands → All IsCommand (Edit 2 (edits.Cut (codes "x")) ∷ Height (record window { w = 3 }) ∷ [])
+unfolding setting_of has_room
+commands_keep read = read (codes "%%\ncut x\nheight w=3\n")
 
 each_keyword_is_read : map keyword_named
     (codes "set" ∷ codes "add" ∷ codes "put" ∷ codes "cut" ∷ codes "undo" ∷ codes "render" ∷ codes "height"

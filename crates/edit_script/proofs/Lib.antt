@@ -1,5 +1,5 @@
+pub mod CommandLaws
 pub mod CommandLemmas
-pub mod DrawLaws
 mod Examples
 pub mod KeywordLemmas
 pub mod LineStarts

@@ -4,7 +4,7 @@ use Rattle.clause_reader.specs.Lines.{lines_of}
 use Rattle.edit_script.specs.declared.command.Command.{Command}
 use Rattle.edit_script.specs.declared.script_fault.ScriptFault.{ScriptFault}
 use Rattle.edit_script.specs.declared.script_reason.ScriptReason.TheVariants.{NoMark}
-use Rattle.edit_script.specs.Commands.{MayBeDrawn}
+use Rattle.edit_script.specs.Commands.{IsCommand, MayBeDrawn}
 use Rattle.edit_script.specs.Marks.{mark_ends, mark_place}
 use Rattle.edit_script.specs.Scripts.{command_lines, command_at, script_read}
 
@@ -51,6 +51,10 @@ pub record Splits (input : List ℕ) (start end : ℕ) : Type 0 where
 abbrev pub InputsAreSplit : Type 0
 InputsAreSplit =
     (input : List ℕ) (start end : ℕ) → mark_ends input ≡ Some (start, end) → Splits input start end
+
+-- the commands of an input keep what commands keep
+abbrev pub ReadScriptsAreCommands : Type 0
+ReadScriptsAreCommands = (input : List ℕ) → IfOk (script_read input) (All IsCommand)
 
 -- what the commands of an input draw may be drawn of their views
 abbrev pub DrawsMayBeDrawn : Type 0

@@ -1,8 +1,8 @@
 // What always holds of the definitions that the contracts cite.
 ghost use Rattle.edit_script.specs.Reasons.{ReasonsAreLowest};
-ghost use Rattle.edit_script.specs.ScriptLaws.{DrawsMayBeDrawn, InputsAreSplit, RefusalsAreExact, ScriptsAreExact};
+ghost use Rattle.edit_script.specs.ScriptLaws.{DrawsMayBeDrawn, InputsAreSplit, ReadScriptsAreCommands, RefusalsAreExact, ScriptsAreExact};
 
-use clause_reader::texts_begin_with_lines;
+use clause_reader::{read_texts_are_models, texts_begin_with_lines};
 use view_settings::jobs_hold;
 
 /// An input is read as the commands that its lines after the mark say, one by one, or else it is
@@ -25,9 +25,17 @@ pub fn inputs_are_split()
     texts_begin_with_lines();
 }
 
+/// The commands of a script keep what commands keep: their edits are edits, and what they draw may be drawn.
+pub fn read_scripts_are_commands()
+    ensures { ReadScriptsAreCommands }
+{
+    jobs_hold();
+    read_texts_are_models();
+}
+
 /// What the commands of a script draw may be drawn of their views.
 pub fn draws_may_be_drawn()
     ensures { DrawsMayBeDrawn }
 {
-    jobs_hold();
+    read_scripts_are_commands();
 }

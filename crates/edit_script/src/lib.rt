@@ -15,7 +15,10 @@ mod script_reason;
 
 pub use command::Command;
 pub use commands::Commands;
-pub use laws::{draws_may_be_drawn, inputs_are_split, reasons_are_lowest, scripts_are_exact};
+pub use laws::{
+    draws_may_be_drawn, inputs_are_split, read_scripts_are_commands, reasons_are_lowest,
+    scripts_are_exact,
+};
 pub use mark::split_input;
 pub use script::read_script;
 pub use script_fault::ScriptFault;

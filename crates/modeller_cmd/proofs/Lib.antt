@@ -12,7 +12,9 @@ mod NameExamples
 mod Outcomes
 mod ReplayLaws
 mod RunExamples
+mod ShownModels
 mod Soundness
+mod UndoExamples
 mod Undoing
 mod WorkSums
 mod Writing

@@ -41,11 +41,11 @@ use Rattle.modeller_cmd.proofs.WorkSums.{All-between}
 job_kept : (r : Result Job Refusal) (job : Job) → r ≡ Ok job → IfOk r IsJob → IsJob job
 job_kept r job is keeps = subst (λ o. IfOk o IsJob) is keeps
 
-outcome_of : (words : List (List ℕ)) (input : List ℕ) (job : Job) → asked words ≡ Ok job → outcome words input ≡ made job input
+pub outcome_of : (words : List (List ℕ)) (input : List ℕ) (job : Job) → asked words ≡ Ok job → outcome words input ≡ made job input
 outcome_of words input job is = rw is refl
 
 -- an input of which something is made is no longer than is accepted
-few_of : (input solid : List ℕ) (makes : List Clause → Result (List Part) Refusal) → (output_as (of_solid input solid makes)).status ≡ Done → length input ≤ input_limit
+pub few_of : (input solid : List ℕ) (makes : List Clause → Result (List Part) Refusal) → (output_as (of_solid input solid makes)).status ≡ Done → length input ≤ input_limit
 few_of input solid makes done = by (nat_lt input_limit (length input)) refl
   where
     by : (long : Bool) → nat_lt input_limit (length input) ≡ long → length input ≤ input_limit

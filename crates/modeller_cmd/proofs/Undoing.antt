@@ -1,5 +1,5 @@
 -- Undos lead back to the clauses before the edits that were accepted, and frames show what stands.
-use Rattle.std.proofs.Common.{◌≡◌, ℕ, zero, suc, ◌+◌, List, [], ◌∷◌, ◌++◌, length, Result, Ok, Err, refl, sym, ap, subst, ◌∙◌, append_assoc, arith}
+use Rattle.std.proofs.Common.{◌≡◌, ℕ, ◌+◌, List, [], ◌∷◌, ◌++◌, length, Result, Ok, Err, refl, sym, ap, subst, ◌∙◌, append_assoc, arith}
 use Rattle.std.specs.Prelude.{All}
 use Rattle.std.proofs.lemmas.List.{length-append}
 use Rattle.std.proofs.lemmas.List.Sums.{fold-append}
@@ -7,7 +7,6 @@ use Rattle.edit_script.specs.Commands.{IsCommand}
 use Rattle.edit_script.specs.declared.command.Command.{Command}
 use Rattle.edit_script.specs.declared.command.Command.TheVariants as commands
 use Rattle.edit_session.specs.Sessions.{State, after_edit, model_of}
-use Rattle.model_frames.specs.declared.frame.Frame.{Frame}
 use Rattle.model_frames.specs.declared.frame.Frame.TheVariants as frames
 use Rattle.solid_model.specs.Clauses.{IsModel}
 use Rattle.solid_model.specs.Edited.{Edited, after_edits, given_or}
@@ -18,7 +17,7 @@ use Rattle.solid_model.specs.declared.clause.Clause.{Clause}
 use Rattle.solid_model.specs.declared.edit.Edit.{Edit}
 use Rattle.solid_model.specs.declared.edit.EditFault.{EditFault}
 use Rattle.modeller_cmd.specs.Replays.{after_undo, framed, replayed, standing, state_after}
-use Rattle.modeller_cmd.specs.Undoing.{drawn_by, edits_among, edits_at, undos_among, FramesShowWhatStands, ShowsStanding, UndosLeadBack}
+use Rattle.modeller_cmd.specs.Undoing.{edits_among, edits_at, undos_among, FramesShowWhatStands, UndosLeadBack}
 use Rattle.modeller_cmd.proofs.ReplayLaws.{replayed-between}
 use Rattle.modeller_cmd.proofs.WorkSums.{All-between, All-right}
 
@@ -29,18 +28,18 @@ edits-append clauses [] ys = refl
 edits-append clauses (x ∷ xs) ys = edits-append (given_or clauses (edited clauses x)) xs ys
 
 -- commands after others are played on what those leave
-standing-append : (state : State) (xs ys : List Command) → standing state (xs ++ ys) ≡ standing (standing state xs) ys
+pub standing-append : (state : State) (xs ys : List Command) → standing state (xs ++ ys) ≡ standing (standing state xs) ys
 unfolding standing
 standing-append state xs ys = fold-append state_after state xs ys
 
-accepted-next : (state : State) (line : ℕ) (edit : Edit) (new : List Clause) → edited state.clauses edit ≡ Ok new
+pub accepted-next : (state : State) (line : ℕ) (edit : Edit) (new : List Clause) → edited state.clauses edit ≡ Ok new
     → state_after state (commands.Edit line edit) ≡ after_edit state edit new
 accepted-next state line edit new is = rw is refl
 
 accepted-count : (state : State) (line : ℕ) (edit : Edit) (new : List Clause) → edited state.clauses edit ≡ Ok new → edits_at state (commands.Edit line edit) ≡ 1
 accepted-count state line edit new is = rw is refl
 
-refused-next : (state : State) (line : ℕ) (edit : Edit) (fault : EditFault) → edited state.clauses edit ≡ Err fault → state_after state (commands.Edit line edit) ≡ state
+pub refused-next : (state : State) (line : ℕ) (edit : Edit) (fault : EditFault) → edited state.clauses edit ≡ Err fault → state_after state (commands.Edit line edit) ≡ state
 refused-next state line edit fault is = rw is refl
 
 refused-count : (state : State) (line : ℕ) (edit : Edit) (fault : EditFault) → edited state.clauses edit ≡ Err fault → edits_at state (commands.Edit line edit) ≡ 0
@@ -107,10 +106,10 @@ one-more state now edit new count back leads =
 not-more : {state now : State} {count : ℕ} → LeadBack state now count → LeadBack state now (0 + count)
 not-more leads = record { edits = leads.edits; before = leads.before; as_many = omega (arith, leads.as_many); back = leads.back }
 
-first : (x : Command) (xs : List Command) → All IsCommand (x ∷ xs) → IsCommand x
+pub first : (x : Command) (xs : List Command) → All IsCommand (x ∷ xs) → IsCommand x
 first x xs are = All-between IsCommand [] x xs are
 
-others : (x : Command) (xs : List Command) → All IsCommand (x ∷ xs) → All IsCommand xs
+pub others : (x : Command) (xs : List Command) → All IsCommand (x ∷ xs) → All IsCommand xs
 others x xs are = All-right IsCommand (x ∷ []) xs are
 
 module _ (taken : EditsAreTakenBack) (give : EditsGiveModels) where
@@ -151,10 +150,10 @@ module _ (taken : EditsAreTakenBack) (give : EditsGiveModels) where
   made-edits state (commands.Cost ∷ there) is are none = not-more (made-edits state there is (others _ there are) none)
 
   pub undos-lead-back : UndosLeadBack
-  undos-lead-back state there back is are no_undo no_edit as_many =
-      let leads = made-edits state there is are no_undo in
+  undos-lead-back state there back is are taken_back =
+      let leads = made-edits state there is are taken_back.no_undo in
       ap model_of (standing-append state there back)
-      ∙ undone-all (standing state there) back leads.edits state.undo no_edit leads.before (as_many ∙ sym leads.as_many)
+      ∙ undone-all (standing state there) back leads.edits state.undo taken_back.no_edit leads.before (taken_back.as_many ∙ sym leads.as_many)
       ∙ ap (λ (clauses : List Clause). model clauses state.undo) leads.back
 
 pub frames-show : FramesShowWhatStands

@@ -1,7 +1,7 @@
 -- The work of parts, one after the other.
 use Rattle.std.proofs.Common.{◌≡◌, ◌+◌, List, [], ◌∷◌, ◌++◌, length, refl, sym, ap, subst, ◌∙◌, append_assoc, length-append, arith}
 use Rattle.std.specs.Prelude.{All}
-use Rattle.std.proofs.lemmas.List.{get_or-append-add}
+use Rattle.std.proofs.lemmas.List.{get_or-append-add, get_or_append_left}
 use Rattle.model_frames.specs.Work.{Work, both, no_work}
 use Rattle.fixed_ops.specs.Counts.{Counts, no_counts, plus}
 use Rattle.model_frames.specs.Frames.{Part}
@@ -66,6 +66,10 @@ work-append (p ∷ ps) qs =
 pub All-right : {X : Type 0} (P : X → Type 0) (xs ys : List X) → All P (xs ++ ys) → All P ys
 All-right P xs ys all k d less =
     subst P (get_or-append-add xs ys k d) (all (length xs + k) d (omega (arith, less, length-append xs ys)))
+
+pub All-left : {X : Type 0} (P : X → Type 0) (xs ys : List X) → All P (xs ++ ys) → All P xs
+All-left P xs ys all k d less =
+    subst P (get_or_append_left xs ys d k less) (all k d (omega (arith, less, length-append xs ys)))
 
 pub All-between : {X : Type 0} (P : X → Type 0) (xs : List X) (x : X) (ys : List X) → All P (xs ++ x ∷ ys) → P x
 All-between P xs x ys all = All-right P xs (x ∷ ys) all 0 x (omega arith)

@@ -12,6 +12,7 @@ pub mod Output
 pub mod Parts
 pub mod Replays
 pub mod Runs
+pub mod ShownModels
 pub mod SoundTexts
 pub mod Statuses
 pub mod Stops

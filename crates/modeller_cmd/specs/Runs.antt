@@ -11,6 +11,7 @@ use Rattle.modeller_cmd.specs.Checks.{VerdictsAreWritten, WrittenMeshesPass}
 use Rattle.modeller_cmd.specs.Endings.{CountsForSome, GainsParts, IsAnswer, IsRead, IsRefusal, IsUnwritten, IsWorked, NoFault, ReadsWhole, TakesLine, Tells}
 use Rattle.modeller_cmd.specs.Output.{Output, input_limit, output_of}
 use Rattle.modeller_cmd.specs.Parts.{bytes_of_parts, work_of_parts}
+use Rattle.modeller_cmd.specs.ShownModels.{FramesShowModels, UndosBringFramesBack}
 use Rattle.modeller_cmd.specs.SoundTexts.{ContoursAreClosed, MeshFramesAreSound, MeshesAreSound, SolidsKeepValues}
 use Rattle.modeller_cmd.specs.Halting.{HaltsRun}
 use Rattle.modeller_cmd.specs.declared.status.Status.{Status}
@@ -60,6 +61,9 @@ pub record EndsSo {S K N : Type 0} (run : Run S K N) : Type 0 where
   -- and what a check of a mesh says is the verdict on it
   pub verdicts : IfSome (run.rest run.source) (VerdictsAreWritten run.words)
   pub passes : IfSome (run.rest run.source) (WrittenMeshesPass run.words)
+  -- and each frame of a script shows the model that stands, and after undos the one before the edits
+  pub frames : IfSome (run.rest run.source) (FramesShowModels run.words)
+  pub undos : IfSome (run.rest run.source) (UndosBringFramesBack run.words)
   -- when each status comes
   pub answer : OfOutput run (λ output. IsAnswer output.status run.status)
   pub usage : (run.status ≡ Usage) ↔ IsErr (asked run.words)

@@ -10,6 +10,7 @@ use Rattle.model_frames.specs.declared.frame.Frame.{Frame}
 use Rattle.model_frames.specs.declared.frame.Frame.TheVariants as frames
 use Rattle.solid_model.specs.Clauses.{IsModel}
 use Rattle.solid_model.specs.Edits.{edited}
+use Rattle.solid_model.specs.declared.clause.Clause.{Clause}
 use Rattle.modeller_cmd.specs.Frames.{frame_of}
 use Rattle.modeller_cmd.specs.Replays.{replayed, standing, state_after}
 
@@ -31,15 +32,18 @@ edits_among state [] = 0
 edits_among state (command ∷ commands) =
     edits_at state command + edits_among (state_after state command) commands
 
--- Some commands without an undo, and then others of which no edit is accepted and as many are undos as
--- edits were accepted before, lead back to the clauses of a model, and to what takes back the edits
--- before. Frames, edits that are refused and all else may stand between.
+-- Some commands, none of them an undo, are taken back by others: of these no edit is accepted, and as many
+-- are undos as edits were accepted before. Frames, edits that are refused and all else may stand between.
+pub record AreTakenBack (state : State) (there back : List Command) : Type 0 where
+  pub no_undo : undos_among there ≡ 0
+  pub no_edit : edits_among (standing state there) back ≡ 0
+  pub as_many : undos_among back ≡ edits_among state there
+
+-- they lead back to the clauses of a model, and to what takes back the edits before
 abbrev pub UndosLeadBack : Type 0
 UndosLeadBack =
     (state : State) (there back : List Command) → IsModel state.clauses → All IsCommand there
-    → undos_among there ≡ 0 → edits_among (standing state there) back ≡ 0
-    → undos_among back ≡ edits_among state there
-    → model_of (standing state (there ++ back)) ≡ model_of state
+    → AreTakenBack state there back → model_of (standing state (there ++ back)) ≡ model_of state
 
 -- the command that draws a frame
 abbrev pub drawn_by : Frame → Command
@@ -48,19 +52,17 @@ drawn_by (frames.Height view) = commands.Height view
 drawn_by (frames.Mesh view) = commands.Mesh view
 drawn_by frames.Text = commands.Text
 
--- Behind what some commands write stands a frame of the clauses that stand after them, as it is of a
--- session that begins with these.
-pub record ShowsStanding (state : State) (before : List Command) (frame : Frame)
-    (parts : List Part) : Type 0 where
+-- Behind some parts stands the frame of some clauses, as it is of a session that begins with these.
+pub record HasFrame (frame : Frame) (clauses : List Clause) (before parts : List Part) : Type 0 where
   pub part : Part
-  pub bytes : part.bytes ≡ frame_of (frame_name frame)
-      (frame_part frame (standing state before).clauses).bytes
+  pub bytes : part.bytes ≡ frame_of (frame_name frame) (frame_part frame clauses).bytes
   pub after : List Part
-  pub stands : parts ≡ replayed state before ++ part ∷ after
+  pub stands : parts ≡ before ++ part ∷ after
 
 -- each frame of a script shows the clauses that stand where it comes, whatever was edited, taken back
 -- or drawn before
 abbrev pub FramesShowWhatStands : Type 0
 FramesShowWhatStands =
     (state : State) (before after : List Command) (frame : Frame)
-    → ShowsStanding state before frame (replayed state (before ++ drawn_by frame ∷ after))
+    → HasFrame frame (standing state before).clauses (replayed state before)
+    (replayed state (before ++ drawn_by frame ∷ after))

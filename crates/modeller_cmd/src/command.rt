@@ -13,6 +13,7 @@ ghost use Rattle.modeller_cmd.specs.Parts.{bytes_of_parts, work_of_parts};
 ghost use Rattle.modeller_cmd.specs.Asking.{asked, asks_nothing, input_told, reads_nothing};
 ghost use Rattle.modeller_cmd.specs.Runs.{EndsSo};
 ghost use Rattle.modeller_cmd.specs.Execution.{Executed};
+ghost use Rattle.modeller_cmd.specs.ShownModels.{FramesShowModels, UndosBringFramesBack};
 ghost use Rattle.modeller_cmd.specs.SoundTexts.{ContoursAreClosed, MeshFramesAreSound, MeshesAreSound, SolidsKeepValues};
 ghost use Rattle.modeller_cmd.specs.Halting.{HaltsReplay, HaltsRun};
 ghost use Rattle.model_frames.specs.Work.{CountsWithin, CountsWork, PointsRiseAtMost};
@@ -24,7 +25,7 @@ use crate::contouring::contour;
 use crate::count::count;
 use crate::drawing::{draw, render};
 use crate::forge::forge;
-use crate::laws::checks_are_exact;
+use crate::laws::{checks_are_exact, undos_lead_back};
 use crate::note::note_of;
 use crate::replay::replay;
 use crate::shading::shade;
@@ -76,6 +77,10 @@ pub fn run<S: Source, K: Sink, N: Sink>(
     // that is asked for above that it is closed and a manifold.
     ensures verdicts { IfSome (S.rest source.old) (VerdictsAreWritten (bytes_of words.now)) }
     ensures passes { IfSome (S.rest source.old) (WrittenMeshesPass (bytes_of words.now)) }
+    // Where a script is asked for, each of its frames shows the model that then stands, and one after as
+    // many undos as edits were accepted shows the model before these, with the same bytes as there.
+    ensures frames { IfSome (S.rest source.old) (FramesShowModels (bytes_of words.now)) }
+    ensures undos { IfSome (S.rest source.old) (UndosBringFramesBack (bytes_of words.now)) }
 
     // When each status comes.
     ensures answer { WithOutput S.rest source.old (bytes_of words.now) (λ output.
@@ -175,10 +180,11 @@ pub(crate) fn run_and_report<S: Source, K: Sink, N: Sink>(
       status = result;
     }) }
 {
-    // That the frames of meshes are sound, and what checks say, hangs on no step of a run.
+    // That the frames of meshes are sound, what checks say, and where undos lead, hangs on no step of a run.
     mesh_texts_are_sound();
     draws_may_be_drawn();
     checks_are_exact();
+    undos_lead_back();
     match work(alloc, words, source, out, tally) {
         Ok(()) => Status::Done,
         Err(stop) => {

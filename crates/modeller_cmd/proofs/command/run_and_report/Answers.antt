@@ -27,6 +27,8 @@ returns-in-Ok g c =
       values = r.values;
       verdicts = some_all (g.S.Source.rest c.args.source.now) _ (λ input. c.checks_are_exact.ensures.verdicts words input);
       passes = some_all (g.S.Source.rest c.args.source.now) _ (λ input. c.checks_are_exact.ensures.passes words input);
+      frames = some_all (g.S.Source.rest c.args.source.now) _ (λ input. c.undos_lead_back.ensures.runs.frames words input);
+      undos = some_all (g.S.Source.rest c.args.source.now) _ (λ input. c.undos_lead_back.ensures.runs.undos words input);
       sound_frames = some_all (g.S.Source.rest c.args.source.now) _ (λ input. frames_are_sound words input c.mesh_texts_are_sound.ensures c.draws_may_be_drawn.ensures);
       answer = some_follows told _ _ (λ input. ok_done (outcome words input)) r.ends;
       usage = r.usage;
@@ -94,6 +96,8 @@ returns-in-Err g c =
       values = r.values;
       verdicts = some_all (g.S.Source.rest c.args.source.now) _ (λ input. c.checks_are_exact.ensures.verdicts words input);
       passes = some_all (g.S.Source.rest c.args.source.now) _ (λ input. c.checks_are_exact.ensures.passes words input);
+      frames = some_all (g.S.Source.rest c.args.source.now) _ (λ input. c.undos_lead_back.ensures.runs.frames words input);
+      undos = some_all (g.S.Source.rest c.args.source.now) _ (λ input. c.undos_lead_back.ensures.runs.undos words input);
       sound_frames = some_all (g.S.Source.rest c.args.source.now) _ (λ input. frames_are_sound words input c.mesh_texts_are_sound.ensures c.draws_may_be_drawn.ensures);
       answer = some_follows told _ _ (λ input. answer_of {T = Unit {0}} (outcome words input) (Err stop)) r.ends;
       usage = r.usage;
