@@ -92,6 +92,19 @@ fn fresh(alloc: Global, list: &Tape, view: &View, tally: &mut Tally) -> Result<C
     cell_list(alloc, &grid)
 }
 
+// The cells of the grid of a list along x, y and z, and how many of them are mixed.
+fn counts(
+    alloc: Global,
+    list: &Tape,
+    view: &View,
+    tally: &mut Tally,
+) -> Result<([u32; 3], usize), AllocError>
+    requires { FitsMesh view.now }
+{
+    let found = fresh(alloc, list, view, tally)?;
+    Ok(([found.nx, found.ny, found.nz], found.cells.len()))
+}
+
 // So many cells of the grid of a list are mixed, with this work at most.
 fn expect_cells(
     rt: &impl Abort,
@@ -106,11 +119,10 @@ fn expect_cells(
         return Err(Fail::new("a view without room"));
     }
     let mut tally = Tally::new();
-    let found = fresh(alloc, list, &view, &mut tally)?;
-    assert_eq!(rt; [found.nx, found.ny, found.nz], n);
-    assert_eq!(rt; found.cells.len(), count, "of {n:?}");
-    assert!(rt; tally.points() <= work.0, "points of {n:?}");
-    assert!(rt; tally.spans() <= work.1, "spans of {n:?}");
+    let found = counts(alloc, list, &view, &mut tally)?;
+    let is_within = tally.points() <= work.0 && tally.spans() <= work.1;
+    assert!(rt; found == (n, count), "of {n:?}");
+    assert!(rt; is_within, "work of {n:?}");
     Ok(())
 }
 
@@ -125,23 +137,25 @@ fn expect_wall_cells(rt: &impl Abort, alloc: Global, list: &Tape) -> Result<(), 
     Ok(())
 }
 
+// The places of the first cells of the wall.
+const PLACES: [[u16; 3]; 6] = [
+    [0, 0, 0],
+    [1, 0, 0],
+    [0, 1, 0],
+    [1, 1, 0],
+    [0, 0, 1],
+    [1, 0, 1],
+];
+
 fn expect_in_order(rt: &impl Abort, list: &CellList) {
-    assert_eq!(rt; list.cells.len(), 16);
-    let places: [(u16, u16, u16); 6] = [
-        (0, 0, 0),
-        (1, 0, 0),
-        (0, 1, 0),
-        (1, 1, 0),
-        (0, 0, 1),
-        (1, 0, 1),
-    ];
-    for (cell, place) in list.cells.iter().zip(places) {
-        assert_eq!(rt; (cell.x, cell.y, cell.z), place);
+    assert!(rt; list.cells.len() == 16);
+    for (cell, place) in list.cells.iter().zip(&PLACES) {
+        assert!(rt; [cell.x, cell.y, cell.z] == *place, "not {place:?}");
     }
     let zero = Fx::from_raw(0);
     let inner = Fx::from_raw(-HALF);
     let values = [zero, zero, zero, zero, inner, zero, zero, zero];
-    assert_eq!(rt; list.cells[3].values, values);
+    assert!(rt; list.cells[3].values == values);
 }
 
 // The grids of some lists, each after the one before and with this work at most, have the cells of fresh ones.
@@ -230,35 +244,44 @@ fn expect_root_grids(
     expect_grids(rt, alloc, &lists, n, works)
 }
 
-#[test]
-fn mixed_cells_take_no_more_than_the_bounds(rt: HostRuntime) -> Result<(), Fail> {
-    // The numbers of cells, of evaluations at most and of traced steps at most.
-    let cases: [(&[u8], [u32; 3], usize, u64, u64); 18] = [
-        (BALL, [2; 3], 8, 270, 90),
-        (BALL, [4; 3], 8, 270, 730),
-        (BALL, [8; 3], 56, 1240, 1370),
-        (BALL, [9; 3], 98, 2080, 2810),
-        (b"a const 1", [4; 3], 0, 0, 1),
-        (b"a const -1", [1; 3], 0, 8, 1),
-        (b"a const -1", [2; 3], 8, 27, 9),
-        (b"a const -1", [4; 3], 56, 124, 73),
-        (b"x var-x", [4; 3], 32, 75, 41),
-        (WALL, [5; 3], 42, 264, 181),
-        (SHELL, [8; 3], 96, 3952, 6773),
-        // A plane across each axis.
-        (b"x var-x", [9, 17, 5], 290, 592, 579),
-        (b"y var-y", [9, 17, 5], 258, 528, 579),
-        (b"z var-z", [9, 17, 5], 354, 720, 647),
-        // With one cell along an axis no point is inside.
-        (b"y var-y", [1, 8, 17], 0, 180, 117),
-        (b"a const -1", [8, 1, 17], 0, 324, 229),
-        (BALL, [17, 8, 1], 0, 1000, 850),
-        (BALL, [2, 9, 5], 30, 720, 890),
-    ];
-    for (text, n, count, points, spans) in cases {
-        expect_root_cells(&rt, rt.alloc(), text, n, count, (points, spans))?;
+// Models, the numbers of cells, how many are mixed, and evaluations and traced steps at most.
+const MIXED: [(&[u8], [u32; 3], usize, u64, u64); 18] = [
+    (BALL, [2; 3], 8, 270, 90),
+    (BALL, [4; 3], 8, 270, 730),
+    (BALL, [8; 3], 56, 1240, 1370),
+    (BALL, [9; 3], 98, 2080, 2810),
+    (b"a const 1", [4; 3], 0, 0, 1),
+    (b"a const -1", [1; 3], 0, 8, 1),
+    (b"a const -1", [2; 3], 8, 27, 9),
+    (b"a const -1", [4; 3], 56, 124, 73),
+    (b"x var-x", [4; 3], 32, 75, 41),
+    (WALL, [5; 3], 42, 264, 181),
+    (SHELL, [8; 3], 96, 3952, 6773),
+    // A plane across each axis.
+    (b"x var-x", [9, 17, 5], 290, 592, 579),
+    (b"y var-y", [9, 17, 5], 258, 528, 579),
+    (b"z var-z", [9, 17, 5], 354, 720, 647),
+    // With one cell along an axis no point is inside.
+    (b"y var-y", [1, 8, 17], 0, 180, 117),
+    (b"a const -1", [8, 1, 17], 0, 324, 229),
+    (BALL, [17, 8, 1], 0, 1000, 850),
+    (BALL, [2, 9, 5], 30, 720, 890),
+];
+
+fn expect_mixed(
+    rt: &impl Abort,
+    alloc: Global,
+    rows: &[(&[u8], [u32; 3], usize, u64, u64)],
+) -> Result<(), Fail> {
+    for (text, n, count, points, spans) in rows {
+        expect_root_cells(rt, alloc, text, *n, *count, (*points, *spans))?;
     }
     Ok(())
+}
+
+#[test]
+fn mixed_cells_take_no_more_than_the_bounds(rt: HostRuntime) -> Result<(), Fail> {
+    expect_mixed(&rt, rt.alloc(), &MIXED)
 }
 
 #[test]
@@ -267,39 +290,51 @@ fn mixed_cells_are_in_order_with_their_values(rt: HostRuntime) -> Result<(), Fai
     expect_wall_cells(&rt, rt.alloc(), &list)
 }
 
-#[test]
-fn grids_after_others_take_no_more_than_the_bounds(rt: HostRuntime) -> Result<(), Fail> {
-    // Two models, the numbers of cells, and evaluations and traced steps of the second at most.
-    let cases: [(&[u8], &[u8], [u32; 3], u64, u64); 19] = [
-        (BALL, BALL, [2; 3], 0, 0),
-        (BALL, WIDER, [2; 3], 270, 90),
-        (BARS, MOVED, [4; 3], 750, 410),
-        (MOVED, BARS, [4; 3], 750, 410),
-        (BARS, BARS, [3; 3], 0, 0),
-        (BARS, ALL, [8; 3], 4296, 3674),
-        (ALL, BARS, [8; 3], 3564, 4186),
-        (BARS, NOTHING, [8; 3], 0, 10),
-        (NOTHING, BARS, [8; 3], 3564, 4186),
-        (ZERO, SAME_ZERO, [3; 3], 0, 4),
-        (BARS, MOVED, [1; 3], 80, 10),
-        (BALL, NOTHING, [1; 3], 0, 10),
-        (NOTHING, ALL, [1; 3], 80, 10),
-        (BARS, MOVED, [1, 8, 17], 3240, 2290),
-        (BARS, MOVED, [8, 1, 17], 864, 710),
-        (BARS, MOVED, [8, 17, 1], 864, 710),
-        (NOTHING, BARS, [17, 8, 1], 1296, 1202),
-        (BARS, ALL, [9, 2, 3], 864, 690),
-        (b"x var-x", b"y var-y", [2, 3, 4], 45, 25),
-    ];
-    for (text, then, n, points, spans) in cases {
-        expect_root_grids(&rt, rt.alloc(), &[text, then], n, &[(points, spans)])?;
+// Two models, the numbers of cells, and evaluations and traced steps of the second at most.
+const AFTER: [(&[u8], &[u8], [u32; 3], u64, u64); 19] = [
+    (BALL, BALL, [2; 3], 0, 0),
+    (BALL, WIDER, [2; 3], 270, 90),
+    (BARS, MOVED, [4; 3], 750, 410),
+    (MOVED, BARS, [4; 3], 750, 410),
+    (BARS, BARS, [3; 3], 0, 0),
+    (BARS, ALL, [8; 3], 4296, 3674),
+    (ALL, BARS, [8; 3], 3564, 4186),
+    (BARS, NOTHING, [8; 3], 0, 10),
+    (NOTHING, BARS, [8; 3], 3564, 4186),
+    (ZERO, SAME_ZERO, [3; 3], 0, 4),
+    (BARS, MOVED, [1; 3], 80, 10),
+    (BALL, NOTHING, [1; 3], 0, 10),
+    (NOTHING, ALL, [1; 3], 80, 10),
+    (BARS, MOVED, [1, 8, 17], 3240, 2290),
+    (BARS, MOVED, [8, 1, 17], 864, 710),
+    (BARS, MOVED, [8, 17, 1], 864, 710),
+    (NOTHING, BARS, [17, 8, 1], 1296, 1202),
+    (BARS, ALL, [9, 2, 3], 864, 690),
+    (b"x var-x", b"y var-y", [2, 3, 4], 45, 25),
+];
+
+fn expect_after(
+    rt: &impl Abort,
+    alloc: Global,
+    rows: &[(&[u8], &[u8], [u32; 3], u64, u64)],
+) -> Result<(), Fail> {
+    for (text, then, n, points, spans) in rows {
+        expect_root_grids(rt, alloc, &[text, then], *n, &[(*points, *spans)])?;
     }
     Ok(())
 }
 
 #[test]
+fn grids_after_others_take_no_more_than_the_bounds(rt: HostRuntime) -> Result<(), Fail> {
+    expect_after(&rt, rt.alloc(), &AFTER)
+}
+
+// Models, and the work of each at most behind the first.
+const SERIES: [&[u8]; 6] = [BARS, MOVED, BARS, BARS, NOTHING, BARS];
+
+const SERIES_WORKS: [Work; 5] = [(750, 410), (750, 410), (0, 0), (0, 10), (1050, 602)];
+
+#[test]
 fn grids_go_on_after_others(rt: HostRuntime) -> Result<(), Fail> {
-    let texts = [BARS, MOVED, BARS, BARS, NOTHING, BARS];
-    let works = [(750, 410), (750, 410), (0, 0), (0, 10), (1050, 602)];
-    expect_root_grids(&rt, rt.alloc(), &texts, [4; 3], &works)
+    expect_root_grids(&rt, rt.alloc(), &SERIES, [4; 3], &SERIES_WORKS)
 }

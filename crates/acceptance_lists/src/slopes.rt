@@ -3,7 +3,7 @@ use crate::lists::root;
 use fixed_ops::{Fx, Tally};
 use live_clauses::Tape;
 use normal_shade::{Dual, gradient};
-use std::alloc::Global;
+use std::alloc::{AllocError, Global};
 use std::process::Abort;
 use std::test::Fail;
 
@@ -15,7 +15,8 @@ fn quarter(n: i8) -> Fx {
 }
 
 // A value with its slopes, in quarters.
-fn quarters(value: i8, dx: i8, dy: i8, dz: i8) -> Dual {
+fn quarters(counts: [i8; 4]) -> Dual {
+    let [value, dx, dy, dz] = counts;
     Dual {
         value: quarter(value),
         dx: quarter(dx),
@@ -32,7 +33,7 @@ fn expect(
     text: &[u8],
     z: i8,
     slopes: Dual,
-    steps: u64,
+    steps: u8,
 ) -> Result<(), Fail> {
     let list = root(alloc, text)?;
     expect_slopes(rt, alloc, &list, z, slopes, steps)
@@ -45,90 +46,103 @@ fn expect_slopes(
     list: &Tape,
     z: i8,
     slopes: Dual,
-    steps: u64,
+    steps: u8,
 ) -> Result<(), Fail> {
-    let mut regs = vec![in alloc; quarters(0, 0, 0, 0); list.len() as usize]?;
     let mut tally = Tally::new();
-    let (x, y) = (quarter(-4), quarter(2));
-    let found = gradient(list, x, y, quarter(z), &mut regs, &mut tally);
-    assert_eq!(rt; found, slopes);
-    assert_eq!(rt; tally.points() / 10, steps);
-    assert_eq!(rt; tally.points() % 10, 0);
-    assert_eq!(rt; (tally.spans(), tally.corners()), (0, 0));
+    let found = slopes_of(alloc, list, z, &mut tally)?;
+    let work = (tally.points(), tally.spans(), tally.corners());
+    assert!(rt; found == slopes, "not {slopes:?}");
+    assert!(rt; work == (10 * u64::from(steps), 0, 0), "not {steps} steps");
     Ok(())
 }
 
-#[test]
-fn slopes_follow_the_rules(rt: HostRuntime) -> Result<(), Fail> {
-    let cases: [(&[u8], i8, Dual, u64); 13] = [
-        (b"y var-y\nf neg y", 0, quarters(-2, 0, -4, 0), 2),
-        (b"y var-y\nf floor y", 0, quarters(0, 0, 0, 0), 2),
-        // Of equal values the first one's slopes.
-        (b"x var-x\nz var-z\nf min x z", -4, quarters(-4, 4, 0, 0), 3),
-        (b"x var-x\nz var-z\nf min z x", -4, quarters(-4, 0, 0, 4), 3),
-        (b"x var-x\nz var-z\nf max x z", -4, quarters(-4, 4, 0, 0), 3),
-        (b"x var-x\nz var-z\nf max z x", -4, quarters(-4, 0, 0, 4), 3),
-        // A distance rises at 0, and a root of 0 has no slope.
-        (
-            b"x var-x\nz var-z\na abs z\nb add a z\nf add b x",
-            0,
-            quarters(-4, 4, 0, 8),
-            5,
-        ),
-        (
-            b"x var-x\nz var-z\ns sqrt z\nf add s x",
-            0,
-            quarters(-4, 4, 0, 0),
-            4,
-        ),
-        // The root of a quarter is a half, and rises as z does.
-        (
-            b"x var-x\nz var-z\ns sqrt z\nf add s x",
-            1,
-            quarters(-2, 4, 0, 4),
-            4,
-        ),
-        // -1 divided by a half.
-        (b"x var-x\nz var-z\nf div x z", 2, quarters(-8, 8, 0, 16), 3),
-        (
-            b"x var-x\nz var-z\nq square x\nc const 2\ne sub q c\nf add e z",
-            2,
-            quarters(-2, -8, 0, 4),
-            6,
-        ),
-        (
-            b"x var-x\ny var-y\nz var-z\na square x\nb mul y a\nf add z b",
-            1,
-            quarters(3, -4, 4, 4),
-            6,
-        ),
-        // A clause that the last one does not need counts nothing.
-        (b"z var-z\nu neg z\ny var-y", 0, quarters(2, 0, 4, 0), 1),
-    ];
-    for (text, z, slopes, steps) in cases {
-        expect(&rt, rt.alloc(), text, z, slopes, steps)?;
+fn slopes_of(alloc: Global, list: &Tape, z: i8, tally: &mut Tally) -> Result<Dual, AllocError> {
+    let mut regs = vec![in alloc; quarters([0; 4]); list.len() as usize]?;
+    Ok(gradient(list, quarter(-4), quarter(2), quarter(z), &mut regs, tally))
+}
+
+// Models, so many quarters for z, the value with its slopes, in quarters, and the steps.
+const RULES: [(&[u8], i8, [i8; 4], u8); 13] = [
+    (b"y var-y\nf neg y", 0, [-2, 0, -4, 0], 2),
+    (b"y var-y\nf floor y", 0, [0, 0, 0, 0], 2),
+    // Of equal values the first one's slopes.
+    (b"x var-x\nz var-z\nf min x z", -4, [-4, 4, 0, 0], 3),
+    (b"x var-x\nz var-z\nf min z x", -4, [-4, 0, 0, 4], 3),
+    (b"x var-x\nz var-z\nf max x z", -4, [-4, 4, 0, 0], 3),
+    (b"x var-x\nz var-z\nf max z x", -4, [-4, 0, 0, 4], 3),
+    // A distance rises at 0, and a root of 0 has no slope.
+    (
+        b"x var-x\nz var-z\na abs z\nb add a z\nf add b x",
+        0,
+        [-4, 4, 0, 8],
+        5,
+    ),
+    (
+        b"x var-x\nz var-z\ns sqrt z\nf add s x",
+        0,
+        [-4, 4, 0, 0],
+        4,
+    ),
+    // The root of a quarter is a half, and rises as z does.
+    (
+        b"x var-x\nz var-z\ns sqrt z\nf add s x",
+        1,
+        [-2, 4, 0, 4],
+        4,
+    ),
+    // -1 divided by a half.
+    (b"x var-x\nz var-z\nf div x z", 2, [-8, 8, 0, 16], 3),
+    (
+        b"x var-x\nz var-z\nq square x\nc const 2\ne sub q c\nf add e z",
+        2,
+        [-2, -8, 0, 4],
+        6,
+    ),
+    (
+        b"x var-x\ny var-y\nz var-z\na square x\nb mul y a\nf add z b",
+        1,
+        [3, -4, 4, 4],
+        6,
+    ),
+    // A clause that the last one does not need counts nothing.
+    (b"z var-z\nu neg z\ny var-y", 0, [2, 0, 4, 0], 1),
+];
+
+fn expect_rules(
+    rt: &impl Abort,
+    alloc: Global,
+    rows: &[(&[u8], i8, [i8; 4], u8)],
+) -> Result<(), Fail> {
+    for (text, z, slopes, steps) in rows {
+        expect(rt, alloc, text, *z, quarters(*slopes), *steps)?;
     }
     Ok(())
 }
 
 #[test]
+fn slopes_follow_the_rules(rt: HostRuntime) -> Result<(), Fail> {
+    expect_rules(&rt, rt.alloc(), &RULES)
+}
+
+// 10^18 times x and as much times z.
+const STEEP: &[u8] =
+    b"x var-x\nz var-z\nk const 1e9\na mul x k\nb mul a k\nc mul z k\nd mul c k\nf add b d";
+
+#[test]
 fn slopes_stop_at_the_greatest_number(rt: HostRuntime) -> Result<(), Fail> {
     let none = Fx::from_raw(0);
     let greatest = Fx::from_raw(Fx::MAX_RAW);
-    let least = Fx::from_raw(-Fx::MAX_RAW);
-    // 10^18 times x and as much times z.
-    let text =
-        b"x var-x\nz var-z\nk const 1e9\na mul x k\nb mul a k\nc mul z k\nd mul c k\nf add b d";
+    let value = Fx::from_raw(-Fx::MAX_RAW);
     let steep = Dual {
-        value: least,
+        value,
         dx: greatest,
         dy: none,
         dz: greatest,
     };
-    expect(&rt, rt.alloc(), text, -4, steep, 8)?;
+    expect(&rt, rt.alloc(), STEEP, -4, steep, 8)?;
     // Divided by 0, nothing has a slope.
     let flat = Dual {
-        value: least,
+        value,
         dx: none,
         dy: none,
         dz: none,

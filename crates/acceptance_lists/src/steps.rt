@@ -36,12 +36,22 @@ pub(crate) fn constant(count: i8) -> Step {
     }
 }
 
+// Whether a list has exactly these steps.
+fn has_steps(list: &Tape, steps: &[Step]) -> bool {
+    if list.len() as usize != steps.len() {
+        return false;
+    }
+    for (at, step) in steps.iter().enumerate() {
+        if list.step(at as u32) != *step {
+            return false;
+        }
+    }
+    true
+}
+
 /// A list has exactly these steps.
 pub(crate) fn expect_steps(rt: &impl Abort, list: &Tape, steps: &[Step]) {
-    assert_eq!(rt; list.len() as usize, steps.len());
-    for (at, step) in steps.iter().enumerate() {
-        assert_eq!(rt; list.step(at as u32), *step);
-    }
+    assert!(rt; has_steps(list, steps));
 }
 
 /// A list has these steps, one a line.
@@ -51,8 +61,7 @@ pub(crate) fn expect_lines(
     list: &Tape,
     lines: &[u8],
 ) -> Result<(), Fail> {
-    let found = lines_of(alloc, list)?;
-    assert_eq!(rt; found.as_slice(), lines);
+    assert!(rt; lines_of(alloc, list)?.as_slice() == lines);
     Ok(())
 }
 
@@ -132,36 +141,41 @@ fn is_root(alloc: Global, list: &Tape, text: &[u8]) -> Result<bool, Fail> {
     Ok(same(list, &other))
 }
 
-#[test]
-fn root_lists_hold_what_is_live(rt: HostRuntime) -> Result<(), Fail> {
-    let cases: [(&[u8], &[u8]); 4] = [
-        (b"u const 5\nx var-x", b"var-x\n"),
-        (
-            DISC,
-            b"var-x\nvar-y\nmul 0 0\nmul 1 1\nadd 2 3\nconst 0.5000000000\nsub 4 5\n",
-        ),
-        (
-            SLOPES,
-            b"var-x\nconst 0.5000000000\nconst -0.5000000000\nsub 0 1\nsub 2 0\nmin 3 4\nadd 5 0\n",
-        ),
-        // The places after a clause that is not live move down.
-        (
-            b"x var-x\nu neg x\ny var-y\nv abs u\nf max y x",
-            b"var-x\nvar-y\nmax 1 0\n",
-        ),
-    ];
-    for (text, lines) in cases {
-        expect_root(&rt, rt.alloc(), text, lines)?;
+// Models, and the steps of their root lists, one a line.
+const LIVE: [(&[u8], &[u8]); 4] = [
+    (b"u const 5\nx var-x", b"var-x\n"),
+    (
+        DISC,
+        b"var-x\nvar-y\nmul 0 0\nmul 1 1\nadd 2 3\nconst 0.5000000000\nsub 4 5\n",
+    ),
+    (
+        SLOPES,
+        b"var-x\nconst 0.5000000000\nconst -0.5000000000\nsub 0 1\nsub 2 0\nmin 3 4\nadd 5 0\n",
+    ),
+    // The places after a clause that is not live move down.
+    (
+        b"x var-x\nu neg x\ny var-y\nv abs u\nf max y x",
+        b"var-x\nvar-y\nmax 1 0\n",
+    ),
+];
+
+fn expect_live(rt: &impl Abort, alloc: Global, rows: &[(&[u8], &[u8])]) -> Result<(), Fail> {
+    for (text, lines) in rows {
+        expect_root(rt, alloc, text, lines)?;
     }
     Ok(())
+}
+
+#[test]
+fn root_lists_hold_what_is_live(rt: HostRuntime) -> Result<(), Fail> {
+    expect_live(&rt, rt.alloc(), &LIVE)
 }
 
 #[test]
 fn root_lists_leave_out_what_the_last_clause_does_not_need(rt: HostRuntime) -> Result<(), Fail> {
     let steps = [constant(4), step(Op::X, 0, 0), step(Op::Div, 0, 1)];
     expect_root_steps(&rt, rt.alloc(), b"c const 1\nx var-x\nd div c x", &steps)?;
-    let steps = [step(Op::X, 0, 0)];
-    expect_root_steps(&rt, rt.alloc(), b"u const 5\nx var-x", &steps)
+    expect_root_steps(&rt, rt.alloc(), b"u const 5\nx var-x", &steps[1..2])
 }
 
 // A list is the same as the root lists of these texts, or is not.
@@ -177,15 +191,17 @@ fn expect_same(
     expect_shared(rt, list)
 }
 
+// Models, and whether their root lists are that of x - 0.5.
+const OTHERS: [(&[u8], bool); 5] = [
+    (b"# p\ny const 1\nz var-x\nq const 0.50\nd sub z q", true),
+    (b"x var-x\np const 0.25\na sub x p", false),
+    (b"x var-x\np const 0.5\na sub p x", false),
+    (b"x var-y\np const 0.5\na sub x p", false),
+    (b"x var-x\np const 0.5", false),
+];
+
 #[test]
 fn lists_are_the_same_where_each_step_is(rt: HostRuntime) -> Result<(), Fail> {
-    let cases: [(&[u8], bool); 5] = [
-        (b"# p\ny const 1\nz var-x\nq const 0.50\nd sub z q", true),
-        (b"x var-x\np const 0.25\na sub x p", false),
-        (b"x var-x\np const 0.5\na sub p x", false),
-        (b"x var-y\np const 0.5\na sub x p", false),
-        (b"x var-x\np const 0.5", false),
-    ];
     let list = root(rt.alloc(), b"x var-x\np const 0.5\na sub x p")?;
-    expect_same(&rt, rt.alloc(), &list, &cases)
+    expect_same(&rt, rt.alloc(), &list, &OTHERS)
 }

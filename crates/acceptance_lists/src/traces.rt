@@ -8,7 +8,7 @@ use choice_trace::{Domain, Inputs, evaluate, evaluate_lanes, trace};
 use fixed_ops::{Fx, Tally};
 use interval_ops::{Choice, Region, Span};
 use live_clauses::{Tape, prune};
-use std::alloc::Global;
+use std::alloc::{AllocError, Global};
 use std::process::Abort;
 use std::test::Fail;
 
@@ -72,12 +72,11 @@ fn expect_trace_in(
 {
     let mut tally = Tally::new();
     let hull = trace(list, along_x(wanted.x), regs, choices, &mut tally);
-    let shortened = prune(alloc, list, choices)?;
-    assert_eq!(rt; hull, wanted.hull);
-    assert_eq!(rt; choices.get(5).copied(), Some(wanted.choice));
-    assert_eq!(rt; tally.spans(), 7);
     // Two corners each for sub, sub, min and add.
-    assert_eq!(rt; tally.corners(), 8);
+    let is_counted = (tally.spans(), tally.corners()) == (7, 8);
+    let is_chosen = choices.get(5).copied() == Some(wanted.choice);
+    assert!(rt; hull == wanted.hull && is_counted && is_chosen);
+    let shortened = prune(alloc, list, choices)?;
     expect_lines(rt, alloc, &shortened, wanted.lines)
 }
 
@@ -96,28 +95,41 @@ fn value_of<D: Domain>(
     Some((value, tally.points(), tally.spans(), few))
 }
 
-// The list of slopes has one value over each domain.
-fn expect_values(rt: &impl Abort, alloc: Global, list: &Tape) -> Result<(), Fail> {
-    let len = list.len() as usize;
+// What a list gives at a number of x, with the work that it took.
+fn value_at(alloc: Global, list: &Tape, x: i8) -> Result<Option<(Fx, u64, u64, bool)>, AllocError> {
     let zero = quarter(0);
-    let mut numbers = vec![in alloc; zero; len]?;
-    // x is -0.5, and so x - 0.5 is -1, the other is 0, and the lesser and x are -1.5.
+    let mut regs = vec![in alloc; zero; list.len() as usize]?;
     let inputs = Inputs {
-        x: quarter(-2),
+        x: quarter(x),
         y: zero,
         z: zero,
     };
-    let value = value_of(list, inputs, &mut numbers);
-    assert_eq!(rt; value, Some((quarter(-6), 7, 0, true)));
-    let mut ranges = vec![in alloc; quarters(0, 0); len]?;
-    let box_of_x = along_x(quarters(-4, -1));
+    Ok(value_of(list, inputs, &mut regs))
+}
+
+// The same over a range of x.
+fn value_over(
+    alloc: Global,
+    list: &Tape,
+    x: Span,
+) -> Result<Option<(Span, u64, u64, bool)>, AllocError> {
+    let zero = quarters(0, 0);
+    let mut regs = vec![in alloc; zero; list.len() as usize]?;
     let inputs = Inputs {
-        x: box_of_x.x,
-        y: box_of_x.y,
-        z: box_of_x.z,
+        x,
+        y: zero,
+        z: zero,
     };
-    let range = value_of(list, inputs, &mut ranges);
-    assert_eq!(rt; range, Some((quarters(-10, -4), 0, 7, true)));
+    Ok(value_of(list, inputs, &mut regs))
+}
+
+// The list of slopes has one value over each domain.
+fn expect_values(rt: &impl Abort, alloc: Global, list: &Tape) -> Result<(), Fail> {
+    // x is -0.5, and so x - 0.5 is -1, the other is 0, and the lesser and x are -1.5.
+    let value = value_at(alloc, list, -2)?;
+    let range = value_over(alloc, list, quarters(-4, -1))?;
+    assert!(rt; value == Some((quarter(-6), 7, 0, true)));
+    assert!(rt; range == Some((quarters(-10, -4), 0, 7, true)));
     Ok(())
 }
 
@@ -150,72 +162,80 @@ fn at_quarters<const L: usize>(
 
 // The list of slopes has its values at several points at once.
 fn expect_lanes(rt: &impl Abort, alloc: Global, list: &Tape) -> Result<(), Fail> {
-    let zeros = [quarter(0); 8];
-    let mut regs = vec![in alloc; zeros; list.len() as usize]?;
-    let x = [-4, -3, -2, -1, 0, 1, 2, 3];
-    let outcomes = [
-        (8, at_quarters::<8>(list, x, &mut regs)),
-        (4, at_quarters::<4>(list, x, &mut regs)),
-        (2, at_quarters::<2>(list, x, &mut regs)),
-        (1, at_quarters::<1>(list, x, &mut regs)),
-    ];
-    for (lanes, outcome) in outcomes {
-        let (row, points) = outcome.ok_or("no room")?;
-        expect_lane_values(rt, lanes, &row, points);
-    }
+    let mut regs = vec![in alloc; [quarter(0); 8]; list.len() as usize]?;
+    expect_lanes_in(rt, list, &mut regs);
     Ok(())
 }
 
-// So many of these values, of seven steps each.
-fn expect_lane_values(rt: &impl Abort, lanes: usize, row: &[Fx; 8], points: u64) {
-    assert!(rt; lanes <= 8);
-    assert_eq!(rt; points, 7 * lanes as u64);
-    // Where x is below 0 the lesser and x are 2 x - 0.5, and elsewhere -0.5.
-    let expected = [-10, -8, -6, -4, -2, -2, -2, -2];
-    for (value, quarters) in row.iter().zip(&expected).take(lanes) {
-        assert_eq!(rt; *value, quarter(*quarters));
-    }
+fn expect_lanes_in(rt: &impl Abort, list: &Tape, regs: &mut [[Fx; 8]]) {
+    let x = [-4, -3, -2, -1, 0, 1, 2, 3];
+    assert!(rt; are_values(at_quarters::<8>(list, x, regs), 8));
+    assert!(rt; are_values(at_quarters::<4>(list, x, regs), 4));
+    assert!(rt; are_values(at_quarters::<2>(list, x, regs), 2));
+    assert!(rt; are_values(at_quarters::<1>(list, x, regs), 1));
 }
 
-fn expect_slopes(rt: &impl Abort, alloc: Global, wanted: &Trace<'_>) -> Result<(), Fail> {
-    let list = root(alloc, SLOPES)?;
-    expect_trace(rt, alloc, &list, wanted)
+// Whether so many of these values are those of the list, of seven steps each.
+fn are_values(outcome: Option<([Fx; 8], u64)>, lanes: usize) -> bool {
+    let Some((row, points)) = outcome else {
+        return false;
+    };
+    // Where x is below 0 the lesser and x are 2 x - 0.5, and elsewhere -0.5.
+    let expected = [-10, -8, -6, -4, -2, -2, -2, -2].map(quarter);
+    points / 7 == lanes as u64
+        && points % 7 == 0
+        && row
+            .iter()
+            .zip(&expected)
+            .take(lanes)
+            .all(|(value, wanted)| value == wanted)
+}
+
+// The numbers of quarters at the ends of x, the choice of the sixth step, those at the ends of the hull, and the
+// steps that the choices leave, one a line.
+type Row = ((i8, i8), Choice, (i8, i8), &'static [u8]);
+
+// x from -1 to -0.25, where x - 0.5 is at most -0.75 and -0.5 - x at least -0.25; x from 0.25 to
+// 1, where -0.5 - x is at most -0.75 and x - 0.5 at least -0.25; and x from -0.25 to 0.25.
+const TRACES: [Row; 3] = [
+    (
+        (-4, -1),
+        Choice::Left,
+        (-10, -4),
+        b"var-x\nconst 0.5000000000\nsub 0 1\nadd 2 0\n",
+    ),
+    (
+        (1, 4),
+        Choice::Right,
+        (-5, 1),
+        b"var-x\nconst -0.5000000000\nsub 1 0\nadd 2 0\n",
+    ),
+    (
+        (-1, 1),
+        Choice::Both,
+        (-4, 0),
+        b"var-x\nconst 0.5000000000\nconst -0.5000000000\nsub 0 1\nsub 2 0\nmin 3 4\nadd 5 0\n",
+    ),
+];
+
+fn expect_rows(rt: &impl Abort, alloc: Global, list: &Tape, rows: &[Row]) -> Result<(), Fail> {
+    for (x, choice, hull, lines) in rows {
+        assert!(rt; x.0 <= x.1 && hull.0 <= hull.1);
+        let wanted = Trace {
+            x: quarters(x.0, x.1),
+            choice: *choice,
+            hull: quarters(hull.0, hull.1),
+            lines,
+        };
+        expect_trace(rt, alloc, list, &wanted)?;
+    }
+    Ok(())
 }
 
 #[test]
 fn a_list_is_shortened_to_what_it_chooses(rt: HostRuntime) -> Result<(), Fail> {
-    // x from -1 to -0.25, where x - 0.5 is at most -0.75 and -0.5 - x at least -0.25; x from 0.25 to
-    // 1, where -0.5 - x is at most -0.75 and x - 0.5 at least -0.25; and x from -0.25 to 0.25.
-    let cases: [(Span, Choice, Span, &[u8]); 3] = [
-        (
-            quarters(-4, -1),
-            Choice::Left,
-            quarters(-10, -4),
-            b"var-x\nconst 0.5000000000\nsub 0 1\nadd 2 0\n",
-        ),
-        (
-            quarters(1, 4),
-            Choice::Right,
-            quarters(-5, 1),
-            b"var-x\nconst -0.5000000000\nsub 1 0\nadd 2 0\n",
-        ),
-        (
-            quarters(-1, 1),
-            Choice::Both,
-            quarters(-4, 0),
-            b"var-x\nconst 0.5000000000\nconst -0.5000000000\nsub 0 1\nsub 2 0\nmin 3 4\nadd 5 0\n",
-        ),
-    ];
-    for (x, choice, hull, lines) in cases {
-        let wanted = Trace {
-            x,
-            choice,
-            hull,
-            lines,
-        };
-        expect_slopes(&rt, rt.alloc(), &wanted)?;
-    }
-    Ok(())
+    let list = root(rt.alloc(), SLOPES)?;
+    expect_rows(&rt, rt.alloc(), &list, &TRACES)
 }
 
 #[test]

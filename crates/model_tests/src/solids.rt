@@ -1,3 +1,5 @@
+ghost use Rattle.std.specs.Prelude.{◌^◌, ◌<◌, length};
+
 use solid_lang::{Solid, SolidFault, SolidReason, judge, read_short_solid, read_solid};
 use std::alloc::{AllocError, Global};
 use std::process::Abort;
@@ -8,88 +10,113 @@ const TOO_MANY: SolidFault = SolidFault {
     reason: SolidReason::TooMany,
 };
 
+// Why reading a text is refused, with a tree of few clauses.
+fn short_fault(alloc: Global, text: &[u8]) -> Option<SolidFault>
+    requires { length text.now < 2 ^ 32 }
+{
+    read_short_solid(alloc, text).err()
+}
+
+// The same with a tree of any number of clauses.
+fn fault(alloc: Global, text: &[u8]) -> Option<SolidFault>
+    requires { length text.now < 2 ^ 32 }
+{
+    read_solid(alloc, text).err()
+}
+
 // What is judged of a text, which is read unless it is refused for more than its length.
 fn expect(rt: &impl Abort, alloc: Global, text: &[u8], judgement: Result<u32, SolidFault>) {
     assert!(rt; text.len() < 1 << 32);
-    assert_eq!(rt; judge(text), judgement, "{text:?}");
     let refused = judgement.err();
-    assert_eq!(rt; read_short_solid(alloc, text).err(), refused, "{text:?}");
-    let long = if refused == Some(TOO_MANY) {
-        None
-    } else {
-        refused
-    };
-    assert_eq!(rt; read_solid(alloc, text).err(), long, "{text:?}");
+    let long = refused.filter(|refused| *refused != TOO_MANY);
+    let is_judged = judge(text) == judgement;
+    let is_refused = short_fault(alloc, text) == refused && fault(alloc, text) == long;
+    assert!(rt; is_judged && is_refused, "{text:?}");
+}
+
+const FAULTS: [(&[u8], u32, SolidReason); 26] = [
+    (b"cone 1", 1, SolidReason::UnknownForm),
+    (b"Ball 1", 1, SolidReason::UnknownForm),
+    (b"# a\n\nball\0 1", 3, SolidReason::UnknownForm),
+    (b"\xff\xfe", 1, SolidReason::UnknownForm),
+    (b"ball x", 1, SolidReason::BadNumeral),
+    (b"ball #5", 1, SolidReason::BadNumeral),
+    (b"move 1 2 cone ball 1", 1, SolidReason::BadNumeral),
+    (b"scale ball 1", 1, SolidReason::BadNumeral),
+    (b"ball\n-\nball 0", 2, SolidReason::BadNumeral),
+    (b"ball -1", 1, SolidReason::NotPositive),
+    (b"box 1 1 0", 1, SolidReason::NotPositive),
+    (b"ball 0.0000000001", 1, SolidReason::NotPositive),
+    (b"scale 0 ball 1", 1, SolidReason::NotPositive),
+    (b"cylinder 1\n-1e-9 x", 2, SolidReason::NotPositive),
+    (b"union", 1, SolidReason::Unended),
+    (b"union ball 1", 1, SolidReason::Unended),
+    (b"move 0 0 0", 1, SolidReason::Unended),
+    (b"union\nball 1\nball", 3, SolidReason::Unended),
+    (b"union\nball 1\nball\n# x\n\n", 3, SolidReason::Unended),
+    (b"ball 1 # note", 1, SolidReason::Trailing),
+    (b"ball 1 ball 2", 1, SolidReason::Trailing),
+    (b"ball 1\n\n\ncone", 4, SolidReason::Trailing),
+    (b"intersect ball 1 ball 1\nball x", 2, SolidReason::Trailing),
+    (b"", 0, SolidReason::Empty),
+    (b"# a\n \t\r\n", 0, SolidReason::Empty),
+    (b"\n\n", 0, SolidReason::Empty),
+];
+
+fn expect_faults(rt: &impl Abort, alloc: Global, rows: &[(&[u8], u32, SolidReason)]) {
+    for (text, line, reason) in rows {
+        let (line, reason) = (*line, *reason);
+        expect(rt, alloc, text, Err(SolidFault { line, reason }));
+    }
 }
 
 #[test]
 fn tells_the_first_bad_token(rt: HostRuntime) {
-    let cases: [(&[u8], u32, SolidReason); 26] = [
-        (b"cone 1", 1, SolidReason::UnknownForm),
-        (b"Ball 1", 1, SolidReason::UnknownForm),
-        (b"# a\n\nball\0 1", 3, SolidReason::UnknownForm),
-        (b"\xff\xfe", 1, SolidReason::UnknownForm),
-        (b"ball x", 1, SolidReason::BadNumeral),
-        (b"ball #5", 1, SolidReason::BadNumeral),
-        (b"move 1 2 cone ball 1", 1, SolidReason::BadNumeral),
-        (b"scale ball 1", 1, SolidReason::BadNumeral),
-        (b"ball\n-\nball 0", 2, SolidReason::BadNumeral),
-        (b"ball -1", 1, SolidReason::NotPositive),
-        (b"box 1 1 0", 1, SolidReason::NotPositive),
-        (b"ball 0.0000000001", 1, SolidReason::NotPositive),
-        (b"scale 0 ball 1", 1, SolidReason::NotPositive),
-        (b"cylinder 1\n-1e-9 x", 2, SolidReason::NotPositive),
-        (b"union", 1, SolidReason::Unended),
-        (b"union ball 1", 1, SolidReason::Unended),
-        (b"move 0 0 0", 1, SolidReason::Unended),
-        (b"union\nball 1\nball", 3, SolidReason::Unended),
-        (b"union\nball 1\nball\n# x\n\n", 3, SolidReason::Unended),
-        (b"ball 1 # note", 1, SolidReason::Trailing),
-        (b"ball 1 ball 2", 1, SolidReason::Trailing),
-        (b"ball 1\n\n\ncone", 4, SolidReason::Trailing),
-        (b"intersect ball 1 ball 1\nball x", 2, SolidReason::Trailing),
-        (b"", 0, SolidReason::Empty),
-        (b"# a\n \t\r\n", 0, SolidReason::Empty),
-        (b"\n\n", 0, SolidReason::Empty),
-    ];
-    for (text, line, reason) in cases {
-        expect(&rt, rt.alloc(), text, Err(SolidFault { line, reason }));
+    expect_faults(&rt, rt.alloc(), &FAULTS);
+}
+
+const COUNTS: [(&[u8], u32); 15] = [
+    (b"ball\n# note\n1", 11),
+    (b"ball 1.", 11),
+    (b"ball .5", 11),
+    (b"ball +.5e0", 11),
+    (b"ball 1e400", 11),
+    (b"ball 0.0000000002", 11),
+    (b" \r\nball\r\n1\r\n", 11),
+    (b"box 1 2 3", 14),
+    (b"cylinder 1 2", 13),
+    (b"move 0 -1 1e-1 ball 1", 17),
+    (b"scale 2 ball 0.5", 15),
+    (b"union ball 1 ball 1", 20),
+    (b"intersect ball 1 ball 1", 20),
+    (b"difference ball 1 ball 1", 21),
+    (b"difference box 1 1 1 move 0.5 0 0 ball 0.25", 30),
+];
+
+fn expect_counts(rt: &impl Abort, alloc: Global, rows: &[(&[u8], u32)]) {
+    for (text, clauses) in rows {
+        expect(rt, alloc, text, Ok(*clauses));
     }
 }
 
 #[test]
 fn counts_the_clauses(rt: HostRuntime) {
-    let cases: [(&[u8], u32); 15] = [
-        (b"ball\n# note\n1", 11),
-        (b"ball 1.", 11),
-        (b"ball .5", 11),
-        (b"ball +.5e0", 11),
-        (b"ball 1e400", 11),
-        (b"ball 0.0000000002", 11),
-        (b" \r\nball\r\n1\r\n", 11),
-        (b"box 1 2 3", 14),
-        (b"cylinder 1 2", 13),
-        (b"move 0 -1 1e-1 ball 1", 17),
-        (b"scale 2 ball 0.5", 15),
-        (b"union ball 1 ball 1", 20),
-        (b"intersect ball 1 ball 1", 20),
-        (b"difference ball 1 ball 1", 21),
-        (b"difference box 1 1 1 move 0.5 0 0 ball 0.25", 30),
-    ];
-    for (text, clauses) in cases {
-        expect(&rt, rt.alloc(), text, Ok(clauses));
-    }
+    expect_counts(&rt, rt.alloc(), &COUNTS);
 }
 
 #[test]
 fn reads_the_tree(rt: HostRuntime) -> Result<(), Fail> {
     let text = b"difference\nmove 1 2 3 scale 2 ball 0.5\nintersect box 1 2 3 cylinder 1 2";
     let solid = read_solid(rt.alloc(), text)?;
-    let Solid::Difference(first, second) = &solid else {
-        return Err(Fail::from("no difference"));
-    };
-    assert!(rt; is_moved_ball(first) && is_cut_block(second));
+    assert!(rt; is_tree(&solid));
     Ok(())
+}
+
+fn is_tree(solid: &Solid) -> bool {
+    match solid {
+        Solid::Difference(first, second) => is_moved_ball(first) && is_cut_block(second),
+        _ => false,
+    }
 }
 
 fn is_moved_ball(solid: &Solid) -> bool {

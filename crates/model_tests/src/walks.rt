@@ -26,8 +26,8 @@ pub(crate) enum Deed<'a> {
     /// This name is found at this place, or at none.
     Place(&'a [u8], Option<u32>),
     /// The clause at a place has this name, by which it is found, this operation, operands at these places
-    /// and this number.
-    Clause(u32, &'a [u8], Op, (u32, u32), Fx),
+    /// and this raw number.
+    Clause(u32, &'a [u8], Op, (u32, u32), i64),
     /// All that the model says.
     Text(&'a [u8]),
 }
@@ -70,8 +70,8 @@ fn holds(alloc: Global, model: &mut Model, deed: &Deed<'_>) -> Result<bool, Fail
         Deed::Len(len) => Ok(model.len() == *len),
         Deed::Operands(digits) => Ok(has_operands(model, digits)),
         Deed::Place(name, place) => Ok(model.position(name) == *place),
-        Deed::Clause(at, name, op, operands, value) => {
-            Ok(is_clause(model, *at, name, *op, *operands, *value))
+        Deed::Clause(at, name, op, operands, raw) => {
+            Ok(is_clause(model, *at, name, *op, *operands, *raw))
         }
         Deed::Text(text) => says(alloc, model, text),
     }
@@ -136,7 +136,7 @@ pub(crate) fn has_operands(model: &Model, digits: &[u8]) -> bool {
     rest.is_empty()
 }
 
-fn is_clause(model: &Model, at: u32, name: &[u8], op: Op, operands: (u32, u32), value: Fx) -> bool {
+fn is_clause(model: &Model, at: u32, name: &[u8], op: Op, operands: (u32, u32), raw: i64) -> bool {
     if at >= model.len() {
         return false;
     }
@@ -144,8 +144,12 @@ fn is_clause(model: &Model, at: u32, name: &[u8], op: Op, operands: (u32, u32), 
     clause.name == name
         && clause.op == op
         && (clause.a, clause.b) == operands
-        && clause.value == value
+        && is_number(clause.value, raw)
         && model.position(name) == Some(at)
+}
+
+fn is_number(value: Fx, raw: i64) -> bool {
+    -Fx::MAX_RAW <= raw && raw <= Fx::MAX_RAW && value == Fx::from_raw(raw)
 }
 
 /// Whether this is the text of a model.

@@ -27,6 +27,3 @@ pub use sure_sink::SureSink;
 pub use sure_source::SureSource;
 pub use write_sink::WriteSink;
 pub use writing::write_all;
-
-#[cfg(test)]
-mod tests;

@@ -7,7 +7,7 @@ use clause_reader::{read_form, read_model};
 use edit_session::Session;
 use fixed_ops::Tally;
 use model_frames::Frame;
-use solid_model::{Edit, Form, Name};
+use solid_model::{Edit, EditFault, Form, Name};
 use std::alloc::Global;
 use view_places::View;
 
@@ -103,19 +103,29 @@ fn form_of(alloc: Global, form: &[u8]) -> Option<Form> {
     read_form(alloc, form).ok()
 }
 
+// A name and a form. None: memory was refused.
+fn parts(alloc: Global, name: &[u8], form: &[u8]) -> Option<(Name, Form)> {
+    let form = form_of(alloc, form)?;
+    Some((name_of(alloc, name)?, form))
+}
+
 // The edit that a change is. None: memory was refused.
-pub(crate) fn edit_of(alloc: Global, change: Change) -> Option<Edit> {
-    let edit = match change {
-        Change::Set(name, form) => Edit::Set(name_of(alloc, name)?, form_of(alloc, form)?),
-        Change::Add(name, form) => Edit::Add(name_of(alloc, name)?, form_of(alloc, form)?),
-        Change::Put(next, name, form) => Edit::Put(
-            name_of(alloc, next)?,
-            name_of(alloc, name)?,
-            form_of(alloc, form)?,
-        ),
-        Change::Cut(name) => Edit::Cut(name_of(alloc, name)?),
-    };
-    Some(edit)
+fn edit_of(alloc: Global, change: Change) -> Option<Edit> {
+    match change {
+        Change::Set(name, form) => {
+            let (name, form) = parts(alloc, name, form)?;
+            Some(Edit::Set(name, form))
+        }
+        Change::Add(name, form) => {
+            let (name, form) = parts(alloc, name, form)?;
+            Some(Edit::Add(name, form))
+        }
+        Change::Put(next, name, form) => {
+            let (name, form) = parts(alloc, name, form)?;
+            Some(Edit::Put(name_of(alloc, next)?, name, form))
+        }
+        Change::Cut(name) => Some(Edit::Cut(name_of(alloc, name)?)),
+    }
 }
 
 // A session on the model of a text. None: memory was refused, or the text is none of a test.
@@ -132,6 +142,29 @@ pub(crate) fn make(alloc: Global, session: &mut Session, change: Change) -> Opti
     ensures { session.new.image ≡ session.old.image }
 {
     session.edit(edit_of(alloc, change)?).ok()
+}
+
+// The calls of a session, each in a function that promises nothing: what a call says of the session is else part of
+// each later step of its caller's proof.
+
+// What an edit answers. None: memory for the edit was refused.
+pub(crate) fn edit(
+    alloc: Global,
+    session: &mut Session,
+    change: Change,
+) -> Option<Result<(), EditFault>> {
+    let edit = edit_of(alloc, change)?;
+    Some(session.edit(edit))
+}
+
+// What taking the last edit back answers.
+pub(crate) fn undo(session: &mut Session) -> Result<(), EditFault> {
+    session.undo()
+}
+
+// What the last image took.
+pub(crate) fn cost(session: &Session) -> (u64, u64) {
+    session.cost()
 }
 
 // What was drawn, with the evaluations and the traced steps that it took.
@@ -152,13 +185,20 @@ fn can_draw(frame: &Frame) -> bool
     }
 }
 
+// The bytes of a frame. None: memory was refused.
+fn bytes_of(session: &mut Session, frame: &Frame, tally: &mut Tally) -> Option<Vec<u8>>
+    requires { CanDraw frame.now }
+{
+    session.frame(frame, tally).ok()
+}
+
 // Draws a frame. None: memory was refused, or it can not be drawn.
 pub(crate) fn draw(session: &mut Session, frame: &Frame) -> Option<Drawn> {
     if !can_draw(frame) {
         return None;
     }
     let mut tally = Tally::new();
-    let bytes = session.frame(frame, &mut tally).ok()?;
+    let bytes = bytes_of(session, frame, &mut tally)?;
     Some(Drawn {
         bytes,
         points: tally.points(),
@@ -166,9 +206,32 @@ pub(crate) fn draw(session: &mut Session, frame: &Frame) -> Option<Drawn> {
     })
 }
 
-// Draws a frame in a session that begins with the model that stands in this one. None: memory was refused.
-pub(crate) fn draw_fresh(alloc: Global, session: &Session, frame: &Frame) -> Option<Drawn> {
+// A session that begins with the model that stands in this one. None: memory was refused.
+fn reopened(alloc: Global, session: &Session) -> Option<Session> {
     let text = session.text().ok()?;
-    let mut fresh = open(alloc, &text)?;
+    open(alloc, &text)
+}
+
+// Draws a frame in such a session. None: memory was refused.
+pub(crate) fn draw_fresh(alloc: Global, session: &Session, frame: &Frame) -> Option<Drawn> {
+    let mut fresh = reopened(alloc, session)?;
     draw(&mut fresh, frame)
+}
+
+// Whether two frames have the same bytes, and took the same work.
+fn are_same(one: &Drawn, other: &Drawn) -> bool {
+    one.bytes == other.bytes && (one.points, one.spans) == (other.points, other.spans)
+}
+
+// Whether a frame is drawn with this work at most. None: memory was refused.
+pub(crate) fn takes(session: &mut Session, frame: &Frame, most: (u64, u64)) -> Option<bool> {
+    let drawn = draw(session, frame)?;
+    Some(drawn.points <= most.0 && drawn.spans <= most.1)
+}
+
+// Whether a frame is as one of a fresh session, with the same work. None: memory was refused.
+pub(crate) fn is_fresh(alloc: Global, session: &mut Session, frame: &Frame) -> Option<bool> {
+    let drawn = draw(session, frame)?;
+    let fresh = draw_fresh(alloc, session, frame)?;
+    Some(are_same(&drawn, &fresh))
 }

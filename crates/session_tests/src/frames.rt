@@ -4,7 +4,7 @@ ghost use Rattle.model_frames.specs.Frames.{CanDraw};
 
 use clause_reader::read_model;
 use fixed_ops::Tally;
-use model_frames::{Drawn, Frame, solid_mesh};
+use model_frames::{Drawn, Frame, Pieces, solid_mesh};
 use ply_writer::ply_text;
 use solid_model::Model;
 use std::alloc::Global;
@@ -65,6 +65,42 @@ fn view() -> View
     }
 }
 
+// Whether the whole of a frame has these bytes.
+fn is_whole(alloc: Global, model: &Model, frame: &Frame, bytes: &[u8]) -> Result<bool, Fail>
+    requires { CanDraw frame.now }
+{
+    let whole = frame.bytes(alloc, model, &mut Tally::new())?;
+    Ok(whole.as_slice() == bytes)
+}
+
+// Whether these are the bytes of its pieces, one after the other.
+fn is_in_pieces(alloc: Global, model: &Model, frame: &Frame, bytes: &[u8]) -> Result<bool, Fail>
+    requires { CanDraw frame.now }
+{
+    let drawn = frame.draw(alloc, model, &mut Tally::new())?;
+    are_pieces_of(alloc, &drawn, bytes)
+}
+
+fn are_pieces_of(alloc: Global, drawn: &Drawn, bytes: &[u8]) -> Result<bool, Fail> {
+    let mut pieces = drawn.pieces(alloc)?;
+    Ok(give(&mut pieces, bytes))
+}
+
+fn give(pieces: &mut Pieces<'_>, bytes: &[u8]) -> bool {
+    let mut rest = bytes;
+    // None of these has as many pieces.
+    for _ in 0..100 {
+        let Some(others) = rest.strip_prefix(pieces.piece()) else {
+            return false;
+        };
+        rest = others;
+        if !pieces.advance() {
+            break;
+        }
+    }
+    rest.is_empty()
+}
+
 // Draws a frame, and compares its bytes, whole and piece by piece, and its name.
 fn expect(
     rt: &impl Abort,
@@ -76,67 +112,45 @@ fn expect(
 ) -> Result<(), Fail>
     requires { CanDraw frame }
 {
-    let mut tally = Tally::new();
-    let whole = frame.bytes(alloc, model, &mut tally)?;
-    let drawn = frame.draw(alloc, model, &mut tally)?;
-    assert!(rt; whole.as_slice() == bytes);
-    assert!(rt; written(alloc, &drawn)?.as_slice() == bytes);
-    assert!(rt; frame.name() == name);
+    let is_whole = is_whole(alloc, model, &frame, bytes)?;
+    let is_in_pieces = is_in_pieces(alloc, model, &frame, bytes)?;
+    assert!(rt;
+        is_whole && is_in_pieces && frame.name() == name,
+        "{name:?}"
+    );
     Ok(())
 }
 
-// The bytes of what is drawn, one piece after the other.
-fn written(alloc: Global, drawn: &Drawn) -> Result<Vec<u8>, Fail> {
-    let mut pieces = drawn.pieces(alloc)?;
-    let mut bytes = Vec::new(alloc);
-    bytes.extend_from_slice(pieces.piece())?;
-    // None of these has as many pieces.
-    for _ in 0..100 {
-        if !pieces.advance() {
-            break;
-        }
-        bytes.extend_from_slice(pieces.piece())?;
-    }
-    Ok(bytes)
+fn expect_each(rt: &impl Abort, alloc: Global, model: &Model) -> Result<(), Fail> {
+    let view = view();
+    expect(rt, alloc, model, Frame::Render(view), MIDDLE, b"render")?;
+    expect(rt, alloc, model, Frame::Height(view), MIDDLE_TOP, b"height")?;
+    expect(rt, alloc, model, Frame::Mesh(view), MIDDLE_MESH, b"mesh")?;
+    expect(rt, alloc, model, Frame::Text, BALL_TEXT, b"text")
 }
 
 #[test]
 fn draws_each_kind_of_frame(rt: HostRuntime) -> Result<(), Fail> {
     let model = read_model(rt.alloc(), BALL)?;
-    expect(
-        &rt,
-        rt.alloc(),
-        &model,
-        Frame::Render(view()),
-        MIDDLE,
-        b"render",
-    )?;
-    expect(
-        &rt,
-        rt.alloc(),
-        &model,
-        Frame::Height(view()),
-        MIDDLE_TOP,
-        b"height",
-    )?;
-    expect(
-        &rt,
-        rt.alloc(),
-        &model,
-        Frame::Mesh(view()),
-        MIDDLE_MESH,
-        b"mesh",
-    )?;
-    expect(&rt, rt.alloc(), &model, Frame::Text, BALL_TEXT, b"text")
+    expect_each(&rt, rt.alloc(), &model)
+}
+
+// The text of a model's mesh by its lists.
+fn mesh_text(alloc: Global, model: &Model, view: &View) -> Result<Vec<u8>, Fail>
+    requires { FitsMesh view.now }
+{
+    let mesh = solid_mesh(alloc, model, view, &mut Tally::new())?;
+    Ok(ply_text(alloc, &mesh, view)?)
+}
+
+fn expect_mesh(rt: &impl Abort, alloc: Global, model: &Model) -> Result<(), Fail> {
+    let text = mesh_text(alloc, model, &view())?;
+    assert!(rt; text.as_slice() == MIDDLE_MESH);
+    Ok(())
 }
 
 #[test]
 fn a_mesh_by_its_lists_has_the_same_text(rt: HostRuntime) -> Result<(), Fail> {
     let model = read_model(rt.alloc(), BALL)?;
-    let view = view();
-    let mut tally = Tally::new();
-    let mesh = solid_mesh(rt.alloc(), &model, &view, &mut tally)?;
-    let text = ply_text(rt.alloc(), &mesh, &view)?;
-    assert!(rt; text.as_slice() == MIDDLE_MESH);
-    Ok(())
+    expect_mesh(&rt, rt.alloc(), &model)
 }

@@ -1,5 +1,7 @@
 // Sessions that are played step by step, as tables tell.
-use crate::fixtures::{Change, Drawn, Sides, draw, draw_fresh, edit_of, open, view, view_of};
+use crate::fixtures::{
+    Change, Drawn, Sides, cost, draw, draw_fresh, edit, open, undo, view, view_of,
+};
 use edit_session::Session;
 use fixed_ops::Tally;
 use model_frames::Frame;
@@ -34,32 +36,19 @@ pub(crate) enum Kind {
     Text,
 }
 
-// Plays one step. None: memory was refused.
-fn play_step(
-    rt: &impl Abort,
-    alloc: Global,
-    session: &mut Session,
-    step: Step,
-    tally: &mut Tally,
-) -> Option<()> {
+// Whether a step comes out as it must. None: memory was refused.
+fn play_step(alloc: Global, session: &mut Session, step: Step, tally: &mut Tally) -> Option<bool> {
     match step {
-        Step::Edit(change, answer) => {
-            let edit = edit_of(alloc, change)?;
-            assert!(rt; session.edit(edit) == answer);
-        }
-        Step::Undo(answer) => assert!(rt; session.undo() == answer),
+        Step::Edit(change, answer) => Some(edit(alloc, session, change)? == answer),
+        Step::Undo(answer) => Some(undo(session) == answer),
         Step::Image(w, h, points, spans) => {
             draw_image(session, w, h, tally)?;
-            assert!(rt; session.cost() == (points, spans));
+            Some(cost(session) == (points, spans))
         }
-        Step::Mesh(n, points, spans) => assert_mesh(rt, alloc, session, n, points, spans)?,
-        Step::Cost(points, spans) => assert!(rt; session.cost() == (points, spans)),
-        Step::Bytes(kind, bytes) => {
-            let drawn = draw_kind(session, kind)?;
-            assert!(rt; drawn.bytes.as_slice() == bytes);
-        }
+        Step::Mesh(n, points, spans) => draw_mesh(alloc, session, n, points, spans),
+        Step::Cost(points, spans) => Some(cost(session) == (points, spans)),
+        Step::Bytes(kind, bytes) => draw_bytes(session, kind, bytes),
     }
-    Some(())
 }
 
 // Draws an image, whose work this tally counts.
@@ -69,31 +58,37 @@ fn draw_image(session: &mut Session, w: u32, h: u32, tally: &mut Tally) -> Optio
     Some(())
 }
 
-fn assert_mesh(
-    rt: &impl Abort,
+fn draw_mesh(
     alloc: Global,
     session: &mut Session,
     n: [u32; 3],
     points: u64,
     spans: u64,
-) -> Option<()> {
+) -> Option<bool> {
     let frame = Frame::Mesh(view_of(Sides::of(8, 8, n))?);
     let drawn = draw(session, &frame)?;
     let fresh = draw_fresh(alloc, session, &frame)?;
-    assert!(rt; drawn.bytes == fresh.bytes);
-    assert!(rt; drawn.points <= points);
-    assert!(rt; drawn.spans <= spans);
-    Some(())
+    Some(is_within(&drawn, &fresh, points, spans))
 }
 
-fn draw_kind(session: &mut Session, kind: Kind) -> Option<Drawn> {
+// Whether a frame has the bytes of another, and took at most this.
+fn is_within(drawn: &Drawn, fresh: &Drawn, points: u64, spans: u64) -> bool {
+    drawn.bytes == fresh.bytes && drawn.points <= points && drawn.spans <= spans
+}
+
+fn draw_bytes(session: &mut Session, kind: Kind, bytes: &[u8]) -> Option<bool> {
+    let drawn = draw(session, &frame_of(kind)?)?;
+    Some(drawn.bytes.as_slice() == bytes)
+}
+
+fn frame_of(kind: Kind) -> Option<Frame> {
     let view = view(3, 3, 2)?;
-    match kind {
-        Kind::Image => draw(session, &Frame::Render(view)),
-        Kind::Height => draw(session, &Frame::Height(view)),
-        Kind::Mesh => draw(session, &Frame::Mesh(view)),
-        Kind::Text => draw(session, &Frame::Text),
-    }
+    Some(match kind {
+        Kind::Image => Frame::Render(view),
+        Kind::Height => Frame::Height(view),
+        Kind::Mesh => Frame::Mesh(view),
+        Kind::Text => Frame::Text,
+    })
 }
 
 fn play_steps(
@@ -103,14 +98,15 @@ fn play_steps(
     steps: &[Step],
     tally: &mut Tally,
 ) -> Option<()> {
-    for step in steps {
-        play_step(rt, alloc, session, *step, tally)?;
+    for (at, step) in steps.iter().enumerate() {
+        let holds = play_step(alloc, session, *step, tally)?;
+        assert!(rt; holds, "at {at}");
     }
     Some(())
 }
 
 // Plays steps in a session that begins with a model. None: memory was refused.
-pub(crate) fn play(
+fn play(
     rt: &impl Abort,
     alloc: Global,
     model: &[u8],
@@ -119,4 +115,19 @@ pub(crate) fn play(
 ) -> Option<()> {
     let mut session = open(alloc, model)?;
     play_steps(rt, alloc, &mut session, steps, tally)
+}
+
+// Plays sessions, each a model with its steps.
+pub(crate) fn play_all(
+    rt: &impl Abort,
+    alloc: Global,
+    sessions: &[(&[u8], &[Step])],
+    tally: &mut Tally,
+) {
+    for (model, steps) in sessions {
+        assert!(rt;
+            play(rt, alloc, model, steps, tally).is_some(),
+            "memory was refused"
+        );
+    }
 }

@@ -3,7 +3,7 @@ ghost use Rattle.std.specs.Prelude.{◌≡◌, ◌<◌};
 ghost use Rattle.quad_descent.specs.Rows.{IsOver};
 
 use crate::fixtures::{
-    BALL, BARS, Change, ONE, Sides, draw, draw_fresh, make, open, view, view_of,
+    BALL, BARS, Change, ONE, Sides, draw_fresh, is_fresh, make, open, takes, view, view_of,
 };
 use clause_reader::read_model;
 use edit_session::Session;
@@ -216,6 +216,17 @@ fn rows_are_those_of_the_image_that_was_drawn_last(rt: HostRuntime) {
     assert!(rt; assert_moved(&rt, rt.alloc()).is_some());
 }
 
+// Draws a mesh, and makes its text in a buffer once the model was changed. None: memory was refused.
+fn make_text(alloc: Global, session: &mut Session, buffer: &mut Vec<u8>) -> Option<()> {
+    let view = view(8, 8, 3)?;
+    if !view.fits_mesh() {
+        return None;
+    }
+    session.draw_mesh(&view, &mut Tally::new()).ok()?;
+    make(alloc, session, Change::Set(b"r", b"const 0.75"))?;
+    session.mesh_text_in(buffer).ok()
+}
+
 // The text of the last mesh, made in a buffer, is that of the model that was drawn. None: memory was
 // refused.
 fn assert_made(
@@ -224,14 +235,8 @@ fn assert_made(
     session: &mut Session,
     buffer: &mut Vec<u8>,
 ) -> Option<()> {
-    let view = view(8, 8, 3)?;
-    if !view.fits_mesh() {
-        return None;
-    }
-    let whole = draw_fresh(alloc, session, &Frame::Mesh(view))?;
-    session.draw_mesh(&view, &mut Tally::new()).ok()?;
-    make(alloc, session, Change::Set(b"r", b"const 0.75"))?;
-    session.mesh_text_in(buffer).ok()?;
+    let whole = draw_fresh(alloc, session, &Frame::Mesh(view(8, 8, 3)?))?;
+    make_text(alloc, session, buffer)?;
     assert!(rt; *buffer == whole.bytes);
     Some(())
 }
@@ -271,35 +276,28 @@ const OTHERS: [(i64, i64, u32, [u32; 3]); 6] = [
     (-ONE, ONE, 8, [2, 3, 4]),
 ];
 
-// Draws a mesh that is as a fresh one, in its text and in what it takes. None: memory was refused.
-fn assert_fresh(rt: &impl Abort, alloc: Global, session: &mut Session, sides: Sides) -> Option<()> {
-    let frame = Frame::Mesh(view_of(sides)?);
-    let drawn = draw(session, &frame)?;
-    let fresh = draw_fresh(alloc, session, &frame)?;
-    assert!(rt; drawn.bytes == fresh.bytes);
-    assert!(rt; drawn.points == fresh.points);
-    assert!(rt; drawn.spans == fresh.spans);
-    Some(())
+// Draws a mesh of another view, twice, and then one of the first view: the second takes nothing, and the others
+// are as fresh ones. None: memory was refused.
+fn are_fresh(alloc: Global, session: &mut Session, other: &Frame, first: &Frame) -> Option<bool> {
+    let is_other = is_fresh(alloc, session, other)?;
+    let is_kept = takes(session, other, (0, 0))?;
+    Some(is_fresh(alloc, session, first)? && is_other && is_kept)
 }
 
-// Draws a mesh that takes nothing. None: memory was refused.
-fn assert_kept(rt: &impl Abort, session: &mut Session, sides: Sides) -> Option<()> {
-    let drawn = draw(session, &Frame::Mesh(view_of(sides)?))?;
-    assert!(rt; drawn.points == 0);
-    assert!(rt; drawn.spans == 0);
-    Some(())
-}
-
-// Draws a mesh of each other view, twice, and one of the first view after it. None: memory was refused.
+// Draws meshes of each other view, each between two of the first view. None: memory was refused.
 fn assert_views(rt: &impl Abort, alloc: Global, session: &mut Session) -> Option<()> {
-    let first = Sides::of(8, 8, [4; 3]);
-    assert_fresh(rt, alloc, session, first)?;
-    for (x0, z1, w, n) in OTHERS {
-        let h = 8;
-        let other = Sides { x0, z1, w, h, n };
-        assert_fresh(rt, alloc, session, other)?;
-        assert_kept(rt, session, other)?;
-        assert_fresh(rt, alloc, session, first)?;
+    let first = Frame::Mesh(view_of(Sides::of(8, 8, [4; 3]))?);
+    assert!(rt; is_fresh(alloc, session, &first)?);
+    for (x0, z1, w, n) in &OTHERS {
+        let sides = Sides {
+            x0: *x0,
+            z1: *z1,
+            w: *w,
+            h: 8,
+            n: *n,
+        };
+        let other = Frame::Mesh(view_of(sides)?);
+        assert!(rt; are_fresh(alloc, session, &other, &first)?, "{n:?}");
     }
     Some(())
 }

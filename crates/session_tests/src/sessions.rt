@@ -1,7 +1,7 @@
 // Sessions that are edited, drawn and taken back, step by step, with what each step takes, worked out by
 // hand.
 use crate::fixtures::{BALL, BARS, Change};
-use crate::playing::{Kind, Step, play};
+use crate::playing::{Kind, Step, play_all};
 use Change::{Add, Cut, Put, Set};
 use Step::{Bytes, Cost, Edit, Image, Mesh, Undo};
 use fixed_ops::Tally;
@@ -357,17 +357,15 @@ fn at_its_end(tally: &Tally) -> Tally {
     end
 }
 
+const FIRST: [(&[u8], &[Step]); 1] = [(BARS, &[Image(32, 1, 192, 54)])];
+
 #[test]
 fn each_step_answers_and_takes_what_it_should(rt: HostRuntime) {
     let mut tally = Tally::new();
-    assert!(rt; play(&rt, rt.alloc(), BARS, &[Image(32, 1, 192, 54)], &mut tally).is_some());
+    play_all(&rt, rt.alloc(), &FIRST, &mut tally);
     // What is told stays the same where the caller's tally can count no more.
     let mut full = at_its_end(&tally);
-    assert!(rt; full.points() == u64::MAX);
-    assert!(rt; full.spans() == u64::MAX);
-    assert!(rt; full.corners() == u64::MAX);
-    for (model, steps) in SESSIONS {
-        assert!(rt; play(&rt, rt.alloc(), model, steps, &mut tally).is_some());
-        assert!(rt; play(&rt, rt.alloc(), model, steps, &mut full).is_some());
-    }
+    assert!(rt; [full.points(), full.spans(), full.corners()] == [u64::MAX; 3]);
+    play_all(&rt, rt.alloc(), &SESSIONS, &mut tally);
+    play_all(&rt, rt.alloc(), &SESSIONS, &mut full);
 }

@@ -1,7 +1,0 @@
-//! Tests of numbers, of their operations and texts, and of ranges of numbers.
-#![tactic(auto)]
-
-#[cfg(test)]
-mod numbers;
-#[cfg(test)]
-mod spans;
