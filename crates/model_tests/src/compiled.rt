@@ -2,7 +2,7 @@
 use crate::starts::Start;
 use crate::walks::{Deed, expect};
 use fixed_ops::{Fx, Op};
-use solid_lang::{Solid, read_solid, solid_text};
+use solid_lang::{Solid, read_short_solid, solid_text};
 use std::alloc::Global;
 use std::test::Fail;
 
@@ -19,7 +19,7 @@ fn written(alloc: Global, text: &[u8]) -> Result<Vec<u8>, Fail> {
     if text.len() > 100 {
         return Err(Fail::new("a text that is too long"));
     }
-    let solid = read_solid(alloc, text)?;
+    let solid = read_short_solid(alloc, text)?;
     Ok(solid_text(alloc, &solid)?)
 }
 
