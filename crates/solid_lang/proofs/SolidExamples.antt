@@ -1,5 +1,5 @@
 -- The definitions of solid texts, computed on texts that were worked out by hand.
-use Rattle.std.proofs.Common.{◌≡◌, ℕ, ℤ, ◌+◌, ◌*◌, pos, inl, inr, List, [], ◌∷◌, Option, None, Some, Ok, Err, refl, arith}
+use Rattle.std.proofs.Common.{◌≡◌, ℕ, ◌+◌, ◌*◌, pos, inl, inr, List, [], ◌∷◌, Option, None, Some, Ok, Err, refl, arith}
 use Rattle.std.specs.Prelude.{codes, negsuc}
 use Rattle.fixed_ops.specs.Numerals.{is_unsigned_numeral, unsigned_raw, nearest_raw, cut_magnitude}
 use Rattle.solid_lang.specs.declared.axes.Axes.{Axes}
@@ -13,7 +13,7 @@ use Rattle.solid_lang.specs.Judged.{fault_at, judged}
 use Rattle.solid_lang.specs.NumberedTokens.{numbered_tokens}
 use Rattle.solid_lang.specs.Room.{FitsBefore, HaveRoom}
 use Rattle.solid_lang.specs.Placing.{StandBefore}
-use Rattle.solid_lang.specs.Solids.{Ball, Block, Cylinder, Difference, Move, Union, tree}
+use Rattle.solid_lang.specs.Solids.{Ball, Block, Cylinder, Difference, Move, tree}
 use Rattle.solid_lang.specs.Wants.{take_token, wants_after, whole_solid}
 
 -- a comment's tokens are none, and tokens keep their lines
