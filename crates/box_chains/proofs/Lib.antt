@@ -8,6 +8,7 @@ pub mod Placed
 mod RedrawnExamples
 pub mod RedrawnLaws
 pub mod Seen
+mod SumExamples
 pub mod SumLaws
 pub mod TallyLaws
 pub mod TestedLaws

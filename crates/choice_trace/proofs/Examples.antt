@@ -8,8 +8,10 @@ use Rattle.interval_ops.specs.Spans.{all_numbers}
 use Rattle.interval_ops.specs.declared.choice.Choice.TheVariants.{Left, Right, Both}
 use Rattle.interval_ops.specs.declared.region.Region.{Region}
 use Rattle.live_clauses.specs.declared.step.Step.{Step}
+use Rattle.choice_trace.specs.declared.inputs.Inputs.{Inputs}
 use Rattle.choice_trace.specs.Halves.{flag_in, region_in, region_of}
 use Rattle.choice_trace.specs.Hulls.{choices_over, tape_hull}
+use Rattle.choice_trace.specs.Lanes.{in_lane, lane_value, number_at, point_in}
 use Rattle.choice_trace.specs.Meaning.{StandForPoint, StandsForResults}
 
 -- x from one number to another, y from 2 to 3, and z from 5 to 7
@@ -85,6 +87,29 @@ second_of_rows : region_of (record {
   z = between (pos 9) (pos 10) ∷ [];
 }) 1 ≡ record { x = between (pos 3) (pos 4); y = between (pos 7) (pos 8); z = all_numbers }
 second_of_rows = refl
+
+-- the point of the second lane, and what a lane has behind the end of a row
+second_point : point_in 1 (record { x = pos 1 ∷ pos 2 ∷ []; y = pos 3 ∷ pos 4 ∷ []; z = pos 5 ∷ pos 6 ∷ [] })
+    ≡ record { x = pos 2; y = pos 4; z = pos 6 }
+second_point = refl
+
+lanes : in_lane 0 (pos 5 ∷ pos 6 ∷ []) ∷ in_lane 1 (pos 5 ∷ pos 6 ∷ []) ∷ in_lane 2 (pos 5 ∷ pos 6 ∷ []) ∷ []
+    ≡ pos 5 ∷ pos 6 ∷ pos 0 ∷ []
+lanes = refl
+
+numbers_of_second_lane : number_at 1 ((pos 5 ∷ pos 6 ∷ []) ∷ (pos 7 ∷ pos 8 ∷ []) ∷ []) 0
+    ∷ number_at 1 ((pos 5 ∷ pos 6 ∷ []) ∷ (pos 7 ∷ pos 8 ∷ []) ∷ []) 1
+    ∷ number_at 1 ((pos 5 ∷ pos 6 ∷ []) ∷ (pos 7 ∷ pos 8 ∷ []) ∷ []) 2 ∷ [] ≡ pos 6 ∷ pos 8 ∷ pos 0 ∷ []
+numbers_of_second_lane = refl
+
+-- in the second lane 6 less 2, and x at the point
+abbrev two_lanes : Inputs (List ℤ)
+two_lanes = record { x = pos 10 ∷ pos 11 ∷ []; y = pos 12 ∷ pos 13 ∷ []; z = pos 14 ∷ pos 15 ∷ [] }
+
+values_of_second_lane :
+    lane_value 1 two_lanes ((pos 1 ∷ pos 2 ∷ []) ∷ (pos 5 ∷ pos 6 ∷ []) ∷ []) (record { op = Sub; a = 1; b = 0; value = pos 0 })
+    ∷ lane_value 1 two_lanes [] (record { op = X; a = 0; b = 0; value = pos 0 }) ∷ [] ≡ pos 4 ∷ pos 11 ∷ []
+values_of_second_lane = refl
 
 -- three numbers stand for the point with just these coordinates
 coordinates : StandForPoint (λ a v. a ≡ v) (record { x = pos 1; y = pos 2; z = pos 3 }) (record { x = pos 1; y = pos 2; z = pos 3 })

@@ -11,6 +11,7 @@ use Rattle.oct_descent.specs.Ways.{way_within}
 use Rattle.view_places.specs.Window.{Window}
 use Rattle.contour_lines.specs.declared.gap.Gap.{Gap}
 use Rattle.contour_lines.specs.Bound.{contour_least, contour_points, contour_spans, flat_least, flat_points, plane_lengths, plane_working_lengths}
+use Rattle.contour_lines.specs.Corners.{IsSeen}
 use Rattle.contour_lines.specs.Gaps.{AreGaps, IsCornerBelow, StandsIn, has_gap, lies_at, spot}
 use Rattle.contour_lines.specs.Planes.{laid_flat, plane_value}
 use Rattle.contour_lines.specs.Signs.{signs_at}
@@ -81,6 +82,10 @@ up_value = refl
 up_points : contour_points (window (pos 4294967296) 2) up ≡ 0
 unfolding flat_points way_within
 up_points = refl
+
+up_least : contour_least (window (pos 4294967296) 2) up ≡ 0
+unfolding flat_least way_within
+up_least = refl
 
 up_spans : contour_spans (window (pos 4294967296) 2) up ≡ 1
 unfolding cell_spans_in way_within
@@ -155,3 +160,7 @@ last_corner_is_a_gap = record {
 
 last_corner_is_missing : AreGaps three_known (point 0 0 0) [] → ⊥
 last_corner_is_missing h = let found : false ≡ true = h.all 3 (omega arith) in (cc)
+
+-- nor are all corners known where that one is not
+not_all_known : IsSeen three_known (point 0 0 0) (record { all = true; inside = false; outside = true }) → ⊥
+not_all_known h = let known : false ≡ true = h.all refl 3 (omega arith) in (cc)

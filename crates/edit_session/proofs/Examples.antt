@@ -13,7 +13,7 @@ use Rattle.solid_model.specs.declared.clause.Clause.{Clause}
 use Rattle.solid_model.specs.declared.edit.Edit.TheVariants as edits
 use Rattle.solid_model.specs.Edited.{after_edits}
 use Rattle.view_places.specs.Window.{Window}
-use Rattle.edit_session.specs.Sessions.{State, after_edit, after_frame, after_refusal, image_cost, opening_of, session_part, started}
+use Rattle.edit_session.specs.Sessions.{State, after_edit, after_frame, after_refusal, image_cost, opening_of, session_part, started, with_model}
 
 -- the clauses of a text that is read
 abbrev solid : List ℕ → List Clause
@@ -22,6 +22,11 @@ solid text = by (text_read text)
     by : Result (List Clause) TextFault → List Clause
     by (Ok clauses) = clauses
     by (Err fault) = []
+
+-- with another model the image, the mesh and the cost stand
+others_stand : (state : State) → with_model state (record { clauses = []; undo = [] })
+    ≡ record { clauses = []; undo = []; image = state.image; mesh = state.mesh; cost = state.cost }
+others_stand state = refl
 
 -- nine columns and a row from -1 to 1, one cell along each axis
 abbrev row : Window

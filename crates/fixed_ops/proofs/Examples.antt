@@ -1,13 +1,15 @@
--- Steps, slopes, light, counts of work, numbers, cuts, numerals and roots, worked out by hand.
+-- Operands, results, steps, slopes, light, counts of work, numbers, cuts, numerals and roots, worked out by hand.
 use Rattle.std.proofs.Common.{◌≡◌, ◌≤◌, ℕ, ℤ, pos, negsuc, true, false, Some, None, [], ◌∷◌, refl, ap, arith, inl, inr}
 use Rattle.std.specs.Prelude.{codes}
 use Rattle.std.proofs.lemmas.Int.{ints}
 use Rattle.fixed_ops.proofs.DigitLaws.{digits_from_test}
+use Rattle.fixed_ops.specs.Arity.{arity_of}
 use Rattle.fixed_ops.specs.Counts.{Counts, IsAtMost, RisesAtMost, RisesWithin, corners_of, joined, no_counts, plus, points_of, risen, spans_of, times}
 use Rattle.fixed_ops.specs.Cut.{cut_of}
 use Rattle.fixed_ops.specs.Laws.{IsClamped, IsOverZero}
 use Rattle.fixed_ops.specs.Numerals.{cut_magnitude, digits_read, is_unsigned_numeral, nearest_raw, numeral, unsigned_raw}
 use Rattle.fixed_ops.specs.OpNames.{name_of}
+use Rattle.fixed_ops.specs.Operations.{op_result}
 use Rattle.fixed_ops.specs.Points.{IsRawPoint, Point, step_value}
 use Rattle.fixed_ops.specs.Raw.{IsInside, IsRaw, greatest}
 use Rattle.fixed_ops.specs.Root.{IsRawRoot, IsRoot}
@@ -35,6 +37,34 @@ words_of_operations : name_of X ∷ name_of Y ∷ name_of Z ∷ name_of Const �
     ∷ codes "abs" ∷ codes "floor" ∷ codes "add" ∷ codes "sub" ∷ codes "mul" ∷ codes "div" ∷ codes "min" ∷ codes "max"
     ∷ []
 words_of_operations = refl
+
+-- how many operands each operation has, in the same order
+operands_of_operations : arity_of X ∷ arity_of Y ∷ arity_of Z ∷ arity_of Const ∷ arity_of Neg ∷ arity_of Square
+    ∷ arity_of Sqrt ∷ arity_of Abs ∷ arity_of Floor ∷ arity_of Add ∷ arity_of Sub ∷ arity_of Mul ∷ arity_of Div
+    ∷ arity_of Min ∷ arity_of Max ∷ [] ≡
+    0 ∷ 0 ∷ 0 ∷ 0 ∷ 1 ∷ 1 ∷ 1 ∷ 1 ∷ 1 ∷ 2 ∷ 2 ∷ 2 ∷ 2 ∷ 2 ∷ 2 ∷ []
+operands_of_operations = refl
+
+-- -2.5 and 1.5, and what each operation gives on them
+abbrev result : Op → ℤ
+result op = op_result op (negsuc 10737418239) (pos 6442450944)
+
+handed_on : result X ∷ result Y ∷ result Z ∷ result Const ∷ [] ≡
+    negsuc 10737418239 ∷ negsuc 10737418239 ∷ negsuc 10737418239 ∷ negsuc 10737418239 ∷ []
+handed_on = refl
+
+-- 2.5, 6.25, no root, 2.5 and -3
+results_of_one : result Neg ∷ result Square ∷ result Sqrt ∷ result Abs ∷ result Floor ∷ [] ≡
+    pos 10737418240 ∷ pos 26843545600 ∷ pos 0 ∷ pos 10737418240 ∷ negsuc 12884901887 ∷ []
+results_of_one = refl
+
+-- -1, -4, -3.75 and -5/3, rounded down
+results_of_two : result Add ∷ result Sub ∷ result Mul ∷ result Div ∷ [] ≡
+    negsuc 4294967295 ∷ negsuc 17179869183 ∷ negsuc 16106127359 ∷ negsuc 7158278826 ∷ []
+results_of_two = refl
+
+lesser_and_greater : result Min ∷ result Max ∷ [] ≡ negsuc 10737418239 ∷ pos 6442450944 ∷ []
+lesser_and_greater = refl
 
 -- each coordinate of a raw point is raw
 raw_coordinates : (p : Point) → IsRawPoint p → IsRaw p.x × IsRaw p.y × IsRaw p.z

@@ -1,5 +1,6 @@
 pub mod Again
 pub mod Bits
+mod BlockExamples
 pub mod EqualityLaws
 mod Examples
 pub mod Joined

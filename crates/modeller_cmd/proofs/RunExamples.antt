@@ -1,14 +1,17 @@
 -- What is so of a run, and what no run does, on runs that were worked out by hand.
-use Rattle.std.proofs.Common.{◌≡◌, ◌+◌, ◌-◌, ◌*◌, ◌≤◌, ℕ, List, ◌∷◌, ◌++◌, [], length, Some, None, ap, refl, arith}
+use Rattle.std.proofs.Common.{◌≡◌, ◌+◌, ◌-◌, ◌*◌, ◌≤◌, ℕ, List, ◌∷◌, ◌++◌, [], length, Some, None, Err, ap, refl, arith}
 use Rattle.std.specs.Prelude.{codes}
 use Rattle.std.specs.Fmt.{digits}
 use Rattle.view_places.specs.Window.{Window}
 use Rattle.view_settings.specs.Setting.{setting_of}
-use Rattle.fixed_ops.specs.Counts.{Counts, RisesAtMost, no_counts, risen}
-use Rattle.model_frames.specs.Work.{CountsWithin}
+use Rattle.fixed_ops.specs.Counts.{Counts, RisesAtMost, RisesWithin, no_counts, risen}
+use Rattle.model_frames.specs.Work.{CountsWithin, CountsWork}
 use Rattle.modeller_cmd.specs.Bands.{HasRoom}
+use Rattle.modeller_cmd.specs.Execution.{Executed}
 use Rattle.modeller_cmd.specs.Runs.{EndsSo, OfOutput, Run, input_of}
 use Rattle.modeller_cmd.specs.declared.status.Status.TheVariants as status
+use Rattle.modeller_cmd.specs.declared.stop.Stop.TheVariants as stop
+use Rattle.view_settings.specs.declared.job.Job.TheVariants as jobs
 
 -- a line takes 64 bytes at most, a header 24, and a band 16 rows: those of three columns take 48
 room_for_rows : (view : Window) (buffer : List ℕ) → view.w ≡ 3 → length buffer ≡ 136 → HasRoom view buffer
@@ -106,6 +109,11 @@ counted_for_a_bad_model : EndsSo (record run { status = status.BadModel; last = 
 counted_for_a_bad_model ends =
     let same : 1 ≡ 0 = ap (λ (counts : Counts). counts.points) (ends.uncounted tt) in omega (arith, same)
 
+-- where nothing fails no status is told but that of the output
+bad_model_of_a_good_one : EndsSo (record run { status = status.BadModel }) → ⊥
+bad_model_of_a_good_one ends =
+    let same : status.BadModel ≡ status.Done = ends.complete (λ asks. (omega arith, omega arith)) (omega arith, omega arith) (λ e. cc) in (cc)
+
 -- no byte of the sink is lost, and the notes fail at most once
 lost_bytes : EndsSo (record run { out_after = [] }) → ⊥
 lost_bytes ends = let same : [] ≡ codes "a" ++ ends.gained.bytes = ends.gained.gained in (cc)
@@ -116,6 +124,14 @@ notes_that_recover ends = omega (arith, ends.never_falls)
 notes_that_fail_twice : EndsSo (record run { note_faults = λ s. length s; notes_after = codes "bcd" }) → ⊥
 notes_that_fail_twice ends = omega (arith, ends.fails_once.within, ends.fails_once.rose)
 
+-- what was done is counted between the least and the most of its work, which is none
+counted_for_no_work : EndsSo (record run { last = counted }) → ⊥
+unfolding CountsWork
+counted_for_no_work ends =
+    let work : RisesWithin no_counts counted no_counts no_counts = ends.counted tt in
+    let points : 1 ≡ risen 0 work.by.points = ap (λ (counts : Counts). counts.points) work.rises in
+    omega (arith, work.within.points, points)
+
 -- no more is counted than the work, which is none
 more_than_no_work : EndsSo (record run { last = counted }) → ⊥
 unfolding CountsWithin
@@ -123,3 +139,9 @@ more_than_no_work ends =
     let work : RisesAtMost no_counts counted no_counts = ends.work in
     let points : 1 ≡ risen 0 work.by.points = ap (λ (counts : Counts). counts.points) work.rises in
     omega (arith, work.within.points, points)
+
+-- without memory a job other than a script writes nothing
+nothing_is_written : (before after : List ℕ) (input : List ℕ)
+    → Executed {T = ℕ} (λ (held : List ℕ). Some held) length before after no_counts no_counts jobs.Text input (Err stop.NoMemory)
+    → after ≡ before
+nothing_is_written before after input executed = executed.unwritten (λ e. cc) refl

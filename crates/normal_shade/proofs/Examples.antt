@@ -1,10 +1,12 @@
 -- Shaded height maps and their work, computed on lists that were worked out by hand.
-use Rattle.std.proofs.Common.{◌≡◌, ℕ, pos, negsuc, [], ◌∷◌, List, refl}
+use Rattle.std.proofs.Common.{◌≡◌, ◌≤◌, ℕ, pos, negsuc, [], ◌∷◌, List, refl}
 use Rattle.box_chains.specs.Chains.{chain_within}
 use Rattle.box_chains.specs.Tested.{spans_where}
 use Rattle.fixed_ops.specs.declared.operation.Op.TheVariants.{X, Y, Z, Const, Square, Mul, Add}
 use Rattle.live_clauses.specs.declared.step.Step.{Step}
-use Rattle.view_places.specs.Window.{Window}
+use Rattle.live_clauses.specs.Steps.{IsTape}
+use Rattle.view_places.specs.Window.{IsWindow, Window}
+use Rattle.normal_shade.specs.Laws.{ShadePointsAreBounded}
 use Rattle.normal_shade.specs.Received.{received_where}
 use Rattle.normal_shade.specs.Shades.{shade_points, shade_spans, shades_of}
 
@@ -75,6 +77,10 @@ saddle_shades = refl
 leaf_points : shade_points (window 1 1 3) toward ≡ 10
 unfolding received_where chain_within
 leaf_points = refl
+
+-- and no more are allowed of one step in one column
+most_points : ShadePointsAreBounded → IsWindow (window 1 1 3) → IsTape toward → shade_points (window 1 1 3) toward ≤ 10
+most_points law is tape = law (window 1 1 3) toward is tape
 
 -- of two halves the far one alone has the top sample: the near one is not traced
 half_points : shade_points (window 1 1 16) toward ≡ 10

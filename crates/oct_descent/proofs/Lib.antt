@@ -8,6 +8,7 @@ pub mod Before
 pub mod Blocks
 pub mod Bounds
 pub mod Bricks
+mod CellExamples
 pub mod Corners
 pub mod Covered
 mod Examples

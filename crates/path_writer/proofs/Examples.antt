@@ -7,7 +7,7 @@ use Rattle.plane_loops.specs.Contours.{Contour}
 use Rattle.plane_loops.specs.declared.plane_vertex.PlaneVertex.{PlaneVertex}
 use Rattle.view_places.specs.Window.{Window}
 use Rattle.path_writer.specs.Apart.{raw_of}
-use Rattle.path_writer.specs.Paths.{path_of, pieces_from}
+use Rattle.path_writer.specs.Paths.{in_space, path_of, pieces_from}
 use Rattle.path_writer.specs.Written.{ArePiecesTo}
 
 abbrev vertex : ℕ → ℕ → ℕ → ℕ → PlaneVertex
@@ -38,6 +38,10 @@ hexagon = record {
   order = 0 ∷ 1 ∷ 3 ∷ 5 ∷ 4 ∷ 2 ∷ [];
   ends = 6 ∷ [];
 }
+
+-- a vertex of a contour is that of the lowest layer of a mesh
+in_lowest_layer : in_space (vertex 5 6 3 7) ≡ record { key = record { x = 5; y = 6; z = 0; dir = 3 }; t = 7 }
+in_lowest_layer = refl
 
 one_loop : path_of window hexagon ≡ codes "M -0.9999847412 -0.9999847412 L 0.0000000000 -0.9999847412 L 0.9999847412 0.0000000000 L 0.9999847412 0.9999847412 L 0.0000000000 0.9999847412 L -0.9999847412 0.0000000000 Z\n"
 unfolding digits size_text

@@ -1,15 +1,18 @@
 -- The definitions, computed on lines that were worked out by hand.
-use Rattle.std.proofs.Common.{◌≡◌, ℕ, false, List, [], ◌∷◌, ◌++◌, None, Some, Ok, Err, refl, arith}
-use Rattle.std.specs.Prelude.{codes}
+use Rattle.std.proofs.Common.{◌≡◌, ℕ, false, true, List, [], ◌∷◌, ◌++◌, None, Some, Ok, Err, refl, arith}
+use Rattle.std.specs.Prelude.{◌<◌, codes, length, map}
 use Rattle.std.proofs.lemmas.List.Elements.{All-nil, All-cons}
 use Rattle.clause_reader.specs.Lines.{tokens_of}
 use Rattle.ply_check.specs.declared.header_line.HeaderLine.TheVariants.{Format, Vertices, Property, Faces, FaceList, Comment, End, Other}
 use Rattle.ply_check.specs.declared.ply_reason.PlyReason.TheVariants.{NotPly, BadHeader, BadFace, BadIndex, TooShort, TooLong}
-use Rattle.ply_check.specs.Answers.{fault_at, ply_answer}
+use Rattle.ply_check.specs.declared.ply_reason.PlyReason.{PlyReason}
+use Rattle.ply_check.specs.declared.stage.Stage.TheVariants.{Opened, Formatted, Counted, Measured, Listed, Described}
+use Rattle.ply_check.specs.Answers.{fault_at, ply_answer, width_at}
 use Rattle.ply_check.specs.FaceLines.{face_line}
 use Rattle.ply_check.specs.Gives.{MayWantMemory}
-use Rattle.ply_check.specs.HeaderLines.{digits_said, header_line, is_ply}
-use Rattle.ply_check.specs.PlyFiles.{ply_lines, HasWidth, PlyReads}
+use Rattle.ply_check.specs.HeaderLines.{digits_said, header_line, is_ply, is_type}
+use Rattle.ply_check.specs.Laws.{NoneIsReadAndRefused}
+use Rattle.ply_check.specs.PlyFiles.{ply_lines, HasWidth, PlyReads, PlyRefuses}
 
 -- what the lines of headers say
 format_says : header_line (tokens_of (codes "format  ascii 1.0\r")) ≡ Format
@@ -38,6 +41,24 @@ property_says = refl
 
 property_of_no_type : header_line (tokens_of (codes "property float16 x")) ≡ Other
 property_of_no_type = refl
+
+-- each type by both of its names, and what is none
+types : map is_type (codes "char" ∷ codes "uchar" ∷ codes "short" ∷ codes "ushort" ∷ codes "int8" ∷ codes "uint8"
+    ∷ codes "int16" ∷ codes "uint16" ∷ []) ≡ true ∷ true ∷ true ∷ true ∷ true ∷ true ∷ true ∷ true ∷ []
+types = refl
+
+long_types_too : map is_type (codes "int" ∷ codes "uint" ∷ codes "float" ∷ codes "double" ∷ codes "int32" ∷ codes "uint32"
+    ∷ codes "float32" ∷ codes "float64" ∷ []) ≡ true ∷ true ∷ true ∷ true ∷ true ∷ true ∷ true ∷ true ∷ []
+long_types_too = refl
+
+no_types : map is_type (codes "float16" ∷ codes "long" ∷ codes "int64" ∷ codes "Int" ∷ []) ≡ false ∷ false ∷ false ∷ false ∷ []
+no_types = refl
+
+-- a list has a type of its count and one of its numbers
+list_without_types : map (λ text. header_line (tokens_of text)) (codes "property list x int vertex_index"
+    ∷ codes "property list uchar x vertex_index" ∷ codes "property lists uchar int vertex_index" ∷ [])
+    ≡ Other ∷ Other ∷ Other ∷ []
+list_without_types = refl
 
 list_says : header_line (tokens_of (codes "property list uchar int vertex_index")) ≡ FaceList
 list_says = refl
@@ -182,6 +203,21 @@ memory_for_the_second = record {
 
     last : ℕ × List (List ℕ)
     last = (7, codes "end_header" ∷ [])
+
+-- some face is left for the line that may want memory
+some_face_is_left : (bytes : List ℕ) (line : ℕ) (memory : MayWantMemory bytes line)
+    → length memory.before < memory.faces
+some_face_is_left bytes line memory = memory.few
+
+-- the same file is refused nowhere
+one_face_is_not_refused : NoneIsReadAndRefused → (line : ℕ) (reason : PlyReason) → PlyRefuses one_face line reason → ⊥
+one_face_is_not_refused law line reason = law one_face 3 ((0 ∷ 1 ∷ 2 ∷ []) ∷ []) line reason one_face_is_said
+
+-- properties are counted while they are read alone
+widths : width_at Opened ∷ width_at Formatted ∷ width_at (Counted 4) ∷ width_at (Measured 4 3)
+    ∷ width_at (Listed (record { vertices = 4; width = 3; faces = 2 }))
+    ∷ width_at (Described (record { vertices = 4; width = 3; faces = 2 })) ∷ [] ≡ 0 ∷ 0 ∷ 0 ∷ 3 ∷ 0 ∷ 0 ∷ []
+widths = refl
 
 nothing_at_all : ply_answer (ply_lines (codes " \n\t\r\n")) ≡ Err (fault_at 0 NotPly)
 nothing_at_all = refl

@@ -96,6 +96,13 @@ texts_of_one_cell texts x y z = record {
   along_z = rw z (record { room = omega arith; each = each_along_z });
 }
 
+-- a text begins at the end of its bytes at the latest
+text_at_the_end : IsTextOf [] (text_from 22 [])
+text_at_the_end = record { few = omega arith; bytes = refl }
+
+text_behind_the_end : (text bytes : List ℕ) → IsTextOf text (record { start = 23; bytes = bytes }) → ⊥
+text_behind_the_end text bytes h = let few : 23 ≤ 22 = h.few in omega (arith, few)
+
 -- the last point has a text too, and its own
 abbrev first : PointText
 first = text_from 9 (codes "-1.0000000000")

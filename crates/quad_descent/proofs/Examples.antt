@@ -231,6 +231,13 @@ other_column h = let column : 3 ≡ 4 = h.column in omega (arith, column)
 other_row : IsAtNext six (scan 4 5) → ⊥
 other_row h = let row : 5 ≡ 6 = h.row in omega (arith, row)
 
+-- after two the next one is the last of row 5, and after three the first of row 6
+third_is_next : IsAtNext six (record { told = 2; i = 5; j = 5; bits = 3 })
+third_is_next = record { column = refl; row = refl }
+
+fourth_is_next : IsAtNext six (record { told = 3; i = 3; j = 6; bits = 6 })
+fourth_is_next = record { column = refl; row = refl }
+
 -- of eight columns the first four are inside, so the first and the last one of those that are told
 four_are_told : IsTold (window 8 8) Raster across six (scan 4 6)
 four_are_told = record { next = fifth_is_next; bits = refl }

@@ -1,16 +1,19 @@
 -- The definitions of solid texts, computed on texts that were worked out by hand.
-use Rattle.std.proofs.Common.{◌≡◌, ℕ, ◌+◌, ◌*◌, pos, inl, inr, [], ◌∷◌, Option, None, Some, Ok, Err, refl, arith}
+use Rattle.std.proofs.Common.{◌≡◌, ℕ, ◌+◌, ◌*◌, pos, inl, inr, List, [], ◌∷◌, Option, None, Some, Ok, Err, refl, arith}
 use Rattle.std.specs.Prelude.{codes, negsuc}
 use Rattle.fixed_ops.specs.Numerals.{is_unsigned_numeral, unsigned_raw, nearest_raw, cut_magnitude}
-use Rattle.solid_lang.specs.declared.solid_reason.SolidReason.TheVariants.{BadNumeral, Empty, NotPositive, TooDeep, Trailing, Unended, UnknownForm}
+use Rattle.solid_lang.specs.declared.axes.Axes.{Axes}
+use Rattle.solid_lang.specs.declared.solid.Solid.TheVariants as held
+use Rattle.solid_lang.specs.declared.solid_reason.SolidReason.TheVariants.{BadNumeral, Empty, NoMemory, NotPositive, TooDeep, Trailing, Unended, UnknownForm}
 use Rattle.solid_lang.specs.declared.want.Want.TheVariants.{Numeral, Size, Whole}
 use Rattle.solid_lang.specs.Building.{solid_read, ◌>>=◌}
 use Rattle.solid_lang.specs.Counts.{clause_count, depth}
-use Rattle.solid_lang.specs.Gives.{Judges}
+use Rattle.solid_lang.specs.Gives.{Judges, Withholds}
 use Rattle.solid_lang.specs.Judged.{fault_at, judged}
 use Rattle.solid_lang.specs.NumberedTokens.{numbered_tokens}
 use Rattle.solid_lang.specs.Room.{FitsBefore, HaveRoom}
-use Rattle.solid_lang.specs.Solids.{Ball, Block, Difference, Move}
+use Rattle.solid_lang.specs.Placing.{StandBefore}
+use Rattle.solid_lang.specs.Solids.{Ball, Block, Cylinder, Difference, Move, tree}
 use Rattle.solid_lang.specs.Wants.{take_token, wants_after, whole_solid}
 
 -- a comment's tokens are none, and tokens keep their lines
@@ -97,6 +100,10 @@ judged_ball = record {
   few = omega arith;
 }
 
+-- want of memory for a solid is told on no line
+memory_on_a_line : (text : List ℕ) → Withholds text 1 NoMemory → ⊥
+memory_on_a_line text withholds = let zero : 1 ≡ 0 = withholds.zero in omega (arith, zero)
+
 -- a box behind it is one solid too many, on the second line
 judged_two : Judges (codes "ball 1\nbox") (Err (fault_at 2 Trailing))
 unfolding is_unsigned_numeral unsigned_raw nearest_raw cut_magnitude
@@ -109,6 +116,29 @@ judged_two = inl (inr (inl (record {
   good = refl;
   bad = refl;
 })))
+
+-- a solid that is held is the tree of the same numbers in their order
+held_cylinder : tree (held.Cylinder (pos 5) (pos 7)) ≡ Cylinder (pos 5) (pos 7)
+held_cylinder = refl
+
+held_block : tree (held.Block (pos 5) (pos 7) (pos 9)) ≡ Block (pos 5) (pos 7) (pos 9)
+held_block = refl
+
+-- each coordinate stands before a place
+abbrev axes_at : ℕ → ℕ → ℕ → Axes
+axes_at x y z = record { x = x; y = y; z = z }
+
+axes_before : StandBefore 3 (axes_at 0 1 2)
+axes_before = record { x = omega arith; y = omega arith; z = omega arith }
+
+x_at_the_place : StandBefore 3 (axes_at 3 1 2) → ⊥
+x_at_the_place stand = omega (arith, stand.x)
+
+y_at_the_place : StandBefore 3 (axes_at 0 3 2) → ⊥
+y_at_the_place stand = omega (arith, stand.y)
+
+z_at_the_place : StandBefore 3 (axes_at 0 1 3) → ⊥
+z_at_the_place stand = omega (arith, stand.z)
 
 -- a solid within 256 forms has at most 256 wants behind it, and none stands within more
 room_within : FitsBefore (Whole 256) 256

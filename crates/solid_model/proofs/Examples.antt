@@ -21,7 +21,7 @@ use Rattle.solid_model.specs.Keys.{key_bytes}
 use Rattle.solid_model.specs.LentArgs.{args_seen}
 use Rattle.solid_model.specs.LentEdits.{edit_seen}
 use Rattle.solid_model.specs.Named.{named_of, placed}
-use Rattle.solid_model.specs.Names.{is_name}
+use Rattle.solid_model.specs.Names.{IsName, is_name}
 use Rattle.solid_model.specs.Parts.{Parts}
 use Rattle.solid_model.specs.Slopes.{sloped_values, solid_sloped}
 use Rattle.solid_model.specs.Values.{values, solid_value}
@@ -124,6 +124,9 @@ set_makes_none makes = makes
 cut_makes_none : MakesClause (Cut (120 ∷ [])) → ⊥
 cut_makes_none makes = makes
 
+put_makes_one : MakesClause (Put (99 ∷ []) (120 ∷ []) leaf)
+put_makes_one = tt
+
 -- of some edits the first is asked, and none makes no clause
 no_edit_makes_none : FirstMakesClause [] → ⊥
 no_edit_makes_none makes = makes
@@ -138,6 +141,12 @@ second_is_not_asked makes = makes
 names : map is_name ((97 ∷ []) ∷ (97 ∷ 35 ∷ []) ∷ [] ∷ (35 ∷ 97 ∷ []) ∷ (97 ∷ 32 ∷ 98 ∷ []) ∷ (97 ∷ 9 ∷ []) ∷ (13 ∷ 97 ∷ []) ∷ (97 ∷ 10 ∷ 98 ∷ []) ∷ [])
     ≡ true ∷ true ∷ false ∷ false ∷ false ∷ false ∷ false ∷ false ∷ []
 names = refl
+
+short_name : IsName (97 ∷ [])
+short_name = refl
+
+no_byte_is_no_name : IsName [] → ⊥
+no_byte_is_no_name is = let same : false ≡ true = is in (cc)
 
 -- one change of three puts a clause in
 insert_puts_in : (clause : ClauseRef) → PutsIn (Insert 1 clause)

@@ -20,5 +20,6 @@ pub mod ReversalLemmas
 pub mod Rewrites
 pub mod SurgeryLemmas
 pub mod SurgeryModels
+mod TableExamples
 pub mod UseLemmas
 pub mod ValueLemmas

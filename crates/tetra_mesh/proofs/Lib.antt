@@ -1,4 +1,5 @@
 mod Examples
+mod ShapeExamples
 pub mod Bits
 pub mod EdgeLaws
 pub mod FaceLaws

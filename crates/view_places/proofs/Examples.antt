@@ -3,10 +3,12 @@ use Rattle.std.proofs.Common.{◌≡◌, ℕ, zero, suc, pos, negsuc, ◌≤◌,
 use Rattle.std.specs.List.{range_with_len}
 use Rattle.std.specs.Prelude.{◌==◌, ◌≤ℤ◌, if◌then◌else◌}
 use Rattle.fixed_ops.specs.Raw.{IsRaw, greatest, least}
+use Rattle.view_places.specs.declared.course.Course.TheVariants.{Rising, Falling, Level}
 use Rattle.view_places.specs.declared.lattice.Axis.TheVariants as axes
 use Rattle.view_places.specs.declared.lattice.Lattice.TheVariants.{Raster, Height, Grid}
 use Rattle.view_places.specs.Boxes.{Indices, IsBox, middle, one_sample}
 use Rattle.view_places.specs.Places.{sample_place, point_of, raster_point, steps_of}
+use Rattle.view_places.specs.Samples.{place_by}
 use Rattle.view_places.specs.Spans.{IsInRoot, IsPlaceAmong, region_of, root_box_of}
 use Rattle.view_places.specs.Window.{AreEnds, FitsHeight, IsCount, IsWindow, Window, fits_contour, fits_mesh, has_room, same_view, size_of}
 
@@ -37,6 +39,11 @@ row_rounds_up = refl
 
 layer_rounds_down : sample_place (counted 4) Height axes.Z 2 ≡ pos 1431655765
 layer_rounds_down = refl
+
+-- the second of five samples from 3 to 11: up from 3, down from 11, or at 3 as all are
+second_by_course : place_by Rising (pos 3) (pos 11) 4 1 ∷ place_by Falling (pos 3) (pos 11) 4 1
+    ∷ place_by Level (pos 3) (pos 11) 4 1 ∷ [] ≡ pos 5 ∷ pos 9 ∷ pos 3 ∷ []
+second_by_course = refl
 
 -- the rows of a mesh rise
 mesh_rows_rise : sample_place (counted 3) Grid axes.Y 1 ≡ negsuc 1431655765

@@ -28,9 +28,10 @@ each_name_is_read = refl
 
 each_verb_is_read : map verb_named (codes "render" ∷ codes "height" ∷ codes "mesh" ∷ codes "count"
     ∷ codes "text" ∷ codes "replay" ∷ codes "forge" ∷ codes "shade" ∷ codes "contour"
-    ∷ codes "solid" ∷ codes "forges" ∷ [])
+    ∷ codes "solid" ∷ codes "check" ∷ codes "forges" ∷ [])
     ≡ Some verbs.Render ∷ Some verbs.Height ∷ Some verbs.Mesh ∷ Some verbs.Count ∷ Some verbs.Text
-    ∷ Some verbs.Replay ∷ Some verbs.Forge ∷ Some verbs.Shade ∷ Some verbs.Contour ∷ Some verbs.Solid ∷ None ∷ []
+    ∷ Some verbs.Replay ∷ Some verbs.Forge ∷ Some verbs.Shade ∷ Some verbs.Contour ∷ Some verbs.Solid
+    ∷ Some verbs.Check ∷ None ∷ []
 each_verb_is_read = refl
 
 -- no two names have one number
@@ -71,6 +72,9 @@ contours_are_flat = refl
 
 forms_have_none : settings_of verbs.Solid ≡ []
 forms_have_none = refl
+
+checks_have_none : settings_of verbs.Check ≡ []
+checks_have_none = refl
 
 greatest_counts : map greatest_of (W ∷ H ∷ D ∷ N ∷ Nx ∷ Ny ∷ Nz ∷ Solids ∷ [])
     ≡ 4096 ∷ 4096 ∷ 1024 ∷ 256 ∷ 512 ∷ 512 ∷ 512 ∷ 5000 ∷ []
@@ -132,6 +136,9 @@ no_room_in_the_plane = refl
 
 forms_alone : job_of (codes "solid" ∷ []) ≡ Ok jobs.Solid
 forms_alone = refl
+
+check_alone : job_of (codes "check" ∷ []) ≡ Ok jobs.Check
+check_alone = refl
 
 mesh_alone : job_of (codes "mesh" ∷ []) ≡ Ok (jobs.Mesh untold)
 unfolding has_room
