@@ -188,17 +188,13 @@ fn is_stray(command: &Command<'_>, line: u32) -> bool {
 // Whether these are the commands behind the edits.
 fn draw_and_end(commands: &[Command<'_>]) -> bool {
     match commands {
-        [
-            Command::Render(render),
-            Command::Height(height),
-            Command::Mesh(mesh),
-            Command::Text,
-            Command::Cost,
-            Command::Undo(line),
-        ] => {
-            let image = (render.w, render.z) == (3, 1 << 31);
-            let map = (height.w, height.d) == (1024, 300);
-            image && map && (mesh.nx, mesh.h) == (5, 512) && *line == 18
+        [image, map, mesh, text, cost, undo] => {
+            matches!(image, Command::Render(view) if (view.w, view.z) == (3, 1 << 31))
+                && matches!(map, Command::Height(view) if (view.w, view.d) == (1024, 300))
+                && matches!(mesh, Command::Mesh(view) if (view.nx, view.h) == (5, 512))
+                && matches!(text, Command::Text)
+                && matches!(cost, Command::Cost)
+                && matches!(undo, Command::Undo(18))
         }
         _ => false,
     }
