@@ -173,9 +173,10 @@ fn root_lists_hold_what_is_live(rt: HostRuntime) -> Result<(), Fail> {
 
 #[test]
 fn root_lists_leave_out_what_the_last_clause_does_not_need(rt: HostRuntime) -> Result<(), Fail> {
-    let steps = [constant(4), step(Op::X, 0, 0), step(Op::Div, 0, 1)];
-    expect_root_steps(&rt, rt.alloc(), b"c const 1\nx var-x\nd div c x", &steps)?;
-    expect_root_steps(&rt, rt.alloc(), b"u const 5\nx var-x", &steps[1..2])
+    let quotient = [constant(4), step(Op::X, 0, 0), step(Op::Div, 0, 1)];
+    let coordinate = [step(Op::X, 0, 0)];
+    expect_root_steps(&rt, rt.alloc(), b"c const 1\nx var-x\nd div c x", &quotient)?;
+    expect_root_steps(&rt, rt.alloc(), b"u const 5\nx var-x", &coordinate)
 }
 
 // A list is the same as the root lists of these texts, or is not.

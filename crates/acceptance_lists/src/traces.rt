@@ -177,9 +177,10 @@ fn expect_lanes_in(rt: &impl Abort, list: &Tape, regs: &mut [[Fx; 8]]) {
 
 // Whether so many of these values are those of the list, of seven steps each.
 fn are_values(outcome: Option<([Fx; 8], u64)>, lanes: usize) -> bool {
-    let Some((row, points)) = outcome else {
+    let Some(given) = outcome else {
         return false;
     };
+    let (row, points) = (&given.0, given.1);
     // Where x is below 0 the lesser and x are 2 x - 0.5, and elsewhere -0.5.
     let expected = [-10, -8, -6, -4, -2, -2, -2, -2].map(quarter);
     points / 7 == lanes as u64
