@@ -16,7 +16,3 @@ are_rows (Some image) view row len is whole within =
 -- after an image that stands
 pub over_drawn : (s t : State) (view : Window) → t ≡ after_frame s (Render view) → IsOver t.image view
 over_drawn s t view is = subst (λ (u : State). IsOver u.image view) (sym is) refl
-
--- and as long as it does
-pub over_kept : (o p : Option Drawing) (view : Window) → p ≡ o → IsOver o view → IsOver p view
-over_kept o p view is over = subst (λ q. IsOver q view) (sym is) over

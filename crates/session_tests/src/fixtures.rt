@@ -1,5 +1,5 @@
 // What the tests share: views, models, edits, and frames with the work that they take.
-ghost use Rattle.std.specs.Prelude.{◌≡◌, IsTrue};
+ghost use Rattle.std.specs.Prelude.{IsTrue};
 ghost use Rattle.model_frames.specs.Frames.{CanDraw};
 ghost use Rattle.view_places.specs.Window.{IsCount};
 
@@ -138,9 +138,7 @@ pub(crate) fn open(alloc: Global, text: &[u8]) -> Option<Session> {
 }
 
 // An edit that the session accepts. None: memory was refused.
-pub(crate) fn make(alloc: Global, session: &mut Session, change: Change) -> Option<()>
-    ensures { session.new.image ≡ session.old.image }
-{
+pub(crate) fn make(alloc: Global, session: &mut Session, change: Change) -> Option<()> {
     session.edit(edit_of(alloc, change)?).ok()
 }
 

@@ -1,10 +1,8 @@
-// The rows of the last image, the texts of the last mesh in a buffer, and meshes of several views.
-ghost use Rattle.std.specs.Prelude.{◌≡◌, ◌<◌};
+// The rows of the last image in bands, and meshes of several views.
+ghost use Rattle.std.specs.Prelude.{◌<◌};
 ghost use Rattle.quad_descent.specs.Rows.{IsOver};
 
-use crate::fixtures::{
-    BALL, BARS, Change, ONE, Sides, draw_fresh, is_fresh, make, open, takes, view, view_of,
-};
+use crate::fixtures::{BARS, ONE, Sides, is_fresh, open, takes, view, view_of};
 use clause_reader::read_model;
 use edit_session::Session;
 use fixed_ops::Tally;
@@ -123,145 +121,6 @@ fn assert_discs(rt: &impl Abort, alloc: Global) -> Option<()> {
 #[test]
 fn rows_are_the_same_however_many_are_asked_for(rt: HostRuntime) {
     assert!(rt; assert_discs(&rt, rt.alloc()).is_some());
-}
-
-// Turns the plane, and draws what is no image. None: memory was refused.
-fn turn(alloc: Global, session: &mut Session) -> Option<()>
-    ensures { session.new.image ≡ session.old.image }
-{
-    let view = view(3, 3, 2)?;
-    if !view.fits_height() || !view.fits_mesh() {
-        return None;
-    }
-    make(alloc, session, Change::Set(b"f", b"var-x"))?;
-    session.height(&view, &mut Tally::new()).ok()?;
-    match session.mesh(&view, &mut Tally::new()) {
-        Ok(_) => Some(()),
-        Err(_) => None,
-    }
-}
-
-// Draws a plane, and paints its image when it was turned. None: memory was refused.
-#[tactic(auto, using(crate::proofs::Asked::over_drawn, crate::proofs::Asked::over_kept))]
-fn assert_turned(rt: &impl Abort, alloc: Global, session: &mut Session) -> Option<()> {
-    let view = view(3, 3, 2)?;
-    let Ok(()) = session.draw_raster(&view, &mut Tally::new()) else {
-        return None;
-    };
-    assert!(rt; session.cost() == (9, 1));
-    turn(alloc, session)?;
-    assert!(rt; session.cost() == (9, 1));
-    assert_painted(
-        rt,
-        alloc,
-        session,
-        &view,
-        &[0, 0, 0, 0, 0, 0, 255, 255, 255],
-    )
-}
-
-fn assert_old(rt: &impl Abort, alloc: Global) -> Option<()> {
-    let mut session = open(alloc, b"f var-y\n")?;
-    assert_turned(rt, alloc, &mut session)
-}
-
-#[test]
-fn rows_are_those_of_the_model_that_was_drawn(rt: HostRuntime) {
-    assert!(rt; assert_old(&rt, rt.alloc()).is_some());
-}
-
-// The bars in one row, and where the second one is moved by an eighth.
-const TWO_BARS: [u8; 32] = [
-    0, 0, 0, 0, 255, 255, 255, 255, 255, 255, 255, 255, 0, 0, 0, 0, 0, 0, 0, 0, 255, 255, 255, 255,
-    255, 255, 255, 255, 0, 0, 0, 0,
-];
-
-const MOVED_BARS: [u8; 32] = [
-    0, 0, 0, 0, 255, 255, 255, 255, 255, 255, 255, 255, 0, 0, 0, 0, 0, 0, 0, 0, 0, 0, 255, 255,
-    255, 255, 255, 255, 255, 255, 0, 0,
-];
-
-// Draws an image without its bytes, which takes this, and paints its rows. None: memory was refused.
-#[tactic(auto, using(crate::proofs::Asked::over_drawn))]
-fn assert_drawn(
-    rt: &impl Abort,
-    alloc: Global,
-    session: &mut Session,
-    cost: (u64, u64),
-    pixels: &[u8],
-) -> Option<()> {
-    let view = view(32, 1, 1)?;
-    let Ok(()) = session.draw_raster(&view, &mut Tally::new()) else {
-        return None;
-    };
-    assert!(rt; session.cost() == cost);
-    assert_painted(rt, alloc, session, &view, pixels)
-}
-
-// Draws the bars, and draws them again where one of them was moved. None: memory was refused.
-fn assert_bars(rt: &impl Abort, alloc: Global, session: &mut Session) -> Option<()> {
-    assert_drawn(rt, alloc, session, (192, 54), &TWO_BARS)?;
-    assert_drawn(rt, alloc, session, (0, 0), &TWO_BARS)?;
-    make(alloc, session, Change::Set(b"q", b"const 0.625"))?;
-    assert_drawn(rt, alloc, session, (128, 50), &MOVED_BARS)
-}
-
-fn assert_moved(rt: &impl Abort, alloc: Global) -> Option<()> {
-    let mut session = open(alloc, BARS)?;
-    assert_bars(rt, alloc, &mut session)
-}
-
-#[test]
-fn rows_are_those_of_the_image_that_was_drawn_last(rt: HostRuntime) {
-    assert!(rt; assert_moved(&rt, rt.alloc()).is_some());
-}
-
-// Draws a mesh, and makes its text in a buffer once the model was changed. None: memory was refused.
-fn make_text(alloc: Global, session: &mut Session, buffer: &mut Vec<u8>) -> Option<()> {
-    let view = view(8, 8, 3)?;
-    if !view.fits_mesh() {
-        return None;
-    }
-    session.draw_mesh(&view, &mut Tally::new()).ok()?;
-    make(alloc, session, Change::Set(b"r", b"const 0.75"))?;
-    session.mesh_text_in(buffer).ok()
-}
-
-// The text of the last mesh, made in a buffer, is that of the model that was drawn. None: memory was
-// refused.
-fn assert_made(
-    rt: &impl Abort,
-    alloc: Global,
-    session: &mut Session,
-    buffer: &mut Vec<u8>,
-) -> Option<()> {
-    let whole = draw_fresh(alloc, session, &Frame::Mesh(view(8, 8, 3)?))?;
-    make_text(alloc, session, buffer)?;
-    assert!(rt; *buffer == whole.bytes);
-    Some(())
-}
-
-// Makes texts in one buffer, before the first mesh and after two. None: memory was refused.
-fn assert_in_one(
-    rt: &impl Abort,
-    alloc: Global,
-    session: &mut Session,
-    buffer: &mut Vec<u8>,
-) -> Option<()> {
-    session.mesh_text_in(buffer).ok()?;
-    assert!(rt; buffer.is_empty());
-    assert_made(rt, alloc, session, buffer)?;
-    assert_made(rt, alloc, session, buffer)
-}
-
-fn assert_texts(rt: &impl Abort, alloc: Global) -> Option<()> {
-    let mut session = open(alloc, BALL)?;
-    assert_in_one(rt, alloc, &mut session, &mut Vec::new(alloc))
-}
-
-#[test]
-fn a_buffer_serves_one_text_after_another(rt: HostRuntime) {
-    assert!(rt; assert_texts(&rt, rt.alloc()).is_some());
 }
 
 // The end along x, the end along z, the columns, and the cells along x, y and z, of views that differ from the
