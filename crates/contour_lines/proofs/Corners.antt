@@ -1,6 +1,6 @@
 -- The corners of a cell, one after another.
 use Rattle.std.proofs.Common.{◌≡◌, ℕ, zero, suc, ◌+◌, ◌-◌, ◌/◌, ◌%◌, ◌<◌, ◌≤◌, ℤ, Bool, true, false, refl, sym, ap, subst, ◌∙◌, ◌⊎◌, inl, inr, arith}
-use Rattle.std.specs.Prelude.{Option, Some, None, is_some, nat_lt, not, ◌||◌}
+use Rattle.std.specs.Prelude.{Option, Some, None, is_some, nat_lt, not, ◌||◌, unwrap_or}
 use Rattle.std.proofs.lemmas.Bool.{cases_lt, false≢true}
 use Rattle.std.proofs.lemmas.Bool.Decides.{nat_tests}
 use Rattle.kuhn_cells.specs.Triangles.{GridPoint, further, point}
@@ -15,7 +15,7 @@ use Rattle.oct_descent.specs.Kinds.{low_cell}
 use Rattle.oct_descent.specs.Known.{AllKnown, Known}
 use Rattle.oct_descent.specs.Tables.{is_known}
 use Rattle.oct_descent.specs.Ways.{Covers}
-use Rattle.contour_lines.specs.Corners.{IsSeen, ShowsCorner, side_seen}
+use Rattle.contour_lines.specs.Corners.{AllShow, IsSeen, LacksCorner, ShowsCorner, side_seen}
 use Rattle.contour_lines.specs.Ways.{cell_square, floor_of}
 use Rattle.contour_lines.specs.declared.seen.Seen.{Seen}
 use Rattle.contour_lines.proofs.Borders.{or-false}
@@ -99,23 +99,32 @@ all-known b t is known p covers =
 -- what the first known corners of a cell show
 pub record IsSeenTo (t : Known) (p : GridPoint) (n : ℕ) (seen : Seen) : Type 0 where
   pub all : seen.all ≡ true → (c : ℕ) → c < n → is_known (t.at (further p c)) ≡ true
+  pub lacks : seen.all ≡ false → LacksCorner t p
   pub inside : seen.inside ≡ true → ShowsCorner t p true
+  pub none_inside : seen.inside ≡ false → AllShow t p n false
   pub outside : seen.outside ≡ true → ShowsCorner t p false
+  pub none_outside : seen.outside ≡ false → AllShow t p n true
 
 -- no corner shows that all are known
 pub seen-none : (t : Known) (p : GridPoint) → IsSeenTo t p 0 (record { all = true; inside = false; outside = false })
 seen-none t p = record {
   all = λ e c less. absurd (omega (arith, less));
+  lacks = λ e. absurd (false≢true (sym e));
   inside = λ e. absurd (false≢true e);
+  none_inside = λ e c v less known. absurd (omega (arith, less));
   outside = λ e. absurd (false≢true e);
+  none_outside = λ e c v less known. absurd (omega (arith, less));
 }
 
 -- and all four of them show what the cell shows
 pub seen-all : (t : Known) (p : GridPoint) (n : ℕ) (seen : Seen) → 4 ≤ n → IsSeenTo t p n seen → IsSeen t p seen
 seen-all t p n seen most so = record {
   all = λ e c few. so.all e c (omega (arith, few, most));
+  lacks = so.lacks;
   inside = so.inside;
+  none_inside = λ e c v few. so.none_inside e c v (omega (arith, few, most));
   outside = so.outside;
+  none_outside = λ e c v few. so.none_outside e c v (omega (arith, few, most));
 }
 
 or-parts : (a b : Bool) → (a || b) ≡ true → (a ≡ true) ⊎ (b ≡ true)
@@ -126,17 +135,36 @@ not-true : (a : Bool) → not a ≡ true → a ≡ false
 not-true true e = sym e
 not-true false e = refl
 
+not-false : (a : Bool) → not a ≡ false → a ≡ true
+not-false true e = refl
+not-false false e = sym e
+
 -- and with one more
 pub seen-more : (t : Known) (p : GridPoint) (n : ℕ) (seen : Seen) (o : Option ℤ) → n < 4 → o ≡ t.at (further p n) → IsSeenTo t p n seen → IsSeenTo t p (n + 1) (side_seen seen o)
 seen-more t p n seen None few is so = record {
   all = λ e. absurd (false≢true e);
+  lacks = λ e. record { corner = n; few = few; unknown = ap is_known (sym is) };
   inside = so.inside;
+  none_inside = λ e. stays false (so.none_inside e);
   outside = so.outside;
+  none_outside = λ e. stays true (so.none_outside e);
 }
+  where
+    stays : (inside : Bool) → AllShow t p n inside → AllShow t p (n + 1) inside
+    stays inside show c v less known = by (cases_lt c n)
+      where
+        by : (c < n) ⊎ (n ≤ c) → is_inside v ≡ inside
+        by (inl below) = show c v below known
+        by (inr above) =
+            let same : n ≡ c = omega (arith, above, less) in
+            absurd (false≢true (ap is_known (is ∙ ap (λ k. t.at (further p k)) same ∙ known)))
 seen-more t p n seen (Some v) few is so = record {
   all = λ e c less. by e c less (cases_lt c n);
+  lacks = so.lacks;
   inside = λ e. inner (or-parts seen.inside (is_inside v) e);
+  none_inside = λ e. let parts = or-false seen.inside (is_inside v) e in joins false (so.none_inside parts.0) parts.1;
   outside = λ e. outer (or-parts seen.outside (not (is_inside v)) e);
+  none_outside = λ e. let parts = or-false seen.outside (not (is_inside v)) e in joins true (so.none_outside parts.0) (not-false (is_inside v) parts.1);
 }
   where
     by : seen.all ≡ true → (c : ℕ) → c < n + 1 → (c < n) ⊎ (n ≤ c) → is_known (t.at (further p c)) ≡ true
@@ -152,6 +180,16 @@ seen-more t p n seen (Some v) few is so = record {
     outer : (seen.outside ≡ true) ⊎ (not (is_inside v) ≡ true) → ShowsCorner t p false
     outer (inl e) = so.outside e
     outer (inr e) = record { corner = n; few = few; value = v; known = sym is; side = not-true (is_inside v) e }
+
+    joins : (inside : Bool) → AllShow t p n inside → is_inside v ≡ inside → AllShow t p (n + 1) inside
+    joins inside show here c w less known = on (cases_lt c n)
+      where
+        on : (c < n) ⊎ (n ≤ c) → is_inside w ≡ inside
+        on (inl below) = show c w below known
+        on (inr above) =
+            let same : n ≡ c = omega (arith, above, less) in
+            let value : v ≡ w = ap (λ o. unwrap_or o w) (is ∙ ap (λ k. t.at (further p k)) same ∙ known) in
+            ap is_inside (sym value) ∙ here
 
 -- the floor of a box of one cell has exactly the corners of the cell
 pub square-floor : (b : Indices) (s : Sample) (p : GridPoint) → IsOne b → LiesIn b s → Covers (cell_square s) p → Covers (floor_of b) p

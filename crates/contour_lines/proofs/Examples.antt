@@ -1,6 +1,8 @@
 -- Plane grids and their work, computed on lists that were worked out by hand.
-use Rattle.std.proofs.Common.{◌≡◌, ℕ, zero, suc, ◌<◌, ℤ, pos, negsuc, true, false, [], ◌∷◌, List, refl, arith}
-use Rattle.std.specs.Prelude.{◌||◌, All, None, Some, if◌then◌else◌}
+use Rattle.std.proofs.Common.{◌≡◌, ℕ, zero, suc, ◌<◌, ℤ, pos, negsuc, true, false, [], ◌∷◌, List, refl, sym, ap, arith}
+use Rattle.std.specs.Prelude.{◌||◌, All, None, Some, if◌then◌else◌, is_some, unwrap_or}
+use Rattle.std.proofs.lemmas.Bool.{false≢true}
+use Rattle.fixed_ops.specs.Raw.{is_inside}
 use Rattle.fixed_ops.specs.declared.operation.Op.TheVariants.{X, Z, Const}
 use Rattle.kuhn_cells.specs.Triangles.{further, point}
 use Rattle.live_clauses.specs.declared.step.Step.{Step}
@@ -11,7 +13,7 @@ use Rattle.oct_descent.specs.Ways.{way_within}
 use Rattle.view_places.specs.Window.{Window}
 use Rattle.contour_lines.specs.declared.gap.Gap.{Gap}
 use Rattle.contour_lines.specs.Bound.{contour_least, contour_points, contour_spans, flat_least, flat_points, plane_lengths, plane_working_lengths}
-use Rattle.contour_lines.specs.Corners.{IsSeen}
+use Rattle.contour_lines.specs.Corners.{AllShow, IsSeen}
 use Rattle.contour_lines.specs.Gaps.{AreGaps, IsCornerBelow, StandsIn, has_gap, lies_at, spot}
 use Rattle.contour_lines.specs.Planes.{laid_flat, plane_value}
 use Rattle.contour_lines.specs.Signs.{signs_at}
@@ -164,3 +166,34 @@ last_corner_is_missing h = let found : false ≡ true = h.all 3 (omega arith) in
 -- nor are all corners known where that one is not
 not_all_known : IsSeen three_known (point 0 0 0) (record { all = true; inside = false; outside = true }) → ⊥
 not_all_known h = let known : false ≡ true = h.all refl 3 (omega arith) in (cc)
+
+-- the three that are known are all outside, which is seen: to see nothing of this cell is refused
+three_are_seen : IsSeen three_known (point 0 0 0) (record { all = false; inside = false; outside = true })
+three_are_seen = record {
+  all = λ e. absurd (false≢true e);
+  lacks = λ e. record { corner = 3; few = omega arith; unknown = refl };
+  inside = λ e. absurd (false≢true e);
+  none_inside = λ e. outside;
+  outside = λ e. record { corner = 0; few = omega arith; value = pos 5; known = refl; side = refl };
+  none_outside = λ e. absurd (false≢true (sym e));
+}
+  where
+    outside : AllShow three_known (point 0 0 0) 4 false
+    outside zero v h is = ap is_inside (sym (ap (λ o. unwrap_or o v) is))
+    outside (suc zero) v h is = ap is_inside (sym (ap (λ o. unwrap_or o v) is))
+    outside (suc (suc zero)) v h is = ap is_inside (sym (ap (λ o. unwrap_or o v) is))
+    outside (suc (suc (suc zero))) v h is = absurd (false≢true (ap is_some is))
+    outside (suc (suc (suc (suc c)))) v h is = absurd (omega (arith, h))
+
+nothing_seen_is_refused : IsSeen three_known (point 0 0 0) (record { all = false; inside = false; outside = false }) → ⊥
+nothing_seen_is_refused h = let side : false ≡ true = h.none_outside refl 0 (pos 5) (omega arith) refl in (cc)
+
+-- where all corners are known and inside, it is refused to see none inside, or not to see that all are known
+abbrev inside_known : Known
+inside_known = record three_known { at = λ p. Some (negsuc 4) }
+
+none_seen_inside_is_refused : IsSeen inside_known (point 0 0 0) (record { all = true; inside = false; outside = false }) → ⊥
+none_seen_inside_is_refused h = let side : true ≡ false = h.none_inside refl 0 (negsuc 4) (omega arith) refl in (cc)
+
+some_unknown_is_refused : IsSeen inside_known (point 0 0 0) (record { all = false; inside = true; outside = false }) → ⊥
+some_unknown_is_refused h = let known : true ≡ false = (h.lacks refl).unknown in (cc)

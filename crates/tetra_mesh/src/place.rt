@@ -64,7 +64,6 @@ pub(crate) fn between(low: i64, high: i64, t: u32) -> i64
 
 // So many parts of 65536 of a way, rounded down.
 #[inline]
-#[tactic(auto, using(crate::proofs::WayLaws::parts_within))]
 fn parts(way: i64, t: u32) -> i64
     requires { t ≤ 65535 }
     ensures { result ≡ floor_div (way *ℤ pos t) 65536 }
