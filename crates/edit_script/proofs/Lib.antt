@@ -2,7 +2,6 @@ pub mod CommandLaws
 pub mod CommandLemmas
 mod Examples
 pub mod KeywordLemmas
-pub mod KeywordLengths
 pub mod LineStarts
 pub mod MarkLemmas
 pub mod ReasonLemmas

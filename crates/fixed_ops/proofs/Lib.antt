@@ -2,7 +2,6 @@ pub mod CountLaws
 pub mod DigitLaws
 mod Examples
 pub mod NumeralLaws
-pub mod OpNameLaws
 pub mod PairLaws
 pub mod PartLaws
 pub mod PointLaws

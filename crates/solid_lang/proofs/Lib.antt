@@ -5,7 +5,6 @@ pub mod EachStep
 pub mod Filling
 pub mod FitLemmas
 pub mod FormLemmas
-pub mod FormLengths
 pub mod Giving
 pub mod Joining
 pub mod Judging

@@ -4,6 +4,5 @@ pub mod GrammarLaws
 pub mod JobLaws
 pub mod NameLaws
 pub mod ReasonLaws
-pub mod VerbLaws
 mod WordExamples
 pub mod WordLaws
