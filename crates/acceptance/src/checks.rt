@@ -1,6 +1,7 @@
 // Meshes that are checked. What is found of each was worked out by hand.
 use modeller_cmd::Status;
 use std::alloc::{AllocError, Global};
+use std::process::Abort;
 use std::test::Fail;
 use trial_runs::{Ending, Ran, Trial};
 
@@ -80,16 +81,6 @@ const FOUND: [(Body, &str); 15] = [
     ((1, 0, "#\n"), "vertex 0"),
 ];
 
-#[test]
-fn what_breaks_a_mesh_first_is_told(rt: HostRuntime) -> Result<(), Fail> {
-    for (body, told) in FOUND {
-        let ran = check_body(rt.alloc(), body, told)?;
-        assert_eq!(rt; ran.ending, Ending::wanted(Status::Done), "{told:?}");
-        assert_eq!(rt; ran.work.points, 0, "{told:?}");
-    }
-    Ok(())
-}
-
 // Checks a file that should be told so.
 fn check(alloc: Global, text: &str, told: &str) -> Result<Ran, AllocError> {
     let line = format!(in alloc; "{told}\n")?;
@@ -109,6 +100,21 @@ fn check_body(
     check(alloc, &text, told)
 }
 
+fn expect_found(rt: &impl Abort, alloc: Global, rows: &[(Body, &str)]) -> Result<(), AllocError> {
+    for (body, told) in rows {
+        let ran = check_body(alloc, *body, told)?;
+        let is_told = ran.ending == Ending::wanted(Status::Done) && ran.work.points == 0;
+        assert!(rt; is_told, "{told:?}: {ran:?}");
+    }
+    Ok(())
+}
+
+#[test]
+fn what_breaks_a_mesh_first_is_told(rt: HostRuntime) -> Result<(), Fail> {
+    expect_found(&rt, rt.alloc(), &FOUND)?;
+    Ok(())
+}
+
 // Models, and what is found of their meshes of two cells a side: one inside point, and none.
 const MADE: [(&[u8], &[u8]); 2] = [
     (
@@ -119,15 +125,6 @@ const MADE: [(&[u8], &[u8]); 2] = [
     (b"a const 1", b"closed manifold 0 0\n"),
 ];
 
-#[test]
-fn a_mesh_that_is_made_is_closed(rt: HostRuntime) -> Result<(), Fail> {
-    for (model, told) in MADE {
-        let ending = check_made(rt.alloc(), model, told)?;
-        assert_eq!(rt; ending, Ending::wanted(Status::Done), "{told:?}");
-    }
-    Ok(())
-}
-
 // Makes the mesh of a model and checks it, which should be told so.
 fn check_made(alloc: Global, model: &[u8], told: &[u8]) -> Result<Ending, AllocError> {
     let made = Trial::new(&["mesh", "n=2"], model).written(alloc, 2048)?;
@@ -136,6 +133,23 @@ fn check_made(alloc: Global, model: &[u8], told: &[u8]) -> Result<Ending, AllocE
             .run(alloc, told, b"")?
             .ending,
     )
+}
+
+fn expect_made(rt: &impl Abort, alloc: Global, rows: &[(&[u8], &[u8])]) -> Result<(), AllocError> {
+    for (model, told) in rows {
+        let ending = check_made(alloc, model, told)?;
+        assert!(rt;
+            ending == Ending::wanted(Status::Done),
+            "{told:?}: {ending:?}"
+        );
+    }
+    Ok(())
+}
+
+#[test]
+fn a_mesh_that_is_made_is_closed(rt: HostRuntime) -> Result<(), Fail> {
+    expect_made(&rt, rt.alloc(), &MADE)?;
+    Ok(())
 }
 
 // Texts that are no mesh, the lines that are noted, and the reasons. Line 0 stands for the whole text.
@@ -175,12 +189,24 @@ const REFUSED: [(&str, u32, &str); 9] = [
     ),
 ];
 
+fn expect_refusals(
+    rt: &impl Abort,
+    alloc: Global,
+    rows: &[(&str, u32, &str)],
+) -> Result<(), AllocError> {
+    for (text, line, reason) in rows {
+        let trial = Trial::new(&["check"], text.as_bytes());
+        let ending = trial.run_refused(alloc, "line", *line, reason)?.ending;
+        assert!(rt;
+            ending == Ending::wanted(Status::BadModel),
+            "{text:?}: {ending:?}"
+        );
+    }
+    Ok(())
+}
+
 #[test]
 fn the_first_bad_line_is_noted(rt: HostRuntime) -> Result<(), Fail> {
-    for (text, line, reason) in REFUSED {
-        let trial = Trial::new(&["check"], text.as_bytes());
-        let ran = trial.run_refused(rt.alloc(), "line", line, reason)?;
-        assert_eq!(rt; ran.ending, Ending::wanted(Status::BadModel), "{text:?}");
-    }
+    expect_refusals(&rt, rt.alloc(), &REFUSED)?;
     Ok(())
 }

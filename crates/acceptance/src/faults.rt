@@ -1,6 +1,7 @@
 // Calls of the source and the sinks that fail.
 use modeller_cmd::Status;
 use std::alloc::{AllocError, Global};
+use std::process::Abort;
 use std::test::Fail;
 use trial_runs::{Calls, DISC, DISC_PICTURE, Ending, Held, Ran, THREE_BY_THREE, Trial};
 
@@ -42,29 +43,32 @@ fn failing_to_read(chunk: u64, failing: u64) -> Trial<'static> {
 // that the input ends.
 const READS: [(u64, u8); 2] = [(1, 69), (4, 18)];
 
+// Each of so many reads fails, and nothing is evaluated then.
+fn expect_faults(rt: &impl Abort, alloc: Global, chunk: u64, reads: u8) -> Result<(), AllocError> {
+    for before in 0..reads {
+        let trial = failing_to_read(chunk, u64::from(before) + 1);
+        let ran = trial.run(alloc, b"", b"modeller: read fault\n")?;
+        let fails = ran.ending == Ending::wanted(Status::ReadFault) && ran.work.points == 0;
+        assert!(rt; fails, "{before} of {chunk}: {ran:?}");
+    }
+    Ok(())
+}
+
+fn expect_reads(rt: &impl Abort, alloc: Global, rows: &[(u64, u8)]) -> Result<(), AllocError> {
+    for (chunk, reads) in rows {
+        expect_faults(rt, alloc, *chunk, *reads)?;
+        // One more is not made, and so does not fail.
+        let trial = failing_to_read(*chunk, u64::from(*reads) + 1);
+        let ran = trial.run(alloc, DISC_PICTURE, b"")?;
+        let is_drawn = ran.ending == Ending::wanted(Status::Done) && ran.work.points != 0;
+        assert!(rt; is_drawn, "{reads} of {chunk}: {ran:?}");
+    }
+    Ok(())
+}
+
 #[test]
 fn each_read_may_fail(rt: HostRuntime) -> Result<(), Fail> {
-    for (chunk, reads) in READS {
-        for before in 0..reads {
-            let trial = failing_to_read(chunk, u64::from(before) + 1);
-            let ran = trial.run(rt.alloc(), b"", b"modeller: read fault\n")?;
-            assert_eq!(rt;
-                ran.ending,
-                Ending::wanted(Status::ReadFault),
-                "{before} of {chunk}"
-            );
-            assert_eq!(rt; ran.work.points, 0, "{before} of {chunk}");
-        }
-        // One more is not made, and so does not fail.
-        let trial = failing_to_read(chunk, u64::from(reads) + 1);
-        let ran = trial.run(rt.alloc(), DISC_PICTURE, b"")?;
-        assert_eq!(rt;
-            ran.ending,
-            Ending::wanted(Status::Done),
-            "{reads} of {chunk}"
-        );
-        assert!(rt; ran.work.points != 0, "{reads} of {chunk}");
-    }
+    expect_reads(&rt, rt.alloc(), &READS)?;
     Ok(())
 }
 
@@ -87,8 +91,11 @@ fn write_front(
 fn each_byte_may_be_the_first_that_is_not_written(rt: HostRuntime) -> Result<(), Fail> {
     let trial = Trial::new(THREE_BY_THREE, DISC);
     for taken in 0..20u8 {
-        let ran = write_front(rt.alloc(), trial, DISC_PICTURE, taken)?;
-        assert_eq!(rt; ran.ending, Ending::wanted(Status::WriteFault), "{taken}");
+        let ending = write_front(rt.alloc(), trial, DISC_PICTURE, taken)?.ending;
+        assert!(rt;
+            ending == Ending::wanted(Status::WriteFault),
+            "{taken}: {ending:?}"
+        );
     }
     Ok(())
 }
@@ -116,13 +123,13 @@ const NOTED: [Noted; 7] = [
 ];
 
 // A run whose note fails at this call, and has taken these bytes then.
-fn note_front(alloc: Global, noted: Noted, failing: u64, front: &[u8]) -> Result<Ran, AllocError> {
+fn note_front(alloc: Global, noted: &Noted, failing: u64, front: &[u8]) -> Result<Ran, AllocError> {
     let (words, comment, text, failing_read, failing_write, _) = noted;
-    let mut input = vec![in alloc; b'#'; comment]?;
+    let mut input = vec![in alloc; b'#'; *comment]?;
     input.extend_from_slice(text)?;
     let mut trial = Trial::new(words, &input);
-    trial.reads.failing = failing_read;
-    trial.writes.failing = failing_write;
+    trial.reads.failing = *failing_read;
+    trial.writes.failing = *failing_write;
     trial.notes = Calls { chunk: 9, failing };
     trial.run(alloc, b"", front)
 }
@@ -130,15 +137,32 @@ fn note_front(alloc: Global, noted: Noted, failing: u64, front: &[u8]) -> Result
 // The call of a note that fails, at once or behind nine bytes, and what is noted.
 const NOTES: [(u64, &[u8]); 2] = [(1, b""), (2, b"modeller:")];
 
+// Each run ends with its status where its note fails so.
+fn expect_noted(
+    rt: &impl Abort,
+    alloc: Global,
+    rows: &[Noted],
+    failing: u64,
+    front: &[u8],
+) -> Result<(), AllocError> {
+    for noted in rows {
+        let ending = note_front(alloc, noted, failing, front)?.ending;
+        let (words, _, _, _, _, status) = noted;
+        assert!(rt; ending == Ending::wanted(*status), "{words:?}: {ending:?}");
+    }
+    Ok(())
+}
+
+fn expect_notes(rt: &impl Abort, alloc: Global, notes: &[(u64, &[u8])]) -> Result<(), AllocError> {
+    for (failing, front) in notes {
+        expect_noted(rt, alloc, &NOTED, *failing, front)?;
+    }
+    Ok(())
+}
+
 #[test]
 fn a_note_that_fails_changes_no_status(rt: HostRuntime) -> Result<(), Fail> {
-    for noted in NOTED {
-        let (words, _, _, _, _, status) = noted;
-        for (failing, front) in NOTES {
-            let ran = note_front(rt.alloc(), noted, failing, front)?;
-            assert_eq!(rt; ran.ending, Ending::wanted(status), "{words:?}");
-        }
-    }
+    expect_notes(&rt, rt.alloc(), &NOTES)?;
     Ok(())
 }
 
@@ -160,17 +184,28 @@ fn tall_picture(alloc: Global) -> Result<Vec<u8>, AllocError> {
 // In the header, at the ends of rows that are written together, among them, and at the last byte.
 const TAKEN: [u8; 10] = [0, 4, 11, 12, 59, 60, 84, 107, 108, 110];
 
+// So many bytes of the tall picture are written. All of the work is done: each sample is evaluated, and its
+// column is halved into 17 and 16 rows, into 9, 8, 8 and 8, and the 9 into 5 and 4.
+fn expect_fronts(
+    rt: &impl Abort,
+    alloc: Global,
+    picture: &[u8],
+    counts: &[u8],
+) -> Result<(), AllocError> {
+    let trial = Trial::new(TALL, HALF);
+    for taken in counts {
+        let ran = write_front(alloc, trial, picture, *taken)?;
+        let takes_all = ran.work.points == 99 && ran.work.spans == 9;
+        let fails = ran.ending == Ending::wanted(Status::WriteFault);
+        assert!(rt; fails && takes_all, "{taken}: {ran:?}");
+    }
+    Ok(())
+}
+
 #[test]
 fn a_write_that_fails_leaves_a_front_of_a_tall_picture(rt: HostRuntime) -> Result<(), Fail> {
     let picture = tall_picture(rt.alloc())?;
-    let trial = Trial::new(TALL, HALF);
-    for taken in TAKEN {
-        let ran = write_front(rt.alloc(), trial, &picture, taken)?;
-        assert_eq!(rt; ran.ending, Ending::wanted(Status::WriteFault), "{taken}");
-        // All of the work is done: each sample is evaluated, and its column is halved into 17 and 16 rows,
-        // into 9, 8, 8 and 8, and the 9 into 5 and 4.
-        assert_eq!(rt; (ran.work.points, ran.work.spans), (99, 9), "{taken}");
-    }
+    expect_fronts(&rt, rt.alloc(), &picture, &TAKEN)?;
     Ok(())
 }
 
@@ -196,13 +231,27 @@ fn write_frames(alloc: Global, calls: u8) -> Result<Ran, AllocError> {
     trial.run(alloc, FRAMES_WRITTEN, b"modeller: write fault\n")
 }
 
-// The least and the most work behind so many bytes. That of the frame whose bytes are not taken is done, and
-// none behind it: three samples of one clause, three of two, and at most the eight corners of a cell.
-fn work_behind(count: usize) -> ((u64, u64), (u64, u64)) {
+// Whether a run may have done this work where so many bytes are written. That of the frame whose bytes are not
+// taken is done, and none behind it: three samples of one clause, three of two, and at most the eight corners of
+// a cell.
+fn is_work_behind(count: usize, points: u64, spans: u64) -> bool {
     match count {
-        0..=25 => ((3, 1), (3, 1)),
-        26..=51 => ((9, 3), (9, 3)),
-        _ => ((9, 3), (17, 11)),
+        0..=25 => points == 3 && spans == 1,
+        26..=51 => points == 9 && spans == 3,
+        _ => 9 <= points && points <= 17 && 3 <= spans && spans <= 11,
+    }
+}
+
+// Whether a run ends at a write that fails after so many calls, each of which takes one byte to four.
+fn ends_behind(ran: &Ran, calls: u8) -> bool {
+    let calls = usize::from(calls);
+    match ran.ending.out {
+        Held::Front(count) => {
+            calls <= count
+                && count <= 4 * calls
+                && is_work_behind(count, ran.work.points, ran.work.spans)
+        }
+        _ => false,
     }
 }
 
@@ -211,22 +260,8 @@ fn a_script_ends_at_the_call_that_fails(rt: HostRuntime) -> Result<(), Fail> {
     // 220 bytes take at least 55 calls.
     for calls in 0..55u8 {
         let ran = write_frames(rt.alloc(), calls)?;
-        assert_eq!(rt; ran.ending.status, Status::WriteFault, "after {calls}");
-        assert_eq!(rt; ran.ending.notes, Held::All, "after {calls}");
-        let count = match ran.ending.out {
-            Held::Front(count) => count,
-            _ => usize::MAX,
-        };
-        assert!(rt; usize::from(calls) <= count && count <= 4 * usize::from(calls));
-        let (least, most) = work_behind(count);
-        assert!(rt;
-            least.0 <= ran.work.points && ran.work.points <= most.0,
-            "after {calls}"
-        );
-        assert!(rt;
-            least.1 <= ran.work.spans && ran.work.spans <= most.1,
-            "after {calls}"
-        );
+        let fails = ran.ending.status == Status::WriteFault && ran.ending.notes == Held::All;
+        assert!(rt; fails && ends_behind(&ran, calls), "after {calls}: {ran:?}");
     }
     Ok(())
 }

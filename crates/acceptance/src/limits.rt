@@ -1,12 +1,16 @@
 // The longest input, the most clauses, and the largest image.
 use modeller_cmd::Status;
 use std::alloc::{AllocError, Global};
+use std::process::Abort;
 use std::test::Fail;
 use trial_runs::{Ending, Trial};
 
-// Lengths of an input that is one comment line, the number of the read that fails, the status and the
-// note. Reads take 8192 bytes. No read is made behind the one that tells that an input is too long.
-const LENGTHS: [(usize, u64, Status, &[u8]); 4] = [
+// The length of an input that is one comment line, the number of the read that fails, the status and the
+// note.
+type Length = (usize, u64, Status, &'static [u8]);
+
+// Reads take 8192 bytes. No read is made behind the one that tells that an input is too long.
+const LENGTHS: [Length; 4] = [
     (
         8_388_608,
         1026,
@@ -46,12 +50,20 @@ fn read_comment(
     Ok(trial.run(alloc, b"", note)?.ending)
 }
 
+fn expect_lengths(rt: &impl Abort, alloc: Global, rows: &[Length]) -> Result<(), AllocError> {
+    for (length, failing, status, note) in rows {
+        let ending = read_comment(alloc, *length, *failing, note)?;
+        assert!(rt;
+            ending == Ending::wanted(*status),
+            "{failing} of {length}: {ending:?}"
+        );
+    }
+    Ok(())
+}
+
 #[test]
 fn an_input_has_at_most_8_mib(rt: HostRuntime) -> Result<(), Fail> {
-    for (length, failing, status, note) in LENGTHS {
-        let ending = read_comment(rt.alloc(), length, failing, note)?;
-        assert_eq!(rt; ending, Ending::wanted(status), "{failing} of {length}");
-    }
+    expect_lengths(&rt, rt.alloc(), &LENGTHS)?;
     Ok(())
 }
 
@@ -71,8 +83,10 @@ fn draw_copies(alloc: Global, count: u32, out: &[u8], note: &[u8]) -> Result<End
     Ok(trial.run(alloc, out, note)?.ending)
 }
 
-// Counts of clauses, the status, and what is written and noted.
-const COUNTS: [(u32, Status, &[u8], &[u8]); 2] = [
+// How many clauses there are, the status, and what is written and noted.
+type Count = (u32, Status, &'static [u8], &'static [u8]);
+
+const COUNTS: [Count; 2] = [
     (65_535, Status::Done, b"P5\n1 1\n255\n\xff", b""),
     (
         65_536,
@@ -82,12 +96,17 @@ const COUNTS: [(u32, Status, &[u8], &[u8]); 2] = [
     ),
 ];
 
+fn expect_counts(rt: &impl Abort, alloc: Global, rows: &[Count]) -> Result<(), AllocError> {
+    for (count, status, out, note) in rows {
+        let ending = draw_copies(alloc, *count, out, note)?;
+        assert!(rt; ending == Ending::wanted(*status), "{count}: {ending:?}");
+    }
+    Ok(())
+}
+
 #[test]
 fn a_model_has_at_most_65_535_clauses(rt: HostRuntime) -> Result<(), Fail> {
-    for (count, status, out, note) in COUNTS {
-        let ending = draw_copies(rt.alloc(), count, out, note)?;
-        assert_eq!(rt; ending, Ending::wanted(status), "{count}");
-    }
+    expect_counts(&rt, rt.alloc(), &COUNTS)?;
     Ok(())
 }
 
@@ -159,9 +178,11 @@ fn two_clauses_of_a_fan_are_counted(rt: HostRuntime) -> Result<(), Fail> {
     Ok(())
 }
 
-// Edits of the first clause, of the middle one and of the last one, and the image and the cost behind each.
-// Two negations in a row change nothing.
-const EDITS: [(&str, &[u8], &str); 4] = [
+// An edit, and the image and the cost behind it.
+type Edit = (&'static str, &'static [u8], &'static str);
+
+// Edits of the first clause, of the middle one and of the last one. Two negations in a row change nothing.
+const EDITS: [Edit; 4] = [
     // 65,534 negations of x.
     ("", LEFT, "@ cost 13\n524280 65535\n"),
     // The box is decided, once all steps are traced.
@@ -177,19 +198,19 @@ const EDITS: [(&str, &[u8], &str); 4] = [
 ];
 
 // A chain, and a script of these edits, each with an image and its cost behind it.
-fn edited_chain(alloc: Global) -> Result<String, AllocError> {
+fn edited_chain(alloc: Global, edits: &[Edit]) -> Result<String, AllocError> {
     let mut script = chain(alloc, "n0 var-x\n", "")?;
     script.push_str("%%\n")?;
-    for (edit, _, _) in EDITS {
+    for (edit, _, _) in edits {
         writeln!(script, "{edit}render w=8 h=1\ncost")?;
     }
     Ok(script)
 }
 
 // What it writes.
-fn edited_images(alloc: Global) -> Result<Vec<u8>, AllocError> {
+fn edited_images(alloc: Global, edits: &[Edit]) -> Result<Vec<u8>, AllocError> {
     let mut written = Vec::new(alloc);
-    for (_, image, cost) in EDITS {
+    for (_, image, cost) in edits {
         written.extend_from_slice(image)?;
         written.extend_from_slice(cost.as_bytes())?;
     }
@@ -198,8 +219,8 @@ fn edited_images(alloc: Global) -> Result<Vec<u8>, AllocError> {
 
 #[test]
 fn an_edit_anywhere_in_a_chain_is_seen(rt: HostRuntime) -> Result<(), Fail> {
-    let script = edited_chain(rt.alloc())?;
-    let written = edited_images(rt.alloc())?;
+    let script = edited_chain(rt.alloc(), &EDITS)?;
+    let written = edited_images(rt.alloc(), &EDITS)?;
     let ran = Trial::new(&["replay"], script.as_bytes()).run(rt.alloc(), &written, b"")?;
     assert_eq!(rt; ran.ending, Ending::wanted(Status::Done));
     Ok(())

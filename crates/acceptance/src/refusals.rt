@@ -1,6 +1,7 @@
 // Texts that are no model, each with the line and the reason of its first defect.
 use modeller_cmd::Status;
 use std::alloc::{AllocError, Global};
+use std::process::Abort;
 use std::test::Fail;
 use trial_runs::{DISC, DISC_PICTURE, Ending, Ran, THREE_BY_THREE, Trial};
 
@@ -45,14 +46,24 @@ pub const CASES: [(&str, u32, &str); 28] = [
     ("\u{e9}\0 var-x\n\u{e9}\0 var-y", 2, "DoubleName"),
 ];
 
+// Each text is refused so, and nothing is evaluated.
+fn expect_refusals(
+    rt: &impl Abort,
+    alloc: Global,
+    rows: &[(&str, u32, &str)],
+) -> Result<(), AllocError> {
+    for (text, line, reason) in rows {
+        let trial = Trial::new(&["render"], text.as_bytes());
+        let ran = trial.run_refused(alloc, "line", *line, reason)?;
+        let is_refused = ran.ending == Ending::wanted(Status::BadModel) && ran.work.points == 0;
+        assert!(rt; is_refused, "{text:?}: {ran:?}");
+    }
+    Ok(())
+}
+
 #[test]
 fn the_line_and_the_reason_of_the_first_defect_are_noted(rt: HostRuntime) -> Result<(), Fail> {
-    for (text, line, reason) in CASES {
-        let trial = Trial::new(&["render"], text.as_bytes());
-        let ran = trial.run_refused(rt.alloc(), "line", line, reason)?;
-        assert_eq!(rt; ran.ending, Ending::wanted(Status::BadModel), "{text:?}");
-        assert_eq!(rt; ran.work.points, 0, "{text:?}");
-    }
+    expect_refusals(&rt, rt.alloc(), &CASES)?;
     Ok(())
 }
 
@@ -63,9 +74,11 @@ const LEFT: &[u8] = b"P5\n3 3\n255\n\xff\x00\x00\xff\x00\x00\xff\x00\x00";
 
 const BELOW: &[u8] = b"P5\n3 3\n255\n\x00\x00\x00\x00\x00\x00\xff\xff\xff";
 
-// The text of the disc, cut behind so many bytes: the last count that ends so, the picture, the line and
-// the reason. A text that is drawn has no reason.
-const CUTS: [(u8, &[u8], u32, &str); 27] = [
+// The last count of bytes behind which the text of the disc is cut so, the picture, the line and the reason.
+// A text that is drawn has no reason.
+type Cut = (u8, &'static [u8], u32, &'static str);
+
+const CUTS: [Cut; 27] = [
     (0, b"", 0, "Empty"),
     (2, b"", 1, "NoOperation"),
     (6, b"", 1, "UnknownOperation"),
@@ -112,20 +125,32 @@ fn draw_front(
     trial.run_refused(alloc, "line", line, reason)
 }
 
+// Fronts of the disc end as the row says, from so many bytes on.
+fn expect_cut(rt: &impl Abort, alloc: Global, first: u8, row: &Cut) -> Result<(), AllocError> {
+    let (last, picture, line, reason) = row;
+    let status = if reason.is_empty() {
+        Status::Done
+    } else {
+        Status::BadModel
+    };
+    for length in first..=*last {
+        let ending = draw_front(alloc, usize::from(length), picture, *line, reason)?.ending;
+        assert!(rt; ending == Ending::wanted(status), "{length}: {ending:?}");
+    }
+    Ok(())
+}
+
+fn expect_cuts(rt: &impl Abort, alloc: Global, rows: &[Cut]) -> Result<(), AllocError> {
+    let mut first = 0;
+    for row in rows {
+        expect_cut(rt, alloc, first, row)?;
+        first = row.0.saturating_add(1);
+    }
+    Ok(())
+}
+
 #[test]
 fn a_text_that_is_cut_is_another_text(rt: HostRuntime) -> Result<(), Fail> {
-    let mut count = 0;
-    for (last, picture, line, reason) in CUTS {
-        let status = if reason.is_empty() {
-            Status::Done
-        } else {
-            Status::BadModel
-        };
-        for length in count..=usize::from(last) {
-            let ran = draw_front(rt.alloc(), length, picture, line, reason)?;
-            assert_eq!(rt; ran.ending, Ending::wanted(status), "{length}");
-        }
-        count = usize::from(last) + 1;
-    }
+    expect_cuts(&rt, rt.alloc(), &CUTS)?;
     Ok(())
 }

@@ -2,6 +2,7 @@
 use crate::refusals;
 use modeller_cmd::Status;
 use std::alloc::{AllocError, Global};
+use std::process::Abort;
 use std::test::Fail;
 use trial_runs::{DISC, DISC_PICTURE, Ending, THREE_BY_THREE, Trial};
 
@@ -18,11 +19,23 @@ fn refuse_surely(alloc: Global, text: &str, line: u32, reason: &str) -> Result<E
     Trial::new(&["text"], text.as_bytes()).run_surely(alloc, b"", note.as_bytes())
 }
 
+fn expect_refusals(
+    rt: &impl Abort,
+    alloc: Global,
+    rows: &[(&str, u32, &str)],
+) -> Result<(), AllocError> {
+    for (text, line, reason) in rows {
+        let ending = refuse_surely(alloc, text, *line, reason)?;
+        assert!(rt;
+            ending == Ending::wanted(Status::BadModel),
+            "{text:?}: {ending:?}"
+        );
+    }
+    Ok(())
+}
+
 #[test]
 fn texts_are_refused_surely(rt: HostRuntime) -> Result<(), Fail> {
-    for (text, line, reason) in refusals::CASES {
-        let ending = refuse_surely(rt.alloc(), text, line, reason)?;
-        assert_eq!(rt; ending, Ending::wanted(Status::BadModel), "{text:?}");
-    }
+    expect_refusals(&rt, rt.alloc(), &refusals::CASES)?;
     Ok(())
 }

@@ -1,5 +1,7 @@
 // Words that ask for nothing that can be done. Nothing is written or read then, and the note tells why.
 use modeller_cmd::Status;
+use std::alloc::{AllocError, Global};
+use std::process::Abort;
 use std::test::Fail;
 use trial_runs::{DISC, Ending, Rest, Trial};
 
@@ -161,32 +163,30 @@ const OTHERS: [Case; 34] = [
     (&["replay", "w=1"], 2, "UnknownSetting"),
 ];
 
+// The words of each row are refused so.
+fn expect_refusals(rt: &impl Abort, alloc: Global, rows: &[Case]) -> Result<(), AllocError> {
+    for (words, number, reason) in rows {
+        let ran = Trial::new(words, DISC).run_refused(alloc, "word", *number, reason)?;
+        let is_refused = ran.ending == Ending::wanted(Status::Usage) && ran.rest == Rest::All;
+        assert!(rt; is_refused, "{words:?}: {ran:?}");
+    }
+    Ok(())
+}
+
 #[test]
 fn words_of_images_that_are_refused_leave_the_source(rt: HostRuntime) -> Result<(), Fail> {
-    for (words, number, reason) in IMAGES {
-        let ran = Trial::new(words, DISC).run_refused(rt.alloc(), "word", number, reason)?;
-        assert_eq!(rt; ran.ending, Ending::wanted(Status::Usage), "{words:?}");
-        assert_eq!(rt; ran.rest, Rest::All, "{words:?}");
-    }
+    expect_refusals(&rt, rt.alloc(), &IMAGES)?;
     Ok(())
 }
 
 #[test]
 fn words_of_meshes_that_are_refused_leave_the_source(rt: HostRuntime) -> Result<(), Fail> {
-    for (words, number, reason) in MESHES {
-        let ran = Trial::new(words, DISC).run_refused(rt.alloc(), "word", number, reason)?;
-        assert_eq!(rt; ran.ending, Ending::wanted(Status::Usage), "{words:?}");
-        assert_eq!(rt; ran.rest, Rest::All, "{words:?}");
-    }
+    expect_refusals(&rt, rt.alloc(), &MESHES)?;
     Ok(())
 }
 
 #[test]
 fn other_words_that_are_refused_leave_the_source(rt: HostRuntime) -> Result<(), Fail> {
-    for (words, number, reason) in OTHERS {
-        let ran = Trial::new(words, DISC).run_refused(rt.alloc(), "word", number, reason)?;
-        assert_eq!(rt; ran.ending, Ending::wanted(Status::Usage), "{words:?}");
-        assert_eq!(rt; ran.rest, Rest::All, "{words:?}");
-    }
+    expect_refusals(&rt, rt.alloc(), &OTHERS)?;
     Ok(())
 }

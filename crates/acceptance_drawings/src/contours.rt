@@ -1,5 +1,7 @@
 // Contours as path data. The paths were worked out from the definition, over all cells.
 use modeller_cmd::Status;
+use std::alloc::{AllocError, Global};
+use std::process::Abort;
 use std::test::Fail;
 use trial_runs::{Calls, Ending, Trial};
 
@@ -75,16 +77,22 @@ const CASES: [Case; 11] = [
     (&["contour", "n=2", "z=-1"], "z var-z\nf neg z", b""),
 ];
 
-#[test]
-fn the_outline_is_closed_loops(rt: HostRuntime) -> Result<(), Fail> {
-    for (words, model, paths) in CASES {
-        let ran = Trial::new(words, model.as_bytes()).run(rt.alloc(), paths, b"")?;
-        assert_eq!(rt;
-            ran.ending,
-            Ending::wanted(Status::Done),
-            "{words:?}: {model:?}"
+fn expect_paths(rt: &impl Abort, alloc: Global, rows: &[Case]) -> Result<(), AllocError> {
+    for (words, model, paths) in rows {
+        let ending = Trial::new(words, model.as_bytes())
+            .run(alloc, paths, b"")?
+            .ending;
+        assert!(rt;
+            ending == Ending::wanted(Status::Done),
+            "{words:?}: {model:?}: {ending:?}"
         );
     }
+    Ok(())
+}
+
+#[test]
+fn the_outline_is_closed_loops(rt: HostRuntime) -> Result<(), Fail> {
+    expect_paths(&rt, rt.alloc(), &CASES)?;
     Ok(())
 }
 

@@ -4,6 +4,7 @@
 use fixed_ops::Tally;
 use modeller_cmd::Status;
 use std::alloc::{AllocError, Global};
+use std::process::Abort;
 use std::test::Fail;
 use trial_runs::{Calls, DISC, Ending, Ran, Trial};
 
@@ -77,19 +78,26 @@ fn count(
     trial.run(alloc, lines.as_bytes(), b"")
 }
 
+// Whether a run is done with so many evaluations and hulls.
+fn takes(ran: &Ran, points: u64, spans: u64) -> bool {
+    ran.ending == Ending::wanted(Status::Done)
+        && ran.work.points == points
+        && ran.work.spans == spans
+}
+
+fn expect_counts(rt: &impl Abort, alloc: Global, rows: &[Case]) -> Result<(), AllocError> {
+    for (words, model, points, spans, plain) in rows {
+        let trial = Trial::new(words, model.as_bytes());
+        let ran = count(alloc, trial, *points, *spans, *plain)?;
+        let is_told = takes(&ran, *points, *spans) && ran.work.corners <= spans.saturating_mul(4);
+        assert!(rt; is_told, "{model:?}: {ran:?}");
+    }
+    Ok(())
+}
+
 #[test]
 fn the_work_of_an_image_is_counted_and_told(rt: HostRuntime) -> Result<(), Fail> {
-    for (words, model, points, spans, plain) in CASES {
-        let trial = Trial::new(words, model.as_bytes());
-        let ran = count(rt.alloc(), trial, points, spans, plain)?;
-        assert_eq!(rt; ran.ending, Ending::wanted(Status::Done), "{model:?}");
-        assert_eq!(rt;
-            (ran.work.points, ran.work.spans),
-            (points, spans),
-            "{model:?}"
-        );
-        assert!(rt; ran.work.corners <= spans.saturating_mul(4));
-    }
+    expect_counts(&rt, rt.alloc(), &CASES)?;
     Ok(())
 }
 
@@ -102,8 +110,7 @@ const BARS_PICTURE: &[u8] = b"P5\n32 1\n255\n\
 fn a_picture_takes_the_work_that_is_told(rt: HostRuntime) -> Result<(), Fail> {
     let trial = Trial::new(&["render", "w=32", "h=1"], BARS.as_bytes());
     let ran = trial.run(rt.alloc(), BARS_PICTURE, b"")?;
-    assert_eq!(rt; ran.ending, Ending::wanted(Status::Done));
-    assert_eq!(rt; (ran.work.points, ran.work.spans), (192, 54));
+    assert!(rt; takes(&ran, 192, 54), "{ran:?}");
     Ok(())
 }
 
@@ -113,13 +120,11 @@ fn what_was_counted_before_is_kept_and_not_told(rt: HostRuntime) -> Result<(), F
     let picture = b"P5\n9 1\n255\n\xff\xff\xff\xff\x00\x00\x00\x00\x00";
     let first = Trial::new(&["render", "w=9", "h=1"], b"x var-x");
     let ran = first.run_counted(rt.alloc(), &mut tally, picture, b"")?;
-    assert_eq!(rt; ran.ending, Ending::wanted(Status::Done));
-    assert_eq!(rt; (ran.work.points, ran.work.spans), (5, 3));
+    assert!(rt; takes(&ran, 5, 3), "{ran:?}");
     let told = b"points 8\nspans 1\nplain 8\n";
     let second = Trial::new(&["count", "w=8", "h=1"], b"x var-x");
     let ran = second.run_counted(rt.alloc(), &mut tally, told, b"")?;
-    assert_eq!(rt; ran.ending, Ending::wanted(Status::Done));
-    assert_eq!(rt; (ran.work.points, ran.work.spans), (13, 4));
+    assert!(rt; takes(&ran, 13, 4), "{ran:?}");
     Ok(())
 }
 
@@ -152,13 +157,19 @@ const REFUSED: [Refused; 3] = [
     ),
 ];
 
+fn expect_refusals(rt: &impl Abort, alloc: Global, rows: &[Refused]) -> Result<(), AllocError> {
+    for (words, text, status, note) in rows {
+        let ran = Trial::new(words, text).run(alloc, b"", note)?;
+        let takes_nothing = ran.work.points == 0 && ran.work.spans == 0;
+        let is_refused = ran.ending == Ending::wanted(*status) && takes_nothing;
+        assert!(rt; is_refused, "{words:?}: {ran:?}");
+    }
+    Ok(())
+}
+
 #[test]
 fn what_is_refused_is_not_counted(rt: HostRuntime) -> Result<(), Fail> {
-    for (words, text, status, note) in REFUSED {
-        let ran = Trial::new(words, text).run(rt.alloc(), b"", note)?;
-        assert_eq!(rt; ran.ending, Ending::wanted(status), "{words:?}");
-        assert_eq!(rt; (ran.work.points, ran.work.spans), (0, 0), "{words:?}");
-    }
+    expect_refusals(&rt, rt.alloc(), &REFUSED)?;
     Ok(())
 }
 

@@ -1,6 +1,7 @@
 // Meshes. They were worked out with exact integers, point by point and cell by cell.
 use modeller_cmd::Status;
 use std::alloc::{AllocError, Global};
+use std::process::Abort;
 use std::test::Fail;
 use trial_runs::{Calls, Ending, Trial, Written};
 
@@ -142,15 +143,36 @@ fn mesh_round_a_point(alloc: Global, trial: Trial, places: &str) -> Result<Endin
     Ok(trial.run(alloc, text.as_bytes(), b"")?.ending)
 }
 
+fn expect_meshes(rt: &impl Abort, alloc: Global, rows: &[Case]) -> Result<(), AllocError> {
+    for (words, model, places) in rows {
+        let trial = Trial::new(words, model.as_bytes());
+        let ending = mesh_round_a_point(alloc, trial, places)?;
+        assert!(rt;
+            ending == Ending::wanted(Status::Done),
+            "{words:?}: {model:?}: {ending:?}"
+        );
+    }
+    Ok(())
+}
+
 #[test]
 fn the_mesh_parts_the_inside_from_the_outside(rt: HostRuntime) -> Result<(), Fail> {
-    for (words, model, places) in CASES {
-        let trial = Trial::new(words, model.as_bytes());
-        let ending = mesh_round_a_point(rt.alloc(), trial, places)?;
-        assert_eq!(rt;
-            ending,
-            Ending::wanted(Status::Done),
-            "{words:?}: {model:?}"
+    expect_meshes(&rt, rt.alloc(), &CASES)?;
+    Ok(())
+}
+
+fn expect_empty(
+    rt: &impl Abort,
+    alloc: Global,
+    rows: &[(&[&str], &str)],
+) -> Result<(), AllocError> {
+    for (words, model) in rows {
+        let ending = Trial::new(words, model.as_bytes())
+            .run(alloc, NOTHING, b"")?
+            .ending;
+        assert!(rt;
+            ending == Ending::wanted(Status::Done),
+            "{words:?}: {ending:?}"
         );
     }
     Ok(())
@@ -158,15 +180,14 @@ fn the_mesh_parts_the_inside_from_the_outside(rt: HostRuntime) -> Result<(), Fai
 
 #[test]
 fn where_nothing_is_inside_the_mesh_is_empty(rt: HostRuntime) -> Result<(), Fail> {
-    for (words, model) in EMPTY {
-        let ran = Trial::new(words, model.as_bytes()).run(rt.alloc(), NOTHING, b"")?;
-        assert_eq!(rt; ran.ending, Ending::wanted(Status::Done), "{words:?}");
-    }
+    expect_empty(&rt, rt.alloc(), &EMPTY)?;
     Ok(())
 }
 
 // Words, a model, and how many bytes the mesh has, with their FNV-1a sum of 32 bits.
-const LARGE: [(&[&str], &str, usize, u32); 3] = [
+type Large = (&'static [&'static str], &'static str, usize, u32);
+
+const LARGE: [Large; 3] = [
     (&["mesh", "n=7"], BALL, 13562, 3305145587),
     // Its points stand in eight bricks.
     (&["mesh", "n=9"], BALL, 20141, 2624381738),
@@ -200,48 +221,61 @@ fn large(alloc: Global, trial: Trial, length: usize) -> Result<Option<(usize, u3
     Ok(length_and_sum(&trial.written(alloc, length)?, b""))
 }
 
-#[test]
-fn cells_stand_in_their_order(rt: HostRuntime) -> Result<(), Fail> {
-    for (words, model, length, expected) in LARGE {
+fn expect_large(rt: &impl Abort, alloc: Global, rows: &[Large]) -> Result<(), AllocError> {
+    for (words, model, length, expected) in rows {
         let trial = Trial::new(words, model.as_bytes());
-        let found = large(rt.alloc(), trial, length)?;
-        assert_eq!(rt; found, Some((length, expected)), "{words:?}");
+        let found = large(alloc, trial, *length)?;
+        assert!(rt; found == Some((*length, *expected)), "{words:?}: {found:?}");
     }
     Ok(())
 }
 
-// Words, a model, and the most evaluations, hulls and corners that its mesh takes.
-const WORK: [(&[&str], &str, u64, u64, u64); 4] = [
+#[test]
+fn cells_stand_in_their_order(rt: HostRuntime) -> Result<(), Fail> {
+    expect_large(&rt, rt.alloc(), &LARGE)?;
+    Ok(())
+}
+
+/// Words, a model, and the most evaluations, hulls and corners that its mesh takes.
+pub type Most = (&'static [&'static str], &'static str, u64, u64, u64);
+
+const WORK: [Most; 4] = [
     (&["mesh", "n=2"], BALL, 270, 90, 360),
     (&["mesh", "n=9"], BALL, 2080, 2810, 11240),
     (&["mesh", "n=4"], "a const 1", 0, 1, 4),
     (&["mesh", "n=4"], "a const -1", 124, 73, 292),
 ];
 
-/// Whether a mesh is drawn, into room for so many bytes, and takes no more than so many evaluations, hulls and
-/// corners.
-pub fn takes_at_most(
-    alloc: Global,
-    trial: Trial,
-    room: usize,
-    (points, spans, corners): (u64, u64, u64),
-) -> Result<bool, AllocError> {
-    let mesh = trial.written(alloc, room)?;
+// Whether the mesh of a row is drawn, into room for so many bytes, and takes no more than that.
+fn takes_at_most(alloc: Global, row: &Most, room: usize) -> Result<bool, AllocError> {
+    let (words, model, points, spans, corners) = row;
+    let mesh = Trial::new(words, model.as_bytes()).written(alloc, room)?;
     Ok(
         mesh.status == Status::Done
-            && mesh.work.points <= points
-            && mesh.work.spans <= spans
-            && mesh.work.corners <= corners,
+            && mesh.work.points <= *points
+            && mesh.work.spans <= *spans
+            && mesh.work.corners <= *corners,
     )
+}
+
+/// Each mesh is drawn, into room for so many bytes, and takes no more than its row says.
+pub fn expect_at_most(
+    rt: &impl Abort,
+    alloc: Global,
+    rows: &[Most],
+    room: usize,
+) -> Result<(), AllocError> {
+    for row in rows {
+        let is_within = takes_at_most(alloc, row, room)?;
+        let (words, model, _, _, _) = row;
+        assert!(rt; is_within, "{words:?}: {model:?}");
+    }
+    Ok(())
 }
 
 #[test]
 fn only_the_corners_of_working_cells_are_evaluated(rt: HostRuntime) -> Result<(), Fail> {
-    for (words, model, points, spans, corners) in WORK {
-        let trial = Trial::new(words, model.as_bytes());
-        let within = takes_at_most(rt.alloc(), trial, 65536, (points, spans, corners))?;
-        assert!(rt; within, "{words:?}");
-    }
+    expect_at_most(&rt, rt.alloc(), &WORK, 65536)?;
     Ok(())
 }
 

@@ -1,5 +1,7 @@
 // What is drawn. A run that always answers one fault, as want of memory, fails here.
 use modeller_cmd::Status;
+use std::alloc::{AllocError, Global};
+use std::process::Abort;
 use std::test::Fail;
 use trial_runs::{DISC, DISC_PICTURE, Ending, THREE_BY_THREE, Trial};
 
@@ -119,12 +121,22 @@ const CASES: [Case; 17] = [
     ),
 ];
 
+fn expect_pictures(rt: &impl Abort, alloc: Global, rows: &[Case]) -> Result<(), AllocError> {
+    for (words, model, picture) in rows {
+        let ending = Trial::new(words, model.as_bytes())
+            .run(alloc, picture, b"")?
+            .ending;
+        assert!(rt;
+            ending == Ending::wanted(Status::Done),
+            "{model:?}: {ending:?}"
+        );
+    }
+    Ok(())
+}
+
 #[test]
 fn a_model_is_drawn_and_nothing_is_noted(rt: HostRuntime) -> Result<(), Fail> {
-    for (words, model, picture) in CASES {
-        let ran = Trial::new(words, model.as_bytes()).run(rt.alloc(), picture, b"")?;
-        assert_eq!(rt; ran.ending, Ending::wanted(Status::Done), "{model:?}");
-    }
+    expect_pictures(&rt, rt.alloc(), &CASES)?;
     Ok(())
 }
 
@@ -133,10 +145,11 @@ fn a_disc_of_one_leaf_takes_one_evaluation_a_clause_and_sample(
     rt: HostRuntime,
 ) -> Result<(), Fail> {
     let ran = Trial::new(THREE_BY_THREE, DISC).run(rt.alloc(), DISC_PICTURE, b"")?;
-    assert_eq!(rt; ran.ending, Ending::wanted(Status::Done));
     // 9 samples and 7 clauses, each of which is traced once over the leaf.
-    assert_eq!(rt; ran.work.points, 63);
-    assert_eq!(rt; ran.work.spans, 7);
-    assert!(rt; ran.work.corners <= 28);
+    let takes_that = ran.work.points == 63 && ran.work.spans == 7 && ran.work.corners <= 28;
+    assert!(rt;
+        ran.ending == Ending::wanted(Status::Done) && takes_that,
+        "{ran:?}"
+    );
     Ok(())
 }

@@ -1,5 +1,7 @@
 // Shaded height maps. The pixels were worked out by hand, from the rules for the slopes of each operation.
 use modeller_cmd::Status;
+use std::alloc::{AllocError, Global};
+use std::process::Abort;
 use std::test::Fail;
 use trial_runs::{Calls, Ending, Trial};
 
@@ -85,16 +87,22 @@ const CASES: [Case; 20] = [
     ),
 ];
 
-#[test]
-fn the_nearest_sample_inside_is_lit(rt: HostRuntime) -> Result<(), Fail> {
-    for (words, model, picture) in CASES {
-        let ran = Trial::new(words, model.as_bytes()).run(rt.alloc(), picture, b"")?;
-        assert_eq!(rt;
-            ran.ending,
-            Ending::wanted(Status::Done),
-            "{words:?}: {model:?}"
+fn expect_pictures(rt: &impl Abort, alloc: Global, rows: &[Case]) -> Result<(), AllocError> {
+    for (words, model, picture) in rows {
+        let ending = Trial::new(words, model.as_bytes())
+            .run(alloc, picture, b"")?
+            .ending;
+        assert!(rt;
+            ending == Ending::wanted(Status::Done),
+            "{words:?}: {model:?}: {ending:?}"
         );
     }
+    Ok(())
+}
+
+#[test]
+fn the_nearest_sample_inside_is_lit(rt: HostRuntime) -> Result<(), Fail> {
+    expect_pictures(&rt, rt.alloc(), &CASES)?;
     Ok(())
 }
 
@@ -115,19 +123,36 @@ fn the_work_is_that_of_the_map_and_of_its_tops(rt: HostRuntime) -> Result<(), Fa
     Ok(())
 }
 
+// How many bytes a write takes, the number of the write that fails, and what is written before it. The header has
+// eleven bytes, and goes out at once with the pixel.
+const FRONTS: [(u64, u64, &[u8]); 3] = [
+    (12, 1, b""),
+    (11, 2, b"P5\n1 1\n255\n"),
+    (3, 4, b"P5\n1 1\n25"),
+];
+
+fn expect_fronts(
+    rt: &impl Abort,
+    alloc: Global,
+    rows: &[(u64, u64, &[u8])],
+) -> Result<(), AllocError> {
+    for (chunk, failing, front) in rows {
+        let mut trial = Trial::new(&["shade", "w=1", "h=1"], b"z var-z");
+        trial.writes = Calls {
+            chunk: *chunk,
+            failing: *failing,
+        };
+        let ending = trial.run(alloc, front, b"modeller: write fault\n")?.ending;
+        assert!(rt;
+            ending == Ending::wanted(Status::WriteFault),
+            "{failing}: {ending:?}"
+        );
+    }
+    Ok(())
+}
+
 #[test]
 fn a_picture_that_can_not_be_written_leaves_a_front(rt: HostRuntime) -> Result<(), Fail> {
-    let mut trial = Trial::new(&["shade", "w=1", "h=1"], b"z var-z");
-    // The header has eleven bytes, and goes out at once with the pixel.
-    let fronts: [(u64, u64, &[u8]); 3] = [
-        (12, 1, b""),
-        (11, 2, b"P5\n1 1\n255\n"),
-        (3, 4, b"P5\n1 1\n25"),
-    ];
-    for (chunk, failing, front) in fronts {
-        trial.writes = Calls { chunk, failing };
-        let ran = trial.run(rt.alloc(), front, b"modeller: write fault\n")?;
-        assert_eq!(rt; ran.ending, Ending::wanted(Status::WriteFault));
-    }
+    expect_fronts(&rt, rt.alloc(), &FRONTS)?;
     Ok(())
 }

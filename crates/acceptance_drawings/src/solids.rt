@@ -1,5 +1,7 @@
 // Solids that are written as forms. The clauses were worked out by hand, from the formula of each form.
 use modeller_cmd::Status;
+use std::alloc::{AllocError, Global};
+use std::process::Abort;
 use std::test::Fail;
 use trial_runs::{Ending, Trial};
 
@@ -32,13 +34,18 @@ const CASES: [(&str, &[u8]); 3] = [
     ),
 ];
 
+fn expect_models(rt: &impl Abort, alloc: Global, rows: &[(&str, &[u8])]) -> Result<(), AllocError> {
+    for (text, model) in rows {
+        let ran = Trial::new(&["solid"], text.as_bytes()).run(alloc, model, b"")?;
+        let is_written = ran.ending == Ending::wanted(Status::Done) && ran.work.points == 0;
+        assert!(rt; is_written, "{text:?}: {ran:?}");
+    }
+    Ok(())
+}
+
 #[test]
 fn a_solid_becomes_its_clauses(rt: HostRuntime) -> Result<(), Fail> {
-    for (text, model) in CASES {
-        let ran = Trial::new(&["solid"], text.as_bytes()).run(rt.alloc(), model, b"")?;
-        assert_eq!(rt; ran.ending, Ending::wanted(Status::Done), "{text:?}");
-        assert_eq!(rt; ran.work.points, 0);
-    }
+    expect_models(&rt, rt.alloc(), &CASES)?;
     Ok(())
 }
 
@@ -62,12 +69,24 @@ const REFUSED: [(&str, u32, &str); 16] = [
     ("ball 1 ball 2", 1, "Trailing"),
 ];
 
+fn expect_refusals(
+    rt: &impl Abort,
+    alloc: Global,
+    rows: &[(&str, u32, &str)],
+) -> Result<(), AllocError> {
+    for (text, line, reason) in rows {
+        let trial = Trial::new(&["solid"], text.as_bytes());
+        let ending = trial.run_refused(alloc, "line", *line, reason)?.ending;
+        assert!(rt;
+            ending == Ending::wanted(Status::BadModel),
+            "{text:?}: {ending:?}"
+        );
+    }
+    Ok(())
+}
+
 #[test]
 fn the_first_bad_token_is_noted(rt: HostRuntime) -> Result<(), Fail> {
-    for (text, line, reason) in REFUSED {
-        let trial = Trial::new(&["solid"], text.as_bytes());
-        let ran = trial.run_refused(rt.alloc(), "line", line, reason)?;
-        assert_eq!(rt; ran.ending, Ending::wanted(Status::BadModel), "{text:?}");
-    }
+    expect_refusals(&rt, rt.alloc(), &REFUSED)?;
     Ok(())
 }

@@ -1,8 +1,9 @@
 // Meshes with a number of cells of its own along each axis. They were worked out with exact integers,
 // point by point and cell by cell.
-use crate::meshes::{length_and_sum, takes_at_most};
+use crate::meshes::{Most, expect_at_most, length_and_sum};
 use modeller_cmd::Status;
 use std::alloc::{AllocError, Global};
+use std::process::Abort;
 use std::test::Fail;
 use trial_runs::{Ending, Trial};
 
@@ -38,7 +39,9 @@ const NOTHING: &str =
     property double z\nelement face 0\nproperty list uchar int vertex_indices\nend_header\n";
 
 // Words, a model, and the whole text of its mesh.
-const WHOLE: [(&[&str], &str, &str); 6] = [
+type Whole = (&'static [&'static str], &'static str, &'static str);
+
+const WHOLE: [Whole; 6] = [
     (
         &["mesh", "nx=3", "ny=2", "nz=2"],
         "a const -1",
@@ -53,12 +56,22 @@ const WHOLE: [(&[&str], &str, &str); 6] = [
     (&["mesh", "nz=1", "n=4"], "a const -1", NOTHING),
 ];
 
+fn expect_texts(rt: &impl Abort, alloc: Global, rows: &[Whole]) -> Result<(), AllocError> {
+    for (words, model, text) in rows {
+        let ending = Trial::new(words, model.as_bytes())
+            .run(alloc, text.as_bytes(), b"")?
+            .ending;
+        assert!(rt;
+            ending == Ending::wanted(Status::Done),
+            "{words:?}: {ending:?}"
+        );
+    }
+    Ok(())
+}
+
 #[test]
 fn small_meshes_have_their_texts(rt: HostRuntime) -> Result<(), Fail> {
-    for (words, model, text) in WHOLE {
-        let ran = Trial::new(words, model.as_bytes()).run(rt.alloc(), text.as_bytes(), b"")?;
-        assert_eq!(rt; ran.ending, Ending::wanted(Status::Done), "{words:?}");
-    }
+    expect_texts(&rt, rt.alloc(), &WHOLE)?;
     Ok(())
 }
 
@@ -69,8 +82,11 @@ const SLANTED: &str =
     j add b g\nk add j i\nl mul x y\nu const 0.3\nm mul u l\nn add k m\nr const 0.4\ns sub n r";
 
 // The numbers of cells, how many vertices, faces and bytes the mesh has, and the FNV-1a sum of 32 bits
-// of its text. None of the numbers of cells is one of whole bricks, and most are of more than one.
-const TURNED: [(&[&str], u32, u32, usize, u32); 6] = [
+// of its text.
+type Turned = (&'static [&'static str], u32, u32, usize, u32);
+
+// None of the numbers of cells is one of whole bricks, and most are of more than one.
+const TURNED: [Turned; 6] = [
     (
         &["mesh", "nx=9", "ny=17", "nz=25"],
         1656,
@@ -132,17 +148,21 @@ fn slanted(
     Ok(length_and_sum(&mesh, head.as_bytes()))
 }
 
-#[test]
-fn each_axis_has_its_own_cells(rt: HostRuntime) -> Result<(), Fail> {
-    for (words, vertices, faces, length, expected) in TURNED {
-        let found = slanted(rt.alloc(), words, (vertices, faces), length)?;
-        assert_eq!(rt; found, Some((length, expected)), "{words:?}");
+fn expect_turned(rt: &impl Abort, alloc: Global, rows: &[Turned]) -> Result<(), AllocError> {
+    for (words, vertices, faces, length, expected) in rows {
+        let found = slanted(alloc, words, (*vertices, *faces), *length)?;
+        assert!(rt; found == Some((*length, *expected)), "{words:?}: {found:?}");
     }
     Ok(())
 }
 
-// Words, a model, and the most evaluations, hulls and corners that its mesh takes.
-const WORK: [(&[&str], &str, u64, u64, u64); 6] = [
+#[test]
+fn each_axis_has_its_own_cells(rt: HostRuntime) -> Result<(), Fail> {
+    expect_turned(&rt, rt.alloc(), &TURNED)?;
+    Ok(())
+}
+
+const WORK: [Most; 6] = [
     // A plane across each axis.
     (
         &["mesh", "nx=9", "ny=17", "nz=25"],
@@ -191,10 +211,6 @@ const WORK: [(&[&str], &str, u64, u64, u64); 6] = [
 
 #[test]
 fn uneven_grids_take_no_more_work_than_their_own(rt: HostRuntime) -> Result<(), Fail> {
-    for (words, model, points, spans, corners) in WORK {
-        let trial = Trial::new(words, model.as_bytes());
-        let within = takes_at_most(rt.alloc(), trial, 1048576, (points, spans, corners))?;
-        assert!(rt; within, "{words:?}");
-    }
+    expect_at_most(&rt, rt.alloc(), &WORK, 1048576)?;
     Ok(())
 }

@@ -1,6 +1,7 @@
 // Meshes of scripts whose edits change a part of the model: what they write, and what they take.
 use modeller_cmd::Status;
 use std::alloc::{AllocError, Global};
+use std::process::Abort;
 use std::test::Fail;
 use trial_runs::{Ending, Ran, Trial};
 
@@ -50,7 +51,7 @@ fn push_mesh(alloc: Global, model: &str, frames: &mut Vec<u8>) -> Result<(), All
 }
 
 // What both meshes write, with the line of the edit between them where that is refused.
-fn frames(alloc: Global, case: Case) -> Result<Vec<u8>, AllocError> {
+fn frames(alloc: Global, case: &Case) -> Result<Vec<u8>, AllocError> {
     let (model, edit, edited, _, _) = case;
     let mut frames = Vec::new(alloc);
     push_mesh(alloc, model, &mut frames)?;
@@ -68,22 +69,27 @@ fn replay_two(alloc: Global, model: &str, between: &str, frames: &[u8]) -> Resul
 }
 
 // Replays a case.
-fn replay_case(alloc: Global, case: Case) -> Result<Ran, AllocError> {
+fn replay_case(alloc: Global, case: &Case) -> Result<Ran, AllocError> {
     let frames = frames(alloc, case)?;
     let (model, edit, _, _, _) = case;
     let between = format!(in alloc; "n=4\n{edit}")?;
     replay_two(alloc, model, &between, &frames)
 }
 
+fn expect_meshes(rt: &impl Abort, alloc: Global, rows: &[Case]) -> Result<(), AllocError> {
+    for row in rows {
+        let ran = replay_case(alloc, row)?;
+        let (_, edit, _, points, spans) = row;
+        let is_within = ran.work.points <= *points && ran.work.spans <= *spans;
+        let is_drawn = ran.ending == Ending::wanted(Status::Done) && is_within;
+        assert!(rt; is_drawn, "{edit:?}: {ran:?}");
+    }
+    Ok(())
+}
+
 #[test]
 fn a_mesh_after_an_edit_is_that_of_the_edited_model(rt: HostRuntime) -> Result<(), Fail> {
-    for case in CASES {
-        let (_, edit, _, points, spans) = case;
-        let ran = replay_case(rt.alloc(), case)?;
-        assert_eq!(rt; ran.ending, Ending::wanted(Status::Done), "{edit:?}");
-        assert!(rt; ran.work.points <= points, "{edit:?}");
-        assert!(rt; ran.work.spans <= spans, "{edit:?}");
-    }
+    expect_meshes(&rt, rt.alloc(), &CASES)?;
     Ok(())
 }
 
@@ -95,15 +101,28 @@ fn same_frames(alloc: Global, model: &str) -> Result<Vec<u8>, AllocError> {
     Ok(frames)
 }
 
+// Other words for the same cells.
+const WORDS: [&str; 3] = ["nx=4 ny=4 nz=4", "nz=4 n=4", "ny=4 nz=4 n=9 nx=4"];
+
+// Under all words two meshes have these frames, and take what one mesh takes at most.
+fn expect_same(
+    rt: &impl Abort,
+    alloc: Global,
+    frames: &[u8],
+    rows: &[&str],
+) -> Result<(), AllocError> {
+    for words in rows {
+        let ran = replay_two(alloc, "x var-x\n", words, frames)?;
+        let is_within = ran.work.points <= 75 && ran.work.spans <= 41;
+        let is_drawn = ran.ending == Ending::wanted(Status::Done) && is_within;
+        assert!(rt; is_drawn, "{words:?}: {ran:?}");
+    }
+    Ok(())
+}
+
 #[test]
 fn a_mesh_of_the_same_cells_takes_nothing_by_other_words(rt: HostRuntime) -> Result<(), Fail> {
     let frames = same_frames(rt.alloc(), "x var-x\n")?;
-    for words in ["nx=4 ny=4 nz=4", "nz=4 n=4", "ny=4 nz=4 n=9 nx=4"] {
-        let ran = replay_two(rt.alloc(), "x var-x\n", words, &frames)?;
-        assert_eq!(rt; ran.ending, Ending::wanted(Status::Done), "{words:?}");
-        // What one mesh takes at most.
-        assert!(rt; ran.work.points <= 75);
-        assert!(rt; ran.work.spans <= 41);
-    }
+    expect_same(&rt, rt.alloc(), &frames, &WORDS)?;
     Ok(())
 }

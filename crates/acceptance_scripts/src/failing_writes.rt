@@ -1,6 +1,7 @@
 // Scripts whose writes fail, or for which memory is refused: whole frames, and then a front of one.
 use modeller_cmd::Status;
 use std::alloc::{AllocError, Global};
+use std::process::Abort;
 use std::test::Fail;
 use trial_runs::{Calls, Ending, Held, Trial};
 
@@ -23,14 +24,27 @@ const FRONTS: [(u64, u64, &[u8]); 10] = [
     ),
 ];
 
+fn expect_fronts(
+    rt: &impl Abort,
+    alloc: Global,
+    rows: &[(u64, u64, &[u8])],
+) -> Result<(), AllocError> {
+    for (chunk, failing, front) in rows {
+        let mut trial = Trial::new(&["replay"], b"x var-x\n%%\ntext\ncut y\ntext\n");
+        trial.writes = Calls {
+            chunk: *chunk,
+            failing: *failing,
+        };
+        let ending = trial.run(alloc, front, b"modeller: write fault\n")?.ending;
+        let fails = ending == Ending::wanted(Status::WriteFault);
+        assert!(rt; fails, "{failing} by {chunk}: {ending:?}");
+    }
+    Ok(())
+}
+
 #[test]
 fn a_write_that_fails_leaves_a_front_of_the_frames(rt: HostRuntime) -> Result<(), Fail> {
-    let mut trial = Trial::new(&["replay"], b"x var-x\n%%\ntext\ncut y\ntext\n");
-    for (chunk, failing, front) in FRONTS {
-        trial.writes = Calls { chunk, failing };
-        let ran = trial.run(rt.alloc(), front, b"modeller: write fault\n")?;
-        assert_eq!(rt; ran.ending, Ending::wanted(Status::WriteFault), "{failing}");
-    }
+    expect_fronts(&rt, rt.alloc(), &FRONTS)?;
     Ok(())
 }
 
@@ -65,13 +79,27 @@ fn write_front(alloc: Global, frames: &[u8], taken: u8) -> Result<Ending, AllocE
     Ok(trial.run(alloc, front, b"modeller: write fault\n")?.ending)
 }
 
+// Of the frames so many bytes are written.
+fn expect_taken(
+    rt: &impl Abort,
+    alloc: Global,
+    frames: &[u8],
+    counts: &[u8],
+) -> Result<(), AllocError> {
+    for taken in counts {
+        let ending = write_front(alloc, frames, *taken)?;
+        assert!(rt;
+            ending == Ending::wanted(Status::WriteFault),
+            "{taken}: {ending:?}"
+        );
+    }
+    Ok(())
+}
+
 #[test]
 fn an_image_is_written_whole_before_the_next_one(rt: HostRuntime) -> Result<(), Fail> {
     let frames = two_frames(rt.alloc())?;
-    for taken in TAKEN {
-        let ending = write_front(rt.alloc(), &frames, taken)?;
-        assert_eq!(rt; ending, Ending::wanted(Status::WriteFault), "{taken}");
-    }
+    expect_taken(&rt, rt.alloc(), &frames, &TAKEN)?;
     Ok(())
 }
 

@@ -1,12 +1,15 @@
 // Scripts that are replayed: what their commands write, and what they leave.
 use modeller_cmd::Status;
 use std::alloc::{AllocError, Global};
+use std::process::Abort;
 use std::test::Fail;
 use trial_runs::{Ending, Trial};
 
-// Inputs, and what they write. The pixels, the tops, the lengths and the costs were worked out by
-// hand.
-const CASES: [(&str, &[u8]); 14] = [
+/// An input, and what it writes.
+pub type Case = (&'static str, &'static [u8]);
+
+// The pixels, the tops, the lengths and the costs were worked out by hand.
+const CASES: [Case; 14] = [
     // Edits that are refused, each for another reason, and the same picture before and after.
     (
         "x var-x\nc const 0.5\nf sub x c\n%%\nrender w=3 h=1\ncut c\nadd x var-y\nset c sub x f\n\
@@ -91,19 +94,28 @@ const CASES: [(&str, &[u8]); 14] = [
     ("x var-x\n%%\n # x\n\t", b""),
 ];
 
-#[test]
-fn commands_write_frames_of_the_model_then_standing(rt: HostRuntime) -> Result<(), Fail> {
-    for (input, written) in CASES {
-        let ran = Trial::new(&["replay"], input.as_bytes()).run(rt.alloc(), written, b"")?;
-        assert_eq!(rt; ran.ending, Ending::wanted(Status::Done), "{input:?}");
-    }
-    Ok(())
-}
-
 /// Replays a script, which should write this.
 pub fn replay(alloc: Global, script: &str, written: &[u8]) -> Result<Ending, AllocError> {
     let ran = Trial::new(&["replay"], script.as_bytes()).run(alloc, written, b"")?;
     Ok(ran.ending)
+}
+
+/// Replays each input, which should write what its row says.
+pub fn expect_frames(rt: &impl Abort, alloc: Global, rows: &[Case]) -> Result<(), AllocError> {
+    for (input, written) in rows {
+        let ending = replay(alloc, input, written)?;
+        assert!(rt;
+            ending == Ending::wanted(Status::Done),
+            "{input:?}: {ending:?}"
+        );
+    }
+    Ok(())
+}
+
+#[test]
+fn commands_write_frames_of_the_model_then_standing(rt: HostRuntime) -> Result<(), Fail> {
+    expect_frames(&rt, rt.alloc(), &CASES)?;
+    Ok(())
 }
 
 /// The model that the edits below leave as it is.

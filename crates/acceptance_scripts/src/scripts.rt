@@ -1,11 +1,14 @@
 // Scripts that are refused: the first bad line, and the lowest reason in it.
 use modeller_cmd::Status;
 use std::alloc::{AllocError, Global};
+use std::process::Abort;
 use std::test::Fail;
 use trial_runs::{Ending, Held, Ran, Trial};
 
-// Inputs, and the status and the note that they end with.
-const CASES: [(&str, Status, &str); 29] = [
+// An input, and the status and the note that it ends with.
+type Case = (&'static str, Status, &'static str);
+
+const CASES: [Case; 29] = [
     (
         "x var-x\n",
         Status::BadScript,
@@ -151,14 +154,19 @@ const CASES: [(&str, Status, &str); 29] = [
     ("%%\ntext\n", Status::BadModel, "modeller: line 0: Empty\n"),
 ];
 
+fn expect_refusals(rt: &impl Abort, alloc: Global, rows: &[Case]) -> Result<(), AllocError> {
+    for (input, status, note) in rows {
+        let trial = Trial::new(&["replay"], input.as_bytes());
+        let ran = trial.run(alloc, b"", note.as_bytes())?;
+        let is_refused = ran.ending == Ending::wanted(*status) && ran.work.points == 0;
+        assert!(rt; is_refused, "{input:?}: {ran:?}");
+    }
+    Ok(())
+}
+
 #[test]
 fn a_script_that_is_refused_writes_nothing(rt: HostRuntime) -> Result<(), Fail> {
-    for (input, status, note) in CASES {
-        let trial = Trial::new(&["replay"], input.as_bytes());
-        let ran = trial.run(rt.alloc(), b"", note.as_bytes())?;
-        assert_eq!(rt; ran.ending, Ending::wanted(status), "{input:?}");
-        assert_eq!(rt; ran.work.points, 0, "{input:?}");
-    }
+    expect_refusals(&rt, rt.alloc(), &CASES)?;
     Ok(())
 }
 
@@ -166,8 +174,10 @@ fn a_script_that_is_refused_writes_nothing(rt: HostRuntime) -> Result<(), Fail> 
 const SCRIPT: &[u8] = b"x var-x\n%%\nadd f neg x\nset f const 1.5e1\ncut f\nput x g var-y\n\
     render w=1 h=1\ntext\ncost\n";
 
-// The script, cut behind so many bytes: the last count that ends so, the status, and the note.
-const CUTS: [(u8, Status, &str); 32] = [
+// The last count of bytes behind which the script is cut so, the status, and the note.
+type Cut = (u8, Status, &'static str);
+
+const CUTS: [Cut; 32] = [
     (8, Status::BadScript, "modeller: script line 0: NoMark\n"),
     // What is left of the mark is a clause without an operation.
     (9, Status::BadModel, "modeller: line 2: NoOperation\n"),
@@ -274,18 +284,29 @@ fn replay_front(alloc: Global, length: usize, note: &str) -> Result<Ran, AllocEr
     Trial::new(&["replay"], front).run(alloc, b"", note.as_bytes())
 }
 
+// Fronts of the script end as the row says, from so many bytes on. Under a note nothing is written.
+fn expect_cut(rt: &impl Abort, alloc: Global, first: u8, row: &Cut) -> Result<(), AllocError> {
+    let (last, status, note) = row;
+    for length in first..=*last {
+        let ending = replay_front(alloc, usize::from(length), note)?.ending;
+        let is_noted = ending.status == *status && ending.notes == Held::All;
+        let is_silent = note.is_empty() || ending.out == Held::All;
+        assert!(rt; is_noted && is_silent, "{length}: {ending:?}");
+    }
+    Ok(())
+}
+
+fn expect_cuts(rt: &impl Abort, alloc: Global, rows: &[Cut]) -> Result<(), AllocError> {
+    let mut first = 8;
+    for row in rows {
+        expect_cut(rt, alloc, first, row)?;
+        first = row.0.saturating_add(1);
+    }
+    Ok(())
+}
+
 #[test]
 fn a_script_that_is_cut_is_another_script(rt: HostRuntime) -> Result<(), Fail> {
-    let mut count = 8;
-    for (last, status, note) in CUTS {
-        for length in count..=usize::from(last) {
-            let ending = replay_front(rt.alloc(), length, note)?.ending;
-            assert_eq!(rt; ending.status, status, "{length}");
-            assert_eq!(rt; ending.notes, Held::All, "{length}");
-            // Under a note nothing is written.
-            assert!(rt; note.is_empty() || ending.out == Held::All, "{length}");
-        }
-        count = usize::from(last) + 1;
-    }
+    expect_cuts(&rt, rt.alloc(), &CUTS)?;
     Ok(())
 }

@@ -1,13 +1,13 @@
 // Edits that are taken back: what the commands of a script write then, and what they leave.
-use crate::replays::{ACCEPTED, SUM, SUM_TEXT, full_script, replay};
+use crate::replays::{ACCEPTED, Case, SUM, SUM_TEXT, expect_frames, full_script, replay};
 use modeller_cmd::Status;
 use std::alloc::{AllocError, Global};
 use std::test::Fail;
-use trial_runs::{Ending, Trial};
+use trial_runs::Ending;
 
-// Inputs, and what they write. The texts and the refused lines were worked out by a program of its own,
-// which keeps each model that stood, and the pixels and the costs by hand.
-const CASES: [(&str, &[u8]); 14] = [
+// The texts and the refused lines were worked out by a program of its own, which keeps each model that stood, and
+// the pixels and the costs by hand.
+const CASES: [Case; 14] = [
     // A clause that gets another form, and the very form that it has.
     (
         "a var-x\nb var-y\nc add a b\n%%\nset b neg a\ntext\nundo\ntext\nset c add a b\n\
@@ -137,21 +137,18 @@ const CASES: [(&str, &[u8]); 14] = [
 
 #[test]
 fn undos_take_back_the_last_edit(rt: HostRuntime) -> Result<(), Fail> {
-    for (input, written) in CASES {
-        let ran = Trial::new(&["replay"], input.as_bytes()).run(rt.alloc(), written, b"")?;
-        assert_eq!(rt; ran.ending, Ending::wanted(Status::Done), "{input:?}");
-    }
+    expect_frames(&rt, rt.alloc(), &CASES)?;
     Ok(())
 }
 
 // All edits, and as many undos and one more, with the text after each.
-fn undoing_script(alloc: Global) -> Result<String, AllocError> {
+fn undoing_script(alloc: Global, edits: &[(&str, &str)]) -> Result<String, AllocError> {
     let mut script = String::from_str(alloc, SUM)?;
     script.push_str("%%\n")?;
-    for (edit, _) in ACCEPTED {
+    for (edit, _) in edits {
         writeln!(script, "{edit}")?;
     }
-    for _ in ACCEPTED {
+    for _ in edits {
         script.push_str("undo\ntext\n")?;
     }
     script.push_str("undo\n")?;
@@ -159,10 +156,10 @@ fn undoing_script(alloc: Global) -> Result<String, AllocError> {
 }
 
 // The texts before the last edit, before the one before it, and so on up to the first.
-fn texts_back(alloc: Global) -> Result<String, AllocError> {
+fn texts_back(alloc: Global, edits: &[(&str, &str)]) -> Result<String, AllocError> {
     let mut written = String::new(alloc);
-    for undone in 1..ACCEPTED.len() {
-        let (_, text) = ACCEPTED[ACCEPTED.len() - 1 - undone];
+    for undone in 1..edits.len() {
+        let (_, text) = edits[edits.len() - 1 - undone];
         written.push_str(text)?;
     }
     written.push_str(SUM_TEXT)?;
@@ -172,8 +169,8 @@ fn texts_back(alloc: Global) -> Result<String, AllocError> {
 
 #[test]
 fn edits_are_taken_back_one_after_the_other(rt: HostRuntime) -> Result<(), Fail> {
-    let script = undoing_script(rt.alloc())?;
-    let written = texts_back(rt.alloc())?;
+    let script = undoing_script(rt.alloc(), &ACCEPTED)?;
+    let written = texts_back(rt.alloc(), &ACCEPTED)?;
     let ending = replay(rt.alloc(), &script, written.as_bytes())?;
     assert_eq!(rt; ending, Ending::wanted(Status::Done));
     Ok(())
