@@ -66,19 +66,20 @@ fn assert_bands(
     Some(())
 }
 
-// Paints the last image of a session in bands of several heights. None: memory was refused.
+// Paints the last image of a session in bands of these heights. None: memory was refused.
 fn assert_painted(
     rt: &impl Abort,
     alloc: Global,
     session: &Session,
     view: &View,
+    heights: &[u32],
     pixels: &[u8],
 ) -> Option<()>
     requires { IsOver session.now.image view.now }
 {
-    for together in TOGETHER {
-        assert!(rt; 0 < together);
-        assert_bands(rt, alloc, session, view, together, pixels)?;
+    for together in heights {
+        assert!(rt; 0 < *together);
+        assert_bands(rt, alloc, session, view, *together, pixels)?;
     }
     Some(())
 }
@@ -99,23 +100,40 @@ fn assert_disc(rt: &impl Abort, alloc: Global, session: &mut Session, view: &Vie
         return None;
     };
     assert!(rt; text.as_slice().ends_with(&pixels));
-    assert_painted(rt, alloc, session, view, &pixels)
+    assert_painted(rt, alloc, session, view, &TOGETHER, &pixels)
 }
 
-// Draws images of the disc of all sides. None: memory was refused.
-fn assert_sides(rt: &impl Abort, alloc: Global, session: &mut Session) -> Option<()> {
-    for w in SIDES {
-        for h in SIDES {
-            let view = view(w, h, 1)?;
-            assert_disc(rt, alloc, session, &view)?;
-        }
+// Draws images of the disc of so many columns and these rows. None: memory was refused.
+fn assert_columns(
+    rt: &impl Abort,
+    alloc: Global,
+    session: &mut Session,
+    w: u32,
+    rows: &[u32],
+) -> Option<()> {
+    for h in rows {
+        let view = view(w, *h, 1)?;
+        assert_disc(rt, alloc, session, &view)?;
+    }
+    Some(())
+}
+
+// Draws images of the disc of all these sides. None: memory was refused.
+fn assert_sides(
+    rt: &impl Abort,
+    alloc: Global,
+    session: &mut Session,
+    sides: &[u32],
+) -> Option<()> {
+    for w in sides {
+        assert_columns(rt, alloc, session, *w, sides)?;
     }
     Some(())
 }
 
 fn assert_discs(rt: &impl Abort, alloc: Global) -> Option<()> {
     let mut session = open(alloc, DISC)?;
-    assert_sides(rt, alloc, &mut session)
+    assert_sides(rt, alloc, &mut session, &SIDES)
 }
 
 #[test]
@@ -126,7 +144,9 @@ fn rows_are_the_same_however_many_are_asked_for(rt: HostRuntime) {
 // The end along x, the end along z, the columns, and the cells along x, y and z, of views that differ from the
 // first in an end, below or above, or in a count that no mesh uses, and of views with as many cells in all. An
 // equal view is the whole view.
-const OTHERS: [(i64, i64, u32, [u32; 3]); 6] = [
+type Other = (i64, i64, u32, [u32; 3]);
+
+const OTHERS: [Other; 6] = [
     (0, ONE, 8, [4, 4, 4]),
     (-ONE, 0, 8, [4, 4, 4]),
     (-ONE, ONE, 9, [4, 4, 4]),
@@ -144,10 +164,15 @@ fn are_fresh(alloc: Global, session: &mut Session, other: &Frame, first: &Frame)
 }
 
 // Draws meshes of each other view, each between two of the first view. None: memory was refused.
-fn assert_views(rt: &impl Abort, alloc: Global, session: &mut Session) -> Option<()> {
+fn assert_views(
+    rt: &impl Abort,
+    alloc: Global,
+    session: &mut Session,
+    others: &[Other],
+) -> Option<()> {
     let first = Frame::Mesh(view_of(Sides::of(8, 8, [4; 3]))?);
     assert!(rt; is_fresh(alloc, session, &first)?);
-    for (x0, z1, w, n) in &OTHERS {
+    for (x0, z1, w, n) in others {
         let sides = Sides {
             x0: *x0,
             z1: *z1,
@@ -163,7 +188,7 @@ fn assert_views(rt: &impl Abort, alloc: Global, session: &mut Session) -> Option
 
 fn assert_meshes(rt: &impl Abort, alloc: Global) -> Option<()> {
     let mut session = open(alloc, BARS)?;
-    assert_views(rt, alloc, &mut session)
+    assert_views(rt, alloc, &mut session, &OTHERS)
 }
 
 #[test]
