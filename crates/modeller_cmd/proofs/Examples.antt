@@ -808,6 +808,23 @@ bytes_of_no_frame halts = let front = halts.halted.front refl in by front.count 
 fault_after_nothing : IsUnbegun stop.WriteFault → ⊥
 fault_after_nothing may = may
 
+-- nothing is counted before the first command of a script, whatever ends it there
+abbrev unwritten : List ℕ
+unwritten = []
+
+counted_before_a_script : HaltsReplay (λ (s : List ℕ). Some s) (λ s. 0) unwritten unwritten no_counts (record no_counts { points = 1 }) (codes "x var-x\n%%\n") stop.NoMemory → ⊥
+unfolding digits
+counted_before_a_script halts = either (halts (take 1 two) [] refl refl)
+  where
+    none : (earlier : List Command) (command : Command) (later : List Command) → [] ≡ earlier ++ command ∷ later → ⊥
+    none [] command later split = (cc)
+    none (first ∷ earlier) command later split = (cc)
+
+    either : (IsUnbegun stop.NoMemory × (unwritten ≡ unwritten) × (record no_counts { points = 1 } ≡ no_counts))
+        ⊎ HaltsAt (λ (s : List ℕ). Some s) (λ s. 0) unwritten unwritten no_counts (record no_counts { points = 1 }) (started (take 1 two)) [] stop.NoMemory → ⊥
+    either (inl counted) = let same : 1 ≡ 0 = ap (λ (counts : Counts). counts.points) counted.2 in omega (arith, same)
+    either (inr at) = none at.earlier at.command at.later at.split
+
 -- half a frame is written of no script that wants memory
 half_a_frame : HaltsRun (λ (s : List ℕ). Some s) (λ s. 0) [] (codes "@") no_counts no_counts (codes "replay" ∷ []) (codes "x var-x\n%%\ntext\n") status.NoMemory → ⊥
 unfolding digits replayed standing

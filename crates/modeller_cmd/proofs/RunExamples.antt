@@ -1,13 +1,15 @@
 -- What is so of a run, and what no run does, on runs that were worked out by hand.
-use Rattle.std.proofs.Common.{◌≡◌, ◌+◌, ◌-◌, ◌*◌, ◌≤◌, ℕ, List, ◌∷◌, ◌++◌, [], length, Some, None, Err, ap, refl, arith}
+use Rattle.std.proofs.Common.{◌≡◌, ◌+◌, ◌-◌, ◌*◌, ◌≤◌, ℕ, zero, suc, List, ◌∷◌, ◌++◌, [], length, take, Some, None, Ok, Err, ap, refl, arith}
 use Rattle.std.specs.Prelude.{codes}
 use Rattle.std.specs.Fmt.{digits}
 use Rattle.view_places.specs.Window.{Window}
 use Rattle.view_settings.specs.Setting.{setting_of}
 use Rattle.fixed_ops.specs.Counts.{Counts, RisesAtMost, RisesWithin, no_counts, risen}
-use Rattle.model_frames.specs.Work.{CountsWithin, CountsWork}
+use Rattle.model_frames.specs.Work.{CountsWithin, CountsWork, PointsRiseAtMost}
 use Rattle.modeller_cmd.specs.Bands.{HasRoom}
 use Rattle.modeller_cmd.specs.Execution.{Executed}
+use Rattle.modeller_cmd.specs.Output.{output_of}
+use Rattle.modeller_cmd.specs.Parts.{bytes_of_parts}
 use Rattle.modeller_cmd.specs.Runs.{EndsSo, OfOutput, Run, input_of}
 use Rattle.modeller_cmd.specs.declared.status.Status.TheVariants as status
 use Rattle.modeller_cmd.specs.declared.stop.Stop.TheVariants as stop
@@ -93,7 +95,25 @@ short_input ends = let rose : 0 ≡ 8388609 = ends.too_long refl in omega (arith
 
 -- a script alone is refused as one
 bad_script_of_no_script : EndsSo (record run { status = status.BadScript }) → ⊥
-bad_script_of_no_script ends = let asks = ends.script refl in (cc)
+bad_script_of_no_script ends = let asks : Ok jobs.Text ≡ Ok jobs.Replay = ends.script refl in (cc)
+
+-- words are refused exactly where the run says so
+bad_words_are_told : EndsSo (record run { words = codes "draw" ∷ [] }) → ⊥
+bad_words_are_told ends = let told : status.Done ≡ status.Usage = ends.usage.1 refl in (cc)
+
+-- the source is left as it was by words that ask for none of it
+source_is_read_for_a_forge : EndsSo (record run { words = codes "forge" ∷ codes "solids=7" ∷ [] }) → ⊥
+unfolding digits setting_of
+source_is_read_for_a_forge ends = let same : [] ≡ codes " x  var-x" = (ends.unasked refl).0 in (cc)
+
+-- and by all others it loses at most one byte more than 8 MiB
+read_past_the_limit : (after : List ℕ) → length after ≡ 8388610
+    → EndsSo (record run { rest = λ s. None; taken = λ s. length s; source = []; source_after = after }) → ⊥
+read_past_the_limit after many ends =
+    let lost = ends.lost (λ e. cc) in
+    let few : length lost.bytes ≤ 8388609 = lost.within in
+    let rose : length after ≡ risen 0 (length lost.bytes) = lost.counted in
+    omega (arith, many, few, rose)
 
 -- where the words are refused nothing is read, and where anything is refused nothing is written or counted
 read_for_bad_words : EndsSo (record run { status = status.Usage; words = codes "draw" ∷ [] }) → ⊥
@@ -124,6 +144,23 @@ notes_that_recover ends = omega (arith, ends.never_falls)
 notes_that_fail_twice : EndsSo (record run { note_faults = λ s. length s; notes_after = codes "bcd" }) → ⊥
 notes_that_fail_twice ends = omega (arith, ends.fails_once.within, ends.fails_once.rose)
 
+-- without memory the sink holds whole parts, and not the half of one
+half_of_a_part : EndsSo (record run { status = status.NoMemory; out_after = codes "ax" }) → ⊥
+half_of_a_part ends = let has = ends.whole refl in by has.count has.within has.gained
+  where
+    by : (count : ℕ) → count ≤ 1 → codes "ax" ≡ codes "a" ++ bytes_of_parts (take count (output_of (codes "text" ∷ []) (codes " x  var-x")).parts) → ⊥
+    by zero few gained = let same : codes "ax" ≡ codes "a" = gained in (cc)
+    by (suc zero) few gained = let same : codes "ax" ≡ codes "ax var-x\n" = gained in (cc)
+    by (suc (suc count)) few gained = absurd (omega (arith, few))
+
+-- a model that is refused is told in the notes
+bad_model_is_not_told : EndsSo (record run { source = codes "x"; out_after = codes "a"; status = status.BadModel }) → ⊥
+unfolding digits
+bad_model_is_not_told ends =
+    let takes = ends.noted refl (λ e. cc) in
+    let told : codes "b" ≡ codes "bmodeller: line 1: NoOperation\n" = takes.whole (omega arith, omega arith) in
+    (cc)
+
 -- what was done is counted between the least and the most of its work, which is none
 counted_for_no_work : EndsSo (record run { last = counted }) → ⊥
 unfolding CountsWork
@@ -139,6 +176,13 @@ more_than_no_work ends =
     let work : RisesAtMost no_counts counted no_counts = ends.work in
     let points : 1 ≡ risen 0 work.by.points = ap (λ (counts : Counts). counts.points) work.rises in
     omega (arith, work.within.points, points)
+
+-- nor than evaluating all clauses at all samples, of which a text has none
+more_than_plain_evaluation : EndsSo (record run { last = counted }) → ⊥
+more_than_plain_evaluation ends =
+    let work : PointsRiseAtMost no_counts counted 0 = ends.plain in
+    let points : 1 ≡ risen 0 work.by = work.rises in
+    omega (arith, work.few, points)
 
 -- without memory a job other than a script writes nothing
 nothing_is_written : (before after : List ℕ) (input : List ℕ)
