@@ -1,24 +1,27 @@
 -- The work of boxes that hand on less than they receive, computed on a list that was worked out by hand.
-use Rattle.std.proofs.Common.{◌≡◌, ◌+◌, ◌*◌, ◌≤◌, ℕ, zero, suc, Bool, true, false, pos, negsuc, [], ◌∷◌, List, length, map, ltb, arith, ap, refl, subst}
+use Rattle.std.proofs.Common.{◌≡◌, ◌+◌, ◌*◌, ◌≤◌, ℕ, zero, suc, Bool, true, false, pos, negsuc, [], ◌∷◌, List, length, map, None, ltb, arith, ap, refl, subst}
 use Rattle.fixed_ops.specs.Counts.{Counts}
 use Rattle.fixed_ops.specs.declared.operation.Op.{Op}
 use Rattle.fixed_ops.specs.declared.operation.Op.TheVariants.{X, Y, Const, Neg, Sub, Max}
 use Rattle.interval_ops.specs.Hulls.{between}
 use Rattle.interval_ops.specs.declared.choice.Choice.TheVariants.{Left, Both}
+use Rattle.live_clauses.specs.Steps.{tape_value}
 use Rattle.live_clauses.specs.declared.step.Step.{Step}
 use Rattle.view_places.specs.Window.{Window}
 use Rattle.view_places.specs.Boxes.{Indices}
 use Rattle.view_places.specs.declared.lattice.Axis.TheVariants as axes
 use Rattle.view_places.specs.declared.lattice.Lattice.TheVariants.{Raster, Height, Grid}
-use Rattle.box_chains.specs.Chains.{Descent, chain_within, is_long, sum_over, visit}
+use Rattle.box_chains.specs.Chains.{Descent, Visit, chain_end, chain_within, decision, handed_on, is_long, sum_over, visit}
 use Rattle.box_chains.specs.Counts.{halves_points, halves_spans, open_points, open_spans, points_in, root_visit, spans_in}
 use Rattle.box_chains.specs.Desks.{HasRoomFor, MayOpen, Tracing, list_of}
+use Rattle.box_chains.specs.Laws.{IsTold}
 use Rattle.box_chains.specs.Opened.{outcome_points, outcome_spans, spans_below}
 use Rattle.box_chains.specs.Outcomes.{ChoosesNone, is_shortened}
 use Rattle.box_chains.specs.Placing.{places_along}
 use Rattle.box_chains.specs.Sums.{Sample, maximum}
 use Rattle.box_chains.specs.Tallied.{CountsAtMost, CountsExactly}
 use Rattle.box_chains.specs.Tested.{halves_points_where, halves_spans_where, open_points_where, open_spans_where, points_where, spans_where}
+use Rattle.box_chains.specs.Visits.{sample_point}
 use Rattle.box_chains.specs.declared.asked_box.AskedBox.{AskedBox}
 use Rattle.box_chains.specs.declared.outcome.Outcome.TheVariants.{Inside, Outside, Open}
 
@@ -347,3 +350,8 @@ shortened_lanes : map
     (true ∷ false ∷ true ∷ true ∷ []))
     (0 ∷ 1 ∷ 2 ∷ 3 ∷ []) ≡ true ∷ false ∷ true ∷ false ∷ []
 shortened_lanes = refl
+
+-- where the last box on a way is undecided, whatever the first one is, the list that it hands on has the value
+last_box_hands_on : (d : Descent) (v : Visit) (s : Sample) → IsTold d v s → decision d (chain_end d v s) ≡ None
+    → tape_value (sample_point d s) (handed_on d (chain_end d v s)) ≡ tape_value (sample_point d s) v.list
+last_box_hands_on d v s told = told.handed

@@ -1,8 +1,9 @@
 -- Hulls and choices, computed over regions that were worked out by hand.
 use Rattle.std.proofs.Common.{◌≡◌, ◌∙◌, ℕ, ℤ, pos, negsuc, true, false, [], ◌∷◌, List, ap, refl, arith}
-use Rattle.fixed_ops.specs.Counts.{Counts, RisesWithin, no_counts, risen}
+use Rattle.fixed_ops.specs.Counts.{Counts, RisesWithin, no_counts, risen, spans_of, times}
 use Rattle.fixed_ops.specs.Operations.{op_result}
 use Rattle.fixed_ops.specs.declared.operation.Op.TheVariants.{X, Y, Z, Const, Neg, Sub, Min, Max}
+use Rattle.interval_ops.specs.HullCounts.{CountsHulls, hulls_of}
 use Rattle.interval_ops.specs.Hulls.{between}
 use Rattle.interval_ops.specs.Spans.{all_numbers}
 use Rattle.interval_ops.specs.declared.choice.Choice.TheVariants.{Left, Right, Both}
@@ -13,6 +14,7 @@ use Rattle.choice_trace.specs.Halves.{flag_in, region_in, region_of}
 use Rattle.choice_trace.specs.Hulls.{choices_over, tape_hull}
 use Rattle.choice_trace.specs.Lanes.{in_lane, lane_value, number_at, point_in}
 use Rattle.choice_trace.specs.Meaning.{StandForPoint, StandsForResults}
+use Rattle.choice_trace.specs.Work.{HullsAreExact}
 
 -- x from one number to another, y from 2 to 3, and z from 5 to 7
 abbrev region : ℤ → ℤ → Region
@@ -140,3 +142,8 @@ rise_of_three : RisesWithin no_counts (counted 4 3) (counted 1 2) (counted 3 9) 
 rise_of_three h =
     let points : 4 ≡ risen 0 h.by.points = ap (λ (counts : Counts). counts.points) h.rises in
     omega (arith, h.within.points, points)
+
+-- two hulls of four corners each are as many hulls as any two
+hulls_of_four_corners : HullsAreExact → (after : Counts)
+    → RisesWithin no_counts after (times 2 (spans_of 1)) (times 2 (hulls_of 1 4)) → CountsHulls 2 no_counts after
+hulls_of_four_corners exact after rise = exact no_counts after 2 rise

@@ -1,8 +1,8 @@
 -- Cells of a row, where values of their corners stand, and lists of the grid before, worked out by hand.
-use Rattle.std.proofs.Common.{◌≡◌, ◌+◌, ◌<◌, [], ◌∷◌, length, map, refl, arith}
+use Rattle.std.proofs.Common.{◌≡◌, ◌+◌, ◌<◌, [], ◌∷◌, length, map, inl, inr, refl, arith}
 use Rattle.std.specs.Prelude.{Some, None}
-use Rattle.kuhn_cells.specs.Triangles.{GridPoint}
-use Rattle.oct_descent.specs.Corners.{AreTogether, IsRow}
+use Rattle.kuhn_cells.specs.Triangles.{GridPoint, point}
+use Rattle.oct_descent.specs.Corners.{AreTogether, CrossesBricks, IsRow}
 use Rattle.oct_descent.specs.GridValues.{list_grid}
 use Rattle.oct_descent.specs.OldBoxes.{first_count, first_list, handed_by, received_by}
 use Rattle.oct_descent.specs.Rows.{cells_between}
@@ -40,3 +40,18 @@ handed_on old split = refl
 
 received : (old : OldBox) → received_by (Some old) ≡ Some old.list.now
 received old = refl
+
+-- the last cells of a brick along each axis reach into the next one, and those before them do not
+last_along_x : CrossesBricks (point 7 0 0)
+last_along_x = inl refl
+
+last_along_y : CrossesBricks (point 0 15 0)
+last_along_y = inr (inl refl)
+
+last_along_z : CrossesBricks (point 0 0 23)
+last_along_z = inr (inr refl)
+
+before_the_last : CrossesBricks (point 6 8 14) → ⊥
+before_the_last (inl x) = let same : 6 ≡ 7 = x in omega (arith, same)
+before_the_last (inr (inl y)) = let same : 0 ≡ 7 = y in omega (arith, same)
+before_the_last (inr (inr z)) = let same : 6 ≡ 7 = z in omega (arith, same)

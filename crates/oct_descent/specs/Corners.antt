@@ -32,6 +32,10 @@ pub record AreTogether (t : PointValues) (p : GridPoint) (first : ℕ) : Type 0 
   pub within : first + 73 < length t.kept.known
   pub stands : (c : ℕ) → c < 8 → stand t (further p c) ≡ Some (first + places_to c)
 
+-- the upper corners of a cell along some axis lie in the next brick
+abbrev pub CrossesBricks : GridPoint → Type 0
+CrossesBricks p = (p.x % 8 ≡ 7) ⊎ (p.y % 8 ≡ 7) ⊎ (p.z % 8 ≡ 7)
+
 -- some corner of a cell is known, and is inside or not
 pub record ShowsCorner (t : PointValues) (p : GridPoint) (inside : Bool) : Type 0 where
   pub corner : ℕ

@@ -1,8 +1,8 @@
 // The values that are known of the points of a grid.
-ghost use Rattle.std.specs.Prelude.{◌≡◌, ◌+◌, ◌*◌, ◌/◌, ◌%◌, ◌^◌, ◌<◌, ◌≤◌, None, Some, IfOk, IfSome, IsTrue, OnOk, length};
+ghost use Rattle.std.specs.Prelude.{◌≡◌, ◌+◌, ◌*◌, ◌/◌, ◌%◌, ◌^◌, ◌<◌, ◌≤◌, ◌⊎◌, None, Some, IfNone, IfOk, IfSome, IsTrue, OnOk, length};
 ghost use Rattle.kuhn_cells.specs.Triangles.{GridPoint, further, point};
 ghost use Rattle.kuhn_cells.specs.Sizes.{IsBounded};
-ghost use Rattle.oct_descent.specs.Corners.{AreTogether, IsRow};
+ghost use Rattle.oct_descent.specs.Corners.{AreTogether, CrossesBricks, IsRow};
 ghost use Rattle.oct_descent.specs.Taking.{TakesValue};
 ghost use Rattle.oct_descent.specs.Kinds.{known_of};
 ghost use Rattle.oct_descent.specs.Known.{Sets};
@@ -141,7 +141,8 @@ impl GridValues {
         requires x { x < self.now.n.x }
         requires y { y < self.now.n.y }
         requires z { z < self.now.n.z }
-        ensures { IfSome result (AreTogether self.now (point x y z)) }
+        ensures together { IfSome result (AreTogether self.now (point x y z)) }
+        ensures none { IfNone result (CrossesBricks (point x y z) ⊎ stand_of self.now (point x y z) ≡ None) }
     {
         self.holds();
         if x % 8 == 7 || y % 8 == 7 || z % 8 == 7 {

@@ -14,6 +14,7 @@ use Rattle.solid_lang.specs.NumberedTokens.{numbered_tokens}
 use Rattle.solid_lang.specs.Room.{FitsBefore, HaveRoom}
 use Rattle.solid_lang.specs.Placing.{StandBefore}
 use Rattle.solid_lang.specs.Solids.{Ball, Block, Cylinder, Difference, Move, tree}
+use Rattle.solid_lang.specs.Steps.{after}
 use Rattle.solid_lang.specs.Wants.{take_token, wants_after, whole_solid}
 
 -- a comment's tokens are none, and tokens keep their lines
@@ -36,6 +37,10 @@ cut_clauses = refl
 
 cut_depth : depth (Difference (Block (pos 1) (pos 1) (pos 1)) (Move (pos 1) (pos 0) (pos 0) (Ball (pos 1)))) ≡ 3
 cut_depth = refl
+
+-- a ball has eight clauses, and the place behind those that stand from 5 on is 13
+place_behind_a_ball : after 5 (Ball (pos 1)) ≡ 13
+place_behind_a_ball = refl
 
 -- each reason
 unknown_form : take_token whole_solid (codes "Ball") ≡ Err UnknownForm
