@@ -6,7 +6,7 @@ use modeller_cmd::Status;
 use std::alloc::{AllocError, Global};
 use std::process::Abort;
 use std::test::Fail;
-use trial_runs::{Calls, DISC, Ending, Ran, Trial};
+use trial_runs::{Calls, Ending, Ran, Trial};
 
 // Words, a model, and its points, spans and plain.
 type Case = (&'static [&'static str], &'static str, u64, u64, u64);
@@ -125,51 +125,6 @@ fn what_was_counted_before_is_kept_and_not_told(rt: HostRuntime) -> Result<(), F
     let second = Trial::new(&["count", "w=8", "h=1"], b"x var-x");
     let ran = second.run_counted(rt.alloc(), &mut tally, told, b"")?;
     assert!(rt; takes(&ran, 13, 4), "{ran:?}");
-    Ok(())
-}
-
-// Words, an input, the status, and the note.
-type Refused = (
-    &'static [&'static str],
-    &'static [u8],
-    Status,
-    &'static [u8],
-);
-
-const REFUSED: [Refused; 3] = [
-    (
-        &["count", "w=0"],
-        DISC,
-        Status::Usage,
-        b"modeller: word 2: OutOfRange\n",
-    ),
-    (
-        &["count", "d=3"],
-        DISC,
-        Status::Usage,
-        b"modeller: word 2: UnknownSetting\n",
-    ),
-    (
-        &["count"],
-        b"a var-x\nb neg c",
-        Status::BadModel,
-        b"modeller: line 2: UnknownName\n",
-    ),
-];
-
-fn expect_refusals(rt: &impl Abort, alloc: Global, rows: &[Refused]) -> Result<(), AllocError> {
-    for (words, text, status, note) in rows {
-        let ran = Trial::new(words, text).run(alloc, b"", note)?;
-        let takes_nothing = ran.work.points == 0 && ran.work.spans == 0;
-        let is_refused = ran.ending == Ending::wanted(*status) && takes_nothing;
-        assert!(rt; is_refused, "{words:?}: {ran:?}");
-    }
-    Ok(())
-}
-
-#[test]
-fn what_is_refused_is_not_counted(rt: HostRuntime) -> Result<(), Fail> {
-    expect_refusals(&rt, rt.alloc(), &REFUSED)?;
     Ok(())
 }
 

@@ -3,7 +3,7 @@ use modeller_cmd::Status;
 use std::alloc::{AllocError, Global};
 use std::process::Abort;
 use std::test::Fail;
-use trial_runs::{Calls, DISC, Ending, Trial};
+use trial_runs::{Calls, Ending, Trial};
 
 // Words, a model, and the map.
 type Case = (&'static [&'static str], &'static str, &'static [u8]);
@@ -243,45 +243,6 @@ fn a_height_map_has_at_most_1024_samples_along_each_axis(rt: HostRuntime) -> Res
     // Each eighth lies on one side of the plane, and is decided.
     assert_eq!(rt; map.work.points, 0);
     assert!(rt; map.work.spans <= 9);
-    Ok(())
-}
-
-// Words, an input, the status, and the note.
-type Refused = (
-    &'static [&'static str],
-    &'static [u8],
-    Status,
-    &'static [u8],
-);
-
-const REFUSED: [Refused; 2] = [
-    (
-        &["height", "d=0"],
-        DISC,
-        Status::Usage,
-        b"modeller: word 2: OutOfRange\n",
-    ),
-    (
-        &["height"],
-        b"a var-x\nb neg c",
-        Status::BadModel,
-        b"modeller: line 2: UnknownName\n",
-    ),
-];
-
-fn expect_refusals(rt: &impl Abort, alloc: Global, rows: &[Refused]) -> Result<(), AllocError> {
-    for (words, text, status, note) in rows {
-        let ran = Trial::new(words, text).run(alloc, b"", note)?;
-        let takes_nothing = ran.work.points == 0 && ran.work.spans == 0;
-        let is_refused = ran.ending == Ending::wanted(*status) && takes_nothing;
-        assert!(rt; is_refused, "{words:?}: {ran:?}");
-    }
-    Ok(())
-}
-
-#[test]
-fn a_map_of_no_model_is_not_counted(rt: HostRuntime) -> Result<(), Fail> {
-    expect_refusals(&rt, rt.alloc(), &REFUSED)?;
     Ok(())
 }
 

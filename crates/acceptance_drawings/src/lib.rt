@@ -12,6 +12,8 @@ mod meshes;
 #[cfg(test)]
 mod pictures;
 #[cfg(test)]
+mod refusals;
+#[cfg(test)]
 mod shades;
 #[cfg(test)]
 mod solids;
