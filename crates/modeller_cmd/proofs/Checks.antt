@@ -1,25 +1,25 @@
 -- What a check writes is the line of the one verdict.
-use Rattle.std.proofs.Common.{◌≡◌, ℕ, ◌≤◌, Bool, true, false, List, [], ◌∷◌, length, append-nil, Result, Ok, Err, refl, ap, sym, subst, ◌∙◌, arith}
+use Rattle.std.proofs.Common.{◌≡◌, ℕ, ◌≤◌, Bool, true, false, List, [], ◌∷◌, length, append-nil, Ok, refl, ap, sym, subst, ◌∙◌, arith}
 use Rattle.std.specs.Prelude.{map, nat_lt}
 use Rattle.std.proofs.lemmas.Bool.{ltb-false}
 use Rattle.std.proofs.lemmas.List.{length-map}
 use Rattle.checked_meshes.specs.ModelTexts.{MeshTextsCheck}
 use Rattle.checked_meshes.specs.Readings.{corners_of}
 use Rattle.kuhn_cells.specs.Faces.{Face as Triple, faces}
-use Rattle.kuhn_cells.specs.Grids.{Grid, vertices}
+use Rattle.kuhn_cells.specs.Grids.{vertices}
 use Rattle.mesh_report.specs.Laws.{VerdictsAreReported}
 use Rattle.mesh_report.specs.Reports.{finding_line, reported}
 use Rattle.mesh_verdict.specs.declared.finding.Finding.TheVariants.{Closed}
 use Rattle.mesh_verdict.specs.Corners.{triples}
 use Rattle.mesh_verdict.specs.Laws.{OneFindingIsRight}
 use Rattle.mesh_verdict.specs.Verdicts.{Verdict}
-use Rattle.model_frames.specs.Meshes.{grid_of, mesh_text}
+use Rattle.model_frames.specs.Meshes.{grid_of}
 use Rattle.ply_check.specs.PlyFiles.{PlyReads}
 use Rattle.solid_model.specs.Values.{solid_value}
 use Rattle.view_settings.specs.declared.job.Job.TheVariants.{Check}
 use Rattle.modeller_cmd.specs.Asking.{asked}
-use Rattle.modeller_cmd.specs.Checks.{ChecksAreExact, SaysVerdict, VerdictsAreWritten, WrittenMeshesPass}
-use Rattle.modeller_cmd.specs.Output.{input_limit, made, of_mesh, outcome, output_as}
+use Rattle.modeller_cmd.specs.Checks.{ChecksAreExact, VerdictsAreWritten, WrittenMeshesPass}
+use Rattle.modeller_cmd.specs.Output.{input_limit, of_mesh, outcome, output_as}
 use Rattle.modeller_cmd.specs.Parts.{bytes_of_parts}
 use Rattle.modeller_cmd.specs.declared.status.Status.TheVariants.{Done}
 use Rattle.modeller_cmd.proofs.Outcomes.{mesh_reported}

@@ -502,7 +502,7 @@ unwritten_part : Written (λ (s : List ℕ). Some s) (λ s. 0) [] [] no_counts n
 unwritten_part written = let same : [] ≡ codes "a" = written.gained in (cc)
 
 -- where memory is refused nothing of the command is written
-part_without_memory : HaltsIn (λ (s : List ℕ). Some s) (λ s. 0) [] (codes "@") no_counts no_counts (started []) commands.Text stop.NoMemory → ⊥
+part_without_memory : HaltsIn (λ (s : List ℕ). Some s) (λ s. 0) [] (codes "@") no_counts no_counts [] (started []) commands.Text stop.NoMemory → ⊥
 part_without_memory halts = let same : codes "@" ≡ [] = halts.unwritten refl in (cc)
 
 -- memory is wanted for a frame, for an edit that is accepted and for an undo that brings a clause back, and for no edit that is refused
@@ -576,19 +576,17 @@ stray_and_text = commands.Stray 3 ∷ commands.Text ∷ []
 
 stray_is_passed : HaltsAt (λ (s : List ℕ). Some s) (λ s. 0) [] [] no_counts no_counts shown stray_and_text stop.NoMemory → ⊥
 unfolding digits replayed standing
-stray_is_passed at = by at.earlier at.command at.later at.split at.between at.counts at.written at.halts
+stray_is_passed at = by at.earlier at.command at.later at.split at.counts at.halts
   where
-    by : (earlier : List Command) (command : Command) (later : List Command) → stray_and_text ≡ earlier ++ command ∷ later
-        → (between : List ℕ) (counts : Counts) → Written (λ (s : List ℕ). Some s) (λ s. 0) [] between no_counts counts (replayed shown earlier)
-        → HaltsIn (λ (s : List ℕ). Some s) (λ s. 0) between [] counts no_counts (standing shown earlier) command stop.NoMemory → ⊥
-    by [] command later split between counts written halts =
+    by : (earlier : List Command) (command : Command) (later : List Command) → stray_and_text ≡ earlier ++ command ∷ later → (counts : Counts)
+        → HaltsIn (λ (s : List ℕ). Some s) (λ s. 0) [] [] counts no_counts (bytes_of_parts (replayed shown earlier)) (standing shown earlier) command stop.NoMemory → ⊥
+    by [] command later split counts halts =
         let same : commands.Stray 3 ≡ command = cc in subst (WantsMemory shown) (sym same) (halts.wants refl)
-    by (first ∷ earlier) command later split between counts written halts =
+    by (first ∷ earlier) command later split counts halts =
         let same : commands.Stray 3 ≡ first = cc in
-        let none : [] ≡ between = halts.unwritten refl in
-        let some : between ≡ bytes_of_parts (replayed shown (commands.Stray 3 ∷ earlier)) =
-        subst (λ command. between ≡ bytes_of_parts (replayed shown (command ∷ earlier))) (sym same) written.gained in
-        let byte : None ≡ Some 64 = ap (λ s. slice_get s 0) none ∙ ap (λ s. slice_get s 0) some in
+        let none : [] ≡ bytes_of_parts (replayed shown (commands.Stray 3 ∷ earlier)) =
+        subst (λ command. [] ≡ bytes_of_parts (replayed shown (command ∷ earlier))) (sym same) (halts.unwritten refl) in
+        let byte : None ≡ Some 64 = ap (λ s. slice_get s 0) none in
         (cc)
 
 -- parts are written in their order, and their work is the sum of theirs
@@ -783,22 +781,22 @@ bytes_are_lost : Halted (λ (s : List ℕ). Some s) (λ s. 0) (codes "ab") (code
 bytes_are_lost halted = let same : codes "a" ≡ codes "ab" ++ halted.grew.bytes = halted.grew.gained in (cc)
 
 -- a fault of the sink halts no edit that is accepted
-edit_meets_no_fault : HaltsIn (λ (s : List ℕ). Some s) (λ s. last_count) [] [] no_counts no_counts shown (commands.Edit 4 (edits.Cut (codes "f"))) stop.WriteFault → ⊥
+edit_meets_no_fault : HaltsIn (λ (s : List ℕ). Some s) (λ s. last_count) [] [] no_counts no_counts [] shown (commands.Edit 4 (edits.Cut (codes "f"))) stop.WriteFault → ⊥
 edit_meets_no_fault halts = accepted_edit_writes_nothing (halts.writes refl)
 
 -- under such a fault the image of a frame was counted, and nothing is left but a front of the frame
 abbrev drawing : Command
 drawing = commands.Render (window 3 1 (pos 0))
 
-uncounted_frame : HaltsIn (λ (s : List ℕ). Some s) (λ s. last_count) [] [] no_counts no_counts shown drawing stop.WriteFault → ⊥
+uncounted_frame : HaltsIn (λ (s : List ℕ). Some s) (λ s. last_count) [] [] no_counts no_counts [] shown drawing stop.WriteFault → ⊥
 unfolding CountsWork points_after spans_after chain_within
 uncounted_frame halts =
     let counts : RisesWithin no_counts no_counts (risen_by 6 2 0) (risen_by 6 2 8) = halts.counted refl in
     let points : 0 ≡ risen 0 counts.by.points = ap (λ (counts : Counts). counts.points) counts.rises in
     omega (arith, counts.enough.points, points)
 
-bytes_of_no_frame : HaltsIn (λ (s : List ℕ). Some s) (λ s. last_count) [] (codes "b") no_counts no_counts shown commands.Text stop.WriteFault → ⊥
-bytes_of_no_frame halts = let front = halts.halted.front refl in by front.count front.gained
+bytes_of_no_frame : HaltsIn (λ (s : List ℕ). Some s) (λ s. last_count) [] (codes "b") no_counts no_counts [] shown commands.Text stop.WriteFault → ⊥
+bytes_of_no_frame halts = let front = halts.front refl in by front.count front.gained
   where
     by : (count : ℕ) → codes "b" ≡ take count (bytes_of_parts (parts_at shown commands.Text)) → ⊥
     by zero same = (cc)
@@ -830,15 +828,11 @@ half_a_frame : HaltsRun (λ (s : List ℕ). Some s) (λ s. 0) [] (codes "@") no_
 unfolding digits replayed standing
 half_a_frame run = by run.stop run.is (run.replay refl)
   where
-    at : (earlier : List Command) (command : Command) (later : List Command) → commands.Text ∷ [] ≡ earlier ++ command ∷ later
-        → (between : List ℕ) (counts : Counts) → Written (λ (s : List ℕ). Some s) (λ s. 0) [] between no_counts counts (replayed (started (take 1 two)) earlier)
-        → HaltsIn (λ (s : List ℕ). Some s) (λ s. 0) between (codes "@") counts no_counts (standing (started (take 1 two)) earlier) command stop.NoMemory → ⊥
-    at [] command later split between counts written halts =
-        let none : between ≡ [] = written.gained in
-        let some : codes "@" ≡ between = halts.unwritten refl in
-        (cc)
-    at (first ∷ []) command later split between counts written halts = (cc)
-    at (first ∷ second ∷ earlier) command later split between counts written halts = (cc)
+    at : (earlier : List Command) (command : Command) (later : List Command) → commands.Text ∷ [] ≡ earlier ++ command ∷ later → (counts : Counts)
+        → HaltsIn (λ (s : List ℕ). Some s) (λ s. 0) [] (codes "@") counts no_counts (bytes_of_parts (replayed (started (take 1 two)) earlier)) (standing (started (take 1 two)) earlier) command stop.NoMemory → ⊥
+    at [] command later split counts halts = let none : codes "@" ≡ [] = halts.unwritten refl in (cc)
+    at (first ∷ []) command later split counts halts = (cc)
+    at (first ∷ second ∷ earlier) command later split counts halts = (cc)
 
     by : (why : Stop) → status.NoMemory ≡ status_at why
         → HaltsReplay (λ (s : List ℕ). Some s) (λ s. 0) [] (codes "@") no_counts no_counts (codes "x var-x\n%%\ntext\n") why → ⊥
@@ -853,7 +847,7 @@ half_a_frame run = by run.stop run.is (run.replay refl)
         either : (IsUnbegun stop.NoMemory × (codes "@" ≡ []) × (no_counts ≡ no_counts))
             ⊎ HaltsAt (λ (s : List ℕ). Some s) (λ s. 0) [] (codes "@") no_counts no_counts (started (take 1 two)) (commands.Text ∷ []) stop.NoMemory → ⊥
         either (inl none) = let same : codes "@" ≡ [] = none.1 in (cc)
-        either (inr halts) = at halts.earlier halts.command halts.later halts.split halts.between halts.counts halts.written halts.halts
+        either (inr halts) = at halts.earlier halts.command halts.later halts.split halts.counts halts.halts
 
 -- the text of a mesh that is written is told to be sound, and so is that of a frame: of what stands where it comes
 abbrev cells : ℕ → Window

@@ -1,5 +1,5 @@
 -- Where the commands of a script are halted.
-use Rattle.std.proofs.Common.{◌≡◌, ◌≢◌, ℕ, List, [], ◌∷◌, inl, inr, Option, Some, None, Result, Ok, Err, IfSome, refl, subst}
+use Rattle.std.proofs.Common.{◌≡◌, ◌≢◌, ℕ, List, inl, inr, Option, Some, None, Result, Ok, Err, IfSome, refl, subst}
 use Rattle.std.specs.Prelude.{IfErr}
 use Rattle.clause_reader.specs.Reading.{text_read}
 use Rattle.clause_reader.specs.declared.text_reason.TextReason.{TextReason}
@@ -12,17 +12,9 @@ use Rattle.modeller_cmd.specs.Stops.{stop_of_end, stop_of_script, stop_of_text}
 use Rattle.edit_script.specs.Marks.{before_mark}
 use Rattle.edit_script.specs.Scripts.{script_read}
 use Rattle.edit_script.specs.declared.command.Command.{Command}
-use Rattle.edit_script.specs.declared.command.Command.TheVariants as commands
-use Rattle.edit_session.specs.Sessions.{State, started}
-use Rattle.model_frames.specs.Work.{CountsWork}
-use Rattle.model_frames.specs.Laws.{FramesAddUp}
+use Rattle.edit_session.specs.Sessions.{started}
 use Rattle.fixed_ops.specs.Counts.{Counts}
-use Rattle.solid_model.specs.Edits.{edited}
 use Rattle.solid_model.specs.declared.clause.Clause.{Clause}
-use Rattle.solid_model.specs.declared.edit.Edit.{Edit}
-use Rattle.solid_model.specs.declared.edit.EditFault.{EditFault as Fault}
-use Rattle.modeller_cmd.specs.Parts.{work_of_parts}
-use Rattle.modeller_cmd.specs.Replays.{parts_at, undo_parts}
 use Rattle.modeller_cmd.specs.Halting.{IsUnbegun, HaltsAt, HaltsReplay}
 use Rattle.view_settings.specs.declared.job.Job.{Job}
 use Rattle.view_settings.specs.declared.job.Job.TheVariants.{Replay}
@@ -77,19 +69,3 @@ pub unbegun-script : (input : List ℕ) (script : List Command) (line : ℕ) (re
     → (reason ≢ scripts.NoMemory → script_read input ≡ Err (record { line = line; reason = reason })) → IsUnbegun (stop_of_script (record { line = line; reason = reason }))
 unbegun-script input script line scripts.NoMemory read refused = tt
 unbegun-script input script line other read refused = let no = refused (λ is. cc) in absurd (cc)
-
--- an edit takes no work
-pub edit-work : (frames : FramesAddUp) (state : State) (line : ℕ) (edit : Edit) (counts : Counts) → CountsWork counts counts (work_of_parts (parts_at state (commands.Edit line edit)))
-edit-work frames state line edit counts = by (edited state.clauses edit) refl
-  where
-    by : (r : Result (List Clause) Fault) → edited state.clauses edit ≡ r → CountsWork counts counts (work_of_parts (parts_at state (commands.Edit line edit)))
-    by (Ok new) is = rw is (frames.none counts)
-    by (Err fault) is = rw is (frames.none counts)
-
--- and so does an undo
-pub undo-work : (frames : FramesAddUp) (state : State) (line : ℕ) (counts : Counts) → CountsWork counts counts (work_of_parts (parts_at state (commands.Undo line)))
-undo-work frames state line counts = by state.undo
-  where
-    by : (edits : List Edit) → CountsWork counts counts (work_of_parts (undo_parts line edits))
-    by [] = frames.none counts
-    by (last ∷ others) = frames.none counts

@@ -2,6 +2,7 @@ mod AtOnce
 mod Bands
 mod Checks
 mod Counting
+mod Edits
 mod Examples
 mod Execution
 mod Forging
@@ -16,5 +17,7 @@ mod ShownModels
 mod Soundness
 mod UndoExamples
 mod Undoing
+mod Waiting
+mod WaitingExamples
 mod WorkSums
 mod Writing

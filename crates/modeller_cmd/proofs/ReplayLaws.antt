@@ -1,5 +1,5 @@
 -- What a list of commands writes, command by command.
-use Rattle.std.proofs.Common.{◌≡◌, ◌≢◌, ℕ, Option, List, [], ◌∷◌, ◌++◌, refl, sym, ap, ◌∙◌, append_assoc, append-nil}
+use Rattle.std.proofs.Common.{◌≡◌, ◌≢◌, ℕ, List, [], ◌∷◌, ◌++◌, refl, sym, ap, ◌∙◌, append_assoc, append-nil}
 use Rattle.std.proofs.lemmas.List.Sums.{fold-append}
 use Rattle.clause_reader.specs.declared.text_reason.TextReason.{TextReason}
 use Rattle.clause_reader.specs.declared.text_reason.TextReason.TheVariants as text
@@ -7,9 +7,7 @@ use Rattle.edit_script.specs.declared.command.Command.{Command}
 use Rattle.edit_script.specs.declared.script_reason.ScriptReason.{ScriptReason}
 use Rattle.edit_script.specs.declared.script_reason.ScriptReason.TheVariants as script
 use Rattle.edit_session.specs.Sessions.{State}
-use Rattle.fixed_ops.specs.Counts.{Counts}
 use Rattle.modeller_cmd.specs.Replays.{parts_at, replayed, standing, state_after}
-use Rattle.modeller_cmd.specs.Writing.{Written}
 use Rattle.modeller_cmd.specs.Stops.{stop_of_script, stop_of_text}
 use Rattle.modeller_cmd.specs.declared.stop.Stop.TheVariants.{WriteFault}
 
@@ -26,6 +24,10 @@ replayed-none state = refl
 pub standing-more : (state : State) (xs : List Command) (x : Command) → standing state (xs ++ x ∷ []) ≡ state_after (standing state xs) x
 unfolding standing
 standing-more state xs x = fold-append state_after state xs (x ∷ [])
+
+pub standing-append : (state : State) (xs ys : List Command) → standing state (xs ++ ys) ≡ standing (standing state xs) ys
+unfolding standing
+standing-append state xs ys = fold-append state_after state xs ys
 
 -- what some commands write, and others after them
 pub replayed-append : (state : State) (xs ys : List Command) → replayed state (xs ++ ys) ≡ replayed state xs ++ replayed (standing state xs) ys
@@ -46,13 +48,6 @@ pub replayed-more : (state : State) (xs : List Command) (x : Command) → replay
 unfolding replayed
 replayed-more state xs x =
     replayed-append state xs (x ∷ []) ∙ ap (λ parts. replayed state xs ++ parts) (append-nil (parts_at (standing state xs) x))
-
--- of some commands the first were replayed, and the others are left
-pub record Passed {K : Type 0} (held : K → Option (List ℕ)) (faults : K → ℕ) (before after : K) (first last : Counts) (opened state : State) (commands left : List Command) : Type 0 where
-  pub earlier : List Command
-  pub parts : commands ≡ earlier ++ left
-  pub stands : state ≡ standing opened earlier
-  pub written : Written held faults before after first last (replayed opened earlier)
 
 -- no text and no script halts a run as a fault of its sink does
 pub text-other : (line : ℕ) (reason : TextReason) → stop_of_text (record { line = line; reason = reason }) ≢ WriteFault

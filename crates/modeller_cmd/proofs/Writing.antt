@@ -1,30 +1,20 @@
 -- Parts that are written one after the other, up to what halts that.
 use Rattle.std.proofs.Common.{◌≡◌, ◌≢◌, ℕ, ◌+◌, List, [], ◌∷◌, ◌++◌, length, take, Option, Result, Ok, Err, refl, sym, ap, subst, ◌∙◌, append-nil, length-append, arith}
-use Rattle.std.specs.Prelude.{IfErr, IsErrAnd, OnOk}
+use Rattle.std.specs.Prelude.{IfErr, IsErrAnd}
 use Rattle.std.proofs.Math.Seq.{take-append-add}
 use Rattle.std.proofs.lemmas.List.{take-append-le}
-use Rattle.edit_script.specs.declared.command.Command.{Command as Given}
-use Rattle.edit_script.specs.declared.command.Command.TheVariants as Command
-use Rattle.edit_session.specs.Sessions.{State, after_edit, model_of, with_model}
 use Rattle.model_frames.specs.Work.{CountsWithin, CountsWork, PointsRiseAtMost, both, no_work}
 use Rattle.model_frames.specs.Laws.{FramesAddUp}
 use Rattle.fixed_ops.specs.Counts.{Counts}
 use Rattle.modeller_io.specs.Count.{RoseBy, Stands}
 use Rattle.modeller_io.specs.Held.{Gains, GainsPrefix}
-use Rattle.solid_model.specs.Edited.{IsUndone, given_or}
-use Rattle.solid_model.specs.Edits.{edited}
-use Rattle.solid_model.specs.declared.clause.Clause.{Clause}
-use Rattle.solid_model.specs.declared.edit.Edit.{Edit}
-use Rattle.solid_model.specs.declared.edit.EditFault.{EditFault as Fault}
-use Rattle.solid_model.specs.declared.edit.EditFault.TheVariants as EditFault
 use Rattle.modeller_cmd.specs.Endings.{GainsParts}
 use Rattle.model_frames.specs.Frames.{Part}
 use Rattle.modeller_cmd.specs.Parts.{bytes_of_parts, work_of_parts}
 use Rattle.modeller_cmd.specs.Writing.{Halted, Written}
-use Rattle.modeller_cmd.specs.Replays.{after_undo, parts_at, refusal, state_after, undo_parts}
 use Rattle.modeller_cmd.specs.declared.stop.Stop.{Stop}
 use Rattle.modeller_cmd.specs.declared.stop.Stop.TheVariants.{WriteFault, NoMemory}
-use Rattle.modeller_cmd.proofs.Gaining.{Extends-none, Gains-then, GainsPrefix-after, Grew-after, Grew-gains, Grew-prefix, RoseBy-after, on-ok}
+use Rattle.modeller_cmd.proofs.Gaining.{Extends-none, Gains-then, GainsPrefix-after, Grew-after, Grew-gains, Grew-prefix, RoseBy-after}
 use Rattle.modeller_cmd.proofs.WorkSums.{both-none, bytes-append, work-append}
 
 -- nothing was written
@@ -164,82 +154,3 @@ part-undrawn held faults out s t part few plain =
 pub ends-with : {T : Type 0} (r : Result T Stop) (stop : Stop) (P : Stop → Type 0) → IsErrAnd r (λ e. e ≡ stop) → P stop → IfErr r P
 ends-with (Ok x) stop P is p = absurd is
 ends-with (Err e) stop P is p = subst P (sym is) p
-
--- what is written of an edit depends on what the edit gives
-pub edit-written : (frames : FramesAddUp) {K : Type 0} (held : K → Option (List ℕ)) (faults : K → ℕ) (out : K) (counts : Counts) (state : State) (new : List Clause) (line : ℕ) (edit : Edit)
-    → edited state.clauses edit ≡ Ok new → Written held faults out out counts counts (parts_at state (Command.Edit line edit))
-edit-written frames held faults out counts state new line edit is = rw is (written-none frames held faults out counts)
-
-pub edit-kept : (state new : State) (line : ℕ) (edit : Edit) → edited state.clauses edit ≡ Ok new.clauses → new ≡ after_edit state edit new.clauses
-    → new ≡ state_after state (Command.Edit line edit)
-edit-kept state new line edit is kept = rw is kept
-
-pub edit-refused : (state : State) (line : ℕ) (edit : Edit) (fault : Fault) → edited state.clauses edit ≡ Err fault
-    → parts_at state (Command.Edit line edit) ≡ refusal line fault ∷ []
-edit-refused state line edit fault is = rw is refl
-
-pub edit-stands : (state : State) (line : ℕ) (edit : Edit) (fault : Fault) → edited state.clauses edit ≡ Err fault
-    → state ≡ state_after state (Command.Edit line edit)
-edit-stands state line edit fault is = rw is refl
-
--- and what is written of an undo on whether it finds an edit
-pub undo-written : (frames : FramesAddUp) {K : Type 0} (held : K → Option (List ℕ)) (faults : K → ℕ) (out : K) (counts : Counts) (state new : State) (line : ℕ)
-    → IsUndone (model_of state) (model_of new) → Written held faults out out counts counts (parts_at state (Command.Undo line))
-undo-written frames held faults out counts state new line undone =
-    subst (λ edits. Written held faults out out counts counts (undo_parts line edits)) (sym undone.first) (written-none frames held faults out counts)
-
-pub undo-stands : (state new : State) (line : ℕ) → IsUndone (model_of state) (model_of new) → new ≡ with_model state (model_of new)
-    → new ≡ state_after state (Command.Undo line)
-undo-stands state new line undone stands =
-    stands
-    ∙ sym (ap (after_undo state) undone.first
-    ∙ ap (λ (given : Result (List Clause) Fault). with_model state (record { clauses = given_or state.clauses given; undo = new.undo })) undone.accepted)
-
-pub undo-refused : (state : State) (line : ℕ) (fault : Fault) → fault ≡ EditFault.NothingToUndo → state.undo ≡ []
-    → parts_at state (Command.Undo line) ≡ refusal line fault ∷ []
-undo-refused state line fault is none = ap (undo_parts line) none ∙ ap (λ why. refusal line why ∷ []) (sym is)
-
-pub undo-idle : (state : State) (line : ℕ) → state.undo ≡ [] → state ≡ state_after state (Command.Undo line)
-undo-idle state line none = sym (ap (after_undo state) none)
-
--- a command that is refused for a fault other than want of memory writes a line of it
-module _ (frames : FramesAddUp) {K T : Type 0} (held : K → Option (List ℕ)) (faults : K → ℕ) (before after : K) (parts : List Part) (line : ℕ) (fault : Fault) (r : Result T Stop)
-    (refused : fault ≢ EditFault.NoMemory → parts ≡ refusal line fault ∷ []) (memory : fault ≡ EditFault.NoMemory → (r ≡ Err NoMemory) × (after ≡ before)) where
-  pub refused-written : OnOk r ((counts : Counts) → Written held faults before after counts counts (refusal line fault ∷ []))
-      → OnOk r ((counts : Counts) → Written held faults before after counts counts parts)
-  refused-written = by fault refl
-    where
-      by : (f : Fault) → fault ≡ f → OnOk r ((counts : Counts) → Written held faults before after counts counts (refusal line fault ∷ []))
-          → OnOk r ((counts : Counts) → Written held faults before after counts counts parts)
-      by EditFault.NoMemory is = λ p. rw (memory is).0 tt
-      by other is = λ p. subst (λ ps. OnOk r ((counts : Counts) → Written held faults before after counts counts ps)) (sym (refused (λ e. cc))) p
-
-  pub refused-halted : IfErr r (λ stop. (counts : Counts) → Halted held faults before after counts counts (refusal line fault ∷ []) stop)
-      → IfErr r (λ stop. (counts : Counts) → Halted held faults before after counts counts parts stop)
-  refused-halted = by fault refl
-    where
-      by : (f : Fault) → fault ≡ f → IfErr r (λ stop. (counts : Counts) → Halted held faults before after counts counts (refusal line fault ∷ []) stop)
-          → IfErr r (λ stop. (counts : Counts) → Halted held faults before after counts counts parts stop)
-      by EditFault.NoMemory is = λ p. rw ((memory is).0, (memory is).1) (λ counts. halted-at-once frames held faults before counts parts NoMemory (memory-other NoMemory refl))
-      by other is = λ p. subst (λ ps. IfErr r (λ stop. (counts : Counts) → Halted held faults before after counts counts ps stop)) (sym (refused (λ e. cc))) p
-
-  -- and leaves what stood
-  pub refused-stands : (state new next : State) → (fault ≢ EditFault.NoMemory → state ≡ next) → new ≡ state → OnOk r (new ≡ next)
-  refused-stands state new next stands same = by fault refl
-    where
-      by : (f : Fault) → fault ≡ f → OnOk r (new ≡ next)
-      by EditFault.NoMemory is = rw (memory is).0 tt
-      by other is = on-ok r (new ≡ next) (same ∙ stands (λ e. cc))
-
--- what is so of the parts of a command is so where the command is told
-pub at-command : (P : List Part → Type 0) (state : State) (command told : Given) → command ≡ told → P (parts_at state told) → P (parts_at state command)
-at-command P state command told is p = subst (λ one. P (parts_at state one)) (sym is) p
-
--- what is so whatever a tally holds is so of this one
-pub err-at : {T : Type 0} (r : Result T Stop) (P : Counts → Stop → Type 0) (counts : Counts) → IfErr r (λ stop. (held : Counts) → P held stop) → IfErr r (P counts)
-err-at (Ok x) P counts p = tt
-err-at (Err e) P counts p = p counts
-
-pub ok-at : {T : Type 0} (r : Result T Stop) (P : Counts → Type 0) (counts : Counts) → OnOk r ((held : Counts) → P held) → OnOk r (P counts)
-ok-at (Ok x) P counts p = p counts
-ok-at (Err e) P counts p = tt

@@ -1,19 +1,22 @@
 -- Where the commands of a script are halted: by a fault, or for want of memory.
-use Rattle.std.specs.Prelude.{◌≡◌, ◌⊎◌, ℕ, List, [], ◌∷◌, ◌++◌, Option, Ok, IsOk, IsErr, ⊤}
+use Rattle.std.specs.Prelude.{◌≡◌, ◌≢◌, ◌⊎◌, ℕ, List, [], ◌∷◌, ◌++◌, Option, Ok, IsOk, IsErr, ⊤}
 use Rattle.clause_reader.specs.Reading.{text_read}
 use Rattle.edit_script.specs.Marks.{before_mark}
 use Rattle.edit_script.specs.Scripts.{script_read}
 use Rattle.edit_script.specs.declared.command.Command.{Command}
 use Rattle.edit_script.specs.declared.command.Command.TheVariants as commands
 use Rattle.edit_session.specs.Sessions.{State, started}
-use Rattle.model_frames.specs.Work.{CountsWork}
+use Rattle.model_frames.specs.Work.{CountsWithin, CountsWork, PointsRiseAtMost}
 use Rattle.fixed_ops.specs.Counts.{Counts}
+use Rattle.modeller_io.specs.Count.{RoseBy, Stands}
+use Rattle.modeller_io.specs.Held.{Gains}
 use Rattle.solid_model.specs.Edits.{edited, FirstMakesClause}
 use Rattle.solid_model.specs.declared.clause.Clause.{Clause}
 use Rattle.view_settings.specs.declared.job.Job.TheVariants.{Replay}
 use Rattle.modeller_cmd.specs.Asking.{asked}
-use Rattle.modeller_cmd.specs.Parts.{work_of_parts}
-use Rattle.modeller_cmd.specs.Writing.{Halted, Written}
+use Rattle.modeller_cmd.specs.Endings.{IsHalt}
+use Rattle.modeller_cmd.specs.Parts.{bytes_of_parts, work_of_parts}
+use Rattle.modeller_cmd.specs.Writing.{GainsBeyond, Worked}
 use Rattle.modeller_cmd.specs.Replays.{parts_at, replayed, standing}
 use Rattle.modeller_cmd.specs.Stops.{status_at}
 use Rattle.modeller_cmd.specs.declared.refusal.Refusal.TheVariants as refusal
@@ -38,19 +41,26 @@ WritesSomething state (commands.Edit line edit) = IsErr (edited state.clauses ed
 WritesSomething state (commands.Undo line) = state.undo ≡ []
 WritesSomething state other = ⊤
 
--- Something halted one command. Where memory was refused nothing of it was written, and it may want
--- memory; under a fault of the sink it writes something, and its work was done.
+-- Something halted one command, before which these bytes are written. Where memory was refused, they
+-- were written and nothing of the command, and it may want memory. Under a fault of the sink they were
+-- written and a front of the command's, it writes something, and its work was done.
 pub record HaltsIn {K : Type 0} (held : K → Option (List ℕ)) (faults : K → ℕ)
-    (before after : K) (first last : Counts) (state : State) (command : Command)
+    (before after : K) (first last : Counts) (bytes : List ℕ) (state : State) (command : Command)
     (stop : Stop) : Type 0 where
-  pub unwritten : stop ≡ NoMemory → after ≡ before
+  pub halt : IsHalt stop
+  pub unwritten : stop ≡ NoMemory → Gains held before after bytes
+  pub front : stop ≡ WriteFault
+      → GainsBeyond held before after bytes (bytes_of_parts (parts_at state command))
   pub wants : stop ≡ NoMemory → WantsMemory state command
   pub writes : stop ≡ WriteFault → WritesSomething state command
   pub counted : stop ≡ WriteFault → CountsWork first last (work_of_parts (parts_at state command))
-  pub halted : Halted held faults before after first last (parts_at state command) stop
+  pub at_most : CountsWithin first last (work_of_parts (parts_at state command))
+  pub plain : PointsRiseAtMost first last (work_of_parts (parts_at state command)).plain
+  pub write_fault : stop ≡ WriteFault → RoseBy faults before after 1
+  pub no_write_fault : stop ≢ WriteFault → Stands faults before after
 
--- Something halted one of these commands: those before it were replayed whole, and nothing was done
--- of those after it.
+-- Something halted one of these commands: what those before it write was written whole, their work was
+-- done, and nothing was done of those after it that is written or counted.
 pub record HaltsAt {K : Type 0} (held : K → Option (List ℕ)) (faults : K → ℕ)
     (before after : K) (first last : Counts) (state : State) (commands : List Command)
     (stop : Stop) : Type 0 where
@@ -58,10 +68,10 @@ pub record HaltsAt {K : Type 0} (held : K → Option (List ℕ)) (faults : K →
   pub command : Command
   pub later : List Command
   pub split : commands ≡ earlier ++ command ∷ later
-  pub between : K
   pub counts : Counts
-  pub written : Written held faults before between first counts (replayed state earlier)
-  pub halts : HaltsIn held faults between after counts last (standing state earlier) command stop
+  pub worked : Worked first counts (work_of_parts (replayed state earlier))
+  pub halts : HaltsIn held faults before after counts last (bytes_of_parts (replayed state earlier))
+      (standing state earlier) command stop
 
 -- what may halt a script before anything of it is done: a fault of the source, an input that is too
 -- long, or want of memory

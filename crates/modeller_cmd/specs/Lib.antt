@@ -10,6 +10,7 @@ pub mod Halting
 pub mod Notes
 pub mod Output
 pub mod Parts
+pub mod Pending
 pub mod Replays
 pub mod Runs
 pub mod ShownModels

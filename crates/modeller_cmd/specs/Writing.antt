@@ -1,6 +1,6 @@
 -- How far parts were written, and what the tally counted: whole, or up to a halt.
-use Rattle.std.specs.Prelude.{◌≡◌, ◌≢◌, ℕ, List, Option}
-use Rattle.model_frames.specs.Work.{CountsWithin, CountsWork, PointsRiseAtMost}
+use Rattle.std.specs.Prelude.{◌≡◌, ◌≢◌, ℕ, ◌≤◌, List, ◌++◌, length, take, Option}
+use Rattle.model_frames.specs.Work.{CountsWithin, CountsWork, PointsRiseAtMost, Work}
 use Rattle.fixed_ops.specs.Counts.{Counts}
 use Rattle.modeller_io.specs.Count.{RoseBy, Stands}
 use Rattle.modeller_io.specs.Held.{Gains, GainsPrefix, Grew}
@@ -18,6 +18,19 @@ pub record Written {K : Type 0} (held : K → Option (List ℕ)) (faults : K →
   pub counted : CountsWork first last (work_of_parts parts)
   pub at_most : CountsWithin first last (work_of_parts parts)
   pub plain : PointsRiseAtMost first last (work_of_parts parts).plain
+
+-- a sink that tells what it holds grew by all of some bytes, and a front of others behind them
+pub record GainsBeyond {K : Type 0} (held : K → Option (List ℕ)) (before after : K)
+    (bytes next : List ℕ) : Type 0 where
+  pub count : ℕ
+  pub within : count ≤ length next
+  pub gained : Gains held before after (bytes ++ take count next)
+
+-- this work was done, and counted
+pub record Worked (first last : Counts) (work : Work) : Type 0 where
+  pub counted : CountsWork first last work
+  pub at_most : CountsWithin first last work
+  pub plain : PointsRiseAtMost first last work.plain
 
 -- Something halted that. A fault of the sink leaves it with a front of the bytes, and want of
 -- memory with the first parts, each of them whole. No more than the work of the parts was counted.

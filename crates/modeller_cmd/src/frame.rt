@@ -11,7 +11,7 @@ ghost use Rattle.modeller_cmd.specs.Frames.{fault_name, frame_header, frame_of, 
 use crate::image::write_image;
 use crate::line::Line;
 use crate::send::write_texts;
-use modeller_io::{Failed, Sink, write_all};
+use modeller_io::{Failed, Sink};
 use quad_descent::RowSource;
 use raster_pgm::raster_length;
 use solid_model::EditFault;
@@ -51,18 +51,6 @@ pub fn write_image_frame<K: Sink, R: RowSource>(
     write_image(out, image, view, line.bytes(), buffer)
 }
 
-/// Writes the line of an edit or an undo that is refused: the number of its line in the script, and why. After
-/// `Failed` some of it was taken, from its front.
-pub fn write_refused<K: Sink>(out: &mut K, line: u32, fault: EditFault) -> Result<(), Failed>
-    ensures ok { OnOk result (Gains K.held out.old out.new (refused_line line fault)) }
-    ensures err { OnErr result (GainsPrefix K.held out.old out.new (refused_line line fault)) }
-    ensures no_fault { OnOk result (Stands K.faults out.old out.new) }
-    ensures cause { OnErr result (RoseBy K.faults out.old out.new 1) }
-{
-    let line = refused(line, fault);
-    write_all(out, line.bytes())
-}
-
 /// The line that tells what an image took: its evaluations, and its traced steps.
 pub fn cost_line(points: u64, spans: u64) -> Line
     ensures { result ≡ cost_text (record { points = points; spans = spans }) }
@@ -75,8 +63,8 @@ pub fn cost_line(points: u64, spans: u64) -> Line
     line
 }
 
-// The line before the bytes of a frame, which are so many.
-fn header(name: &[u8], count: u64) -> Line
+/// The line before the bytes of a frame: the word for its kind, and how many bytes they are.
+pub fn header(name: &[u8], count: u64) -> Line
     requires { length name.now ≤ 6 }
     ensures { result ≡ frame_header name.now count }
 {
@@ -89,8 +77,8 @@ fn header(name: &[u8], count: u64) -> Line
     line
 }
 
-// The line of an edit or an undo in the line of this number, which is refused.
-fn refused(number: u32, fault: EditFault) -> Line
+/// The line of an edit or an undo that is refused: the number of its line in the script, and why.
+pub fn refused_line(number: u32, fault: EditFault) -> Line
     ensures { result ≡ refused_line number fault }
 {
     let mut line = Line::new();

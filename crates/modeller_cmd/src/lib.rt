@@ -14,6 +14,7 @@ mod image;
 mod laws;
 mod line;
 mod note;
+mod pending;
 mod refusal;
 mod replay;
 mod send;

@@ -1,5 +1,5 @@
 // A script that is replayed on the model before its mark.
-ghost use Rattle.std.specs.Prelude.{◌≡◌, ◌≢◌, ◌≤◌, [], ◌∷◌, length, Err, IfErr, IfOk, IsErr, IsOk, OnOk};
+ghost use Rattle.std.specs.Prelude.{◌≡◌, ◌≢◌, ◌↔◌, ◌+◌, ◌*◌, ◌≤◌, ◌++◌, [], ◌∷◌, length, Err, IfErr, IfOk, IsErr, IsOk, IsTrue, OnErr, OnOk};
 ghost use Rattle.edit_script.specs.Commands.{IsCommand};
 ghost use Rattle.edit_script.specs.Marks.{before_mark};
 ghost use Rattle.edit_script.specs.Scripts.{script_read};
@@ -8,29 +8,37 @@ ghost use Rattle.fixed_ops.specs.Counts.{Counts};
 ghost use Rattle.modeller_cmd.specs.Endings.{Ends, IsExecutionStop, IsHalt, IsRefusal, status_after};
 ghost use Rattle.modeller_cmd.specs.Output.{input_limit, made, output_as};
 ghost use Rattle.modeller_cmd.specs.Writing.{Halted, Written};
-ghost use Rattle.modeller_cmd.specs.Replays.{cost_part, framed, parts_at, refusal, replayed, state_after};
-ghost use Rattle.modeller_cmd.specs.Halting.{HaltsAt, HaltsReplay, WantsMemory, WritesSomething};
-ghost use Rattle.modeller_cmd.specs.Parts.{work_of_parts};
+ghost use Rattle.modeller_cmd.specs.Frames.{refused_line};
+ghost use Rattle.modeller_cmd.specs.Replays.{cost_part, framed, parts_at, replayed, state_after};
+ghost use Rattle.modeller_cmd.specs.Halting.{HaltsAt, HaltsReplay};
+ghost use Rattle.modeller_cmd.specs.Parts.{bytes_of_parts, work_of_parts};
+ghost use Rattle.modeller_cmd.specs.Pending.{Draws, FailsIn, HaltsPlay, IsPlayed, WaitsOrSent};
+ghost use Rattle.modeller_cmd.specs.declared.line.TheConstants.{LINE_LIMIT};
+ghost use Rattle.modeller_cmd.specs.declared.pending.TheConstants.{PENDING_LIMIT};
 ghost use Rattle.model_frames.specs.Frames.{CanDraw};
 ghost use Rattle.model_frames.specs.Work.{CountsWork};
+ghost use Rattle.modeller_io.specs.Count.{Stands};
+ghost use Rattle.modeller_io.specs.Held.{Gains};
 ghost use Rattle.solid_model.specs.Edits.{edited, FirstMakesClause};
 ghost use Rattle.view_places.specs.Window.{FitsMesh};
 
-use crate::frame::{cost_line, write_frame, write_image_frame, write_refused};
+use crate::frame::{cost_line, header, refused_line, write_frame, write_image_frame};
 use crate::image::make_room;
+use crate::pending::PendingLines;
 use crate::stop::Stop;
 use clause_reader::read_model;
 use edit_script::{Command, Commands, split_input};
 use edit_session::Session;
 use fixed_ops::Tally;
 use model_frames::{Frame, frames_add_up};
-use modeller_io::Sink;
+use modeller_io::{Failed, Sink};
 use solid_model::{EditFault, EditRef};
 use std::alloc::Global;
 use view_settings::{Job, View};
 
-/// Replays the script of an input on the model before its mark. What a command writes is written as
-/// soon as it is made, and nothing before the whole script was read.
+/// Replays the script of an input on the model before its mark. A frame is written as soon as it is
+/// made, and the lines before it are written before it is drawn. Nothing is written before the whole
+/// script was read.
 ///
 /// `Refused`: the model is refused, or else the script, and nothing was written. `WriteFault`: the
 /// sink failed, and has taken a front of the bytes. `NoMemory`: memory was refused, and the sink
@@ -70,7 +78,8 @@ fn model_text(input: &[u8]) -> &[u8]
     }
 }
 
-// Replays commands one after the other. The images and meshes are written from one buffer.
+// Replays commands one after the other. The images and meshes are written from one buffer, and the
+// lines between them go out together.
 fn replay_commands<K: Sink>(
     mut session: Session,
     mut commands: Commands<'_>,
@@ -87,67 +96,94 @@ fn replay_commands<K: Sink>(
         session commands.entry) }
 {
     frames_add_up();
+    let mut lines = PendingLines::new();
     while let Some(command) = commands.next() {
-        step(&mut session, command, &mut buffer, out, tally)?;
+        make_way(&command, &mut lines, out)?;
+        step(&mut session, command, &mut lines, &mut buffer, out, tally)?;
+    }
+    Ok(lines.write(out)?)
+}
+
+// Writes the lines that wait, where a command draws a frame or there may be no room for its line.
+fn make_way<K: Sink>(
+    command: &Command<'_>,
+    lines: &mut PendingLines,
+    out: &mut K,
+) -> Result<(), Failed>
+    ensures sent { OnOk result
+        (WaitsOrSent K.held K.faults out.old out.new lines.old lines.new) }
+    ensures way { OnOk result (Draws command.now → lines.new ≡ []) }
+    ensures room { OnOk result (length lines.new + 2 * LINE_LIMIT ≤ PENDING_LIMIT) }
+    ensures failed { OnErr result (FailsIn K.held K.faults out.old out.new lines.old) }
+{
+    if draws(command) || !lines.has_room() {
+        lines.write(out)?;
     }
     Ok(())
+}
+
+// Whether a command draws a frame.
+fn draws(command: &Command<'_>) -> bool
+    ensures { IsTrue result ↔ Draws command.now }
+{
+    match command {
+        Command::Render(_) | Command::Height(_) | Command::Mesh(_) | Command::Text => true,
+        Command::Edit(..) | Command::Stray(_) | Command::Undo(_) | Command::Cost => false,
+    }
 }
 
 // Replays one command, and drops it.
 fn step<K: Sink>(
     session: &mut Session,
     command: Command<'_>,
+    lines: &mut PendingLines,
     buffer: &mut Vec<u8>,
     out: &mut K,
     tally: &mut Tally,
 ) -> Result<(), Stop>
-    requires { IsCommand command }
-    ensures stop { IfErr result IsHalt }
+    requires command { IsCommand command }
+    requires way { Draws command → lines.old ≡ [] }
+    requires room { length lines.old + 2 * LINE_LIMIT ≤ PENDING_LIMIT }
     ensures stands { OnOk result (session.new ≡ state_after session.old command.entry) }
-    ensures written { OnOk result (Written K.held K.faults out.old out.new tally.old tally.new
-        (parts_at session.old command.entry)) }
-    ensures halted { IfErr result (Halted K.held K.faults out.old out.new tally.old tally.new
-        (parts_at session.old command.entry)) }
-    ensures unwritten { result ≡ Err Stop.NoMemory → out.new ≡ out.old }
-    ensures wants { result ≡ Err Stop.NoMemory → WantsMemory session.old command.entry }
-    ensures writes { result ≡ Err Stop.WriteFault → WritesSomething session.old command.entry }
-    ensures counted { result ≡ Err Stop.WriteFault
-        → CountsWork tally.old tally.new (work_of_parts (parts_at session.old command.entry)) }
+    ensures played { OnOk result (IsPlayed K.held K.faults out.old out.new tally.old tally.new
+        lines.old lines.new (parts_at session.old command.entry)) }
+    ensures halted { IfErr result (HaltsPlay K.held K.faults out.old out.new tally.old tally.new
+        lines.old session.old command.entry) }
 {
-    play(session, &command, buffer, out, tally)
+    play(session, &command, lines, buffer, out, tally)
 }
 
 // Replays one command.
 fn play<K: Sink>(
     session: &mut Session,
     command: &Command<'_>,
+    lines: &mut PendingLines,
     buffer: &mut Vec<u8>,
     out: &mut K,
     tally: &mut Tally,
 ) -> Result<(), Stop>
-    requires { IsCommand command.now }
-    ensures stop { IfErr result IsHalt }
+    requires command { IsCommand command.now }
+    requires way { Draws command.now → lines.old ≡ [] }
+    requires room { length lines.old + 2 * LINE_LIMIT ≤ PENDING_LIMIT }
     ensures stands { OnOk result (session.new ≡ state_after session.old command.now) }
-    ensures written { OnOk result (Written K.held K.faults out.old out.new tally.old tally.new
-        (parts_at session.old command.now)) }
-    ensures halted { IfErr result (Halted K.held K.faults out.old out.new tally.old tally.new
-        (parts_at session.old command.now)) }
-    ensures unwritten { result ≡ Err Stop.NoMemory → out.new ≡ out.old }
-    ensures wants { result ≡ Err Stop.NoMemory → WantsMemory session.old command.now }
-    ensures writes { result ≡ Err Stop.WriteFault → WritesSomething session.old command.now }
-    ensures counted { result ≡ Err Stop.WriteFault
-        → CountsWork tally.old tally.new (work_of_parts (parts_at session.old command.now)) }
+    ensures played { OnOk result (IsPlayed K.held K.faults out.old out.new tally.old tally.new
+        lines.old lines.new (parts_at session.old command.now)) }
+    ensures halted { IfErr result (HaltsPlay K.held K.faults out.old out.new tally.old tally.new
+        lines.old session.old command.now) }
 {
     frames_add_up();
     match command {
-        Command::Edit(line, edit) => change(session, *line, edit, out),
-        Command::Stray(line) => refuse(out, *line, EditFault::UnknownName),
-        Command::Undo(line) => take_back(session, *line, out),
+        Command::Edit(line, edit) => change(session, *line, edit, lines, out),
+        Command::Stray(line) => refuse(*line, EditFault::UnknownName, lines, out),
+        Command::Undo(line) => take_back(session, *line, lines, out),
         Command::Render(view) => show_image(session, view, buffer, out, tally),
         Command::Height(view) => show(session, &Frame::Height(*view), out, tally),
         Command::Mesh(view) => show_mesh(session, view, buffer, out, tally),
         Command::Text => show(session, &Frame::Text, out, tally),
-        Command::Cost => tell_cost(session, out),
+        Command::Cost => {
+            tell_cost(session, lines);
+            Ok(())
+        }
     }
 }
 
@@ -222,84 +258,96 @@ fn show_mesh<K: Sink>(
     Ok(write_frame(out, b"mesh", buffer)?)
 }
 
-// Writes what the last image took. Nothing is counted.
-fn tell_cost<K: Sink>(session: &Session, out: &mut K) -> Result<(), Stop>
-    ensures stop { IfErr result IsHalt }
-    ensures written { OnOk result ((counts : Counts)
-        → Written K.held K.faults out.old out.new counts counts (cost_part session.now.cost ∷ [])) }
-    ensures halted { IfErr result (λ stop. (counts : Counts)
-        → Halted K.held K.faults out.old out.new counts counts (cost_part session.now.cost ∷ [])
-        stop) }
-    ensures memory { result ≢ Err Stop.NoMemory }
+// Tells what the last image took.
+fn tell_cost(session: &Session, lines: &mut PendingLines)
+    requires { length lines.old + 2 * LINE_LIMIT ≤ PENDING_LIMIT }
+    ensures { lines.new ≡ lines.old ++ bytes_of_parts (cost_part session.now.cost ∷ []) }
 {
-    frames_add_up();
     let (points, spans) = session.cost();
     let line = cost_line(points, spans);
-    Ok(write_frame(out, b"cost", line.bytes())?)
+    lines.push(&header(b"cost", line.bytes().len() as u64));
+    lines.push(&line);
 }
 
-// Makes the edit of the line of this number, or writes why it is refused. Nothing is counted.
+// Makes the edit of the line of this number, or says why it is refused. `NoMemory`: memory was
+// refused, and the lines that waited are written.
 fn change<K: Sink>(
     session: &mut Session,
     line: u32,
     edit: &EditRef<'_>,
+    lines: &mut PendingLines,
     out: &mut K,
 ) -> Result<(), Stop>
+    requires { length lines.old + 2 * LINE_LIMIT ≤ PENDING_LIMIT }
     ensures stop { IfErr result IsHalt }
     ensures stands { OnOk result (session.new ≡ state_after session.old (Command.Edit line edit.now)) }
-    ensures written { OnOk result ((counts : Counts)
-        → Written K.held K.faults out.old out.new counts counts
-        (parts_at session.old (Command.Edit line edit.now))) }
-    ensures halted { IfErr result (λ stop. (counts : Counts)
-        → Halted K.held K.faults out.old out.new counts counts
-        (parts_at session.old (Command.Edit line edit.now)) stop) }
-    ensures unwritten { result ≡ Err Stop.NoMemory → out.new ≡ out.old }
+    ensures said { OnOk result (lines.new ≡ lines.old
+        ++ bytes_of_parts (parts_at session.old (Command.Edit line edit.now))) }
+    ensures unsent { OnOk result (out.new ≡ out.old) }
     ensures wants { result ≡ Err Stop.NoMemory → IsOk (edited session.old.clauses edit.now) }
-    ensures writes { result ≡ Err Stop.WriteFault → IsErr (edited session.old.clauses edit.now) }
+    ensures sent { result ≡ Err Stop.NoMemory → Gains K.held out.old out.new lines.old }
+    ensures no_fault { result ≡ Err Stop.NoMemory → Stands K.faults out.old out.new }
+    ensures failed { result ≡ Err Stop.WriteFault
+        → FailsIn K.held K.faults out.old out.new lines.old }
 {
-    frames_add_up();
     match session.apply_lent(edit) {
         Ok(()) => Ok(()),
-        Err(fault) => refuse(out, line, fault),
+        Err(fault) => refuse(line, fault, lines, out),
     }
 }
 
-// Takes the last edit back, or writes that the line of this number finds none. Nothing is counted.
-fn take_back<K: Sink>(session: &mut Session, line: u32, out: &mut K) -> Result<(), Stop>
+// Takes the last edit back, or says that the line of this number finds none. `NoMemory`: memory was
+// refused, and the lines that waited are written.
+fn take_back<K: Sink>(
+    session: &mut Session,
+    line: u32,
+    lines: &mut PendingLines,
+    out: &mut K,
+) -> Result<(), Stop>
+    requires { length lines.old + 2 * LINE_LIMIT ≤ PENDING_LIMIT }
     ensures stop { IfErr result IsHalt }
     ensures stands { OnOk result (session.new ≡ state_after session.old (Command.Undo line)) }
-    ensures written { OnOk result ((counts : Counts)
-        → Written K.held K.faults out.old out.new counts counts
-        (parts_at session.old (Command.Undo line))) }
-    ensures halted { IfErr result (λ stop. (counts : Counts)
-        → Halted K.held K.faults out.old out.new counts counts
-        (parts_at session.old (Command.Undo line)) stop) }
-    ensures unwritten { result ≡ Err Stop.NoMemory → out.new ≡ out.old }
+    ensures said { OnOk result (lines.new ≡ lines.old
+        ++ bytes_of_parts (parts_at session.old (Command.Undo line))) }
+    ensures unsent { OnOk result (out.new ≡ out.old) }
     ensures wants { result ≡ Err Stop.NoMemory → FirstMakesClause session.old.undo }
-    ensures writes { result ≡ Err Stop.WriteFault → session.old.undo ≡ [] }
+    ensures sent { result ≡ Err Stop.NoMemory → Gains K.held out.old out.new lines.old }
+    ensures no_fault { result ≡ Err Stop.NoMemory → Stands K.faults out.old out.new }
+    ensures failed { result ≡ Err Stop.WriteFault
+        → FailsIn K.held K.faults out.old out.new lines.old }
 {
-    frames_add_up();
     match session.undo() {
         Ok(()) => Ok(()),
-        Err(fault) => refuse(out, line, fault),
+        Err(fault) => refuse(line, fault, lines, out),
     }
 }
 
-// Writes why the edit or the undo of the line of this number is refused. Want of memory is no line,
-// but the end. Nothing is counted.
-fn refuse<K: Sink>(out: &mut K, line: u32, fault: EditFault) -> Result<(), Stop>
+// Says why the edit or the undo of the line of this number is refused. Want of memory is no line, but
+// the end, before which the lines that waited are written.
+fn refuse<K: Sink>(
+    line: u32,
+    fault: EditFault,
+    lines: &mut PendingLines,
+    out: &mut K,
+) -> Result<(), Stop>
+    requires { length lines.old + 2 * LINE_LIMIT ≤ PENDING_LIMIT }
+    ensures said { OnOk result (lines.new ≡ lines.old ++ refused_line line fault) }
+    ensures unsent { OnOk result (out.new ≡ out.old) }
+    ensures memory { IsErr result ↔ (fault ≡ EditFault.NoMemory) }
     ensures stop { IfErr result IsHalt }
-    ensures memory { fault ≡ EditFault.NoMemory
-        → (result ≡ Err Stop.NoMemory) × (out.new ≡ out.old) }
-    ensures written { OnOk result ((counts : Counts)
-        → Written K.held K.faults out.old out.new counts counts (refusal line fault ∷ [])) }
-    ensures halted { IfErr result (λ stop. (counts : Counts)
-        → Halted K.held K.faults out.old out.new counts counts (refusal line fault ∷ []) stop) }
-    ensures no_memory { result ≡ Err Stop.NoMemory → fault ≡ EditFault.NoMemory }
+    ensures sent { result ≡ Err Stop.NoMemory → Gains K.held out.old out.new lines.old }
+    ensures no_fault { result ≡ Err Stop.NoMemory → Stands K.faults out.old out.new }
+    ensures failed { result ≡ Err Stop.WriteFault
+        → FailsIn K.held K.faults out.old out.new lines.old }
 {
-    frames_add_up();
     match fault {
-        EditFault::NoMemory => Err(Stop::NoMemory),
-        _ => Ok(write_refused(out, line, fault)?),
+        EditFault::NoMemory => {
+            lines.write(out)?;
+            Err(Stop::NoMemory)
+        }
+        _ => {
+            lines.push(&refused_line(line, fault));
+            Ok(())
+        }
     }
 }

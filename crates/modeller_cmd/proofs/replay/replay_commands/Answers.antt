@@ -1,93 +1,78 @@
-use Rattle.std.proofs.Common.{◌≡◌, [], ◌∷◌, ◌++◌, Err, refl, sym, ap, subst, ◌∙◌, append_assoc, append-nil}
+use Rattle.std.proofs.Common.{refl, sym, subst}
 use Rattle.modeller_cmd.specs.Endings.{IsHalt}
-use Rattle.modeller_cmd.specs.Writing.{Halted, Written}
-use Rattle.modeller_cmd.specs.Replays.{parts_at, replayed, standing, state_after}
-use Rattle.modeller_cmd.specs.Halting.{HaltsAt, HaltsIn}
-use Rattle.modeller_cmd.proofs.ReplayLaws.{replayed-between, replayed-more, replayed-none, standing-more, standing-none}
-use Rattle.modeller_cmd.proofs.Writing.{written-none, written-then, halted-after, ends-with}
+use Rattle.modeller_cmd.specs.Halting.{HaltsAt}
+use Rattle.modeller_cmd.specs.Replays.{replayed}
+use Rattle.modeller_cmd.specs.Writing.{Halted}
+use Rattle.modeller_cmd.specs.declared.stop.Stop.TheVariants.{WriteFault}
+use Rattle.modeller_cmd.proofs.Waiting.{Passed, halted-at, halts-next, halts-waiting, passed-all, passed-none, passed-played, passed-sent}
+use Rattle.modeller_cmd.proofs.Writing.{ends-with}
 use Rattle.modeller_cmd.proofs.replay.replay_commands.Goals as goal
 
 pub loop-command-init : goal.loop-command-init
-loop-command-init g c = record {
-  earlier = [];
-  parts = refl;
-  stands = sym (standing-none c.args.session);
-  written = subst (Written g.K.Sink.held g.K.Sink.faults c.args.out.now c.args.out.now c.args.tally.now c.args.tally.now) (sym (replayed-none c.args.session))
-      (written-none c.frames_add_up.ensures g.K.Sink.held g.K.Sink.faults c.args.out.now c.args.tally.now);
-}
+loop-command-init g c =
+    subst (Passed g.K.Sink.held g.K.Sink.faults c.args.out.now c.args.out.now c.args.tally.now c.args.tally.now c.args.session c.args.session c.args.commands c.args.commands) (sym c.new-lines.ensures)
+    (passed-none c.frames_add_up.ensures g.K.Sink.held g.K.Sink.faults c.args.out.now c.args.tally.now c.args.session c.args.commands)
 
 pub loop-command-preserved : goal.loop-command-preserved
 loop-command-preserved g c =
-    let so_far = c.loop-command.invariant in
-    let before = so_far.earlier in
-    let command = c.in-Some.command in
-    let after = c.next.new.self in
-    let shown = standing c.args.session before in
-    record {
-      earlier = before ++ command ∷ [];
-      parts = so_far.parts ∙ ap (λ left. before ++ left) c.in-Some.ensures.next ∙ sym (append_assoc before (command ∷ []) after);
-      stands = c.in_ok-step.ensures.stands ∙ ap (λ state. state_after state command) so_far.stands ∙ sym (standing-more c.args.session before command);
-      written = subst (Written g.K.Sink.held g.K.Sink.faults c.args.out.now c.step.new.out c.args.tally.now c.step.new.tally)
-          (sym (replayed-more c.args.session before command))
-          (written-then c.frames_add_up.ensures g.K.Sink.held g.K.Sink.faults c.args.out.now c.loop-command.out c.step.new.out c.args.tally.now c.loop-command.tally c.step.new.tally (replayed c.args.session before) (parts_at shown command)
-          so_far.written
-          (subst (λ state. Written g.K.Sink.held g.K.Sink.faults c.loop-command.out c.step.new.out c.loop-command.tally c.step.new.tally (parts_at state command)) so_far.stands
-          c.in_ok-step.ensures.written));
-    }
+    passed-played c.frames_add_up.ensures g.K.Sink.held g.K.Sink.faults c.args.out.now c.args.tally.now c.args.session c.args.commands c.make_way.new.out c.step.new.out c.loop-command.tally c.step.new.tally c.loop-command.session c.loop-command.commands c.make_way.new.lines
+    (passed-sent c.frames_add_up.ensures g.K.Sink.held g.K.Sink.faults c.args.out.now c.args.tally.now c.args.session c.args.commands c.loop-command.out c.make_way.new.out c.loop-command.tally c.loop-command.tally c.loop-command.session c.loop-command.commands c.loop-command.lines c.loop-command.invariant c.make_way.new.lines c.in_ok-make_way.ensures.sent) c.step.new.session c.in-Some.command c.next.new.self c.step.new.lines
+    c.in-Some.ensures.next c.in_ok-step.ensures.stands c.in_ok-step.ensures.played
 
-pub returns-in_err-step-clause-stop : goal.returns-in_err-step-clause-stop
-returns-in_err-step-clause-stop g c =
-    ends-with c.from_residual.result c.in_err-step.field-0.0 IsHalt c.from_residual.ensures.1 c.in_err-step.ensures.stop
-
-pub returns-in_err-step-clause-halted : goal.returns-in_err-step-clause-halted
-returns-in_err-step-clause-halted g c =
-    let so_far = c.loop-command.invariant in
-    let before = so_far.earlier in
-    let command = c.in-Some.command in
-    let after = c.next.new.self in
-    let shown = standing c.args.session before in
-    let items = so_far.parts ∙ ap (λ left. before ++ left) c.in-Some.ensures.next in
-    ends-with c.from_residual.result c.in_err-step.field-0.0
-    (Halted g.K.Sink.held g.K.Sink.faults c.args.out.now c.step.new.out c.args.tally.now c.step.new.tally (replayed c.args.session c.args.commands))
+pub returns-in_err-make_way-clause-ends : goal.returns-in_err-make_way-clause-ends
+returns-in_err-make_way-clause-ends g c =
+    ends-with c.from_residual.result WriteFault (HaltsAt g.K.Sink.held g.K.Sink.faults c.args.out.now c.make_way.new.out c.args.tally.now c.loop-command.tally c.args.session c.args.commands)
     c.from_residual.ensures.1
-    (subst (λ parts. Halted g.K.Sink.held g.K.Sink.faults c.args.out.now c.step.new.out c.args.tally.now c.step.new.tally parts c.in_err-step.field-0.0)
-    (sym (ap (replayed c.args.session) items ∙ replayed-between c.args.session before command after))
-    (halted-after c.frames_add_up.ensures g.K.Sink.held g.K.Sink.faults c.args.out.now c.loop-command.out c.step.new.out c.args.tally.now c.loop-command.tally c.step.new.tally (replayed c.args.session before) (parts_at shown command)
-    (replayed (state_after shown command) after) c.in_err-step.field-0.0 so_far.written
-    (subst (λ state. Halted g.K.Sink.held g.K.Sink.faults c.loop-command.out c.step.new.out c.loop-command.tally c.step.new.tally (parts_at state command) c.in_err-step.field-0.0) so_far.stands
-    c.in_err-step.ensures.halted)))
+    (halts-waiting c.frames_add_up.ensures g.K.Sink.held g.K.Sink.faults c.args.out.now c.args.tally.now c.args.session c.args.commands c.loop-command.out c.make_way.new.out c.loop-command.tally c.loop-command.tally c.loop-command.session c.loop-command.commands c.loop-command.lines c.loop-command.invariant c.in_err-make_way.ensures.failed refl)
+
+pub returns-in_err-make_way-clause-halted : goal.returns-in_err-make_way-clause-halted
+returns-in_err-make_way-clause-halted g c =
+    ends-with c.from_residual.result WriteFault (Halted g.K.Sink.held g.K.Sink.faults c.args.out.now c.make_way.new.out c.args.tally.now c.loop-command.tally (replayed c.args.session c.args.commands))
+    c.from_residual.ensures.1
+    (halted-at c.frames_add_up.ensures g.K.Sink.held g.K.Sink.faults c.args.out.now c.make_way.new.out c.args.tally.now c.loop-command.tally c.args.session c.args.commands WriteFault
+    (halts-waiting c.frames_add_up.ensures g.K.Sink.held g.K.Sink.faults c.args.out.now c.args.tally.now c.args.session c.args.commands c.loop-command.out c.make_way.new.out c.loop-command.tally c.loop-command.tally c.loop-command.session c.loop-command.commands c.loop-command.lines c.loop-command.invariant c.in_err-make_way.ensures.failed refl))
+
+pub returns-in_err-make_way-clause-stop : goal.returns-in_err-make_way-clause-stop
+returns-in_err-make_way-clause-stop g c =
+    ends-with c.from_residual.result WriteFault IsHalt c.from_residual.ensures.1
+    tt
 
 pub returns-in_err-step-clause-ends : goal.returns-in_err-step-clause-ends
 returns-in_err-step-clause-ends g c =
-    let so_far = c.loop-command.invariant in
-    let before = so_far.earlier in
-    let command = c.in-Some.command in
-    let after = c.next.new.self in
-    let stop = c.in_err-step.field-0.0 in
-    let items = so_far.parts ∙ ap (λ left. before ++ left) c.in-Some.ensures.next in
-    ends-with c.from_residual.result stop
-    (HaltsAt g.K.Sink.held g.K.Sink.faults c.args.out.now c.step.new.out c.args.tally.now c.step.new.tally c.args.session c.args.commands)
-    c.from_residual.ensures.1
-    (record {
-      earlier = before;
-      command = command;
-      later = after;
-      split = items;
-      between = c.loop-command.out;
-      counts = c.loop-command.tally;
-      written = so_far.written;
-      halts = subst (λ state. HaltsIn g.K.Sink.held g.K.Sink.faults c.loop-command.out c.step.new.out c.loop-command.tally c.step.new.tally state command stop) so_far.stands
-          (record {
-            unwritten = λ is. c.in_err-step.ensures.unwritten (ap (λ s. Err s) is);
-            wants = λ is. c.in_err-step.ensures.wants (ap (λ s. Err s) is);
-            writes = λ is. c.in_err-step.ensures.writes (ap (λ s. Err s) is);
-            counted = λ is. c.in_err-step.ensures.counted (ap (λ s. Err s) is);
-            halted = c.in_err-step.ensures.halted;
-          });
-    })
+    ends-with c.from_residual-in_err-step.result c.in_err-step.field-0.0 (HaltsAt g.K.Sink.held g.K.Sink.faults c.args.out.now c.step.new.out c.args.tally.now c.step.new.tally c.args.session c.args.commands)
+    c.from_residual-in_err-step.ensures.1
+    (halts-next c.frames_add_up.ensures g.K.Sink.held g.K.Sink.faults c.args.out.now c.args.tally.now c.args.session c.args.commands c.make_way.new.out c.step.new.out c.loop-command.tally c.step.new.tally c.loop-command.session c.loop-command.commands c.make_way.new.lines (passed-sent c.frames_add_up.ensures g.K.Sink.held g.K.Sink.faults c.args.out.now c.args.tally.now c.args.session c.args.commands c.loop-command.out c.make_way.new.out c.loop-command.tally c.loop-command.tally c.loop-command.session c.loop-command.commands c.loop-command.lines c.loop-command.invariant c.make_way.new.lines c.in_ok-make_way.ensures.sent) c.in-Some.command c.next.new.self c.in_err-step.field-0.0 c.in-Some.ensures.next c.in_err-step.ensures.halted)
+
+pub returns-in_err-step-clause-halted : goal.returns-in_err-step-clause-halted
+returns-in_err-step-clause-halted g c =
+    ends-with c.from_residual-in_err-step.result c.in_err-step.field-0.0 (Halted g.K.Sink.held g.K.Sink.faults c.args.out.now c.step.new.out c.args.tally.now c.step.new.tally (replayed c.args.session c.args.commands))
+    c.from_residual-in_err-step.ensures.1
+    (halted-at c.frames_add_up.ensures g.K.Sink.held g.K.Sink.faults c.args.out.now c.step.new.out c.args.tally.now c.step.new.tally c.args.session c.args.commands c.in_err-step.field-0.0
+    (halts-next c.frames_add_up.ensures g.K.Sink.held g.K.Sink.faults c.args.out.now c.args.tally.now c.args.session c.args.commands c.make_way.new.out c.step.new.out c.loop-command.tally c.step.new.tally c.loop-command.session c.loop-command.commands c.make_way.new.lines (passed-sent c.frames_add_up.ensures g.K.Sink.held g.K.Sink.faults c.args.out.now c.args.tally.now c.args.session c.args.commands c.loop-command.out c.make_way.new.out c.loop-command.tally c.loop-command.tally c.loop-command.session c.loop-command.commands c.loop-command.lines c.loop-command.invariant c.make_way.new.lines c.in_ok-make_way.ensures.sent) c.in-Some.command c.next.new.self c.in_err-step.field-0.0 c.in-Some.ensures.next c.in_err-step.ensures.halted))
+
+pub returns-in_err-step-clause-stop : goal.returns-in_err-step-clause-stop
+returns-in_err-step-clause-stop g c =
+    ends-with c.from_residual-in_err-step.result c.in_err-step.field-0.0 IsHalt c.from_residual-in_err-step.ensures.1
+    (halts-next c.frames_add_up.ensures g.K.Sink.held g.K.Sink.faults c.args.out.now c.args.tally.now c.args.session c.args.commands c.make_way.new.out c.step.new.out c.loop-command.tally c.step.new.tally c.loop-command.session c.loop-command.commands c.make_way.new.lines (passed-sent c.frames_add_up.ensures g.K.Sink.held g.K.Sink.faults c.args.out.now c.args.tally.now c.args.session c.args.commands c.loop-command.out c.make_way.new.out c.loop-command.tally c.loop-command.tally c.loop-command.session c.loop-command.commands c.loop-command.lines c.loop-command.invariant c.make_way.new.lines c.in_ok-make_way.ensures.sent) c.in-Some.command c.next.new.self c.in_err-step.field-0.0 c.in-Some.ensures.next c.in_err-step.ensures.halted).halts.halt
+
+pub returns-in_err-write-clause-ends : goal.returns-in_err-write-clause-ends
+returns-in_err-write-clause-ends g c =
+    ends-with c.from_residual-in_err-write.result WriteFault (HaltsAt g.K.Sink.held g.K.Sink.faults c.args.out.now c.write.new.out c.args.tally.now c.loop-command.tally c.args.session c.args.commands)
+    c.from_residual-in_err-write.ensures.1
+    (halts-waiting c.frames_add_up.ensures g.K.Sink.held g.K.Sink.faults c.args.out.now c.args.tally.now c.args.session c.args.commands c.loop-command.out c.write.new.out c.loop-command.tally c.loop-command.tally c.loop-command.session c.loop-command.commands c.loop-command.lines c.loop-command.invariant c.in_err-write.ensures.failed refl)
+
+pub returns-in_err-write-clause-halted : goal.returns-in_err-write-clause-halted
+returns-in_err-write-clause-halted g c =
+    ends-with c.from_residual-in_err-write.result WriteFault (Halted g.K.Sink.held g.K.Sink.faults c.args.out.now c.write.new.out c.args.tally.now c.loop-command.tally (replayed c.args.session c.args.commands))
+    c.from_residual-in_err-write.ensures.1
+    (halted-at c.frames_add_up.ensures g.K.Sink.held g.K.Sink.faults c.args.out.now c.write.new.out c.args.tally.now c.loop-command.tally c.args.session c.args.commands WriteFault
+    (halts-waiting c.frames_add_up.ensures g.K.Sink.held g.K.Sink.faults c.args.out.now c.args.tally.now c.args.session c.args.commands c.loop-command.out c.write.new.out c.loop-command.tally c.loop-command.tally c.loop-command.session c.loop-command.commands c.loop-command.lines c.loop-command.invariant c.in_err-write.ensures.failed refl))
+
+pub returns-in_err-write-clause-stop : goal.returns-in_err-write-clause-stop
+returns-in_err-write-clause-stop g c =
+    ends-with c.from_residual-in_err-write.result WriteFault IsHalt c.from_residual-in_err-write.ensures.1
+    tt
 
 pub returns-clause-written : goal.returns-clause-written
 returns-clause-written g c =
-    let so_far = c.loop-command.invariant in
-    let all = so_far.parts ∙ ap (λ left. so_far.earlier ++ left) c.in_default.ensures.next.0 ∙ append-nil so_far.earlier in
-    subst (λ commands. Written g.K.Sink.held g.K.Sink.faults c.args.out.now c.loop-command.out c.args.tally.now c.loop-command.tally (replayed c.args.session commands)) (sym all) so_far.written
+    passed-all c.frames_add_up.ensures g.K.Sink.held g.K.Sink.faults c.args.out.now c.args.tally.now c.args.session c.args.commands c.loop-command.out c.write.new.out c.loop-command.tally c.loop-command.tally c.loop-command.session c.loop-command.commands c.loop-command.lines c.loop-command.invariant c.in_default.ensures.next.0 c.in_ok-write.ensures.sent c.in_ok-write.ensures.no_fault
