@@ -24,13 +24,30 @@ const FRONTS: [(u64, u64, &[u8]); 10] = [
     ),
 ];
 
+// The same of lines that follow each other, which go out together.
+const LINES: [(u64, u64, &[u8]); 4] = [
+    (99, 1, b""),
+    (30, 2, b"@ refused 3 UnknownName\n@ refu"),
+    (
+        99,
+        2,
+        b"@ refused 3 UnknownName\n@ refused 4 UnknownName\n@ refused 5 NothingToUndo\n",
+    ),
+    (
+        99,
+        3,
+        b"@ refused 3 UnknownName\n@ refused 4 UnknownName\n@ refused 5 NothingToUndo\n@ text 8\nx var-x\n",
+    ),
+];
+
 fn expect_fronts(
     rt: &impl Abort,
     alloc: Global,
+    script: &'static [u8],
     rows: &[(u64, u64, &[u8])],
 ) -> Result<(), AllocError> {
     for (chunk, failing, front) in rows {
-        let mut trial = Trial::new(&["replay"], b"x var-x\n%%\ntext\ncut y\ntext\n");
+        let mut trial = Trial::new(&["replay"], script);
         trial.writes = Calls {
             chunk: *chunk,
             failing: *failing,
@@ -44,7 +61,10 @@ fn expect_fronts(
 
 #[test]
 fn a_write_that_fails_leaves_a_front_of_the_frames(rt: HostRuntime) -> Result<(), Fail> {
-    expect_fronts(&rt, rt.alloc(), &FRONTS)?;
+    let script = b"x var-x\n%%\ntext\ncut y\ntext\n";
+    expect_fronts(&rt, rt.alloc(), script, &FRONTS)?;
+    let script = b"x var-x\n%%\ncut y\nset a neg x\nundo\ntext\ncut y\n";
+    expect_fronts(&rt, rt.alloc(), script, &LINES)?;
     Ok(())
 }
 
