@@ -78,11 +78,11 @@ fn model_text(input: &[u8]) -> &[u8]
     }
 }
 
-// Replays commands one after the other. The images and meshes are written from one buffer, and the
-// lines between them go out together.
+// Replays commands one after the other, and drops what stands after them. The images and meshes are
+// written from one buffer, and the lines between them go out together.
 fn replay_commands<K: Sink>(
     mut session: Session,
-    mut commands: Commands<'_>,
+    commands: Commands<'_>,
     mut buffer: Vec<u8>,
     out: &mut K,
     tally: &mut Tally,
@@ -95,11 +95,32 @@ fn replay_commands<K: Sink>(
     ensures ends { IfErr result (HaltsAt K.held K.faults out.old out.new tally.old tally.new
         session commands.entry) }
 {
-    frames_add_up();
     let mut lines = PendingLines::new();
+    play_commands(&mut session, commands, &mut lines, &mut buffer, out, tally)
+}
+
+// Replays commands one after the other. Nothing waits before the first one, and nothing after the last.
+fn play_commands<K: Sink>(
+    session: &mut Session,
+    mut commands: Commands<'_>,
+    lines: &mut PendingLines,
+    buffer: &mut Vec<u8>,
+    out: &mut K,
+    tally: &mut Tally,
+) -> Result<(), Stop>
+    requires { lines.old ≡ [] }
+    ensures stop { IfErr result IsHalt }
+    ensures written { OnOk result (Written K.held K.faults out.old out.new tally.old tally.new
+        (replayed session.old commands.entry)) }
+    ensures halted { IfErr result (Halted K.held K.faults out.old out.new tally.old tally.new
+        (replayed session.old commands.entry)) }
+    ensures ends { IfErr result (HaltsAt K.held K.faults out.old out.new tally.old tally.new
+        session.old commands.entry) }
+{
+    frames_add_up();
     while let Some(command) = commands.next() {
-        make_way(&command, &mut lines, out)?;
-        step(&mut session, command, &mut lines, &mut buffer, out, tally)?;
+        make_way(&command, lines, out)?;
+        step(session, command, lines, buffer, out, tally)?;
     }
     Ok(lines.write(out)?)
 }
