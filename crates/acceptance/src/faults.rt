@@ -77,20 +77,20 @@ fn write_front(
     alloc: Global,
     mut trial: Trial,
     picture: &[u8],
-    taken: u8,
+    taken: u32,
 ) -> Result<Ran, AllocError> {
     trial.writes = Calls {
         chunk: 1,
         failing: u64::from(taken) + 1,
     };
-    let front = &picture[..usize::from(taken).min(picture.len())];
+    let front = &picture[..(taken as usize).min(picture.len())];
     trial.run(alloc, front, b"modeller: write fault\n")
 }
 
 #[test]
 fn each_byte_may_be_the_first_that_is_not_written(rt: HostRuntime) -> Result<(), Fail> {
     let trial = Trial::new(THREE_BY_THREE, DISC);
-    for taken in 0..20u8 {
+    for taken in 0..20 {
         let ending = write_front(rt.alloc(), trial, DISC_PICTURE, taken)?.ending;
         assert!(rt;
             ending == Ending::wanted(Status::WriteFault),
@@ -166,36 +166,39 @@ fn a_note_that_fails_changes_no_status(rt: HostRuntime) -> Result<(), Fail> {
     Ok(())
 }
 
-// Of three columns the first one is inside, where x is less than 0.
+// The left half of the columns is inside, where x is less than 0.
 const HALF: &[u8] = b"x var-x\n";
 
-const TALL: &[&str] = &["render", "w=3", "h=33"];
+const LARGE: &[&str] = &["render", "w=4096", "h=33"];
 
-// The bytes of that picture: a header of twelve bytes, and rows that are written together, 48 bytes
-// of them, 48 and 3.
-fn tall_picture(alloc: Global) -> Result<Vec<u8>, AllocError> {
-    let mut picture = Vec::from_slice(alloc, b"P5\n3 33\n255\n")?;
+// The bytes of that picture: a header of fifteen bytes, and rows that are written together, sixteen of
+// them, sixteen and one.
+fn large_picture(alloc: Global) -> Result<Vec<u8>, AllocError> {
+    let mut picture = Vec::from_slice(alloc, b"P5\n4096 33\n255\n")?;
     for _ in 0..33u32 {
-        picture.extend_from_slice(&[255, 0, 0])?;
+        picture.extend_from_slice(&[255; 2048])?;
+        picture.extend_from_slice(&[0; 2048])?;
     }
     Ok(picture)
 }
 
 // In the header, at the ends of rows that are written together, among them, and at the last byte.
-const TAKEN: [u8; 10] = [0, 4, 11, 12, 59, 60, 84, 107, 108, 110];
+const TAKEN: [u32; 10] = [
+    0, 4, 14, 15, 65_550, 65_551, 100_000, 131_086, 131_087, 135_182,
+];
 
-// So many bytes of the tall picture are written. All of the work is done: each sample is evaluated, and its
-// column is halved into 17 and 16 rows, into 9, 8, 8 and 8, and the 9 into 5 and 4.
+// So many bytes of the large picture are written. All of the work is done: it is halved once along each
+// axis, and no sample is evaluated.
 fn expect_fronts(
     rt: &impl Abort,
     alloc: Global,
     picture: &[u8],
-    counts: &[u8],
+    counts: &[u32],
 ) -> Result<(), AllocError> {
-    let trial = Trial::new(TALL, HALF);
+    let trial = Trial::new(LARGE, HALF);
     for taken in counts {
         let ran = write_front(alloc, trial, picture, *taken)?;
-        let takes_all = ran.work.points == 99 && ran.work.spans == 9;
+        let takes_all = ran.work.points == 0 && ran.work.spans == 5;
         let fails = ran.ending == Ending::wanted(Status::WriteFault);
         assert!(rt; fails && takes_all, "{taken}: {ran:?}");
     }
@@ -203,8 +206,8 @@ fn expect_fronts(
 }
 
 #[test]
-fn a_write_that_fails_leaves_a_front_of_a_tall_picture(rt: HostRuntime) -> Result<(), Fail> {
-    let picture = tall_picture(rt.alloc())?;
+fn a_write_that_fails_leaves_a_front_of_a_large_picture(rt: HostRuntime) -> Result<(), Fail> {
+    let picture = large_picture(rt.alloc())?;
     expect_fronts(&rt, rt.alloc(), &picture, &TAKEN)?;
     Ok(())
 }

@@ -1,12 +1,12 @@
 -- What is so of a run, and what no run does, on runs that were worked out by hand.
-use Rattle.std.proofs.Common.{◌≡◌, ◌+◌, ◌-◌, ◌*◌, ◌≤◌, ℕ, zero, suc, List, ◌∷◌, ◌++◌, [], length, take, Some, None, Ok, Err, ap, refl, arith}
+use Rattle.std.proofs.Common.{◌≡◌, ◌+◌, ◌-◌, ◌*◌, ◌/◌, ◌≤◌, min, ℕ, zero, suc, List, ◌∷◌, ◌++◌, [], length, take, Some, None, Ok, Err, ap, refl, arith, ◌∙◌}
 use Rattle.std.specs.Prelude.{codes}
 use Rattle.std.specs.Fmt.{digits}
 use Rattle.view_places.specs.Window.{Window}
 use Rattle.view_settings.specs.Setting.{setting_of}
 use Rattle.fixed_ops.specs.Counts.{Counts, RisesAtMost, RisesWithin, no_counts, risen}
 use Rattle.model_frames.specs.Work.{CountsWithin, CountsWork, PointsRiseAtMost}
-use Rattle.modeller_cmd.specs.Bands.{HasRoom}
+use Rattle.modeller_cmd.specs.Bands.{HasRoom, most_rows}
 use Rattle.modeller_cmd.specs.Execution.{Executed}
 use Rattle.modeller_cmd.specs.Output.{output_of}
 use Rattle.modeller_cmd.specs.Parts.{bytes_of_parts}
@@ -15,12 +15,24 @@ use Rattle.modeller_cmd.specs.declared.status.Status.TheVariants as status
 use Rattle.modeller_cmd.specs.declared.stop.Stop.TheVariants as stop
 use Rattle.view_settings.specs.declared.job.Job.TheVariants as jobs
 
--- a line takes 64 bytes at most, a header 24, and a band 16 rows: those of three columns take 48
-room_for_rows : (view : Window) (buffer : List ℕ) → view.w ≡ 3 → length buffer ≡ 136 → HasRoom view buffer
-room_for_rows view buffer columns bytes = omega (arith, columns, bytes)
+-- how many bytes are written together of so many rows of so many columns
+rows_together : (view : Window) (w h : ℕ) → view.w ≡ w → view.h ≡ h → most_rows view * view.w ≡ min (65536 / w) h * w
+rows_together view w h columns rows = ap (λ n. min (65536 / n) view.h * n) columns ∙ ap (λ n. min (65536 / w) n * w) rows
 
-no_room_for_rows : (view : Window) (buffer : List ℕ) → view.w ≡ 3 → length buffer ≡ 135 → HasRoom view buffer → ⊥
-no_room_for_rows view buffer columns bytes room = let fits : 88 + 16 * view.w ≤ length buffer = room in omega (arith, columns, bytes, fits)
+-- a line takes 64 bytes at most, and a header 24: with sixteen rows of three columns 136 in all
+room_for_rows : (view : Window) (buffer : List ℕ) → view.w ≡ 3 → view.h ≡ 16 → length buffer ≡ 136 → HasRoom view buffer
+room_for_rows view buffer columns rows bytes = omega (arith, rows_together view 3 16 columns rows, bytes)
+
+no_room_for_rows : (view : Window) (buffer : List ℕ) → view.w ≡ 3 → view.h ≡ 16 → length buffer ≡ 135 → HasRoom view buffer → ⊥
+no_room_for_rows view buffer columns rows bytes room =
+    let fits : 88 + most_rows view * view.w ≤ length buffer = room in omega (arith, rows_together view 3 16 columns rows, bytes, fits)
+
+-- of rows of 4,096 bytes sixteen are written together, and of 3,855 seventeen
+widest_rows : (view : Window) → view.w ≡ 4096 → view.h ≡ 20 → most_rows view ≡ 16
+widest_rows view columns rows = ap (λ w. min (65536 / w) view.h) columns ∙ ap (min 16) rows
+
+narrower_rows : (view : Window) → view.w ≡ 3855 → view.h ≡ 20 → most_rows view ≡ 17
+narrower_rows view columns rows = ap (λ w. min (65536 / w) view.h) columns ∙ ap (min 17) rows
 
 -- a run of the verb `text`: its source holds a clause and is read to its end, and its sink holds what was written; nothing
 -- fails, and nothing is noted or counted

@@ -1,8 +1,12 @@
 -- Room for the rows of an image that are written together.
-use Rattle.std.specs.Prelude.{ℕ, ◌+◌, ◌*◌, ◌≤◌, List, length}
+use Rattle.std.specs.Prelude.{ℕ, ◌+◌, ◌*◌, ◌/◌, ◌≤◌, min, List, length}
 use Rattle.view_places.specs.Window.{Window}
-use Rattle.modeller_cmd.specs.declared.image.TheConstants.{BAND, FRONT}
+use Rattle.modeller_cmd.specs.declared.image.TheConstants.{BAND_BYTES, FRONT}
 
--- a buffer has room for a line, a header and the rows of a band behind them
+-- the most rows of an image that are written together
+abbrev pub most_rows : Window → ℕ
+most_rows view = min (BAND_BYTES / view.w) view.h
+
+-- a buffer has room for a line, a header and such rows behind them
 abbrev pub HasRoom : Window → List ℕ → Type 0
-HasRoom view buffer = FRONT + BAND * view.w ≤ length buffer
+HasRoom view buffer = FRONT + most_rows view * view.w ≤ length buffer

@@ -4,7 +4,7 @@ ghost use Rattle.model_frames.specs.Images.{drawn_text};
 ghost use Rattle.modeller_io.specs.Count.{RoseBy, Stands};
 ghost use Rattle.modeller_io.specs.Held.{Gains, GainsPrefix};
 ghost use Rattle.quad_descent.specs.Rows.{IsOver, rows_at};
-ghost use Rattle.modeller_cmd.specs.Bands.{HasRoom};
+ghost use Rattle.modeller_cmd.specs.Bands.{HasRoom, most_rows as rows_at_once};
 ghost use Rattle.modeller_cmd.specs.Execution.{Sent};
 ghost use Rattle.modeller_cmd.specs.declared.line.TheConstants.{LINE_LIMIT};
 
@@ -17,8 +17,8 @@ use raster_pgm::pgm_head;
 use std::alloc::{AllocError, Global};
 use view_settings::View;
 
-/// The most rows of an image that are written at once.
-pub const BAND: u32 = 16;
+/// How many bytes of rows are written at once: sixteen rows of the widest image, and more of others.
+pub const BAND_BYTES: u32 = 65_536;
 
 /// The most bytes that stand before the first rows: a line, and the header.
 pub const FRONT: usize = LINE_LIMIT + 24;
@@ -43,7 +43,7 @@ pub fn send_image<K: Sink, R: RowSource>(
 pub fn make_room(view: &View, buffer: &mut Vec<u8>) -> Result<(), AllocError>
     ensures { OnOk result (HasRoom view.now buffer.new.items) }
 {
-    let wanted = FRONT + BAND as usize * view.w as usize;
+    let wanted = FRONT + most_rows(view) as usize * view.w as usize;
     if buffer.len() < wanted {
         buffer.resize(wanted, 0)?;
     }
@@ -89,7 +89,7 @@ fn write_bands<K: Sink, R: RowSource>(
 ) -> Result<(), Failed>
     requires over { IsOver (R.image image.now) view.now }
     requires within { first ≤ view.now.h }
-    requires room { BAND * view.now.w ≤ length buffer.old }
+    requires room { rows_at_once view.now * view.now.w ≤ length buffer.old }
     ensures ok { OnOk result (Gains K.held out.old out.new
         (rows_at (R.image image.now) first ((view.now.h - first) * view.now.w))) }
     ensures err { OnErr result (GainsPrefix K.held out.old out.new
@@ -169,8 +169,15 @@ fn put_text(text: &[u8], start: usize, buffer: &mut [u8]) -> usize
 pub fn band_rows(view: &View, row: u32) -> u32
     requires { row < view.now.h }
     ensures some { 0 < result }
-    ensures few { result ≤ BAND }
+    ensures few { result ≤ rows_at_once view.now }
     ensures within { row + result ≤ view.now.h }
 {
-    BAND.min(view.h - row)
+    most_rows(view).min(view.h - row)
+}
+
+// The most rows of an image that are written at once.
+fn most_rows(view: &View) -> u32
+    ensures { result ≡ rows_at_once view.now }
+{
+    (BAND_BYTES / view.w).min(view.h)
 }
