@@ -9,7 +9,7 @@ ghost use Rattle.live_clauses.specs.Steps.{IsTape};
 
 use crate::choices::EachLane;
 use crate::copying::copy_live;
-use crate::marking::{ONE_LANE, mark};
+use crate::marking::{ONE_LANE, mark_rows};
 use crate::packed_step::PackedStep;
 use crate::part::Part;
 use crate::{Choices, Steps};
@@ -111,7 +111,7 @@ fn mark_part<C: Choices>(
     ensures { AreMarks 0 (part_of constants.now block.now part) (C.list choices) marks.new }
 {
     let list = Steps::from_packed(in_part(block, part), constants);
-    mark(&list, EachLane { choices }, ONE_LANE, marks);
+    mark_rows(&list, EachLane { choices }, ONE_LANE, marks);
 }
 
 // Writes the live list of a part into a block from a place behind it on, where there is room for as

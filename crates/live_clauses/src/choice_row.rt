@@ -1,6 +1,6 @@
 // What one step chooses over several boxes.
 ghost use Rattle.std.specs.Prelude.{◌≡◌, ◌≢◌, ℕ, ◌<◌, not, ◌||◌, true, false, if◌then◌else◌};
-ghost use Rattle.interval_ops.specs.declared.choice.Choice.TheVariants.{Both};
+ghost use Rattle.interval_ops.specs.declared.choice.Choice.TheVariants.{Left, Right, Both};
 ghost use Rattle.live_clauses.specs.Choices.{choice_in, has_bit};
 ghost use Rattle.live_clauses.specs.Live.{chosen};
 
@@ -24,9 +24,21 @@ impl ChoiceRow {
         ChoiceRow { left: 0, right: 0 }
     }
 
-    // The same choice in each lane.
+    /// The left operand in each lane that `left` has a bit for, and the right one in the others.
+    #[inline(always)]
+    pub fn either(left: u8) -> ChoiceRow
+        ensures { (lane : ℕ) → lane < 8
+            → choice_in result lane ≡ (if has_bit left lane then Left else Right) }
+    {
+        ChoiceRow {
+            left,
+            right: others(left),
+        }
+    }
+
+    /// The same choice in each lane.
     #[inline]
-    pub(crate) fn all(choice: Choice) -> ChoiceRow
+    pub fn all(choice: Choice) -> ChoiceRow
         ensures { (lane : ℕ) → lane < 8 → choice_in result lane ≡ choice }
     {
         match choice {
@@ -115,9 +127,9 @@ fn others(lanes: u8) -> u8
     !lanes
 }
 
-// Whether a lane's bit is set.
+/// Whether the bit of a lane is set.
 #[inline(always)]
-pub(crate) fn is_set(byte: u8, lane: usize) -> bool
+pub fn is_set(byte: u8, lane: usize) -> bool
     requires { lane < 8 }
     ensures { result ≡ has_bit byte lane }
 {

@@ -72,15 +72,15 @@ fn in_lane(rows: &[ChoiceRow], place: usize, l: usize) -> Choice
     rows[place].choice(l)
 }
 
-// Choices of the steps of a list in four lanes, wherever they stand.
-pub(crate) trait ChoiceRows: Copy {
-    // The choice of each step in a lane, in the order of the steps.
+/// Choices of the steps of a list in eight lanes, wherever they stand.
+pub trait ChoiceRows: Copy {
+    /// The choice of each step in a lane, in the order of the steps.
     ghost lanes: { Self → ℕ → List Choice };
 
-    // What the step at a place chooses in each lane.
+    /// What the step at a place chooses in each lane.
     fn row(self, place: usize) -> ChoiceRow
-        requires { (l : ℕ) → l < 4 → place < length (lanes self l) }
-        ensures { (l : ℕ) → l < 4 → choice_in result l ≡ choice_at (lanes self l) place };
+        requires { (l : ℕ) → l < 8 → place < length (lanes self l) }
+        ensures { (l : ℕ) → l < 8 → choice_in result l ≡ choice_at (lanes self l) place };
 }
 
 impl<'a> ChoiceRows for &'a [ChoiceRow] {

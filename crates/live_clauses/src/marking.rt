@@ -25,17 +25,16 @@ pub fn mark_lanes(list: &Steps<'_>, rows: &[ChoiceRow], lanes: u8, marks: &mut [
     ensures { (l : ℕ) → l < 4 → has_bit lanes l ≡ true
         → AreMarks l list.now (lane l rows.now) marks.new }
 {
-    mark(list, rows, lanes, marks);
+    mark_rows(list, rows, lanes, marks);
 }
 
-// The same of choices wherever they stand.
+/// Marks the steps of a list that are needed, in each of up to eight lanes that `lanes` has a bit for, by
+/// choices that are asked for step by step: only those of steps that some lane needs.
 #[inline]
-pub(crate) fn mark<R: ChoiceRows>(list: &Steps<'_>, rows: R, lanes: u8, marks: &mut [u8])
-    requires enough { (l : ℕ) → l < 4 → length list.now ≤ length (R.lanes rows l) }
-    requires choices { (l : ℕ) → l < 4 → has_bit lanes l ≡ true
-        → AreChoices list.now (R.lanes rows l) }
+pub fn mark_rows<R: ChoiceRows>(list: &Steps<'_>, rows: R, lanes: u8, marks: &mut [u8])
+    requires enough { (l : ℕ) → l < 8 → length list.now ≤ length (R.lanes rows l) }
     requires room { length list.now ≤ length marks.old }
-    ensures { (l : ℕ) → l < 4 → has_bit lanes l ≡ true
+    ensures { (l : ℕ) → l < 8 → has_bit lanes l ≡ true
         → AreMarks l list.now (R.lanes rows l) marks.new }
 {
     let (steps, _) = list.packed();
@@ -68,7 +67,7 @@ fn visit(step: &PackedStep, row: ChoiceRow, asked: u8, marks: &mut [u8])
     requires a { first_of step.now < length marks.old }
     requires b { step.now.b < length marks.old }
     requires none { arity_of step.now.op ≡ 0 → first_of step.now ≡ 0 }
-    ensures { (constants : List ℤ) (l : ℕ) → l < 4 → Marks l marks.old marks.new
+    ensures { (constants : List ℤ) (l : ℕ) → l < 8 → Marks l marks.old marks.new
         (λ place. has_bit asked l && hands_on (unpacked constants step.now) (choice_in row l) place) }
 {
     let operands = arity(step.op);
@@ -82,7 +81,7 @@ fn visit(step: &PackedStep, row: ChoiceRow, asked: u8, marks: &mut [u8])
 #[inline(always)]
 fn mark_in(marks: &mut [u8], place: usize, lanes: u8)
     requires { place < length marks.old }
-    ensures { (l : ℕ) → l < 4
+    ensures { (l : ℕ) → l < 8
         → Marks l marks.old marks.new (λ other. has_bit lanes l && other == place) }
 {
     marks[place] |= lanes;

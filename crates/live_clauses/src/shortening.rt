@@ -8,7 +8,7 @@ ghost use Rattle.live_clauses.specs.Steps.{IsTape, tape_value};
 
 use crate::choices::EachLane;
 use crate::copying::copy_live;
-use crate::marking::{ONE_LANE, mark};
+use crate::marking::{ONE_LANE, mark_rows};
 use crate::packed_step::PackedStep;
 use crate::{Choices, Steps, Tape};
 use fixed_ops::Fx;
@@ -87,6 +87,6 @@ fn copy_needed<C: Choices>(
         ≡ live_of (map (unpacked constants.now) steps.now) (C.list choices) }
 {
     let list = Steps::from_packed(steps, constants);
-    mark(&list, EachLane { choices }, ONE_LANE, marks);
+    mark_rows(&list, EachLane { choices }, ONE_LANE, marks);
     copy_live(steps, constants, choices, marks, 0, numbers, new)
 }

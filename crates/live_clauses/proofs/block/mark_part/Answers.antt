@@ -5,4 +5,4 @@ use Rattle.live_clauses.specs.Packed.{unpacked}
 use Rattle.live_clauses.proofs.block.mark_part.Goals as goal
 
 pub returns : goal.returns
-returns g c = subst (λ s. AreMarks 0 s (g.C.Choices.list c.args.choices) c.mark.new.marks) (c.from_packed-list.ensures ∙ ap (map (unpacked c.args.constants.now)) c.in_part.ensures) (c.mark.ensures 0 (omega arith) refl)
+returns g c = subst (λ s. AreMarks 0 s (g.C.Choices.list c.args.choices) c.mark_rows.new.marks) (c.from_packed-list.ensures ∙ ap (map (unpacked c.args.constants.now)) c.in_part.ensures) (c.mark_rows.ensures 0 (omega arith) refl)

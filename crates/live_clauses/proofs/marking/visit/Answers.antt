@@ -1,5 +1,5 @@
 -- The marks of both operands are what the step hands on.
-use Rattle.std.proofs.Common.{ℕ, Bool, ◌≡◌, ◌&&◌, ◌||◌, ◌<◌, true, false, ltb, eqb, ap, ◌∙◌, arith}
+use Rattle.std.proofs.Common.{ℕ, Bool, ◌≡◌, ◌&&◌, ◌||◌, ◌<◌, true, false, ltb, eqb, ap, ◌∙◌}
 use Rattle.fixed_ops.specs.Arity.{arity_of}
 use Rattle.interval_ops.specs.declared.choice.Choice.{Choice}
 use Rattle.live_clauses.specs.declared.packed_step.PackedStep.{PackedStep}
@@ -24,7 +24,7 @@ asked-for step choice operands a place needed first second one two is a_is first
 
 pub returns : goal.returns
 returns c = λ constants l within.
-    let eight : l < 8 = omega (arith, within) in
+    let eight : l < 8 = within in
     let a_is : c.kept_if-a.result ≡ first_of c.args.step.now = c.kept_if-a.ensures ∙ first-index c.args.step.now c.arity-operands.result c.arity-operands.ensures c.requires.none in
     marks-both l c.args.marks.now c.mark_in.new.marks c.mark_in-2.new.marks _ _ _ (c.mark_in.ensures l within) (c.mark_in-2.ensures l within)
     (λ place. asked-for c.args.step.now (choice_in c.args.row l) c.arity-operands.result c.kept_if-a.result place (has_bit c.args.asked l) (has_bit c.first.result l) (has_bit c.second.result l) _ _

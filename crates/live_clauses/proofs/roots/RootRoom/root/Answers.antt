@@ -1,5 +1,5 @@
 -- The list that was made is the root list of the model.
-use Rattle.std.proofs.Common.{◌≡◌, Bool, true, false, cond, ℤ, List, Option, Some, None, map, ap, sym, subst, ◌∙◌}
+use Rattle.std.proofs.Common.{◌≡◌, Bool, true, false, cond, ℤ, List, Some, None, map, ap, sym, subst, ◌∙◌}
 use Rattle.std.specs.Prelude.{IfOk}
 use Rattle.std.proofs.lemmas.Option.{same_Some}
 use Rattle.std.proofs.lemmas.Result.{IfOk-weaker}

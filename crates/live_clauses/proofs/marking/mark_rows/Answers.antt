@@ -8,7 +8,7 @@ use Rattle.live_clauses.specs.Steps.{IsTape}
 use Rattle.live_clauses.proofs.MarkTurns.{marks-all, marks-begun, marks-idle, marks-visited}
 use Rattle.live_clauses.proofs.Stored.{kept_at, kept_at-is, step_at-unpacked}
 use Rattle.live_clauses.proofs.Walks.{reads-first, reads-none, reads-second}
-use Rattle.live_clauses.proofs.marking.mark.Goals as goal
+use Rattle.live_clauses.proofs.marking.mark_rows.Goals as goal
 
 pub loop-at-init : goal.loop-at-init
 loop-at-init g c = record {
