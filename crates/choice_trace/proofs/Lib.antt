@@ -1,5 +1,5 @@
 mod Applied
-mod Elements
+pub mod Elements
 mod Examples
 mod HalfRows
 mod HullLists

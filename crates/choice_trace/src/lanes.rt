@@ -2,7 +2,7 @@
 ghost use Rattle.std.specs.Prelude.{◌≤◌, ◌<◌, ◌≡◌, ◌*◌, ℕ, drop, length};
 ghost use Rattle.fixed_ops.specs.Counts.{RisesBy, points_of};
 ghost use Rattle.fixed_ops.specs.Operations.{op_result};
-ghost use Rattle.live_clauses.specs.Steps.{IsStepAt, tape_value};
+ghost use Rattle.live_clauses.specs.Steps.{IsStepAt, tape_value, value_at};
 ghost use Rattle.choice_trace.specs.Lanes.{in_lane, lane_value, number_at, point_in};
 
 use crate::Inputs;
@@ -11,7 +11,7 @@ use live_clauses::{Step, Steps, values_are_of_operands};
 
 /// The values of a list at the points of the first L lanes of the inputs, each in its lane. The
 /// other lanes of the answer mean nothing. Each step is applied once a lane, in order. `regs` has
-/// room for one row of numbers a step.
+/// room for one row of numbers a step, and keeps the values of all steps.
 #[inline]
 pub fn evaluate_lanes<const L: usize>(
     list: &Steps<'_>,
@@ -23,6 +23,8 @@ pub fn evaluate_lanes<const L: usize>(
     requires room { length list.now ≤ length regs.old }
     ensures values { (lane : ℕ) → lane < L
         → in_lane lane result ≡ tape_value (point_in lane inputs.now) list.now }
+    ensures rows { (lane place : ℕ) → lane < L → place < length list.now
+        → number_at lane regs.new place ≡ value_at (point_in lane inputs.now) list.now place }
     ensures rest { drop (length list.now) regs.new ≡ drop (length list.now) regs.old }
     ensures counted { RisesBy tally.old tally.new (points_of (L * length list.now)) }
 {

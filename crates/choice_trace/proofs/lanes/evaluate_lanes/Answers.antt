@@ -34,3 +34,8 @@ returns-clause-values g c = λ lane h.
     ap (in_lane lane) (get_or_read c.loop-at.regs _ _ (omega (arith, ap length c.again-steps.ensures.steps)) c.index-regs-len.is [])
     ∙ c.loop-at.invariant.read lane h (c.len-len.result - 1) (omega arith)
     ∙ ap (λ n. value_at p steps (n - 1)) len ∙ ap (tape_value p) c.again-steps.ensures.steps
+
+pub returns-clause-rows : goal.returns-clause-rows
+returns-clause-rows g c = λ lane place h k.
+    c.loop-at.invariant.read lane h place (omega (arith, k, c.len-len.ensures.len, ap length c.again-steps.ensures.steps))
+    ∙ ap (λ s. value_at (point_in lane c.args.inputs.now) s place) c.again-steps.ensures.steps
