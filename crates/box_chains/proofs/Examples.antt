@@ -1,5 +1,5 @@
 -- The work of boxes that hand on less than they receive, computed on a list that was worked out by hand.
-use Rattle.std.proofs.Common.{◌≡◌, ◌+◌, ◌*◌, ◌≤◌, ℕ, zero, suc, Bool, true, false, pos, negsuc, [], ◌∷◌, List, length, map, None, ltb, arith, ap, refl, subst}
+use Rattle.std.proofs.Common.{◌≡◌, ◌+◌, ◌*◌, ◌≤◌, ℕ, zero, suc, Bool, true, false, pos, negsuc, [], ◌∷◌, List, length, map, Some, None, ltb, arith, ap, refl, subst}
 use Rattle.fixed_ops.specs.Counts.{Counts}
 use Rattle.fixed_ops.specs.declared.operation.Op.{Op}
 use Rattle.fixed_ops.specs.declared.operation.Op.TheVariants.{X, Y, Const, Neg, Sub, Max}
@@ -15,8 +15,8 @@ use Rattle.box_chains.specs.Chains.{Descent, Visit, chain_end, chain_within, dec
 use Rattle.box_chains.specs.Counts.{halves_points, halves_spans, open_points, open_spans, points_in, root_visit, spans_in}
 use Rattle.box_chains.specs.Desks.{HasRoomFor, MayOpen, Tracing, list_of}
 use Rattle.box_chains.specs.Laws.{IsTold}
-use Rattle.box_chains.specs.Opened.{outcome_points, outcome_spans, spans_below}
-use Rattle.box_chains.specs.Outcomes.{ChoosesNone, is_shortened}
+use Rattle.box_chains.specs.Opened.{outcome_points, outcome_spans, sampling, spans_below}
+use Rattle.box_chains.specs.Outcomes.{ChoosesNone, asked_decisions, asked_outcomes, decision_in, decision_of, decisions_of, held_box, is_shortened, plain_box, traced_decisions, traced_outcomes}
 use Rattle.box_chains.specs.Placing.{places_along}
 use Rattle.box_chains.specs.Sums.{Sample, maximum}
 use Rattle.box_chains.specs.Tallied.{CountsAtMost, CountsExactly}
@@ -24,6 +24,7 @@ use Rattle.box_chains.specs.Tested.{halves_points_where, halves_spans_where, ope
 use Rattle.box_chains.specs.Visits.{sample_point}
 use Rattle.box_chains.specs.declared.asked_box.AskedBox.{AskedBox}
 use Rattle.box_chains.specs.declared.outcome.Outcome.TheVariants.{Inside, Outside, Open}
+use Rattle.box_chains.specs.declared.traced_box.TracedBox.{TracedBox}
 
 -- rasters from -1 to 1, at the height 0, by boxes with sides of at most 8
 abbrev pub raster : ℕ → ℕ → Descent
@@ -350,6 +351,54 @@ shortened_lanes : map
     (true ∷ false ∷ true ∷ true ∷ []))
     (0 ∷ 1 ∷ 2 ∷ 3 ∷ []) ≡ true ∷ false ∷ true ∷ false ∷ []
 shortened_lanes = refl
+
+-- Of the columns of the slab along x those from 4 to 11 are inside, from -7/15 to 7/15, and those up to 3 are outside,
+-- up to -3/5. The first eight are not decided.
+abbrev columns_traced : List Indices
+columns_traced = columns_of_row 4 12 ∷ columns_of_row 0 4 ∷ columns_of_row 0 8 ∷ []
+
+columns_decided : decisions_of (sampling (raster 16 1)) (slab X) columns_traced ≡ Some true ∷ Some false ∷ None ∷ []
+columns_decided = refl
+
+-- Where boxes are split even where they are decided, the first prunes the last maximum, and the last one the maximum
+-- of x and its opposite as well: their decisions tell them apart.
+columns_pruned : asked_outcomes (sampling (raster 16 1)) (slab X) (map held_box columns_traced) ≡
+    Open bare
+    ∷ Outside
+    ∷ Open (record { op = X; a = 0; b = 0; value = pos 0 }
+    ∷ record { op = Neg; a = 0; b = 0; value = pos 0 }
+    ∷ record { op = Const; a = 0; b = 0; value = pos 2147483648 }
+    ∷ record { op = Sub; a = 1; b = 2; value = pos 0 }
+    ∷ [])
+    ∷ []
+columns_pruned = refl
+
+-- the hull decides the same of a box that is split and of one that is not
+inside_either_way : asked_decisions (sampling (raster 16 1)) (slab X) (plain_box (columns_of_row 4 12) ∷ held_box (columns_of_row 4 12) ∷ [])
+    ≡ Some true ∷ Some true ∷ []
+inside_either_way = refl
+
+-- it is the decision of the box with the tape that it receives
+decided_alike : (d : Descent) (v : Visit) → decision_of (sampling d) v.list v.box ≡ decision d v
+decided_alike d v = refl
+
+lanes_decided : map (decision_in (between (negsuc 0) (pos 1) ∷ between (negsuc 1) (negsuc 0) ∷ between (pos 1) (pos 2) ∷ [])) (0 ∷ 1 ∷ 2 ∷ [])
+    ≡ None ∷ Some true ∷ Some false ∷ []
+lanes_decided = refl
+
+-- three boxes that were traced, two of them with a child tape
+abbrev traced : List TracedBox
+traced =
+    record { decision = Some true; outcome = Open 3 }
+    ∷ record { decision = Some false; outcome = Outside }
+    ∷ record { decision = None; outcome = Open 4 }
+    ∷ []
+
+decisions_traced : traced_decisions traced ≡ Some true ∷ Some false ∷ None ∷ []
+decisions_traced = refl
+
+outcomes_traced : traced_outcomes traced ≡ Open 3 ∷ Outside ∷ Open 4 ∷ []
+outcomes_traced = refl
 
 -- where the last box on a way is undecided, whatever the first one is, the list that it hands on has the value
 last_box_hands_on : (d : Descent) (v : Visit) (s : Sample) → IsTold d v s → decision d (chain_end d v s) ≡ None

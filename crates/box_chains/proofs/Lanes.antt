@@ -1,5 +1,5 @@
 -- Boxes whose lists are traced side by side, each in its lane.
-use Rattle.std.proofs.Common.{Bool, false, ◌≡◌, ℕ, ◌+◌, ◌-◌, ◌<◌, List, [], ◌∷◌, ◌++◌, length, get_or, take, drop, map, ap, sym, ◌∙◌, arith}
+use Rattle.std.proofs.Common.{Bool, false, Option, None, ◌≡◌, ℕ, ◌+◌, ◌-◌, ◌<◌, List, [], ◌∷◌, ◌++◌, length, get_or, take, drop, map, ap, sym, ◌∙◌, arith}
 use Rattle.std.proofs.lemmas.List.{ext_get_or, get_or-map, get_or_read, length-drop, length-map, map-append, take_all}
 use Rattle.std.proofs.lemmas.Simd.{map-map}
 use Rattle.std.proofs.lemmas.List.Elements.{All-map}
@@ -17,7 +17,7 @@ use Rattle.interval_ops.specs.declared.region.Region.{Region}
 use Rattle.view_places.specs.Spans.{IsInRoot, region_of}
 use Rattle.choice_trace.specs.Halves.{region_in}
 use Rattle.choice_trace.specs.Hulls.{choices_over, hull_in, tape_hull}
-use Rattle.box_chains.specs.Outcomes.{AreInRoot, asked_outcome, asked_outcomes, held_decision, held_in, lane_decision, lane_outcome, outcome_by, outcomes_of, plain_box}
+use Rattle.box_chains.specs.Outcomes.{AreInRoot, asked_decisions, asked_outcome, asked_outcomes, decision_in, decision_of, decisions_of, held_box, held_decision, held_in, lane_decision, lane_outcome, outcome_by, outcomes_of, plain_box}
 use Rattle.box_chains.specs.Placing.{Sampling}
 use Rattle.box_chains.specs.declared.asked_box.AskedBox.{AskedBox}
 use Rattle.box_chains.specs.declared.outcome.Outcome.{Outcome}
@@ -32,12 +32,9 @@ pub take-one : {X : Type 0} (xs : List X) (x : X) → 0 < length xs → x ≡ ge
 take-one [] x some is = absurd (omega (arith, some))
 take-one (y ∷ ys) x some is = ap (λ a. a ∷ []) (sym is)
 
--- what some boxes tell, and then some more
-pub outcomes-join : (places : Sampling) (list : List Step) (boxes : List AskedBox) (i n : ℕ)
-    → asked_outcomes places list (take i boxes) ++ asked_outcomes places list (take n (drop i boxes)) ≡ asked_outcomes places list (take (i + n) boxes)
-outcomes-join places list boxes i n =
-    let f : AskedBox → Outcome (List Step) = asked_outcome places list in
-    sym (map-append f (take i boxes) (take n (drop i boxes))) ∙ sym (ap (map f) (take-add i n boxes))
+-- what holds of some boxes in turn, and then of some more
+pub map-join : {X Y : Type 0} (f : X → Y) (xs : List X) (i n : ℕ) → map f (take i xs) ++ map f (take n (drop i xs)) ≡ map f (take (i + n) xs)
+map-join f xs i n = sym (map-append f (take i xs) (take n (drop i xs))) ∙ sym (ap (map f) (take-add i n xs))
 
 -- where no box is held open, this is what tracing the boxes alone tells
 pub plain-told : (places : Sampling) (list : List Step) (boxes : List Indices) → asked_outcomes places list (map plain_box boxes) ≡ outcomes_of places list boxes
@@ -45,6 +42,43 @@ plain-told places list boxes = map-map (asked_outcome places list) plain_box box
 
 pub plain-in_root : (places : Sampling) (boxes : List Indices) → All (IsInRoot places.view places.lattice) boxes → AreInRoot places (map plain_box boxes)
 plain-in_root places boxes h = All-map (λ (a : AskedBox). IsInRoot places.view places.lattice a.range) plain_box boxes h
+
+-- whether or not boxes are split where they are decided, their hulls decide the same
+pub held-decided : (places : Sampling) (tape : List Step) (boxes : List Indices) → asked_decisions places tape (map held_box boxes) ≡ decisions_of places tape boxes
+held-decided places tape boxes = map-map (λ (a : AskedBox). decision_of places tape a.range) held_box boxes
+
+pub held-in_root : (places : Sampling) (boxes : List Indices) → All (IsInRoot places.view places.lattice) boxes → AreInRoot places (map held_box boxes)
+held-in_root places boxes h = All-map (λ (a : AskedBox). IsInRoot places.view places.lattice a.range) held_box boxes h
+
+-- what the hull in a lane decides
+pub hull-decides : (hulls : List Interval) (l : ℕ) (hull : Interval) → l < length hulls → hull ≡ get_or hulls l hull → decided_of hull ≡ decision_in hulls l
+hull-decides hulls l hull within is = ap decided_of (get_or_read hulls l hull within is all_numbers)
+
+-- and in all lanes, where each is that of its box
+pub hulls-decide : (places : Sampling) (tape : List Step) (asked : List AskedBox) (regions : List Region) (hulls : List Interval) (n : ℕ)
+    → regions ≡ map (λ a. region_of places.view places.lattice a.range) asked → length asked ≡ n
+    → ((l : ℕ) → l < n → hull_in hulls l ≡ tape_hull (region_in regions l) tape)
+    → map (decision_in hulls) (range_with_len 0 n) ≡ asked_decisions places tape asked
+hulls-decide places tape asked regions hulls n placed count hull =
+    ext_get_or None (map (decision_in hulls) (range_with_len 0 n)) (map g asked)
+    (length-map (range_with_len 0 n) (decision_in hulls) ∙ length-range_with_len 0 n ∙ sym count ∙ sym (length-map asked g))
+    (λ l h. by l (omega (arith, h, length-map (range_with_len 0 n) (decision_in hulls), length-range_with_len 0 n)))
+  where
+    g : AskedBox → Option Bool
+    g a = decision_of places tape a.range
+
+    nothing : AskedBox
+    nothing = plain_box (record { x0 = 0; x1 = 0; y0 = 0; y1 = 0; z0 = 0; z1 = 0 })
+
+    by : (l : ℕ) → l < n → get_or (map (decision_in hulls) (range_with_len 0 n)) l None ≡ get_or (map g asked) l None
+    by l h =
+        let among : l < length asked = omega (arith, h, count) in
+        let region : region_in regions l ≡ region_of places.view places.lattice (get_or asked l nothing).range =
+        ap (λ rs. region_in rs l) placed ∙ get_or-map (λ a. region_of places.view places.lattice a.range) asked l nothing _ among in
+        get_or-map-range_with_len (decision_in hulls) 0 n l l None h (omega arith)
+        ∙ ap decided_of (hull l h)
+        ∙ ap (λ r. decided_of (tape_hull r tape)) region
+        ∙ sym (get_or-map g asked l nothing None among)
 
 -- what is decided in a lane
 pub decision-read : (asked : List AskedBox) (hulls : List Interval) (l : ℕ) (hull : Interval) (box : AskedBox) → l < length hulls → hull ≡ get_or hulls l hull → l < length asked → box ≡ get_or asked l box

@@ -18,6 +18,7 @@ use Rattle.box_chains.specs.Placing.{Sampling}
 use Rattle.box_chains.specs.declared.asked_box.AskedBox.{AskedBox}
 use Rattle.box_chains.specs.declared.outcome.Outcome.{Outcome}
 use Rattle.box_chains.specs.declared.outcome.Outcome.TheVariants.{Inside, Outside, Open}
+use Rattle.box_chains.specs.declared.traced_box.TracedBox.{TracedBox}
 
 -- a decision as an outcome, where an undecided box hands on a list
 abbrev pub outcome_by : Option Bool → List Step → Outcome (List Step)
@@ -53,6 +54,29 @@ asked_outcomes places list asked = map (asked_outcome places list) asked
 -- a box that is not held open
 abbrev pub plain_box : Indices → AskedBox
 plain_box b = record { range = b; held = false }
+
+-- a box that is split even where it is decided
+abbrev pub held_box : Indices → AskedBox
+held_box b = record { range = b; held = true }
+
+-- what the hull of a tape decides of a box: all of it is inside, or outside, or neither
+abbrev pub decision_of : Sampling → List Step → Indices → Option Bool
+decision_of places tape b = decided_of (tape_hull (region_of places.view places.lattice b) tape)
+
+-- and of each of some boxes
+abbrev pub decisions_of : Sampling → List Step → List Indices → List (Option Bool)
+decisions_of places tape boxes = map (decision_of places tape) boxes
+
+-- whether or not a box is split where it is decided, its hull decides the same
+abbrev pub asked_decisions : Sampling → List Step → List AskedBox → List (Option Bool)
+asked_decisions places tape asked = map (λ a. decision_of places tape a.range) asked
+
+-- the decisions of boxes that were traced, and their outcomes
+abbrev pub traced_decisions : List TracedBox → List (Option Bool)
+traced_decisions traced = map (λ t. t.decision) traced
+
+abbrev pub traced_outcomes : List TracedBox → List (Outcome ℕ)
+traced_outcomes traced = map (λ t. t.outcome) traced
 
 -- boxes of a lattice's samples
 abbrev pub AreInRoot : Sampling → List AskedBox → Type 0
@@ -93,6 +117,10 @@ pub record AreSeen (most : ℕ) (lists : List (List Step)) (outcomes : List (Out
 -- lists that stand first among others
 abbrev pub AreFirst : List (List Step) → List (List Step) → Type 0
 AreFirst first all = take (length first) all ≡ first
+
+-- what the hull in a lane decides
+abbrev pub decision_in : List Interval → ℕ → Option Bool
+decision_in hulls l = decided_of (hull_in hulls l)
 
 -- whether the box of a lane is held open
 abbrev pub held_in : List AskedBox → ℕ → Bool

@@ -8,6 +8,7 @@ mod leaves;
 mod outcome;
 mod places;
 mod rows;
+mod traced_box;
 mod workspace;
 
 pub use asked_box::AskedBox;
@@ -19,4 +20,5 @@ pub use laws::{
 pub use leaves::{LEAF, is_long};
 pub use outcome::Outcome;
 pub use places::Places;
+pub use traced_box::TracedBox;
 pub use workspace::Workspace;

@@ -11,7 +11,7 @@ ghost use Rattle.live_clauses.specs.Blocks.{list_at};
 ghost use Rattle.live_clauses.specs.Live.{IsWhole, live_of};
 ghost use Rattle.live_clauses.specs.declared.step.Step.{Step};
 ghost use Rattle.view_places.specs.Spans.{region_of};
-ghost use Rattle.box_chains.specs.Outcomes.{AreFirst, AreInRoot, AreSeen, ChoosesNone, HandsOn, IsHandedOn, asked_outcomes, held_decision, is_shortened, lane_outcome, outcome_by, seen};
+ghost use Rattle.box_chains.specs.Outcomes.{AreFirst, AreInRoot, AreSeen, ChoosesNone, HandsOn, IsHandedOn, asked_decisions, asked_outcomes, decision_in, held_decision, is_shortened, lane_outcome, outcome_by, seen};
 ghost use Rattle.box_chains.specs.declared.outcome.Outcome.{Outcome};
 
 use crate::{AskedBox, Outcome, Places};
@@ -75,8 +75,9 @@ impl Rows {
         Ok(())
     }
 
-    // What tracing a list over L boxes at once tells of each, put behind some outcomes. The list is
-    // given by its number, and so are those that the boxes hand on.
+    // What tracing a list over L boxes at once tells of each, put behind some outcomes, and what the
+    // hulls decide, put behind as many decisions. The list is given by its number, and so are those
+    // that the boxes hand on.
     pub(crate) fn trace<const L: usize>(
         &mut self,
         lists: &mut Lists,
@@ -84,6 +85,7 @@ impl Rows {
         places: &Places,
         asked: &[AskedBox],
         outcomes: &mut ArrayVec<Outcome<usize>, 8>,
+        decisions: &mut ArrayVec<Option<bool>, 8>,
         tally: &mut Tally,
     ) -> Result<(), AllocError>
         requires lanes { L ≤ 4 }
@@ -92,11 +94,14 @@ impl Rows {
         requires whole { IsWhole (list_at lists.old at) }
         requires room { length (list_at lists.old at) ≤ length self.old }
         requires few { array_vec_len outcomes.old + L ≤ 8 }
+        requires as_many { array_vec_len decisions.old ≡ array_vec_len outcomes.old }
         requires within { AreInRoot places.now asked.now }
         ensures outcomes { OnOk result ((told : List (Outcome (List Step)))
             → AreSeen (length (list_at lists.old at)) lists.old outcomes.old.items told
             → AreSeen (length (list_at lists.old at)) lists.new outcomes.new.items
             (told ++ asked_outcomes places.now (list_at lists.old at) asked.now)) }
+        ensures decisions { OnOk result (decisions.new.items ≡ decisions.old.items
+            ++ asked_decisions places.now (list_at lists.old at) asked.now) }
         ensures first { AreFirst lists.old lists.new }
         ensures len { OnOk result (array_vec_len outcomes.new ≡ array_vec_len outcomes.old + L) }
         ensures room { length self.new ≡ length self.old }
@@ -106,7 +111,7 @@ impl Rows {
         let (rows, marks) = (self.choices.as_mut_slice(), self.marks.as_mut_slice());
         let halves = trace_halves(&lists.list(at), &regions, &mut self.hulls, rows, tally);
         mark_shortened(lists, at, asked, &halves, rows, marks);
-        push_outcomes(lists, at, asked, &halves, rows, marks, outcomes)
+        push_outcomes(lists, at, asked, &halves, rows, marks, outcomes, decisions)
     }
 }
 
@@ -177,8 +182,8 @@ fn shortened<const L: usize>(asked: &[AskedBox], halves: &Halves<L>) -> u8
     lanes
 }
 
-// Adds what the hulls of a list tell, each with the choices in its lane of the rows. AllocError:
-// there is no memory for a shorter list.
+// Adds what the hulls of a list tell, each with the choices in its lane of the rows, and what they
+// decide. AllocError: there is no memory for a shorter list.
 #[inline]
 fn push_outcomes<const L: usize>(
     lists: &mut Lists,
@@ -188,6 +193,7 @@ fn push_outcomes<const L: usize>(
     rows: &[ChoiceRow],
     marks: &[u8],
     outcomes: &mut ArrayVec<Outcome<usize>, 8>,
+    decisions: &mut ArrayVec<Option<bool>, 8>,
 ) -> Result<(), AllocError>
     requires lanes { L ≤ 4 }
     requires marked { length (list_at lists.old at) ≤ length marks.now }
@@ -202,6 +208,7 @@ fn push_outcomes<const L: usize>(
         → ChoosesNone (take (length (list_at lists.old at)) (lane l rows.now)) }
     requires rows { length (list_at lists.old at) ≤ length rows.now }
     requires few { array_vec_len outcomes.old + L ≤ 8 }
+    requires as_many { array_vec_len decisions.old ≡ array_vec_len outcomes.old }
     requires only { (l : ℕ) → l < L → AreChoices (list_at lists.old at)
         (take (length (list_at lists.old at)) (lane l rows.now)) }
     ensures outcomes { OnOk result ((told : List (Outcome (List Step)))
@@ -209,14 +216,18 @@ fn push_outcomes<const L: usize>(
         → AreSeen (length (list_at lists.old at)) lists.new outcomes.new.items (told
         ++ map (lane_outcome (list_at lists.old at) asked.now halves.now.hulls rows.now)
         (range_with_len 0 L))) }
+    ensures decisions { OnOk result (decisions.new.items
+        ≡ decisions.old.items ++ map (decision_in halves.now.hulls) (range_with_len 0 L)) }
     ensures first { AreFirst lists.old lists.new }
     ensures len { OnOk result (array_vec_len outcomes.new ≡ array_vec_len outcomes.old + L) }
 {
     for l in 0..L {
-        let told = held_open(decided(halves.hulls[l]), asked[l].held);
+        let decision = decided(halves.hulls[l]);
+        let told = held_open(decision, asked[l].held);
         let chosen = halves.chosen[l];
         let outcome = outcome_in_lane(lists, at, told, chosen, rows, marks, l)?;
         outcomes.push(outcome);
+        decisions.push(decision);
     }
     Ok(())
 }

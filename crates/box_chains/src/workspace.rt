@@ -1,7 +1,7 @@
 // Memory that looking at boxes needs.
 ghost use Rattle.std.specs.List.{All};
 ghost use Rattle.arrayvec.specs.ArrayVec.{array_vec_len};
-ghost use Rattle.std.specs.Prelude.{◌≡◌, ◌+◌, ◌*◌, ◌<◌, ◌≤◌, ◌++◌, List, drop, length, map, take, IfOk, OnErr, OnOk};
+ghost use Rattle.std.specs.Prelude.{◌≡◌, ◌+◌, ◌*◌, ◌<◌, ◌≤◌, ◌++◌, List, [], drop, length, map, take, IfOk, OnErr, OnOk};
 ghost use Rattle.choice_trace.specs.Hulls.{choices_over, tape_hull};
 ghost use Rattle.interval_ops.specs.Decided.{decided_of};
 ghost use Rattle.interval_ops.specs.HullCounts.{CountsHulls};
@@ -10,12 +10,12 @@ ghost use Rattle.live_clauses.specs.Blocks.{list_at};
 ghost use Rattle.live_clauses.specs.Live.{IsWhole, live_of};
 ghost use Rattle.live_clauses.specs.declared.step.Step.{Step};
 ghost use Rattle.view_places.specs.Spans.{IsInRoot};
-ghost use Rattle.box_chains.specs.Outcomes.{AreFirst, AreInRoot, AreSeen, HandsOn, IsHandedOn, all_seen, asked_outcome, asked_outcomes, outcome_of, outcomes_of, plain_box, seen};
+ghost use Rattle.box_chains.specs.Outcomes.{AreFirst, AreInRoot, AreSeen, HandsOn, IsHandedOn, all_seen, asked_decisions, asked_outcome, asked_outcomes, decision_of, decisions_of, held_box, outcome_by, outcome_of, outcomes_of, seen, traced_decisions, traced_outcomes};
 ghost use Rattle.box_chains.specs.declared.outcome.Outcome.{Outcome};
 ghost use Rattle.box_chains.specs.Tallied.{CountsAtMost};
 
 use crate::rows::{LONGEST, Rows, held_open};
-use crate::{AskedBox, Outcome, Places};
+use crate::{AskedBox, Outcome, Places, TracedBox};
 use arrayvec::ArrayVec;
 use choice_trace::{trace_steps, traces_are_right};
 use fixed_ops::{Fx, Tally, tallies_add_up};
@@ -162,11 +162,12 @@ impl Workspace {
         ensures at_most { OnErr result (CountsAtMost 0
             (length boxes.now * length (list_at lists.old at)) tally.old tally.new) }
     {
-        let asked = plain_boxes(boxes);
+        let asked = asked_boxes(boxes, false);
         self.trace_asked_boxes(lists, at, places, asked.as_slice(), tally)
     }
 
     /// The same of boxes that may be held open.
+    #[inline]
     pub fn trace_asked_boxes(
         &mut self,
         lists: &mut Lists,
@@ -191,17 +192,91 @@ impl Workspace {
         ensures at_most { OnErr result (CountsAtMost 0
             (length asked.now * length (list_at lists.old at)) tally.old tally.new) }
     {
+        let mut decisions = ArrayVec::new();
+        self.trace_all(lists, at, places, asked, &mut decisions, tally)
+    }
+
+    /// Traces a tape over boxes that receive it and that are split even where they are decided: gives
+    /// the decision of each, beside its outcome, in their order. So a box that is all inside prunes a
+    /// child tape too, and its decision tells it from a box that is not decided. The tape is given by
+    /// its number and is traced once over each box; child tapes are put behind the others. Where
+    /// several boxes are traced at once, one that chooses no operand keeps the number of the tape.
+    /// AllocError: there is no memory for a child tape, and no more was traced than that.
+    pub fn trace_held_boxes(
+        &mut self,
+        lists: &mut Lists,
+        at: usize,
+        places: &Places,
+        boxes: &[IndexBox],
+        tally: &mut Tally,
+    ) -> Result<ArrayVec<TracedBox, 8>, AllocError>
+        requires among { at < length lists.old }
+        requires whole { IsWhole (list_at lists.old at) }
+        requires room { length (list_at lists.old at) ≤ length self.old }
+        requires few { length boxes.now ≤ 8 }
+        requires within { All (IsInRoot places.now.view places.now.lattice) boxes.now }
+        ensures decisions { IfOk result (λ traced. traced_decisions traced.items
+            ≡ decisions_of places.now (list_at lists.old at) boxes.now) }
+        ensures outcomes { IfOk result (λ traced.
+            all_seen lists.new (traced_outcomes traced.items)
+            ≡ asked_outcomes places.now (list_at lists.old at) (map held_box boxes.now)) }
+        ensures shorter { IfOk result (λ traced. All
+            (HandsOn (length (list_at lists.old at)) lists.new) (traced_outcomes traced.items)) }
+        ensures first { AreFirst lists.old lists.new }
+        ensures room { length self.new ≡ length self.old }
+        ensures counted { OnOk result (CountsHulls
+            (length boxes.now * length (list_at lists.old at)) tally.old tally.new) }
+        ensures at_most { OnErr result (CountsAtMost 0
+            (length boxes.now * length (list_at lists.old at)) tally.old tally.new) }
+    {
+        let asked = asked_boxes(boxes, true);
+        let mut decisions = ArrayVec::new();
+        let outcomes = self.trace_all(lists, at, places, asked.as_slice(), &mut decisions, tally)?;
+        Ok(traced_boxes(decisions.as_slice(), outcomes.as_slice()))
+    }
+
+    // Traces a list over boxes, and adds what their hulls decide.
+    fn trace_all(
+        &mut self,
+        lists: &mut Lists,
+        at: usize,
+        places: &Places,
+        asked: &[AskedBox],
+        decisions: &mut ArrayVec<Option<bool>, 8>,
+        tally: &mut Tally,
+    ) -> Result<ArrayVec<Outcome<usize>, 8>, AllocError>
+        requires among { at < length lists.old }
+        requires whole { IsWhole (list_at lists.old at) }
+        requires room { length (list_at lists.old at) ≤ length self.old }
+        requires few { length asked.now ≤ 8 }
+        requires none { decisions.old.items ≡ [] }
+        requires within { AreInRoot places.now asked.now }
+        ensures outcomes { IfOk result (λ outcomes. all_seen lists.new outcomes.items
+            ≡ asked_outcomes places.now (list_at lists.old at) asked.now) }
+        ensures decisions { OnOk result (decisions.new.items
+            ≡ asked_decisions places.now (list_at lists.old at) asked.now) }
+        ensures shorter { IfOk result (λ outcomes.
+            All (HandsOn (length (list_at lists.old at)) lists.new) outcomes.items) }
+        ensures first { AreFirst lists.old lists.new }
+        ensures room { length self.new ≡ length self.old }
+        ensures counted { OnOk result (CountsHulls
+            (length asked.now * length (list_at lists.old at)) tally.old tally.new) }
+        ensures at_most { OnErr result (CountsAtMost 0
+            (length asked.now * length (list_at lists.old at)) tally.old tally.new) }
+    {
         tallies_add_up();
         hull_counts();
         let mut outcomes = ArrayVec::new();
         let mut done = 0;
         while done < asked.len() {
-            done += self.trace_some(lists, at, places, &asked[done..], &mut outcomes, tally)?;
+            let rest = &asked[done..];
+            done += self.trace_some(lists, at, places, rest, &mut outcomes, decisions, tally)?;
         }
         Ok(outcomes)
     }
 
-    // Traces a list over the first of some boxes: four at once, two, or one. Gives how many.
+    // Traces a list over the first of some boxes: four at once, two, or one. Gives how many, and adds
+    // the outcome and the decision of each.
     #[inline]
     fn trace_some(
         &mut self,
@@ -210,6 +285,7 @@ impl Workspace {
         places: &Places,
         asked: &[AskedBox],
         outcomes: &mut ArrayVec<Outcome<usize>, 8>,
+        decisions: &mut ArrayVec<Option<bool>, 8>,
         tally: &mut Tally,
     ) -> Result<usize, AllocError>
         requires among { at < length lists.old }
@@ -217,6 +293,7 @@ impl Workspace {
         requires room { length (list_at lists.old at) ≤ length self.old }
         requires some { 0 < length asked.now }
         requires few { array_vec_len outcomes.old + length asked.now ≤ 8 }
+        requires as_many { array_vec_len decisions.old ≡ array_vec_len outcomes.old }
         requires within { AreInRoot places.now asked.now }
         ensures some { IfOk result (λ count. 0 < count) }
         ensures few { IfOk result (λ count. count ≤ length asked.now) }
@@ -224,6 +301,8 @@ impl Workspace {
             → AreSeen (length (list_at lists.old at)) lists.old outcomes.old.items told
             → AreSeen (length (list_at lists.old at)) lists.new outcomes.new.items
             (told ++ asked_outcomes places.now (list_at lists.old at) (take count asked.now))) }
+        ensures decisions { IfOk result (λ count. decisions.new.items ≡ decisions.old.items
+            ++ asked_decisions places.now (list_at lists.old at) (take count asked.now)) }
         ensures first { AreFirst lists.old lists.new }
         ensures len { IfOk result
             (λ count. array_vec_len outcomes.new ≡ array_vec_len outcomes.old + count) }
@@ -236,19 +315,21 @@ impl Workspace {
         hull_counts();
         let len = lists.list(at).len() as usize;
         if len > LONGEST || asked.len() < 2 {
-            outcomes.push(self.trace_asked_box(lists, at, places, asked[0], tally)?);
+            let traced = self.trace_one(lists, at, places, asked[0], tally)?;
+            outcomes.push(traced.outcome);
+            decisions.push(traced.decision);
             return Ok(1);
         }
         self.rows.make_room(len)?;
         if asked.len() >= 4 {
             let four = &asked[..4];
             self.rows
-                .trace::<4>(lists, at, places, four, outcomes, tally)?;
+                .trace::<4>(lists, at, places, four, outcomes, decisions, tally)?;
             Ok(4)
         } else {
             let two = &asked[..2];
             self.rows
-                .trace::<2>(lists, at, places, two, outcomes, tally)?;
+                .trace::<2>(lists, at, places, two, outcomes, decisions, tally)?;
             Ok(2)
         }
     }
@@ -301,9 +382,90 @@ impl Workspace {
         ensures room { length self.new ≡ length self.old }
         ensures counted { CountsHulls (length (list_at lists.old at)) tally.old tally.new }
     {
+        let traced = self.trace_one(lists, at, places, asked, tally)?;
+        Ok(traced.outcome)
+    }
+
+    /// Traces a tape over a box that receives it and that is split even where it is decided: gives
+    /// the decision beside the outcome. AllocError: there is no memory for a child tape.
+    #[inline]
+    pub fn trace_held_box(
+        &mut self,
+        lists: &mut Lists,
+        at: usize,
+        places: &Places,
+        b: IndexBox,
+        tally: &mut Tally,
+    ) -> Result<TracedBox, AllocError>
+        requires among { at < length lists.old }
+        requires room { length (list_at lists.old at) ≤ length self.old }
+        requires within { IsInRoot places.now.view places.now.lattice b }
+        ensures decision { IfOk result (λ traced. traced.decision
+            ≡ decision_of places.now (list_at lists.old at) b) }
+        ensures outcome { IfOk result (λ traced. seen lists.new traced.outcome
+            ≡ asked_outcome places.now (list_at lists.old at) (held_box b)) }
+        ensures shorter { IfOk result (λ traced.
+            HandsOn (length (list_at lists.old at)) lists.new traced.outcome) }
+        ensures first { AreFirst lists.old lists.new }
+        ensures room { length self.new ≡ length self.old }
+        ensures counted { CountsHulls (length (list_at lists.old at)) tally.old tally.new }
+    {
+        let asked = AskedBox {
+            range: b,
+            held: true,
+        };
+        self.trace_one(lists, at, places, asked, tally)
+    }
+
+    // What tracing a list over a box tells, and what its hull decides. AllocError: there is no memory
+    // for a shorter list.
+    #[inline]
+    fn trace_one(
+        &mut self,
+        lists: &mut Lists,
+        at: usize,
+        places: &Places,
+        asked: AskedBox,
+        tally: &mut Tally,
+    ) -> Result<TracedBox, AllocError>
+        requires among { at < length lists.old }
+        requires room { length (list_at lists.old at) ≤ length self.old }
+        requires within { IsInRoot places.now.view places.now.lattice asked.range }
+        ensures decision { IfOk result (λ traced. traced.decision
+            ≡ decision_of places.now (list_at lists.old at) asked.range) }
+        ensures outcome { IfOk result (λ traced. seen lists.new traced.outcome
+            ≡ asked_outcome places.now (list_at lists.old at) asked) }
+        ensures shorter { IfOk result (λ traced.
+            HandsOn (length (list_at lists.old at)) lists.new traced.outcome) }
+        ensures first { AreFirst lists.old lists.new }
+        ensures room { length self.new ≡ length self.old }
+        ensures counted { CountsHulls (length (list_at lists.old at)) tally.old tally.new }
+    {
         traces_are_right();
-        let told = self.look(&lists.list(at), places.region(asked.range), tally);
-        match held_open(told, asked.held) {
+        let decision = self.look(&lists.list(at), places.region(asked.range), tally);
+        let outcome = self.outcome(lists, at, held_open(decision, asked.held))?;
+        Ok(TracedBox { decision, outcome })
+    }
+
+    // What is told of a box, with the choices of the list that was looked at. AllocError: there is no
+    // memory for a shorter list.
+    #[inline]
+    fn outcome(
+        &self,
+        lists: &mut Lists,
+        at: usize,
+        told: Option<bool>,
+    ) -> Result<Outcome<usize>, AllocError>
+        requires among { at < length lists.old }
+        requires room { length (list_at lists.old at) ≤ length self.now }
+        requires choices { AreChoices (list_at lists.old at)
+            (take (length (list_at lists.old at)) self.now) }
+        ensures outcome { IfOk result (λ outcome. seen lists.new outcome ≡ outcome_by told
+            (live_of (list_at lists.old at) (take (length (list_at lists.old at)) self.now))) }
+        ensures shorter { IfOk result (HandsOn (length (list_at lists.old at)) lists.new) }
+        ensures first { AreFirst lists.old lists.new }
+    {
+        match told {
             Some(true) => Ok(Outcome::Inside),
             Some(false) => Ok(Outcome::Outside),
             None => Ok(Outcome::Open(self.hand_on(lists, at)?)),
@@ -311,18 +473,33 @@ impl Workspace {
     }
 }
 
-// Boxes that are not held open.
+// Boxes that are held open, or not.
 #[inline]
-fn plain_boxes(boxes: &[IndexBox]) -> ArrayVec<AskedBox, 8>
+fn asked_boxes(boxes: &[IndexBox], held: bool) -> ArrayVec<AskedBox, 8>
     requires { length boxes.now ≤ 8 }
-    ensures { result.items ≡ map plain_box boxes.now }
+    ensures { result.items ≡ map (λ b. record { range = b; held = held }) boxes.now }
 {
     let mut asked = ArrayVec::new();
     for b in boxes {
-        asked.push(AskedBox {
-            range: *b,
-            held: false,
-        });
+        asked.push(AskedBox { range: *b, held });
     }
     asked
+}
+
+// Outcomes, each with the decision beside it.
+#[inline]
+fn traced_boxes(decisions: &[Option<bool>], outcomes: &[Outcome<usize>]) -> ArrayVec<TracedBox, 8>
+    requires few { length outcomes.now ≤ 8 }
+    requires as_many { length decisions.now ≡ length outcomes.now }
+    ensures decisions { traced_decisions result.items ≡ decisions.now }
+    ensures outcomes { traced_outcomes result.items ≡ outcomes.now }
+{
+    let mut traced = ArrayVec::new();
+    for i in 0..outcomes.len() {
+        traced.push(TracedBox {
+            decision: decisions[i],
+            outcome: outcomes[i],
+        });
+    }
+    traced
 }

@@ -1,7 +1,7 @@
-use Rattle.std.proofs.Common.{◌++◌, length, sym, subst, zero-mul, arith}
+use Rattle.std.proofs.Common.{[], ◌∷◌, ◌++◌, ◌∙◌, length, ap, sym, subst, zero-mul, arith}
 use Rattle.interval_ops.specs.HullCounts.{CountsHulls}
 use Rattle.live_clauses.specs.Blocks.{list_at}
-use Rattle.box_chains.specs.Outcomes.{AreSeen, asked_outcome, asked_outcomes}
+use Rattle.box_chains.specs.Outcomes.{AreSeen, asked_decisions, asked_outcome, asked_outcomes}
 use Rattle.box_chains.proofs.Lanes.{take-one}
 use Rattle.box_chains.proofs.Seen.{are-pushed}
 use Rattle.box_chains.proofs.Traced.{hulls-among, hulls-one, on_err}
@@ -15,21 +15,30 @@ pub returns-in_err-trace-2-clause-at_most : goal.returns-in_err-trace-2-clause-a
 returns-in_err-trace-2-clause-at_most c =
     on_err _ _ (hulls-among c.args.tally.now _ 2 (length c.args.asked.now) (length (list_at c.args.lists.now c.args.at)) (omega arith) c.in_err-trace-2.ensures.counted)
 
-pub returns-in_err-trace_asked_box-clause-at_most : goal.returns-in_err-trace_asked_box-clause-at_most
-returns-in_err-trace_asked_box-clause-at_most c =
-    on_err _ _ (hulls-among c.args.tally.now c.trace_asked_box.new.tally 1 (length c.args.asked.now) (length (list_at c.args.lists.now c.args.at)) c.requires.some (hulls-one c.args.tally.now c.trace_asked_box.new.tally (length (list_at c.args.lists.now c.args.at)) c.in_err-trace_asked_box.ensures.counted))
+pub returns-in_err-traced-clause-at_most : goal.returns-in_err-traced-clause-at_most
+returns-in_err-traced-clause-at_most c =
+    on_err _ _ (hulls-among c.args.tally.now c.trace_one.new.tally 1 (length c.args.asked.now) (length (list_at c.args.lists.now c.args.at)) c.requires.some (hulls-one c.args.tally.now c.trace_one.new.tally (length (list_at c.args.lists.now c.args.at)) c.in_err-traced.ensures.counted))
 
 pub returns-then-len-gt-LONGEST-clause-outcomes : goal.returns-then-len-gt-LONGEST-clause-outcomes
 returns-then-len-gt-LONGEST-clause-outcomes c = λ told seen.
     let lists = c.args.lists.now in
     let list = list_at lists c.args.at in
-    let after = c.trace_asked_box.new.lists in
+    let after = c.trace_one.new.lists in
     let box = c.index-asked-0.result in
     let one = take-one c.args.asked.now box c.requires.some c.index-asked-0.is in
     subst (λ boxes. AreSeen (length list) after c.push.new.self.items (told ++ asked_outcomes c.args.places.now list boxes)) (sym one)
-    (are-pushed (length list) lists after c.args.outcomes.now.items c.push.new.self.items told c.in_ok-trace_asked_box.field-0 (asked_outcome c.args.places.now list box)
-    c.in_ok-trace_asked_box.ensures.first seen c.push.ensures.items c.in_ok-trace_asked_box.ensures.outcome c.in_ok-trace_asked_box.ensures.shorter)
+    (are-pushed (length list) lists after c.args.outcomes.now.items c.push.new.self.items told c.in_ok-traced.traced.outcome (asked_outcome c.args.places.now list box)
+    c.in_ok-traced.ensures.first seen c.push.ensures.items c.in_ok-traced.ensures.outcome c.in_ok-traced.ensures.shorter)
 
 pub returns-in_err-make_room-clause-at_most : goal.returns-in_err-make_room-clause-at_most
 returns-in_err-make_room-clause-at_most c =
     on_err _ _ (hulls-among c.args.tally.now c.args.tally.now 0 (length c.args.asked.now) (length (list_at c.args.lists.now c.args.at)) (omega arith) (subst (λ n. CountsHulls n c.args.tally.now c.args.tally.now) (sym (zero-mul (length (list_at c.args.lists.now c.args.at)))) (c.hull_counts.ensures.none c.args.tally.now)))
+
+pub returns-then-len-gt-LONGEST-clause-decisions : goal.returns-then-len-gt-LONGEST-clause-decisions
+returns-then-len-gt-LONGEST-clause-decisions c =
+    let list = list_at c.args.lists.now c.args.at in
+    let box = c.index-asked-0.result in
+    let one = take-one c.args.asked.now box c.requires.some c.index-asked-0.is in
+    c.push-then-len-gt-LONGEST.ensures.items
+    ∙ ap (λ d. c.args.decisions.now.items ++ d ∷ []) c.in_ok-traced.ensures.decision
+    ∙ ap (λ boxes. c.args.decisions.now.items ++ asked_decisions c.args.places.now list boxes) (sym one)

@@ -2,8 +2,8 @@ use Rattle.std.proofs.Common.{◌≡◌, ◌*◌, ◌≤◌, ◌-◌, length, ta
 use Rattle.arrayvec.specs.ArrayVec.{array_vec_len}
 use Rattle.interval_ops.specs.HullCounts.{CountsHulls}
 use Rattle.live_clauses.specs.Blocks.{list_at}
-use Rattle.box_chains.specs.Outcomes.{AreFirst, AreSeen, asked_outcomes}
-use Rattle.box_chains.proofs.workspace.Workspace.trace_asked_boxes.Given as goal
+use Rattle.box_chains.specs.Outcomes.{AreFirst, AreSeen, asked_decisions, asked_outcomes}
+use Rattle.box_chains.proofs.workspace.Workspace.trace_all.Given as goal
 
 abbrev pub invariant-loop-done : goal.invariant-loop-done
 invariant-loop-done l = let list = list_at l.fn.lists l.at in record {
@@ -12,6 +12,7 @@ invariant-loop-done l = let list = list_at l.fn.lists l.at in record {
   room : length l.self ≡ length l.fn.self;
   first : AreFirst l.fn.lists l.lists;
   outcomes : AreSeen (length list) l.lists l.outcomes.items (asked_outcomes l.places list (take l.done l.asked));
+  decisions : l.decisions.items ≡ asked_decisions l.places list (take l.done l.asked);
   counted : CountsHulls (l.done * length list) l.fn.tally l.tally;
 }
 
