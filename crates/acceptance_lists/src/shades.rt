@@ -36,7 +36,7 @@ fn view(w: u8, h: u8, d: u8) -> Option<View> {
 }
 
 // This is the light on the root list of a text over so many columns, rows and samples of a column, with so many
-// evaluations at most beside those of the height map.
+// evaluations beside those of the height map.
 fn expect(
     rt: &impl Abort,
     alloc: Global,
@@ -66,7 +66,7 @@ fn expect_light(
     }
     let mut tally = Tally::new();
     let is_light = has_light(alloc, list, &view, light, &mut tally)?;
-    assert!(rt; is_light && tally.points() <= points, "of {counts:?}");
+    assert!(rt; is_light && tally.points() == points, "of {counts:?}");
     Ok(())
 }
 
@@ -85,34 +85,48 @@ fn has_light(
     Ok(pixels.as_slice() == light)
 }
 
-// A model's text, the columns, rows and samples of a column, the light, and the most evaluations.
+// A model's text, the columns, rows and samples of a column, the light, and the evaluations: at each top
+// sample one for each step of the list that lights it, and those of the derivatives of the steps that are
+// reached.
 type Case = (&'static [u8], (u8, u8, u8), &'static [u8], u64);
 
-const CASES: [Case; 7] = [
-    (b"z var-z", (1, 1, 3), &[255], 10),
-    (b"x var-x\nz var-z\nf add x z", (1, 1, 3), &[128], 30),
-    (b"a const -1", (1, 1, 3), &[255], 10),
+const CASES: [Case; 9] = [
+    (b"z var-z", (1, 1, 3), &[255], 1),
+    // Three values, and three sums of derivatives.
+    (b"x var-x\nz var-z\nf add x z", (1, 1, 3), &[128], 6),
+    (b"a const -1", (1, 1, 3), &[255], 1),
     (b"a const 1", (1, 1, 3), &[0], 0),
     // Where x is 1 nothing is inside.
     (
         b"x var-x\nz var-z\nf add x z",
         (3, 1, 3),
         &[128, 128, 0],
-        60,
+        12,
     ),
-    // Where x is 0 the surface lies flat. In the lower row y is -1.
+    // Where x is 0 the surface lies flat. In the lower row y is -1. Six values, and four, nine and three
+    // operations for the square, the product and the sum, in each of four columns.
     (
         b"x var-x\ny var-y\nz var-z\na square x\nb mul y a\nf add z b",
         (3, 2, 3),
         &[0, 255, 0, 64, 255, 64],
-        240,
+        88,
     ),
     // A wall: the light is the same all over, in boxes that are decided too.
     (
         b"x var-x\nh const 0.5\nf sub x h",
         (4, 1, 40),
         &[1, 1, 1, 0],
-        90,
+        18,
+    ),
+    // All of the box is inside by the first operand, which alone is left of the list.
+    (b"c const -5\nz var-z\nf min c z", (2, 1, 2), &[255, 255], 2),
+    // Neither operand is chosen over the box, and each column takes one: five values, and three sums or
+    // differences for the one that is taken.
+    (
+        b"x var-x\nz var-z\np add x z\nq sub z x\nf min p q",
+        (3, 1, 3),
+        &[128, 128, 128],
+        24,
     ),
 ];
 

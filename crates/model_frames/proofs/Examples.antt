@@ -7,7 +7,6 @@ use Rattle.box_chains.specs.Chains.{chain_within}
 use Rattle.box_chains.specs.Counts.{points_in, spans_in}
 use Rattle.clause_reader.specs.Reading.{text_read}
 use Rattle.clause_reader.specs.declared.text_fault.TextFault.{TextFault}
-use Rattle.box_chains.specs.Tallied.{work_of}
 use Rattle.box_chains.specs.Tested.{points_where, spans_where}
 use Rattle.oct_descent.specs.Bound.{long_spans_in, mesh_least, mesh_points, cell_spans_in as spans_of_cells}
 use Rattle.oct_descent.specs.GridValues.{list_grid}
@@ -21,7 +20,8 @@ use Rattle.ply_writer.specs.Ply.{ply_of}
 use Rattle.solid_model.specs.declared.clause.Clause.{Clause}
 use Rattle.tetra_mesh.specs.Meshes.{Triangulation}
 use Rattle.view_places.specs.Window.{Window}
-use Rattle.normal_shade.specs.Received.{received_where}
+use Rattle.normal_shade.specs.DualWork.{dual_points}
+use Rattle.normal_shade.specs.Lit.{lit_where}
 use Rattle.model_frames.specs.Drawn.{drawn_bytes}
 use Rattle.model_frames.specs.Frames.{CanDraw, frame_name, frame_part, shade_part}
 use Rattle.model_frames.specs.Heights.{heights_of, plain_depths}
@@ -277,15 +277,18 @@ saddle_picture : shaded_of (window 3 2 3) (solid (codes "x var-x\ny var-y\nz var
 unfolding digits
 saddle_picture = refl
 
--- Three samples, and for the slopes at most ten evaluations more; the one box is traced for both. Plain evaluation of two
--- clauses takes 13 of each.
+-- Three samples, and one evaluation more for the value at the top one, as a coordinate's derivatives take none; the one box is
+-- traced for both. Plain evaluation of two clauses takes 13 of each.
 part_of_a_picture : shade_part (window 1 1 3) (solid (codes "u var-x\nz var-z\n"))
-    ≡ record {
-      bytes = codes "P5\n1 1\n255\n" ++ 255 ∷ [];
-      work = record { least = work_of 3 2 0; most = work_of 13 2 8; bound = work_of 13 2 8; plain = 26 };
-    }
-unfolding digits points_in spans_in points_where spans_where received_where chain_within
+    ≡ record { bytes = codes "P5\n1 1\n255\n" ++ 255 ∷ []; work = exactly 4 2 26 }
+unfolding digits points_in spans_in points_where spans_where lit_where dual_points chain_within
 part_of_a_picture = refl
+
+-- -2 is less than z wherever it lies: for the height map nothing is evaluated, and the box is lit by the one step that it prunes
+part_of_a_deep_picture : shade_part (window 1 1 3) (solid (codes "a const -2\nz var-z\nm min a z\n"))
+    ≡ record { bytes = codes "P5\n1 1\n255\n" ++ 255 ∷ []; work = exactly 1 6 39 }
+unfolding digits points_in spans_in points_where spans_where lit_where dual_points chain_within cut_magnitude is_unsigned_numeral nearest_raw unsigned_raw
+part_of_a_deep_picture = refl
 
 -- what is drawn are the bytes that are there, or the text of a mesh, which begins with its 14 vertices
 bytes_that_are_there : (bytes : Vec ℕ Global) → bytes.items ≡ codes "ab" → drawn_bytes (drawings.Bytes bytes) ≡ codes "ab"

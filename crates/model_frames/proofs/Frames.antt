@@ -102,7 +102,7 @@ drawn_few view clauses list is window tape points =
     fresh-plain view clauses (points view (root_of clauses) window root)
 
 -- work that is counted exactly is done, and within its bound
-exactly-done : (before after : Counts) (points spans plain : ℕ) → CountsExactly points spans before after → CountsWork before after (exactly points spans plain)
+pub exactly-done : (before after : Counts) (points spans plain : ℕ) → CountsExactly points spans before after → CountsWork before after (exactly points spans plain)
 unfolding CountsWork
 exactly-done before after points spans plain h = record {
   by = work_of points spans h.corners;
@@ -120,7 +120,7 @@ exactly-within before after points spans plain h = record {
 }
 
 -- so is work that was counted up to where memory was refused
-stopped-within : (before after : Counts) (points spans plain : ℕ) → CountsAtMost points spans before after → CountsWithin before after (exactly points spans plain)
+pub stopped-within : (before after : Counts) (points spans plain : ℕ) → CountsAtMost points spans before after → CountsWithin before after (exactly points spans plain)
 unfolding CountsWithin
 stopped-within before after points spans plain h = record { by = h.by; within = h.few; rises = h.rises }
 

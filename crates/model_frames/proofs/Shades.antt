@@ -1,13 +1,12 @@
 -- The shades of a list are those of the solid, and their work is bounded.
-use Rattle.std.proofs.Common.{◌≡◌, ℕ, ◌+◌, ◌-◌, ◌*◌, ◌==◌, ◌≤◌, List, length, map, if◌then◌else◌, ap, subst, arith, mul-le-mul_left}
+use Rattle.std.proofs.Common.{◌≡◌, ℕ, ◌+◌, ◌-◌, ◌*◌, ◌==◌, ◌≤◌, List, length, map, if◌then◌else◌, subst, arith, mul-le-mul_left}
 use Rattle.std.specs.Prelude.{Err, IfOk, Ok, OnOk, Result}
 use Rattle.std.specs.List.{flat_map, range_with_len}
 use Rattle.box_chains.specs.Sums.{maximum}
-use Rattle.box_chains.specs.Tallied.{CountsAtMost, work_of}
-use Rattle.fixed_ops.specs.Counts.{Counts, risen}
+use Rattle.box_chains.specs.Tallied.{CountsAtMost, CountsExactly}
+use Rattle.fixed_ops.specs.Counts.{Counts}
 use Rattle.fixed_ops.specs.Points.{Point}
 use Rattle.fixed_ops.specs.Raw.{is_inside}
-use Rattle.height_map.specs.Bound.{CountsSpans}
 use Rattle.height_map.specs.Laws.{HeightPointsAreBounded}
 use Rattle.live_clauses.specs.Live.{root_of}
 use Rattle.live_clauses.specs.Meanings.{sloped_at, tape_meaning}
@@ -24,8 +23,7 @@ use Rattle.view_places.specs.declared.lattice.Lattice.TheVariants.{Height}
 use Rattle.model_frames.specs.Laws.{FramesAddUp}
 use Rattle.model_frames.specs.Shades.{plain_shades, solid_shades}
 use Rattle.model_frames.specs.Work.{CountsWithin, CountsWork, PointsRiseAtMost, Work, both, height_work, shade_work, slopes_work}
-use Rattle.model_frames.proofs.Depths.{counts-same}
-use Rattle.model_frames.proofs.Frames.{plain-within, root-few}
+use Rattle.model_frames.proofs.Frames.{exactly-done, plain-within, root-few, stopped-within}
 
 -- the light on the top sample of a column is that of its own slopes: where a list has the solid's values
 -- and slopes, its shades are the solid's
@@ -52,38 +50,17 @@ with-plain-within : (first last : Counts) (work : Work) (plain : ℕ) → Counts
 unfolding CountsWithin
 with-plain-within first last work plain h = h
 
--- slopes that are counted are the work of the slopes
-slopes-within : (before after : Counts) (view : Window) (clauses : List Clause)
-    → CountsAtMost (shade_points view (root_of clauses)) (shade_spans view (root_of clauses)) before after
-    → CountsWithin before after (slopes_work view clauses)
-unfolding CountsWithin
-slopes-within before after view clauses h = record { by = h.by; within = h.few; rises = h.rises }
-
-slopes-done : (before after : Counts) (view : Window) (clauses : List Clause)
-    → CountsAtMost (shade_points view (root_of clauses)) (shade_spans view (root_of clauses)) before after
-    → CountsSpans (shade_spans view (root_of clauses)) before after
-    → CountsWork before after (slopes_work view clauses)
-unfolding CountsWork
-slopes-done before after view clauses h spans =
-    let s = shade_spans view (root_of clauses) in
-    record {
-      by = work_of h.by.points s h.by.corners;
-      enough = record { points = omega arith; spans = omega arith; corners = omega arith };
-      within = record { points = h.few.points; spans = omega arith; corners = h.few.corners };
-      rises = counts-same after (risen before.points h.by.points) (risen before.spans s)
-          (risen before.corners h.by.corners) (ap (λ c. c.points) h.rises) spans (ap (λ c. c.corners) h.rises);
-    }
-
 -- a shaded height map is its height map, and then its slopes
 pub shades_counted : {T E : Type 0} (r : Result T E) (first mid last : Counts) (view : Window) (clauses : List Clause)
     (list : List Step) → FramesAddUp → list ≡ root_of clauses → CountsWork first mid (height_work view clauses)
-    → CountsAtMost (shade_points view list) (shade_spans view list) mid last
-    → OnOk r (CountsSpans (shade_spans view list) mid last) → OnOk r (CountsWork first last (shade_work view clauses))
-shades_counted (Err e) first mid last view clauses list frames is done h spans = tt
-shades_counted (Ok x) first mid last view clauses list frames is done h spans =
-    let slopes = slopes-done mid last view clauses
-    (subst (λ l. CountsAtMost (shade_points view l) (shade_spans view l) mid last) is h)
-    (subst (λ l. CountsSpans (shade_spans view l) mid last) is spans) in
+    → OnOk r (CountsExactly (shade_points view list) (shade_spans view list) mid last)
+    → OnOk r (CountsWork first last (shade_work view clauses))
+shades_counted (Err e) first mid last view clauses list frames is done h = tt
+shades_counted (Ok x) first mid last view clauses list frames is done h =
+    let root = root_of clauses in
+    let slopes = exactly-done mid last (shade_points view root) (shade_spans view root)
+    (10 * (view.h * view.w * length clauses))
+    (subst (λ l. CountsExactly (shade_points view l) (shade_spans view l) mid last) is h) in
     with-plain first last (both (height_work view clauses) (slopes_work view clauses)) (plain_shades view (length clauses))
     (frames.sum first mid last (height_work view clauses) (slopes_work view clauses) done slopes)
 
@@ -92,7 +69,9 @@ pub shades_within : (first mid last : Counts) (view : Window) (clauses : List Cl
     → CountsAtMost (shade_points view list) (shade_spans view list) mid last
     → CountsWithin first last (shade_work view clauses)
 shades_within first mid last view clauses list frames is done h =
-    let slopes = slopes-within mid last view clauses
+    let root = root_of clauses in
+    let slopes = stopped-within mid last (shade_points view root) (shade_spans view root)
+    (10 * (view.h * view.w * length clauses))
     (subst (λ l. CountsAtMost (shade_points view l) (shade_spans view l) mid last) is h) in
     with-plain-within first last (both (height_work view clauses) (slopes_work view clauses)) (plain_shades view (length clauses))
     (frames.within_sum first mid last (height_work view clauses) (slopes_work view clauses) done slopes)

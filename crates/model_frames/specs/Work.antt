@@ -78,19 +78,13 @@ height_work view clauses =
       plain = plain_depths view (length clauses);
     }
 
--- The work of the slopes of a shaded height map: at most ten evaluations for each step of the list that the
--- last box on the way to a top sample receives, and exactly the steps traced over the boxes on the ways to
--- these; and beside it ten evaluations of each clause in each column.
+-- The work of the derivatives of a shaded height map: exactly the evaluations of the value and the derivatives,
+-- at each top sample, of the list that the last box on the way to it prunes, and the steps traced over the
+-- boxes on these ways; and beside it ten evaluations of each clause in each column.
 abbrev pub slopes_work : Window → List Clause → Work
 slopes_work view clauses =
-    let points = shade_points view (root_of clauses) in
-    let spans = shade_spans view (root_of clauses) in
-    record {
-      least = work_of 0 spans 0;
-      most = work_of points spans (4 * spans);
-      bound = work_of points spans (4 * spans);
-      plain = 10 * (view.h * view.w * length clauses);
-    }
+    exactly (shade_points view (root_of clauses)) (shade_spans view (root_of clauses))
+    (10 * (view.h * view.w * length clauses))
 
 -- the work of a shaded height map: that of the height map, and then that of the slopes
 abbrev pub shade_work : Window → List Clause → Work

@@ -1,31 +1,33 @@
--- Boxes on the way down: what one that was traced hands on, and some boxes that are shaded one by one.
-use Rattle.std.proofs.Common.{◌≡◌, ℕ, ◌+◌, ◌<◌, false, List, length, get_or, take, refl, sym, ap, subst, ◌∙◌, arith}
-use Rattle.std.specs.Prelude.{Result, Ok, Err, OnOk, OnErr, ◌||◌}
+-- Boxes on the way down: the list that one prunes that was traced, and some boxes that are shaded one by one.
+use Rattle.std.proofs.Common.{◌≡◌, ℕ, ◌+◌, ◌<◌, ◌≤◌, Bool, List, length, get_or, map, take, refl, sym, ap, subst, ◌∙◌, arith}
+use Rattle.std.specs.Prelude.{Option, None, Result, Ok, Err, OnOk, OnErr, ◌||◌}
 use Rattle.std.specs.List.{All, list_any}
 use Rattle.std.proofs.lemmas.List.{get_or-map, length-map, take_all}
 use Rattle.std.proofs.lemmas.List.Elements.{All-get_or, All-weaker}
 use Rattle.std.proofs.lemmas.List.Folds.{list_any_more}
-use Rattle.box_chains.specs.Chains.{is_split, visit}
+use Rattle.box_chains.specs.Chains.{decision, visit}
 use Rattle.box_chains.specs.Desks.{HasMore, Tracing, list_of, samples}
 use Rattle.box_chains.specs.Laws.{Lawful}
-use Rattle.box_chains.specs.Outcomes.{HandsOn, IsHandedOn, all_seen, outcome_of, outcomes_of, seen}
+use Rattle.box_chains.specs.Outcomes.{HandsOn, all_seen, asked_outcome, asked_outcomes, decision_of, decisions_of, held_box, seen, traced_decisions, traced_outcomes}
 use Rattle.box_chains.specs.Parts.{IsPart}
+use Rattle.box_chains.specs.Placing.{Sampling}
 use Rattle.box_chains.specs.declared.outcome.Outcome.{Outcome}
-use Rattle.box_chains.specs.declared.outcome.Outcome.TheVariants.{Inside, Open}
+use Rattle.box_chains.specs.declared.outcome.Outcome.TheVariants.{Inside, Outside, Open}
+use Rattle.box_chains.specs.declared.traced_box.TracedBox.{TracedBox}
 use Rattle.live_clauses.specs.Live.{IsWhole}
 use Rattle.live_clauses.specs.Steps.{IsTape}
 use Rattle.live_clauses.specs.declared.step.Step.{Step}
 use Rattle.view_places.specs.Boxes.{Indices, halves_of}
 use Rattle.view_places.specs.Window.{Window}
-use Rattle.view_places.specs.declared.lattice.Lattice.TheVariants.{Height}
 use Rattle.height_map.specs.Bound.{layered}
 use Rattle.height_map.specs.Columns.{IsAmong}
 use Rattle.height_map.specs.Desks.{IsPlaced, MayDraw, MayReceive}
+use Rattle.normal_shade.specs.Lit.{pruned}
 use Rattle.normal_shade.specs.Marks.{has_top_at, some_top_at}
-use Rattle.normal_shade.specs.Shading.{HasRoom}
+use Rattle.normal_shade.specs.Shading.{HasRoom, pruned_at}
 use Rattle.normal_shade.proofs.Lit.{Becomes, lit-none, lit-then}
-use Rattle.normal_shade.proofs.Longest.{columns-there, half-placed, list-kept, may-more, placed-may, seen-read}
-use Rattle.normal_shade.proofs.Visits.{IsUndecided, decided-is, is_open, open-is, told-by}
+use Rattle.normal_shade.proofs.Longest.{columns-there, half-placed, list-kept, may-more, placed-may}
+use Rattle.normal_shade.proofs.Visits.{decided-by, outcome_at, pruned-is, pruned-tape, told-by, undecided-whole}
 
 pub on_ok-then : {T E : Type 0} (r : Result T E) (P Q : Type 0) → (P → Q) → OnOk r P → OnOk r Q
 on_ok-then (Ok x) P Q f p = f p
@@ -42,40 +44,44 @@ on_err (Err e) P p = p
 
 -- ---- one box that was traced
 
-told-at : (desk : Tracing) (b : Indices) (received len : ℕ) (o : Outcome ℕ) → MayDraw desk b received len → seen desk.lists o ≡ outcome_of (samples desk) (list_of desk received) b
-    → seen desk.lists o ≡ outcome_of (record { view = desk.view; lattice = Height }) (list_of desk received) b
-told-at desk b received len o may told = told-by (samples desk) (list_of desk received) b (seen desk.lists o) may.lattice told
+-- what its hull decides, and what tracing tells, of the box of the map
+pub decision-at : (desk : Tracing) (b : Indices) (received len : ℕ) (t : Option Bool) → MayDraw desk b received len → t ≡ decision_of (samples desk) (list_of desk received) b
+    → t ≡ decision (layered desk.view) (visit b (list_of desk received))
+decision-at desk b received len t may told = decided-by (samples desk) (list_of desk received) b t may.lattice told
 
-pub undecided-of : (desk : Tracing) (b : Indices) (received at len : ℕ) (o : Outcome ℕ) → MayDraw desk b received len → seen desk.lists o ≡ outcome_of (samples desk) (list_of desk received) b → o ≡ Open at
-    → IsUndecided (layered desk.view) (visit b (list_of desk received)) (list_of desk at)
-undecided-of desk b received at len o may told is =
-    open-is (layered desk.view) (visit b (list_of desk received)) (list_of desk at) (sym (ap (seen desk.lists) is) ∙ told-at desk b received len o may told)
-
-pub decided-of : (desk : Tracing) (b : Indices) (received len : ℕ) (o : Outcome ℕ) → MayDraw desk b received len → seen desk.lists o ≡ outcome_of (samples desk) (list_of desk received) b
-    → is_open (seen desk.lists o) ≡ 0 → is_split (layered desk.view) (visit b (list_of desk received)) ≡ false
-decided-of desk b received len o may told other = decided-is (layered desk.view) (visit b (list_of desk received)) (seen desk.lists o) other (told-at desk b received len o may told)
-
--- the list that it hands on may be received
-pub record IsGivenOn (desk : Tracing) (b : Indices) (at len : ℕ) : Type 0 where
+-- the number of the list that it prunes
+pub record IsPruned (desk : Tracing) (b : Indices) (received at len : ℕ) : Type 0 where
   pub may : MayDraw desk b at len
-  pub whole : IsWhole (list_of desk at)
+  pub is : list_of desk at ≡ pruned (layered desk.view) (visit b (list_of desk received))
+  pub whole : decision (layered desk.view) (visit b (list_of desk received)) ≡ None → IsWhole (list_of desk at)
 
-pub given-on : (laws : Lawful) (desk : Tracing) (b : Indices) (received at len : ℕ) (o : Outcome ℕ) → MayDraw desk b received len → seen desk.lists o ≡ outcome_of (samples desk) (list_of desk received) b
-    → HandsOn (length (list_of desk received)) desk.lists o → o ≡ Open at → IsGivenOn desk b at len
-given-on laws desk b received at len o may told hands is =
-    let on : IsHandedOn (length (list_of desk received)) desk.lists at = subst (HandsOn (length (list_of desk received)) desk.lists) is hands in
-    let open' = undecided-of desk b received at len o may told is in
-    let tape : IsTape (list_of desk at) = subst IsTape (sym open'.is) (laws.visits.handed (layered desk.view) (visit b (list_of desk received)) may.visit_is).0 in
-    record {
-      may = record {
-        lattice = may.lattice;
-        visit_is = record { window = may.visit_is.window; box = may.visit_is.box; within = may.visit_is.within; tape = tape };
-        tops = may.tops;
-        among = on.among;
-        room = omega (arith, on.few, may.room);
-      };
-      whole = on.whole;
-    }
+pub pruned-of : (laws : Lawful) (desk : Tracing) (b : Indices) (received len : ℕ) (o : Outcome ℕ) → MayDraw desk b received len → seen desk.lists o ≡ asked_outcome (samples desk) (list_of desk received) (held_box b)
+    → HandsOn (length (list_of desk received)) desk.lists o → IsPruned desk b received (pruned_at received o) len
+pruned-of laws desk b received len o may told hands = record {
+  may = record {
+    lattice = may.lattice;
+    visit_is = record { window = may.visit_is.window; box = may.visit_is.box; within = may.visit_is.within; tape = subst IsTape (sym is) fits.0 };
+    tops = may.tops;
+    among = among o hands;
+    room = omega (arith, ap length is, fits.1, may.room);
+  };
+  is = is;
+  whole = undecided-whole (length (list_of desk received)) desk.lists received o (layered desk.view) (visit b (list_of desk received)) at hands;
+}
+  where
+    at : seen desk.lists o ≡ outcome_at (layered desk.view) (visit b (list_of desk received))
+    at = told-by (samples desk) (list_of desk received) b (seen desk.lists o) may.lattice told
+
+    is : list_of desk (pruned_at received o) ≡ pruned (layered desk.view) (visit b (list_of desk received))
+    is = pruned-is desk.lists received o (layered desk.view) b at
+
+    fits : IsTape (pruned (layered desk.view) (visit b (list_of desk received))) × (length (pruned (layered desk.view) (visit b (list_of desk received))) ≤ length (list_of desk received))
+    fits = pruned-tape laws (layered desk.view) (visit b (list_of desk received)) may.visit_is
+
+    among : (p : Outcome ℕ) → HandsOn (length (list_of desk received)) desk.lists p → pruned_at received p < length desk.lists
+    among (Open at) on = on.among
+    among Inside on = may.among
+    among Outside on = may.among
 
 -- ---- the halves of a box
 
@@ -94,54 +100,84 @@ pub moved : (P : Window → List Step → Type 0) (before after : Tracing) (at :
 moved P before after at more among p = subst (λ v. P v (list_of before at)) more.view (subst (λ l. P after.view l) (list-kept before after at more among) p)
 
 -- what is told of a box
-pub told-more : (before after : Tracing) (b : Indices) (at : ℕ) (o : Outcome (List Step)) → HasMore before after → at < length before.lists → o ≡ outcome_of (samples before) (list_of before at) b
-    → o ≡ outcome_of (samples after) (list_of after at) b
-told-more before after b at o more among told =
-    told
-    ∙ ap (λ v. outcome_of (record { view = v; lattice = before.lattice }) (list_of before at) b) (sym more.view)
-    ∙ ap (λ l. outcome_of (record { view = after.view; lattice = l }) (list_of before at) b) (sym more.lattice)
-    ∙ ap (λ list. outcome_of (samples after) list b) (sym (list-kept before after at more among))
+pub same-told : {A : Type 0} (tell : Sampling → List Step → A) (before after : Tracing) (at : ℕ) → HasMore before after → at < length before.lists
+    → tell (samples before) (list_of before at) ≡ tell (samples after) (list_of after at)
+same-told tell before after at more among =
+    ap (λ v. tell (record { view = v; lattice = before.lattice }) (list_of before at)) (sym more.view)
+    ∙ ap (λ l. tell (record { view = after.view; lattice = l }) (list_of before at)) (sym more.lattice)
+    ∙ ap (λ list. tell (samples after) list) (sym (list-kept before after at more among))
 
-pub room-more : (before after : Tracing) (tops pixels regs other_pixels other_regs : ℕ) → after.room ≡ before.room → other_pixels ≡ pixels → other_regs ≡ regs → HasRoom before tops pixels regs
-    → HasRoom after tops other_pixels other_regs
-room-more before after tops pixels regs other_pixels other_regs same of_pixels of_regs room =
-    record { picture = of_pixels ∙ room.picture; slopes = omega (arith, room.slopes, same, of_regs) }
+pub decision-more : (before after : Tracing) (b : Indices) (at : ℕ) (t : Option Bool) → HasMore before after → at < length before.lists → t ≡ decision_of (samples before) (list_of before at) b
+    → t ≡ decision_of (samples after) (list_of after at) b
+decision-more before after b at t more among told = told ∙ same-told (λ places list. decision_of places list b) before after at more among
+
+pub told-more : (before after : Tracing) (b : Indices) (at : ℕ) (o : Outcome (List Step)) → HasMore before after → at < length before.lists
+    → o ≡ asked_outcome (samples before) (list_of before at) (held_box b) → o ≡ asked_outcome (samples after) (list_of after at) (held_box b)
+told-more before after b at o more among told = told ∙ same-told (λ places list. asked_outcome places list (held_box b)) before after at more among
+
+pub room-more : (before after : Tracing) (tops pixels scratch other_pixels other_scratch : ℕ) → after.room ≡ before.room → other_pixels ≡ pixels → other_scratch ≡ scratch → HasRoom before tops pixels scratch
+    → HasRoom after tops other_pixels other_scratch
+room-more before after tops pixels scratch other_pixels other_scratch same of_pixels of_scratch room =
+    record { picture = of_pixels ∙ room.picture; duals = omega (arith, room.duals, same, of_scratch) }
 
 -- ---- some boxes that are shaded one by one
 
--- the next of them, with its outcome
-pub record IsNext (desk : Tracing) (b : Indices) (at len : ℕ) (o : Outcome ℕ) : Type 0 where
+-- the next of them, with what was told of it
+pub record IsNext (desk : Tracing) (b : Indices) (at len : ℕ) (traced : TracedBox) : Type 0 where
   pub may : MayDraw desk b at len
-  pub told : seen desk.lists o ≡ outcome_of (samples desk) (list_of desk at) b
-  pub hands : HandsOn (length (list_of desk at)) desk.lists o
+  pub decision : traced.decision ≡ decision_of (samples desk) (list_of desk at) b
+  pub told : seen desk.lists traced.outcome ≡ asked_outcome (samples desk) (list_of desk at) (held_box b)
+  pub hands : HandsOn (length (list_of desk at)) desk.lists traced.outcome
 
-pub next-is : (before desk : Tracing) (boxes : List Indices) (outcomes : List (Outcome ℕ)) (at len n : ℕ) (b : Indices) → HasMore before desk → All (IsPlaced before len) boxes → MayReceive before at
-    → all_seen desk.lists outcomes ≡ outcomes_of (samples before) (list_of before at) boxes → All (HandsOn (length (list_of before at)) desk.lists) outcomes → n < length boxes → b ≡ get_or boxes n b
-    → IsNext desk b at len (get_or outcomes n Inside)
-next-is before desk boxes outcomes at len n b more placed receive told hand within read = record {
+-- what was told of some boxes that receive a list
+pub record AreTold (desk : Tracing) (lists : List (List Step)) (at : ℕ) (boxes : List Indices) (traced : List TracedBox) : Type 0 where
+  pub decisions : traced_decisions traced ≡ decisions_of (samples desk) (list_of desk at) boxes
+  pub outcomes : all_seen lists (traced_outcomes traced) ≡ asked_outcomes (samples desk) (list_of desk at) (map held_box boxes)
+  pub hand : All (HandsOn (length (list_of desk at)) lists) (traced_outcomes traced)
+
+pub told-many : (desk : Tracing) (lists : List (List Step)) (at : ℕ) (boxes : List Indices) (traced : List TracedBox) → AreTold desk lists at boxes traced → length traced ≡ length boxes
+told-many desk lists at boxes traced told =
+    sym (length-map traced (λ (t : TracedBox). t.decision)) ∙ ap length told.decisions ∙ length-map boxes (decision_of (samples desk) (list_of desk at))
+
+pub next-is : (before desk : Tracing) (boxes : List Indices) (traced : List TracedBox) (at len n : ℕ) (b : Indices) (other : TracedBox) → HasMore before desk → All (IsPlaced before len) boxes → MayReceive before at
+    → AreTold before desk.lists at boxes traced → n < length boxes → b ≡ get_or boxes n b → IsNext desk b at len (get_or traced n other)
+next-is before desk boxes traced at len n b other more placed receive told within read = record {
   may = may-more before desk b at len more (placed-may before b at len here receive.tape receive.room.among receive.room.room);
+  decision = decision-more before desk b at t.decision more receive.room.among
+      (sym (get_or-map (λ (u : TracedBox). u.decision) traced n other t.decision there)
+      ∙ ap (λ ds. get_or ds n t.decision) told.decisions
+      ∙ get_or-map (decision_of (samples before) (list_of before at)) boxes n b t.decision within
+      ∙ ap (decision_of (samples before) (list_of before at)) (sym read));
   told = told-more before desk b at o more receive.room.among
-      (seen-read desk.lists outcomes n Inside there
-      ∙ ap (λ os. get_or os n o) told
-      ∙ get_or-map (outcome_of (samples before) (list_of before at)) boxes n b o within
-      ∙ ap (outcome_of (samples before) (list_of before at)) (sym read));
-  hands = subst (λ l. HandsOn (length l) desk.lists (get_or outcomes n Inside)) (sym kept) (hand n Inside there);
+      (ap (seen desk.lists) outcome
+      ∙ sym (get_or-map (seen desk.lists) (traced_outcomes traced) n t.outcome o also)
+      ∙ ap (λ os. get_or os n o) told.outcomes
+      ∙ get_or-map (asked_outcome (samples before) (list_of before at)) (map held_box boxes) n (held_box b) o (omega (arith, within, length-map boxes held_box))
+      ∙ ap (asked_outcome (samples before) (list_of before at)) (get_or-map held_box boxes n b (held_box b) within ∙ ap held_box (sym read)));
+  hands = subst (λ l. HandsOn (length l) desk.lists t.outcome) (sym kept)
+      (subst (HandsOn (length (list_of before at)) desk.lists) (sym outcome) (All-get_or (HandsOn (length (list_of before at)) desk.lists) (traced_outcomes traced) n t.outcome also told.hand));
 }
   where
+    t : TracedBox
+    t = get_or traced n other
+
     here : IsPlaced before len b
     here = subst (IsPlaced before len) (sym read) (All-get_or (IsPlaced before len) boxes n b within placed)
 
     kept : list_of desk at ≡ list_of before at
     kept = list-kept before desk at more receive.room.among
 
-    many : length outcomes ≡ length boxes
-    many = sym (length-map outcomes (seen desk.lists)) ∙ ap length told ∙ length-map boxes (outcome_of (samples before) (list_of before at))
+    there : n < length traced
+    there = omega (arith, told-many before desk.lists at boxes traced told, within)
 
-    there : n < length outcomes
-    there = omega (arith, many, within)
+    also : n < length (traced_outcomes traced)
+    also = omega (arith, there, length-map traced (λ (u : TracedBox). u.outcome))
 
     o : Outcome (List Step)
-    o = seen desk.lists (get_or outcomes n Inside)
+    o = seen desk.lists t.outcome
+
+    outcome : t.outcome ≡ get_or (traced_outcomes traced) n t.outcome
+    outcome = sym (get_or-map (λ (u : TracedBox). u.outcome) traced n other t.outcome there)
 
 -- what they light
 pub begun-lit : (w : ℕ) (tops : List ℕ) (boxes : List Indices) (g : ℕ → ℕ) (xs : List ℕ) → Becomes (some_top_at w tops (take 0 boxes)) g xs xs

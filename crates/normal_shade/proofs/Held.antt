@@ -9,7 +9,7 @@ use Rattle.std.proofs.lemmas.Nat.{div-add-mod'}
 use Rattle.live_clauses.specs.declared.step.Step.{Step}
 use Rattle.view_places.specs.Boxes.{Indices, IsBox, halves_of}
 use Rattle.view_places.specs.Window.{Window}
-use Rattle.box_chains.specs.Chains.{half_with, handed_on, visit}
+use Rattle.box_chains.specs.Chains.{half_with, visit}
 use Rattle.box_chains.specs.Laws.{Lawful}
 use Rattle.box_chains.specs.Parts.{IsPart}
 use Rattle.box_chains.specs.Sums.{LiesIn, Sample}
@@ -18,11 +18,12 @@ use Rattle.box_chains.specs.Visits.{IsVisit}
 use Rattle.height_map.specs.Bound.{layered}
 use Rattle.height_map.specs.Columns.{covers}
 use Rattle.normal_shade.specs.Laws.{SlopesAreKept}
+use Rattle.normal_shade.specs.Lit.{pruned}
 use Rattle.normal_shade.specs.Marks.{has_top_at, is_marked, is_within, shade_at, some_top_at}
 use Rattle.normal_shade.specs.Shades.{lit}
 use Rattle.normal_shade.proofs.Lit.{Becomes, lit-none, lit-numbers, lit-places}
 use Rattle.normal_shade.proofs.Sums.{some-of}
-use Rattle.normal_shade.proofs.Visits.{slopes-handed}
+use Rattle.normal_shade.proofs.Visits.{slopes-pruned}
 
 -- the top sample of the column at a place
 abbrev pub top_sample : ℕ → List ℕ → ℕ → Sample
@@ -116,18 +117,18 @@ halves-held laws w tops b p is =
             let there = held-to w tops b p (record { some = held.some; lies = laws.parts.lies 8 b h (top_sample w tops p) part held.lies }) in
             absurd (omega (arith, ap (λ t. cond {A = ℕ} t 1 0) (sym there ∙ e)))
 
--- the light on them is the same by the list that the box hands on
-pub shade-handed : (laws : Lawful) (kept : SlopesAreKept) (view : Window) (list : List Step) (b : Indices) (tops : List ℕ) (p : ℕ) → IsVisit (layered view) (visit b list)
-    → has_top_at view.w tops b p ≡ true → shade_at view (handed_on (layered view) (visit b list)) tops p ≡ shade_at view list tops p
-shade-handed laws kept view list b tops p is e =
+-- the light on them is the same by the list that the box prunes
+pub shade-pruned : (laws : Lawful) (kept : SlopesAreKept) (view : Window) (list : List Step) (b : Indices) (tops : List ℕ) (p : ℕ) → IsVisit (layered view) (visit b list)
+    → has_top_at view.w tops b p ≡ true → shade_at view (pruned (layered view) (visit b list)) tops p ≡ shade_at view list tops p
+shade-pruned laws kept view list b tops p is e =
     let held = held-from view.w tops b p e in
-    ap (λ m. cond (get_or tops p 0 == 0) 0 (lit m)) (slopes-handed laws kept view (visit b list) (top_sample view.w tops p) is held.lies)
+    ap (λ m. cond (get_or tops p 0 == 0) 0 (lit m)) (slopes-pruned laws kept view (visit b list) (top_sample view.w tops p) is held.lies)
 
-pub lit-handed : (laws : Lawful) (kept : SlopesAreKept) (view : Window) (list live : List Step) (b : Indices) (tops xs ys : List ℕ) → IsVisit (layered view) (visit b list) → live ≡ handed_on (layered view) (visit b list)
+pub lit-pruned : (laws : Lawful) (kept : SlopesAreKept) (view : Window) (list live : List Step) (b : Indices) (tops xs ys : List ℕ) → IsVisit (layered view) (visit b list) → live ≡ pruned (layered view) (visit b list)
     → Becomes (has_top_at view.w tops b) (shade_at view live tops) xs ys → Becomes (has_top_at view.w tops b) (shade_at view list tops) xs ys
-lit-handed laws kept view list live b tops xs ys is same changed =
+lit-pruned laws kept view list live b tops xs ys is same changed =
     lit-numbers (has_top_at view.w tops b) (shade_at view live tops) (shade_at view list tops) xs ys
-    (λ p e. ap (λ l. shade_at view l tops p) same ∙ shade-handed laws kept view list b tops p is e) changed
+    (λ p e. ap (λ l. shade_at view l tops p) same ∙ shade-pruned laws kept view list b tops p is e) changed
 
 -- what the halves that have tops light is what the box does
 pub lit-halves : (laws : Lawful) (w : ℕ) (tops : List ℕ) (b : Indices) (boxes : List Indices) (g : ℕ → ℕ) (xs ys : List ℕ) → IsBox b → boxes ≡ filter (has_some (is_marked w tops)) (halves_of 8 b)

@@ -1,11 +1,12 @@
 pub mod Choices
-pub mod Taken
+pub mod Reached
 pub mod Sums
 pub mod Lit
 pub mod Visits
 pub mod Held
 pub mod Work
 pub mod Rows
+pub mod TopSamples
 pub mod Longest
 pub mod Descents
 pub mod Pictures

@@ -1,13 +1,12 @@
 -- How pixels change that are lit by their places.
 use Rattle.std.proofs.Common.{◌≡◌, ℕ, ◌+◌, ◌*◌, ◌/◌, ◌%◌, ◌<◌, ◌≤◌, Bool, true, false, cond, List, length, get_or, set, refl, sym, ap, ◌∙◌, ◌⊎◌, inl, inr, arith}
 use Rattle.std.specs.Prelude.{nat_le, nat_lt, ◌==◌, ◌&&◌, ◌||◌}
-use Rattle.std.proofs.Math.Nat.{mul-le-mul_right}
 use Rattle.std.proofs.lemmas.Bool.{cases_eq, eq-eqb, ne_eqb}
 use Rattle.std.proofs.lemmas.Bool.Decides.{nat_tests}
 use Rattle.std.proofs.lemmas.List.{get_or-set_other, get_or-set_same, length-set}
-use Rattle.std.proofs.lemmas.Nat.{div-add-mod', div-mul-add, mod-mul-add}
 use Rattle.view_places.specs.Boxes.{Indices}
-use Rattle.height_map.specs.Columns.{Changes, IsAmong, covers}
+use Rattle.height_map.specs.Columns.{Changes, covers}
+use Rattle.height_map.proofs.ChangeLaws.{place-is}
 use Rattle.normal_shade.specs.Marks.{has_top_at, is_within}
 
 -- the numbers at some places become what they are to be, whatever they were
@@ -64,33 +63,13 @@ lit-set g xs i v within is = record {
     by p h (inl same) = rw (eq-eqb p i same) (ap (λ q. get_or (set xs i v) q 0) same ∙ get_or-set_same xs i v 0 within ∙ is ∙ ap g (sym same))
     by p h (inr other) = rw (ne_eqb p i other) (get_or-set_other xs i p v 0 other)
 
--- the place of a column
-place-is : (w i j p : ℕ) → i < w → (p == j * w + i) ≡ (p / w == j && p % w == i)
-place-is w i j p narrow = by (cases_eq p (j * w + i))
-  where
-    by : (p ≡ j * w + i) ⊎ (p ≡ j * w + i → ⊥) → (p == j * w + i) ≡ (p / w == j && p % w == i)
-    by (inl same) =
-        let row : p / w ≡ j = ap (λ q. q / w) same ∙ div-mul-add j w i narrow in
-        let column : p % w ≡ i = ap (λ q. q % w) same ∙ mod-mul-add j w i narrow in
-        rw (eq-eqb p (j * w + i) same, eq-eqb (p / w) j row, eq-eqb (p % w) i column) refl
-    by (inr other) = rw (ne_eqb p (j * w + i) other) (parts (cases_eq (p / w) j) (cases_eq (p % w) i))
-      where
-        and-no : (t : Bool) → false ≡ (t && false)
-        and-no true = refl
-        and-no false = refl
-
-        parts : (p / w ≡ j) ⊎ (p / w ≡ j → ⊥) → (p % w ≡ i) ⊎ (p % w ≡ i → ⊥) → false ≡ (p / w == j && p % w == i)
-        parts (inl row) (inl column) = absurd (other (sym (div-add-mod' p w) ∙ ap (λ q. q * w + p % w) row ∙ ap (λ q. j * w + q) column))
-        parts row (inr other_column) = rw (ne_eqb (p % w) i other_column) (and-no (p / w == j))
-        parts (inr other_row) column = rw (ne_eqb (p / w) j other_row) refl
-
 -- ---- one more column of a row
 
 tests-column : (x0 i j c q : ℕ) → x0 ≤ i
     → (nat_le x0 c && (nat_lt c (i + 1) && (nat_le j q && nat_lt q (j + 1)))) ≡ ((nat_le x0 c && (nat_lt c i && (nat_le j q && nat_lt q (j + 1)))) || (q == j && c == i))
 tests-column x0 i j c q above = grind (arith, nat_tests)
 
-and-or : (s t u : Bool) → ((s || t) && u) ≡ ((s && u) || (t && u))
+pub and-or : (s t u : Bool) → ((s || t) && u) ≡ ((s && u) || (t && u))
 and-or true true true = refl
 and-or true true false = refl
 and-or true false true = refl
@@ -103,7 +82,7 @@ and-or false false u = refl
 abbrev pub left_of : Indices → ℕ → ℕ → Indices
 left_of b j i = record b { x1 = i; y0 = j; y1 = j + 1 }
 
-column-more : (w i j p : ℕ) (b : Indices) (tops : List ℕ) → i < w → b.x0 ≤ i
+pub column-more : (w i j p : ℕ) (b : Indices) (tops : List ℕ) → i < w → b.x0 ≤ i
     → has_top_at w tops (left_of b j (i + 1)) p ≡ (has_top_at w tops (left_of b j i) p || (p == j * w + i && is_within b (get_or tops p 0)))
 column-more w i j p b tops narrow above =
     ap (λ t. t && is_within b (get_or tops p 0))
@@ -111,46 +90,24 @@ column-more w i j p b tops narrow above =
     ∙ and-or (covers w (left_of b j i) p) (p == j * w + i) (is_within b (get_or tops p 0))
 
 -- the test at one place
-at-place : (i p : ℕ) (f : ℕ → Bool) (t : Bool) → f i ≡ t → (p == i && f p) ≡ (p == i && t)
+pub at-place : (i p : ℕ) (f : ℕ → Bool) (t : Bool) → f i ≡ t → (p == i && f p) ≡ (p == i && t)
 at-place i p f t e = by (cases_eq p i)
   where
     by : (p ≡ i) ⊎ (p ≡ i → ⊥) → (p == i && f p) ≡ (p == i && t)
     by (inl same) = ap (λ u. p == i && u) (ap f same ∙ e)
     by (inr other) = rw (ne_eqb p i other) refl
 
-and-true : (t : Bool) → (t && true) ≡ t
+pub and-true : (t : Bool) → (t && true) ≡ t
 and-true true = refl
 and-true false = refl
 
-and-false : (t : Bool) → (t && false) ≡ false
+pub and-false : (t : Bool) → (t && false) ≡ false
 and-false true = refl
 and-false false = refl
 
-or-false : (t : Bool) → (t || false) ≡ t
+pub or-false : (t : Bool) → (t || false) ≡ t
 or-false true = refl
 or-false false = refl
-
--- a column that has its top sample in the box is lit
-pub column-lit : (w i j : ℕ) (b : Indices) (tops : List ℕ) (g : ℕ → ℕ) (xs ys : List ℕ) (at v : ℕ) → at ≡ j * w + i → i < w → b.x0 ≤ i → at < length ys → v ≡ g (j * w + i)
-    → is_within b (get_or tops (j * w + i) 0) ≡ true → Becomes (has_top_at w tops (left_of b j i)) g xs ys → Becomes (has_top_at w tops (left_of b j (i + 1))) g xs (set ys at v)
-column-lit w i j b tops g xs ys at v place narrow above there is e first =
-    lit-then (has_top_at w tops (left_of b j i)) (λ p. p == at) (has_top_at w tops (left_of b j (i + 1))) g xs ys (set ys at v)
-    (λ p.
-    column-more w i j p b tops narrow above
-    ∙ ap (λ t. has_top_at w tops (left_of b j i) p || t)
-    (at-place (j * w + i) p (λ q. is_within b (get_or tops q 0)) true e ∙ and-true (p == j * w + i) ∙ ap (λ q. p == q) (sym place)))
-    first (lit-set g ys at v there (is ∙ ap g (sym place)))
-
--- and another stays
-pub column-dark : (w i j : ℕ) (b : Indices) (tops : List ℕ) (g : ℕ → ℕ) (xs ys : List ℕ) → i < w → b.x0 ≤ i → is_within b (get_or tops (j * w + i) 0) ≡ false
-    → Becomes (has_top_at w tops (left_of b j i)) g xs ys → Becomes (has_top_at w tops (left_of b j (i + 1))) g xs ys
-column-dark w i j b tops g xs ys narrow above e first =
-    lit-places (has_top_at w tops (left_of b j i)) (has_top_at w tops (left_of b j (i + 1))) g xs ys
-    (λ p.
-    sym (column-more w i j p b tops narrow above
-    ∙ ap (λ t. has_top_at w tops (left_of b j i) p || t) (at-place (j * w + i) p (λ q. is_within b (get_or tops q 0)) false e ∙ and-false (p == j * w + i))
-    ∙ or-false (has_top_at w tops (left_of b j i) p)))
-    first
 
 -- before any column
 tests-none : (x j c q : ℕ) → (nat_le x c && (nat_lt c x && (nat_le j q && nat_lt q (j + 1)))) ≡ false
@@ -183,10 +140,3 @@ pub rows-dark : (w j : ℕ) (b : Indices) (tops : List ℕ) (g : ℕ → ℕ) (x
 rows-dark w j b tops g xs start =
     lit-none (has_top_at w tops (record b { y1 = j })) g xs
     (λ p. ap (λ t. has_top_at w tops (record b { y1 = t }) p) start ∙ ap (λ t. t && is_within b (get_or tops p 0)) (tests-rows b.x0 b.x1 b.y0 (p % w) (p / w)))
-
--- the place of a column of a box is there
-pub place-within : (w len i j : ℕ) (b : Indices) → IsAmong w len b → i < b.x1 → j < b.y1 → j * w + i < len
-place-within w len i j b among column row =
-    let rows : (j + 1) * w ≤ b.y1 * w = mul-le-mul_right w (omega (arith, row)) in
-    let once : (j + 1) * w ≡ j * w + w = grind arith in
-    omega (arith, rows, once, among.rows, among.columns, column)

@@ -2,17 +2,15 @@
 use Rattle.std.proofs.Common.{◌≡◌, ℕ, zero, suc, ◌*◌, ◌<◌, ◌≤◌, Bool, true, false, cond, List, [], ◌∷◌, length, get_or, map, take, sym, ap, subst, ◌∙◌, arith}
 use Rattle.std.specs.List.{All, filter}
 use Rattle.std.proofs.Math.Nat.{mul-le-mul_right}
-use Rattle.std.proofs.lemmas.List.{get_or-map, get_or-take}
+use Rattle.std.proofs.lemmas.List.{get_or-take}
 use Rattle.std.proofs.lemmas.List.Elements.{All-head, All-tail, All-weaker}
 use Rattle.std.proofs.lemmas.List.Sums.{count_by-le-length, length-filter}
 use Rattle.box_chains.specs.Chains.{is_long, sides, visit}
 use Rattle.box_chains.specs.Desks.{HasMore, Tracing, list_of}
 use Rattle.box_chains.specs.Laws.{Lawful}
-use Rattle.box_chains.specs.Outcomes.{all_seen, seen}
 use Rattle.box_chains.specs.Parts.{IsPart}
 use Rattle.box_chains.specs.Sums.{maximum}
 use Rattle.box_chains.specs.Visits.{IsVisit}
-use Rattle.box_chains.specs.declared.outcome.Outcome.{Outcome}
 use Rattle.live_clauses.specs.Steps.{IsTape}
 use Rattle.live_clauses.specs.declared.step.Step.{Step}
 use Rattle.view_places.specs.Boxes.{Indices, IsBox}
@@ -110,8 +108,3 @@ may-more before after b at len more may =
       among = omega (arith, may.among, lists-more before after more);
       room = omega (arith, ap length kept, may.room, more.room);
     }
-
--- what an outcome that was read stands for
-pub seen-read : (lists : List (List Step)) (outcomes : List (Outcome ℕ)) (i : ℕ) (d : Outcome ℕ) → i < length outcomes
-    → seen lists (get_or outcomes i d) ≡ get_or (all_seen lists outcomes) i (seen lists (get_or outcomes i d))
-seen-read lists outcomes i d within = sym (get_or-map (seen lists) outcomes i d (seen lists (get_or outcomes i d)) within)

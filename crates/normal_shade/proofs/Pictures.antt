@@ -14,6 +14,7 @@ use Rattle.box_chains.specs.Desks.{Tracing, list_of}
 use Rattle.box_chains.specs.Laws.{Lawful}
 use Rattle.box_chains.specs.Sums.{LiesIn, Sample, maximum}
 use Rattle.box_chains.specs.Tested.{spans_where}
+use Rattle.box_chains.specs.Visits.{sample_point}
 use Rattle.fixed_ops.specs.Counts.{Counts}
 use Rattle.live_clauses.specs.Steps.{IsTape}
 use Rattle.live_clauses.specs.declared.step.Step.{Step}
@@ -24,8 +25,9 @@ use Rattle.view_places.specs.declared.lattice.Lattice.TheVariants.{Height}
 use Rattle.height_map.specs.Bound.{layered, layers_root}
 use Rattle.height_map.specs.Desks.{MayDraw}
 use Rattle.height_map.specs.Tops.{inside, top_of, tops_of}
+use Rattle.normal_shade.specs.DualWork.{dual_points}
+use Rattle.normal_shade.specs.Lit.{lit_where, pruned}
 use Rattle.normal_shade.specs.Marks.{has_top_at, is_marked, is_within, shade_at}
-use Rattle.normal_shade.specs.Received.{received_where}
 use Rattle.normal_shade.specs.Shades.{is_top, shade_of, shade_points, shade_spans, shades_of}
 use Rattle.normal_shade.proofs.Held.{held-to}
 use Rattle.normal_shade.proofs.Lit.{Becomes}
@@ -197,18 +199,18 @@ marked-is view list tops s are lies =
     ∙ ap (λ i. top_of view list i ((s.j * view.w + s.i) / view.w)) (mod-mul-add s.j view.w s.i narrow)
     ∙ ap (λ j. top_of view list s.i j) (div-mul-add s.j view.w s.i narrow))
 
-received-same : (laws : Lawful) (test other : Sample → Bool) (d : Descent) (v : Visit) → ((s : Sample) → LiesIn v.box s → test s ≡ other s) → received_where test d v ≡ received_where other d v
-unfolding received_where
-received-same laws test other d v same =
-    laws.sums.same v.box (λ s. cond (test s) (length (chain_end d v s).list) 0) (λ s. cond (other s) (length (chain_end d v s).list) 0)
-    (λ s lies. ap (λ t. cond t (length (chain_end d v s).list) 0) (same s lies))
+lit-same : (laws : Lawful) (test other : Sample → Bool) (d : Descent) (v : Visit) → ((s : Sample) → LiesIn v.box s → test s ≡ other s) → lit_where test d v ≡ lit_where other d v
+unfolding lit_where
+lit-same laws test other d v same =
+    laws.sums.same v.box (λ s. cond (test s) (dual_points (sample_point d s) (pruned d (chain_end d v s))) 0) (λ s. cond (other s) (dual_points (sample_point d s) (pruned d (chain_end d v s))) 0)
+    (λ s lies. ap (λ t. cond t (dual_points (sample_point d s) (pruned d (chain_end d v s))) 0) (same s lies))
 
-pub map-points : (laws : Lawful) (view : Window) (list : List Step) (tops : List ℕ) → tops ≡ tops_of view list
-    → 10 * received_where (is_marked view.w tops) (layered view) (layers_root view list) ≡ shade_points view list
+map-points : (laws : Lawful) (view : Window) (list : List Step) (tops : List ℕ) → tops ≡ tops_of view list
+    → lit_where (is_marked view.w tops) (layered view) (layers_root view list) ≡ shade_points view list
 map-points laws view list tops are =
-    ap (λ n. 10 * n) (received-same laws (is_marked view.w tops) (is_top view list) (layered view) (layers_root view list) (λ s lies. marked-is view list tops s are lies))
+    lit-same laws (is_marked view.w tops) (is_top view list) (layered view) (layers_root view list) (λ s lies. marked-is view list tops s are lies)
 
-pub map-traced : (laws : Lawful) (view : Window) (list : List Step) (tops : List ℕ) → IsBox (root_box_of view Height) → tops ≡ tops_of view list
+map-traced : (laws : Lawful) (view : Window) (list : List Step) (tops : List ℕ) → IsBox (root_box_of view Height) → tops ≡ tops_of view list
     → spans_where (is_marked view.w tops) (layered view) (layers_root view list) ≡ shade_spans view list
 map-traced laws view list tops is are =
     laws.tested.spans_same (is_marked view.w tops) (is_top view list) (layered view) (layers_root view list) (omega arith) is (λ s lies. marked-is view list tops s are lies)
@@ -216,15 +218,15 @@ map-traced laws view list tops is are =
 -- so the work of the box of all samples is the map's
 abbrev pub RootWork : (ℕ → ℕ → Counts → Counts → Type 0) → Tracing → Indices → List ℕ → Counts → Counts → Type 0
 RootWork Counted desk b tops before after =
-    Counted (10 * received_where (is_marked desk.view.w tops) (layered desk.view) (visit b (list_of desk 0))) (spans_where (is_marked desk.view.w tops) (layered desk.view) (visit b (list_of desk 0))) before after
+    Counted (lit_where (is_marked desk.view.w tops) (layered desk.view) (visit b (list_of desk 0))) (spans_where (is_marked desk.view.w tops) (layered desk.view) (visit b (list_of desk 0))) before after
 
 pub map-work : (laws : Lawful) (Counted : ℕ → ℕ → Counts → Counts → Type 0) (view : Window) (list : List Step) (desk : Tracing) (b : Indices) (tops : List ℕ) (before after : Counts)
     → desk ≡ record { view = view; lattice = Height; room = length list; lists = list ∷ [] } → b ≡ root_box_of desk.view desk.lattice → IsBox (root_box_of view Height) → tops ≡ tops_of view list
     → RootWork Counted desk b tops before after → Counted (shade_points view list) (shade_spans view list) before after
 map-work laws Counted view list desk b tops before after made is box are h =
     subst (λ n. Counted n (shade_spans view list) before after) (map-points laws view list tops are)
-    (subst (λ n. Counted (10 * received_where (is_marked view.w tops) (layered view) (layers_root view list)) n before after) (map-traced laws view list tops box are)
-    (subst (λ c. Counted (10 * received_where (is_marked view.w tops) (layered view) (visit c list)) (spans_where (is_marked view.w tops) (layered view) (visit c list)) before after)
+    (subst (λ n. Counted (lit_where (is_marked view.w tops) (layered view) (layers_root view list)) n before after) (map-traced laws view list tops box are)
+    (subst (λ c. Counted (lit_where (is_marked view.w tops) (layered view) (visit c list)) (spans_where (is_marked view.w tops) (layered view) (visit c list)) before after)
     (is ∙ ap (λ (d : Tracing). root_box_of d.view d.lattice) made)
     (subst (λ (d : Tracing). RootWork Counted d b tops before after) made h)))
 

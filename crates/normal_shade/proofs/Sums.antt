@@ -1,15 +1,21 @@
 -- Sums over columns and samples, and how many samples of a box are top ones.
-use Rattle.std.proofs.Common.{◌≡◌, ℕ, zero, suc, ◌+◌, ◌-◌, ◌*◌, ◌<◌, ◌≤◌, Bool, true, false, cond, List, [], ◌∷◌, get_or, refl, sym, ap, ◌∙◌, zero-add, arith}
+use Rattle.std.proofs.Common.{◌≡◌, ℕ, zero, suc, ◌+◌, ◌-◌, ◌*◌, ◌<◌, ◌≤◌, Bool, true, false, cond, List, [], ◌∷◌, get_or, refl, sym, ap, ◌∙◌, ◌⊎◌, inl, inr, zero-add, arith}
 use Rattle.std.specs.Prelude.{nat_le, nat_lt, ◌==◌, ◌&&◌}
 use Rattle.std.specs.List.{range_with_len, sum_by}
-use Rattle.std.proofs.lemmas.Bool.{lt-ltb}
+use Rattle.std.proofs.lemmas.Bool.{cases_eq, eq-eqb, lt-ltb, ne_eqb}
 use Rattle.std.proofs.lemmas.Bool.Decides.{nat_tests}
 use Rattle.std.proofs.lemmas.List.Sums.{sum_by-cons}
 use Rattle.box_chains.specs.Laws.{Lawful}
 use Rattle.box_chains.specs.Sums.{LiesIn, Sample, sum_along, sum_in}
 use Rattle.box_chains.specs.Tested.{has_some}
+use Rattle.box_chains.specs.Visits.{sample_point}
 use Rattle.view_places.specs.Boxes.{Indices, IsBox}
-use Rattle.normal_shade.specs.Marks.{is_within, tops_along, tops_in}
+use Rattle.view_places.specs.Window.{Window}
+use Rattle.height_map.specs.Bound.{layered}
+use Rattle.live_clauses.specs.declared.step.Step.{Step}
+use Rattle.normal_shade.specs.DualWork.{dual_points}
+use Rattle.normal_shade.specs.Lit.{lit_in}
+use Rattle.normal_shade.specs.Marks.{is_marked, is_within, lit_along, tops_along, tops_in}
 
 -- sums of equal numbers
 sum-same : {X : Type 0} (f g : X → ℕ) (xs : List X) → ((x : X) → f x ≡ g x) → sum_by f xs ≡ sum_by g xs
@@ -61,34 +67,59 @@ sum-tested test n b =
     once false = omega arith
 
 -- of the samples of a column at most one is the top one: that right below the top
-one-top : (top low n : ℕ) → sum_by (λ k. cond (top == k + 1) 1 0) (range_with_len low n) ≡ cond (nat_lt low top && nat_le top (low + n)) 1 0
-one-top top low zero = grind (arith, nat_tests)
-one-top top low (suc n) =
-    sum_by-cons (λ k. cond {A = ℕ} (top == k + 1) 1 0) low (range_with_len (low + 1) n)
-    ∙ ap (λ m. cond {A = ℕ} (top == low + 1) 1 0 + m) (one-top top (low + 1) n)
-    ∙ grind (arith, nat_tests)
+one-top : (top : ℕ) (f : ℕ → ℕ) (low n : ℕ) → sum_by (λ k. cond (top == k + 1) (f k) 0) (range_with_len low n) ≡ cond (nat_lt low top && nat_le top (low + n)) (f (top - 1)) 0
+one-top top f low zero = let none : (nat_lt low top && nat_le top (low + 0)) ≡ false = grind (arith, nat_tests) in rw none refl
+one-top top f low (suc n) =
+    sum_by-cons (λ k. cond (top == k + 1) (f k) 0) low (range_with_len (low + 1) n)
+    ∙ ap (λ m. cond (top == low + 1) (f low) 0 + m) (one-top top f (low + 1) n)
+    ∙ by (cases_eq top (low + 1))
+  where
+    by : (top ≡ low + 1) ⊎ (top ≡ low + 1 → ⊥) → cond (top == low + 1) (f low) 0 + cond (nat_lt (low + 1) top && nat_le top (low + 1 + n)) (f (top - 1)) 0 ≡ cond (nat_lt low top && nat_le top (low + suc n)) (f (top - 1)) 0
+    by (inl same) =
+        let later : (nat_lt (low + 1) top && nat_le top (low + 1 + n)) ≡ false = grind (arith, nat_tests, same) in
+        let now : (nat_lt low top && nat_le top (low + suc n)) ≡ true = grind (arith, nat_tests, same) in
+        let below : low ≡ top - 1 = omega (arith, same) in
+        rw (eq-eqb top (low + 1) same, later, now) (omega (arith, ap f below))
+    by (inr other) =
+        let later : (nat_lt (low + 1) top && nat_le top (low + 1 + n)) ≡ (nat_lt low top && nat_le top (low + suc n)) = grind (arith, nat_tests, ne_eqb top (low + 1) other) in
+        rw (ne_eqb top (low + 1) other, later) (zero-add (cond (nat_lt low top && nat_le top (low + suc n)) (f (top - 1)) 0))
 
--- the top samples of a box are those of its columns, by the top of each
-pub tops-by_columns : (top : ℕ → ℕ → ℕ) (b : Indices) → IsBox b
-    → sum_in b (λ s. cond (top s.i s.j == s.k + 1) 1 0) ≡ sum_along b.y0 b.y1 (λ j. sum_along b.x0 b.x1 (λ i. cond (is_within b (top i j)) 1 0))
-tops-by_columns top b is =
+-- a sum over the top samples of a box is one over its columns, by the top of each
+pub weighed-by_columns : (top : ℕ → ℕ → ℕ) (f : Sample → ℕ) (b : Indices) → IsBox b
+    → sum_in b (λ s. cond (top s.i s.j == s.k + 1) (f s) 0) ≡ sum_along b.y0 b.y1 (λ j. sum_along b.x0 b.x1 (λ i. cond (is_within b (top i j)) (f (record { i = i; j = j; k = top i j - 1 })) 0))
+weighed-by_columns top f b is =
     sum-turned (range_with_len b.z0 (b.z1 - b.z0)) (range_with_len b.y0 (b.y1 - b.y0)) (λ k j. sum_along b.x0 b.x1 (λ i. one i j k))
-    ∙ sum-same _ (λ j. sum_along b.x0 b.x1 (λ i. cond (is_within b (top i j)) 1 0)) (range_with_len b.y0 (b.y1 - b.y0))
+    ∙ sum-same _ (λ j. sum_along b.x0 b.x1 (λ i. column i j)) (range_with_len b.y0 (b.y1 - b.y0))
     (λ j.
     sum-turned (range_with_len b.z0 (b.z1 - b.z0)) (range_with_len b.x0 (b.x1 - b.x0)) (λ k i. one i j k)
-    ∙ sum-same (λ i. sum_by (λ k. one i j k) (range_with_len b.z0 (b.z1 - b.z0))) (λ i. cond (is_within b (top i j)) 1 0) (range_with_len b.x0 (b.x1 - b.x0))
+    ∙ sum-same (λ i. sum_by (λ k. one i j k) (range_with_len b.z0 (b.z1 - b.z0))) (λ i. column i j) (range_with_len b.x0 (b.x1 - b.x0))
     (λ i.
-    one-top (top i j) b.z0 (b.z1 - b.z0)
-    ∙ ap (λ z. cond {A = ℕ} (nat_lt b.z0 (top i j) && nat_le (top i j) z) 1 0) high))
+    one-top (top i j) (λ k. f (record { i = i; j = j; k = k })) b.z0 (b.z1 - b.z0)
+    ∙ ap (λ z. cond {A = ℕ} (nat_lt b.z0 (top i j) && nat_le (top i j) z) (f (record { i = i; j = j; k = top i j - 1 })) 0) high))
   where
     one : ℕ → ℕ → ℕ → ℕ
-    one i j k = cond (top i j == k + 1) 1 0
+    one i j k = cond (top i j == k + 1) (f (record { i = i; j = j; k = k })) 0
+
+    column : ℕ → ℕ → ℕ
+    column i j = cond (is_within b (top i j)) (f (record { i = i; j = j; k = top i j - 1 })) 0
 
     high : b.z0 + (b.z1 - b.z0) ≡ b.z1
     high = omega (arith, is.z)
 
+-- and the top samples of a box are as many
+pub tops-by_columns : (top : ℕ → ℕ → ℕ) (b : Indices) → IsBox b
+    → sum_in b (λ s. cond (top s.i s.j == s.k + 1) 1 0) ≡ sum_along b.y0 b.y1 (λ j. sum_along b.x0 b.x1 (λ i. cond (is_within b (top i j)) 1 0))
+tops-by_columns top b is = weighed-by_columns top (λ s. 1) b is
+
 pub tops-by_rows : (w : ℕ) (tops : List ℕ) (b : Indices) → IsBox b → tops_in w tops b ≡ sum_along b.y0 b.y1 (λ j. tops_along w tops b j b.x0 b.x1)
 tops-by_rows w tops b is = tops-by_columns (λ i j. get_or tops (j * w + i) 0) b is
+
+-- the evaluations for the top samples of a box are those for its rows
+pub lit-by_rows : (view : Window) (list : List Step) (w : ℕ) (tops : List ℕ) (b : Indices) → w ≡ view.w → IsBox b
+    → lit_in (is_marked w tops) (layered view) b list ≡ sum_along b.y0 b.y1 (λ j. lit_along view list tops b j b.x0 b.x1)
+lit-by_rows view list w tops b width is =
+    ap (λ n. lit_in (is_marked n tops) (layered view) b list) width
+    ∙ weighed-by_columns (λ i j. get_or tops (j * view.w + i) 0) (λ s. dual_points (sample_point (layered view) s) list) b is
 
 -- a sum of one number
 along-one : (i : ℕ) (f : ℕ → ℕ) → sum_along i (i + 1) f ≡ f i

@@ -1,5 +1,9 @@
+pub mod Branches
+pub mod DualWork
+pub mod Duals
 pub mod Laws
+pub mod Lit
 pub mod Marks
-pub mod Received
 pub mod Shades
 pub mod Shading
+pub mod TopSamples

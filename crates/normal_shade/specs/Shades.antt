@@ -1,5 +1,5 @@
 -- Shaded height maps: the light on what lies nearest in each column of samples.
-use Rattle.std.specs.Prelude.{ℕ, ◌+◌, ◌-◌, ◌*◌, ◌==◌, Bool, List, map, if◌then◌else◌}
+use Rattle.std.specs.Prelude.{ℕ, ◌+◌, ◌-◌, ◌==◌, Bool, List, map, if◌then◌else◌}
 use Rattle.std.specs.List.{flat_map, range_with_len}
 use Rattle.fixed_ops.specs.Points.{Point}
 use Rattle.fixed_ops.specs.Slopes.{Sloped, light_of}
@@ -12,7 +12,7 @@ use Rattle.box_chains.specs.Sums.{Sample}
 use Rattle.box_chains.specs.Tested.{spans_where}
 use Rattle.height_map.specs.Bound.{layered, layers_root}
 use Rattle.height_map.specs.Tops.{top_of}
-use Rattle.normal_shade.specs.Received.{received_where}
+use Rattle.normal_shade.specs.Lit.{lit_where}
 
 -- a sample is the top one of its column: the top stands right above it
 abbrev pub is_top : Window → List Step → Sample → Bool
@@ -40,11 +40,11 @@ row view list j =
 abbrev pub shades_of : Window → List Step → List ℕ
 shades_of view list = flat_map (row view list) (range_with_len 0 view.h)
 
--- what a shaded height map takes: ten evaluations for each step of the list that the last box on the way
--- to a top sample receives, and the steps that are traced over the boxes on the ways to top samples
+-- what a shaded height map takes: the evaluations of the value and the derivatives of the list that the
+-- last box on the way to a top sample prunes, at each of these, and the steps that are traced over the
+-- boxes on the ways to top samples
 abbrev pub shade_points : Window → List Step → ℕ
-shade_points view list =
-    10 * received_where (is_top view list) (layered view) (layers_root view list)
+shade_points view list = lit_where (is_top view list) (layered view) (layers_root view list)
 
 abbrev pub shade_spans : Window → List Step → ℕ
 shade_spans view list = spans_where (is_top view list) (layered view) (layers_root view list)

@@ -1,9 +1,10 @@
-// A value with its slopes.
+// Dual numbers.
 
 use fixed_ops::Fx;
 use std::marker::Model;
 
-/// A value with its slopes along the three axes: how much it rises for each unit of a coordinate.
+/// A dual number: a value with its derivatives along the three axes, which say how much it rises for
+/// each unit of a coordinate.
 #[derive(Clone, Copy, Debug, PartialEq, Eq)]
 pub struct Dual {
     /// The value.

@@ -1,46 +1,54 @@
 // The light on the top samples of a box, by one list.
-ghost use Rattle.std.specs.Prelude.{◌≡◌, ◌+◌, ◌-◌, ◌*◌, ◌<◌, ◌≤◌, length};
+ghost use Rattle.std.specs.Prelude.{◌≡◌, ◌<◌, ◌≤◌, ◌+◌, ℕ, List, length, take};
+ghost use Rattle.std.specs.List.{All};
+ghost use Rattle.choice_trace.specs.Lanes.{point_in};
 ghost use Rattle.fixed_ops.specs.Counts.{RisesBy, points_of};
-ghost use Rattle.height_map.specs.Columns.{Changes, IsLeafOf};
-ghost use Rattle.normal_shade.specs.Marks.{has_top_at, shade_at, tops_along, tops_in};
-ghost use Rattle.normal_shade.specs.Shades.{light_at};
+ghost use Rattle.height_map.specs.Bound.{layered};
+ghost use Rattle.height_map.specs.Columns.{Changes, IsAmong, IsLeafOf};
+ghost use Rattle.normal_shade.specs.Lit.{lit_in};
+ghost use Rattle.normal_shade.specs.Marks.{has_top_at, is_marked, lit_along, shade_at};
+ghost use Rattle.normal_shade.specs.TopSamples.{HasTop, IsSample, lit_samples, nth, point_at, samples_along, stand_at};
 ghost use Rattle.view_places.specs.Boxes.{Indices};
-ghost use Rattle.view_places.specs.Places.{point_of};
 
+use crate::gradients::gradient_lanes;
+use crate::scratch::Scratch;
+use crate::top_sample::TopSample;
 use crate::tops::is_within;
-use crate::{Dual, list_gradient};
+use arrayvec::ArrayVec;
 use box_chains::{Places, layers_hold};
-use fixed_ops::{Tally, light, tallies_add_up};
+use choice_trace::Inputs;
+use fixed_ops::{Fx, Tally, light, tallies_add_up};
 use live_clauses::Steps;
 use view_places::{IndexBox, Lattice};
 
-/// Gives each column that has its top sample in a box the light there, by the slopes of a list. Ten
-/// evaluations are counted for each of its steps and each of these samples.
+/// Gives each column that has its top sample in a box the light there, by the derivatives of a list.
+/// The evaluations of their dual numbers are counted.
 pub fn light_tops(
     places: &Places,
     w: u32,
     b: IndexBox,
     list: &Steps<'_>,
     tops: &[u16],
-    regs: &mut [Dual],
+    scratch: &mut Scratch,
     pixels: &mut [u8],
     tally: &mut Tally,
 )
     requires leaf { IsLeafOf places.now w b (length tops.now) }
     requires pixels { length pixels.old ≡ length tops.now }
-    requires room { length list.now ≤ length regs.old }
+    requires room { length list.now ≤ scratch.old }
     ensures pixels { Changes (has_top_at w tops.now b)
         (λ p old. shade_at places.now.view list.now tops.now p) pixels.old pixels.new }
+    ensures room { scratch.new ≡ scratch.old }
     ensures counted { RisesBy tally.old tally.new
-        (points_of (10 * (tops_in w tops.now b * length list.now))) }
+        (points_of (lit_in (is_marked w tops.now) (layered places.now.view) b list.now)) }
 {
     layers_hold();
     for j in b.y0..b.y1 {
-        light_row(places, w, b, j, list, tops, regs, pixels, tally);
+        light_row(places, w, b, j, list, tops, scratch, pixels, tally);
     }
 }
 
-// The same in row j of a box.
+// Lights the top samples of a box in row j, those of eight columns at a time.
 fn light_row(
     places: &Places,
     w: u32,
@@ -48,7 +56,7 @@ fn light_row(
     j: u32,
     list: &Steps<'_>,
     tops: &[u16],
-    regs: &mut [Dual],
+    scratch: &mut Scratch,
     pixels: &mut [u8],
     tally: &mut Tally,
 )
@@ -56,46 +64,163 @@ fn light_row(
     requires low { b.y0 ≤ j }
     requires row { j < b.y1 }
     requires pixels { length pixels.old ≡ length tops.now }
-    requires room { length list.now ≤ length regs.old }
+    requires room { length list.now ≤ scratch.old }
     ensures pixels { Changes (has_top_at w tops.now (record b { y0 = j; y1 = j + 1 }))
         (λ p old. shade_at places.now.view list.now tops.now p) pixels.old pixels.new }
+    ensures room { scratch.new ≡ scratch.old }
     ensures counted { RisesBy tally.old tally.new
-        (points_of (10 * (tops_along w tops.now b j b.x0 b.x1 * length list.now))) }
+        (points_of (lit_along places.now.view list.now tops.now b j b.x0 b.x1)) }
 {
     layers_hold();
-    let start = j as usize * w as usize;
-    for i in b.x0..b.x1 {
-        let at = start + i as usize;
-        if is_within(b, tops[at]) {
-            pixels[at] = light_of_sample(places, i, j, tops[at], list, regs, tally);
-        }
+    let mut from = b.x0;
+    while from < b.x1 {
+        let end = b.x1.min(from + 8);
+        let samples = top_samples(w, b, j, from, end, tops);
+        light_samples(places, samples.as_slice(), list, scratch, pixels, tally);
+        from = end;
     }
 }
 
-// The light on the top sample of the column at i in row j, which has this top.
-#[inline]
-fn light_of_sample(
-    places: &Places,
-    i: u32,
+// The top samples in a box of the columns from `from` on, before `end`, of row j, at most eight of them.
+fn top_samples(
+    w: u32,
+    b: IndexBox,
     j: u32,
-    top: u16,
-    list: &Steps<'_>,
-    regs: &mut [Dual],
-    tally: &mut Tally,
-) -> u8
-    requires lattice { places.now.lattice ≡ Lattice.Height }
-    requires column { i < places.now.view.w }
-    requires row { j < places.now.view.h }
-    requires some { 0 < top }
-    requires high { top ≤ places.now.view.d }
-    requires room { length list.now ≤ length regs.old }
-    ensures light { result
-        ≡ light_at (point_of places.now.view Lattice.Height i j (top - 1)) list.now }
-    ensures counted { RisesBy tally.old tally.new (points_of (10 * length list.now)) }
+    from: u32,
+    end: u32,
+    tops: &[u16],
+) -> ArrayVec<TopSample, 8>
+    requires among { IsAmong w (length tops.now) b }
+    requires row { j < b.y1 }
+    requires within { end ≤ b.x1 }
+    requires few { end ≤ from + 8 }
+    ensures { result.items ≡ samples_along w tops.now b j from end }
 {
-    let x = places.x(i);
-    let y = places.y(j);
-    let z = places.z(u32::from(top) - 1);
-    let slopes = list_gradient(list, x, y, z, regs, tally);
-    light(slopes.dx, slopes.dy, slopes.dz)
+    let start = j as usize * w as usize;
+    let mut samples = ArrayVec::new();
+    for i in from..end {
+        let place = start + i as usize;
+        let top = tops[place];
+        if is_within(b, top) {
+            let k = u32::from(top) - 1;
+            samples.push(TopSample { i, j, k, place });
+        }
+    }
+    samples
+}
+
+// Lights some top samples: eight side by side, four, two, or one at a time.
+fn light_samples(
+    places: &Places,
+    samples: &[TopSample],
+    list: &Steps<'_>,
+    scratch: &mut Scratch,
+    pixels: &mut [u8],
+    tally: &mut Tally,
+)
+    requires lattice { places.now.lattice ≡ Lattice.Height }
+    requires samples { All (IsSample places.now.view (length pixels.old)) samples.now }
+    requires room { length list.now ≤ scratch.old }
+    ensures pixels { (tops : List ℕ) → All (HasTop tops) samples.now
+        → Changes (stand_at samples.now) (λ p old. shade_at places.now.view list.now tops p)
+        pixels.old pixels.new }
+    ensures room { scratch.new ≡ scratch.old }
+    ensures counted { RisesBy tally.old tally.new
+        (points_of (lit_samples places.now.view list.now samples.now)) }
+{
+    tallies_add_up();
+    let mut at = 0;
+    while at < samples.len() {
+        at += light_some(places, &samples[at..], list, scratch, pixels, tally);
+    }
+}
+
+// Lights the first of some top samples. Gives how many.
+#[inline]
+fn light_some(
+    places: &Places,
+    samples: &[TopSample],
+    list: &Steps<'_>,
+    scratch: &mut Scratch,
+    pixels: &mut [u8],
+    tally: &mut Tally,
+) -> usize
+    requires lattice { places.now.lattice ≡ Lattice.Height }
+    requires some { 0 < length samples.now }
+    requires samples { All (IsSample places.now.view (length pixels.old)) samples.now }
+    requires room { length list.now ≤ scratch.old }
+    ensures some { 0 < result }
+    ensures few { result ≤ length samples.now }
+    ensures pixels { (tops : List ℕ) → All (HasTop tops) (take result samples.now)
+        → Changes (stand_at (take result samples.now))
+        (λ p old. shade_at places.now.view list.now tops p) pixels.old pixels.new }
+    ensures room { scratch.new ≡ scratch.old }
+    ensures counted { RisesBy tally.old tally.new
+        (points_of (lit_samples places.now.view list.now (take result samples.now))) }
+{
+    if samples.len() >= 8 {
+        light_together::<8>(places, &samples[..8], list, scratch, pixels, tally);
+        8
+    } else if samples.len() >= 4 {
+        light_together::<4>(places, &samples[..4], list, scratch, pixels, tally);
+        4
+    } else if samples.len() >= 2 {
+        light_together::<2>(places, &samples[..2], list, scratch, pixels, tally);
+        2
+    } else {
+        light_together::<1>(places, &samples[..1], list, scratch, pixels, tally);
+        1
+    }
+}
+
+// Lights L top samples side by side.
+fn light_together<const L: usize>(
+    places: &Places,
+    samples: &[TopSample],
+    list: &Steps<'_>,
+    scratch: &mut Scratch,
+    pixels: &mut [u8],
+    tally: &mut Tally,
+)
+    requires lanes { L ≤ 8 }
+    requires many { length samples.now ≡ L }
+    requires lattice { places.now.lattice ≡ Lattice.Height }
+    requires samples { All (IsSample places.now.view (length pixels.old)) samples.now }
+    requires room { length list.now ≤ scratch.old }
+    ensures pixels { (tops : List ℕ) → All (HasTop tops) samples.now
+        → Changes (stand_at samples.now) (λ p old. shade_at places.now.view list.now tops p)
+        pixels.old pixels.new }
+    ensures room { scratch.new ≡ scratch.old }
+    ensures counted { RisesBy tally.old tally.new
+        (points_of (lit_samples places.now.view list.now samples.now)) }
+{
+    let inputs = gather::<L>(places, samples);
+    let duals = gradient_lanes::<L>(list, &inputs, scratch, tally);
+    for lane in 0..L {
+        let dual = duals[lane];
+        pixels[samples[lane].place] = light(dual.dx, dual.dy, dual.dz);
+    }
+}
+
+// The points of L top samples, each in its lane.
+#[inline]
+fn gather<const L: usize>(places: &Places, samples: &[TopSample]) -> Inputs<[Fx; 8]>
+    requires lanes { L ≤ 8 }
+    requires many { length samples.now ≡ L }
+    requires lattice { places.now.lattice ≡ Lattice.Height }
+    requires columns { (n : ℕ) → n < L → (nth samples.now n).i < places.now.view.w }
+    requires rows { (n : ℕ) → n < L → (nth samples.now n).j < places.now.view.h }
+    requires layers { (n : ℕ) → n < L → (nth samples.now n).k < places.now.view.d }
+    ensures { (lane : ℕ) → lane < L → point_in lane result
+        ≡ point_at places.now.view (nth samples.now lane) }
+{
+    let zeros = [Fx::from_raw(0); 8];
+    let (mut x, mut y, mut z) = (zeros, zeros, zeros);
+    for lane in 0..L {
+        let sample = samples[lane];
+        x[lane] = places.x(sample.i);
+        y[lane] = places.y(sample.j);
+        z[lane] = places.z(sample.k);
+    }
+    Inputs { x, y, z }
 }

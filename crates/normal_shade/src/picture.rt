@@ -1,14 +1,12 @@
 // The picture of a height map that is shaded.
 ghost use Rattle.std.specs.Prelude.{◌≡◌, IfOk, OnOk};
 ghost use Rattle.view_places.specs.Window.{FitsHeight};
-ghost use Rattle.box_chains.specs.Tallied.{CountsAtMost};
-ghost use Rattle.height_map.specs.Bound.{CountsSpans};
+ghost use Rattle.box_chains.specs.Tallied.{CountsAtMost, CountsExactly};
 ghost use Rattle.height_map.specs.Tops.{tops_of};
 ghost use Rattle.normal_shade.specs.Shades.{shade_points, shade_spans, shades_of};
 
-use crate::Dual;
+use crate::scratch::Scratch;
 use crate::shading::shade_box;
-use crate::slopes::none;
 use box_chains::{Desk, layers_hold};
 use fixed_ops::Tally;
 use live_clauses::Tape;
@@ -19,8 +17,8 @@ use view_places::{Lattice, View};
 /// and each row from the left on: 0 where no sample of the column is inside, and otherwise the share of
 /// the slope along z at the nearest one that is, from 1 to 255. The slopes are those of the whole list.
 /// `tops` are the tops of the height map. Each step that is traced over a box is counted, at most four
-/// corners with it, and at most ten evaluations for each step of the list that the last box on the way
-/// to a top sample receives. The traced steps are those of the boxes on the ways to the top samples.
+/// corners with it, and exactly the evaluations of the dual numbers at the top samples, each by the list
+/// that the last box on the way to it prunes. The traced steps are those of the boxes on these ways.
 /// AllocError: there is no memory for the picture, and no more work was done than it takes.
 pub fn shade(
     alloc: Global,
@@ -32,24 +30,19 @@ pub fn shade(
     requires fits { FitsHeight view.now }
     requires tops { tops.now ≡ tops_of view.now tape.now }
     ensures pixels { IfOk result (λ pixels. pixels.items ≡ shades_of view.now tape.now) }
+    ensures counted { OnOk result (CountsExactly (shade_points view.now tape.now)
+        (shade_spans view.now tape.now) tally.old tally.new) }
     ensures at_most { CountsAtMost (shade_points view.now tape.now)
         (shade_spans view.now tape.now) tally.old tally.new }
-    ensures hulls { OnOk result (CountsSpans (shade_spans view.now tape.now) tally.old tally.new) }
 {
     layers_hold();
     // A list can be evaluated.
     let len = tape.len();
     let mut desk = Desk::new(alloc, view, Lattice::Height, tape)?;
     let root = desk.root();
-    let flat = Dual {
-        value: none(),
-        dx: none(),
-        dy: none(),
-        dz: none(),
-    };
-    let mut regs = vec![in alloc; flat; len as usize]?;
+    let mut scratch = Scratch::new(alloc, len)?;
     let mut pixels = vec![in alloc; 0u8; view.w as usize * view.h as usize]?;
     // The list that the desk was made with has the number 0.
-    shade_box(&mut desk, root, 0, tops, &mut regs, &mut pixels, tally)?;
+    shade_box(&mut desk, root, 0, tops, &mut scratch, &mut pixels, tally)?;
     Ok(pixels)
 }

@@ -1,25 +1,26 @@
 // Boxes that are shaded.
-ghost use Rattle.std.specs.Prelude.{◌≡◌, ◌*◌, ◌≤◌, length, OnErr, OnOk, IsTrue};
+ghost use Rattle.std.specs.Prelude.{◌≡◌, ◌≤◌, ◌&&◌, is_none, length, OnErr, OnOk, IsTrue};
 ghost use Rattle.std.specs.List.{All};
 ghost use Rattle.box_chains.specs.Chains.{is_long as is_long_for, visit};
 ghost use Rattle.box_chains.specs.Desks.{HasMore, list_of, samples};
-ghost use Rattle.box_chains.specs.Outcomes.{HandsOn, outcome_of, seen};
-ghost use Rattle.box_chains.specs.Tallied.{CountsAtMost};
-ghost use Rattle.box_chains.specs.Tested.{halves_spans_where, has_some, open_spans_where, spans_where};
+ghost use Rattle.box_chains.specs.Outcomes.{HandsOn, asked_outcome, decision_of, held_box, seen};
+ghost use Rattle.box_chains.specs.Tallied.{CountsAtMost, CountsExactly};
+ghost use Rattle.box_chains.specs.Tested.{halves_spans_where, has_some, spans_where};
 ghost use Rattle.fixed_ops.specs.Counts.{RisesBy, points_of};
 ghost use Rattle.height_map.specs.Bound.{layered};
 ghost use Rattle.height_map.specs.Columns.{Changes};
 ghost use Rattle.height_map.specs.Desks.{IsPlaced, MayDraw, MayReceive};
 ghost use Rattle.live_clauses.specs.Live.{IsWhole};
-ghost use Rattle.normal_shade.specs.Marks.{has_top_at, is_marked, shade_at, some_top_at, tops_in};
-ghost use Rattle.normal_shade.specs.Received.{received_where};
-ghost use Rattle.normal_shade.specs.Shading.{CountsShade, HasRoom, boxes_points, open_points, spans_below};
+ghost use Rattle.normal_shade.specs.Lit.{lit_in, lit_where};
+ghost use Rattle.normal_shade.specs.Marks.{has_top_at, is_marked, shade_at, some_top_at};
+ghost use Rattle.normal_shade.specs.Shading.{HasRoom, boxes_points, pruned_at, spans_below};
 ghost use Rattle.view_places.specs.Boxes.{halves_of};
 
 use crate::lighting::light_tops;
+use crate::live_lists_keep_slopes;
+use crate::scratch::Scratch;
 use crate::tops::{boxes_with_tops, has_top};
-use crate::{Dual, live_lists_keep_slopes};
-use box_chains::{Desk, LEAF, Outcome, is_long, layers_hold};
+use box_chains::{Desk, LEAF, Outcome, TracedBox, is_long, layers_hold};
 use fixed_ops::Tally;
 use std::alloc::AllocError;
 use view_places::{IndexBox, split};
@@ -31,23 +32,23 @@ pub fn shade_box(
     b: IndexBox,
     received: usize,
     tops: &[u16],
-    regs: &mut [Dual],
+    scratch: &mut Scratch,
     pixels: &mut [u8],
     tally: &mut Tally,
 ) -> Result<(), AllocError>
     requires may { MayDraw desk.old b received (length tops.now) }
-    requires room { HasRoom desk.old (length tops.now) (length pixels.old) (length regs.old) }
+    requires room { HasRoom desk.old (length tops.now) (length pixels.old) scratch.old }
     ensures pixels { OnOk result (Changes (has_top_at desk.old.view.w tops.now b)
         (λ p old. shade_at desk.old.view (list_of desk.old received) tops.now p)
         pixels.old pixels.new) }
-    ensures counted { OnOk result (CountsShade
-        (10 * received_where (is_marked desk.old.view.w tops.now) (layered desk.old.view)
+    ensures counted { OnOk result (CountsExactly
+        (lit_where (is_marked desk.old.view.w tops.now) (layered desk.old.view)
         (visit b (list_of desk.old received)))
         (spans_where (is_marked desk.old.view.w tops.now) (layered desk.old.view)
         (visit b (list_of desk.old received)))
         tally.old tally.new) }
     ensures at_most { OnErr result (CountsAtMost
-        (10 * received_where (is_marked desk.old.view.w tops.now) (layered desk.old.view)
+        (lit_where (is_marked desk.old.view.w tops.now) (layered desk.old.view)
         (visit b (list_of desk.old received)))
         (spans_where (is_marked desk.old.view.w tops.now) (layered desk.old.view)
         (visit b (list_of desk.old received)))
@@ -57,8 +58,28 @@ pub fn shade_box(
     if !has_top(desk.w(), b, tops) {
         return Ok(());
     }
-    let outcome = desk.trace_box(received, b, tally)?;
-    shade_outcome(desk, b, received, &outcome, tops, regs, pixels, tally)
+    let traced = desk.trace_held_box(received, b, tally)?;
+    shade_traced(desk, b, received, &traced, tops, scratch, pixels, tally)
+}
+
+// The number of the list that a box prunes. A box that is outside prunes none: that of the list that it
+// received, which lights nothing, as no top sample lies there.
+#[inline]
+fn pruned_list(outcome: Outcome<usize>, received: usize) -> usize
+    ensures { result ≡ pruned_at received outcome }
+{
+    match outcome {
+        Outcome::Open(pruned) => pruned,
+        Outcome::Inside | Outcome::Outside => received,
+    }
+}
+
+// Whether a box that was traced is split: it is undecided, and no leaf.
+#[inline]
+fn is_split(traced: &TracedBox, b: IndexBox) -> bool
+    ensures { result ≡ (is_none traced.now.decision && is_long_for 8 b) }
+{
+    traced.decision.is_none() && is_long(b, LEAF)
 }
 
 // Gives each column that has its top sample in a box the light there, by the list of a number.
@@ -68,51 +89,58 @@ fn light_box(
     b: IndexBox,
     at: usize,
     tops: &[u16],
-    regs: &mut [Dual],
+    scratch: &mut Scratch,
     pixels: &mut [u8],
     tally: &mut Tally,
 )
     requires may { MayDraw desk.now b at (length tops.now) }
-    requires room { HasRoom desk.now (length tops.now) (length pixels.old) (length regs.old) }
+    requires room { HasRoom desk.now (length tops.now) (length pixels.old) scratch.old }
     ensures pixels { Changes (has_top_at desk.now.view.w tops.now b)
         (λ p old. shade_at desk.now.view (list_of desk.now at) tops.now p)
         pixels.old pixels.new }
+    ensures room { scratch.new ≡ scratch.old }
     ensures counted { RisesBy tally.old tally.new (points_of
-        (10 * (tops_in desk.now.view.w tops.now b * length (list_of desk.now at)))) }
+        (lit_in (is_marked desk.now.view.w tops.now) (layered desk.now.view) b
+        (list_of desk.now at))) }
 {
     let w = desk.places.w();
     let list = desk.lists.list(at);
-    light_tops(&desk.places, w, b, &list, tops, regs, pixels, tally);
+    light_tops(&desk.places, w, b, &list, tops, scratch, pixels, tally);
 }
 
-// Shades a box that was traced: a decided one by the list that it received.
+// Shades a box that was traced, by the list that it prunes: a decided box and a leaf at once, and another
+// one child by child.
 #[cycle(shading)]
-fn shade_outcome(
+fn shade_traced(
     desk: &mut Desk,
     b: IndexBox,
     received: usize,
-    outcome: &Outcome<usize>,
+    traced: &TracedBox,
     tops: &[u16],
-    regs: &mut [Dual],
+    scratch: &mut Scratch,
     pixels: &mut [u8],
     tally: &mut Tally,
 ) -> Result<(), AllocError>
     requires may { MayDraw desk.old b received (length tops.now) }
-    requires room { HasRoom desk.old (length tops.now) (length pixels.old) (length regs.old) }
-    requires told { seen desk.old.lists outcome.now
-        ≡ outcome_of (samples desk.old) (list_of desk.old received) b }
-    requires hands { HandsOn (length (list_of desk.old received)) desk.old.lists outcome.now }
+    requires room { HasRoom desk.old (length tops.now) (length pixels.old) scratch.old }
+    requires decision { traced.now.decision
+        ≡ decision_of (samples desk.old) (list_of desk.old received) b }
+    requires told { seen desk.old.lists traced.now.outcome
+        ≡ asked_outcome (samples desk.old) (list_of desk.old received) (held_box b) }
+    requires hands { HandsOn (length (list_of desk.old received)) desk.old.lists
+        traced.now.outcome }
     ensures pixels { OnOk result (Changes (has_top_at desk.old.view.w tops.now b)
         (λ p old. shade_at desk.old.view (list_of desk.old received) tops.now p)
         pixels.old pixels.new) }
-    ensures counted { OnOk result (CountsShade
-        (10 * received_where (is_marked desk.old.view.w tops.now) (layered desk.old.view)
+    ensures room { scratch.new ≡ scratch.old }
+    ensures counted { OnOk result (CountsExactly
+        (lit_where (is_marked desk.old.view.w tops.now) (layered desk.old.view)
         (visit b (list_of desk.old received)))
         (spans_below (is_marked desk.old.view.w tops.now) (layered desk.old.view)
         (visit b (list_of desk.old received)))
         tally.old tally.new) }
     ensures at_most { OnErr result (CountsAtMost
-        (10 * received_where (is_marked desk.old.view.w tops.now) (layered desk.old.view)
+        (lit_where (is_marked desk.old.view.w tops.now) (layered desk.old.view)
         (visit b (list_of desk.old received)))
         (spans_below (is_marked desk.old.view.w tops.now) (layered desk.old.view)
         (visit b (list_of desk.old received)))
@@ -121,149 +149,100 @@ fn shade_outcome(
 {
     layers_hold();
     live_lists_keep_slopes();
-    match outcome {
-        Outcome::Inside => {
-            light_box(desk, b, received, tops, regs, pixels, tally);
-            Ok(())
-        }
-        Outcome::Outside => {
-            light_box(desk, b, received, tops, regs, pixels, tally);
-            Ok(())
-        }
-        Outcome::Open(live) => shade_undecided(desk, b, *live, tops, regs, pixels, tally),
-    }
-}
-
-// Shades an undecided box, which hands on a list: a leaf by that list.
-#[cycle(shading)]
-fn shade_undecided(
-    desk: &mut Desk,
-    b: IndexBox,
-    live: usize,
-    tops: &[u16],
-    regs: &mut [Dual],
-    pixels: &mut [u8],
-    tally: &mut Tally,
-) -> Result<(), AllocError>
-    requires may { MayDraw desk.old b live (length tops.now) }
-    requires whole { IsWhole (list_of desk.old live) }
-    requires room { HasRoom desk.old (length tops.now) (length pixels.old) (length regs.old) }
-    ensures pixels { OnOk result (Changes (has_top_at desk.old.view.w tops.now b)
-        (λ p old. shade_at desk.old.view (list_of desk.old live) tops.now p)
-        pixels.old pixels.new) }
-    ensures counted { OnOk result (CountsShade
-        (open_points (is_marked desk.old.view.w tops.now) (layered desk.old.view) b
-        (list_of desk.old live))
-        (open_spans_where (is_marked desk.old.view.w tops.now) (layered desk.old.view) b
-        (list_of desk.old live))
-        tally.old tally.new) }
-    ensures at_most { OnErr result (CountsAtMost
-        (open_points (is_marked desk.old.view.w tops.now) (layered desk.old.view) b
-        (list_of desk.old live))
-        (open_spans_where (is_marked desk.old.view.w tops.now) (layered desk.old.view) b
-        (list_of desk.old live))
-        tally.old tally.new) }
-    ensures kept { desk.new ≡ desk.old }
-{
-    layers_hold();
-    if is_long(b, LEAF) {
-        shade_halves(desk, b, live, tops, regs, pixels, tally)
+    let pruned = pruned_list(traced.outcome, received);
+    if is_split(traced, b) {
+        shade_children(desk, b, pruned, tops, scratch, pixels, tally)
     } else {
-        light_box(desk, b, live, tops, regs, pixels, tally);
+        light_box(desk, b, pruned, tops, scratch, pixels, tally);
         Ok(())
     }
 }
 
-// Shades the halves of a box that is split. Those in which some column has its top sample are traced
-// together, and the lists that they hand on are given up then.
+// Shades the children of a box that is split. Those in which some column has its top sample are traced
+// together, and the lists that they prune are given up then.
 #[cycle(shading)]
-fn shade_halves(
+fn shade_children(
     desk: &mut Desk,
     b: IndexBox,
-    live: usize,
+    pruned: usize,
     tops: &[u16],
-    regs: &mut [Dual],
+    scratch: &mut Scratch,
     pixels: &mut [u8],
     tally: &mut Tally,
 ) -> Result<(), AllocError>
-    requires may { MayDraw desk.old b live (length tops.now) }
-    requires whole { IsWhole (list_of desk.old live) }
-    requires room { HasRoom desk.old (length tops.now) (length pixels.old) (length regs.old) }
+    requires may { MayDraw desk.old b pruned (length tops.now) }
+    requires whole { IsWhole (list_of desk.old pruned) }
+    requires room { HasRoom desk.old (length tops.now) (length pixels.old) scratch.old }
     requires long { IsTrue (is_long_for 8 b) }
     ensures pixels { OnOk result (Changes (has_top_at desk.old.view.w tops.now b)
-        (λ p old. shade_at desk.old.view (list_of desk.old live) tops.now p)
+        (λ p old. shade_at desk.old.view (list_of desk.old pruned) tops.now p)
         pixels.old pixels.new) }
-    ensures counted { OnOk result (CountsShade
+    ensures room { scratch.new ≡ scratch.old }
+    ensures counted { OnOk result (CountsExactly
         (boxes_points (is_marked desk.old.view.w tops.now) (layered desk.old.view)
-        (list_of desk.old live) (halves_of 8 b))
+        (list_of desk.old pruned) (halves_of 8 b))
         (halves_spans_where (is_marked desk.old.view.w tops.now) (layered desk.old.view)
-        (list_of desk.old live) (halves_of 8 b))
+        (list_of desk.old pruned) (halves_of 8 b))
         tally.old tally.new) }
     ensures at_most { OnErr result (CountsAtMost
         (boxes_points (is_marked desk.old.view.w tops.now) (layered desk.old.view)
-        (list_of desk.old live) (halves_of 8 b))
+        (list_of desk.old pruned) (halves_of 8 b))
         (halves_spans_where (is_marked desk.old.view.w tops.now) (layered desk.old.view)
-        (list_of desk.old live) (halves_of 8 b))
+        (list_of desk.old pruned) (halves_of 8 b))
         tally.old tally.new) }
     ensures kept { desk.new ≡ desk.old }
 {
     layers_hold();
-    let halves = split(b, LEAF);
-    let halves = halves.as_slice();
-    let boxes = boxes_with_tops(desk.w(), halves, tops);
+    let children = split(b, LEAF);
+    let children = children.as_slice();
+    let boxes = boxes_with_tops(desk.w(), children, tops);
     let count = desk.lists.len();
-    let shaded = shade_boxes(desk, boxes.as_slice(), live, tops, regs, pixels, tally);
+    let shaded = shade_boxes(desk, boxes.as_slice(), pruned, tops, scratch, pixels, tally);
     desk.cut(count);
     shaded
 }
 
 // Shades boxes in each of which some column has its top sample: all of them are traced, and then
-// shaded one by one. The lists that they hand on stay behind the others.
+// shaded one by one. The lists that they prune stay behind the others.
 #[cycle(shading)]
 fn shade_boxes(
     desk: &mut Desk,
     boxes: &[IndexBox],
-    live: usize,
+    received: usize,
     tops: &[u16],
-    regs: &mut [Dual],
+    scratch: &mut Scratch,
     pixels: &mut [u8],
     tally: &mut Tally,
 ) -> Result<(), AllocError>
     requires placed { All (IsPlaced desk.old (length tops.now)) boxes.now }
-    requires receive { MayReceive desk.old live }
-    requires room { HasRoom desk.old (length tops.now) (length pixels.old) (length regs.old) }
+    requires receive { MayReceive desk.old received }
+    requires room { HasRoom desk.old (length tops.now) (length pixels.old) scratch.old }
     requires few { length boxes.now ≤ 8 }
     requires some { All (λ b. IsTrue (has_some (is_marked desk.old.view.w tops.now) b)) boxes.now }
     ensures pixels { OnOk result (Changes (some_top_at desk.old.view.w tops.now boxes.now)
-        (λ p old. shade_at desk.old.view (list_of desk.old live) tops.now p)
+        (λ p old. shade_at desk.old.view (list_of desk.old received) tops.now p)
         pixels.old pixels.new) }
-    ensures counted { OnOk result (CountsShade
+    ensures room { scratch.new ≡ scratch.old }
+    ensures counted { OnOk result (CountsExactly
         (boxes_points (is_marked desk.old.view.w tops.now) (layered desk.old.view)
-        (list_of desk.old live) boxes.now)
+        (list_of desk.old received) boxes.now)
         (halves_spans_where (is_marked desk.old.view.w tops.now) (layered desk.old.view)
-        (list_of desk.old live) boxes.now)
+        (list_of desk.old received) boxes.now)
         tally.old tally.new) }
     ensures at_most { OnErr result (CountsAtMost
         (boxes_points (is_marked desk.old.view.w tops.now) (layered desk.old.view)
-        (list_of desk.old live) boxes.now)
+        (list_of desk.old received) boxes.now)
         (halves_spans_where (is_marked desk.old.view.w tops.now) (layered desk.old.view)
-        (list_of desk.old live) boxes.now)
+        (list_of desk.old received) boxes.now)
         tally.old tally.new) }
     ensures more { HasMore desk.old desk.new }
 {
     layers_hold();
-    let outcomes = desk.trace_boxes(live, boxes, tally)?;
-    let outcomes = outcomes.as_slice();
+    let traced = desk.trace_held_boxes(received, boxes, tally)?;
+    let traced = traced.as_slice();
     for n in 0..boxes.len() {
-        shade_outcome(
-            desk,
-            boxes[n],
-            live,
-            &outcomes[n],
-            tops,
-            regs,
-            pixels,
-            tally,
+        shade_traced(
+            desk, boxes[n], received, &traced[n], tops, scratch, pixels, tally,
         )?;
     }
     Ok(())

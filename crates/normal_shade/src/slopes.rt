@@ -1,70 +1,158 @@
-// The slopes of one operation. Each axis takes the same operations, made by the rules for sums,
+// The dual number of one operation. Each axis takes the same operations, made by the rules for sums,
 // products and the rest, rounded and clamped as values are.
-ghost use Rattle.std.specs.Prelude.{◌≡◌, pos};
+ghost use Rattle.std.specs.Prelude.{◌≡◌, ◌≤◌, pos};
 ghost use Rattle.fixed_ops.specs.Operations.{op_result};
-ghost use Rattle.fixed_ops.specs.Slopes.{one, slope_result, two, with_slopes};
+ghost use Rattle.fixed_ops.specs.Points.{step_value as value_of_step};
+ghost use Rattle.fixed_ops.specs.Slopes.{flat as flat_dual, one, two};
+ghost use Rattle.normal_shade.specs.DualWork.{derivative_cost as cost_of_derivatives};
+ghost use Rattle.normal_shade.specs.Duals.{dual_of};
 
 use crate::Dual;
 use fixed_ops::{Fx, Op, Tally, apply, le, lt};
+use live_clauses::Step;
 
-// The result of an operation on two operands, with its slopes.
+// The value of a step at a point, whose operands have the values a and b.
 #[inline(always)]
-pub(crate) fn sloped(op: Op, a: Dual, b: Dual) -> Dual
-    ensures { result ≡ with_slopes op a b (op_result op a.value b.value) }
+pub(crate) fn step_value(step: &Step, x: Fx, y: Fx, z: Fx, a: Fx, b: Fx) -> Fx
+    ensures { result
+        ≡ value_of_step step.now.op (record { x = x; y = y; z = z }) step.now.value a b }
 {
-    let value = result_of(op, a.value, b.value);
-    Dual {
-        value,
-        dx: slope(op, a.value, b.value, value, a.dx, b.dx),
-        dy: slope(op, a.value, b.value, value, a.dy, b.dy),
-        dz: slope(op, a.value, b.value, value, a.dz, b.dz),
+    match step.op {
+        Op::X => x,
+        Op::Y => y,
+        Op::Z => z,
+        Op::Const => step.value,
+        op => result_of(op, a, b),
     }
 }
 
-// The slope of a result r along an axis, from the values of the operands and their slopes. At a
-// kink it is one side's.
+// The dual number of a step that has this value, whose operands have the values a and b and these dual
+// numbers. At a kink the derivatives are one side's.
 #[inline(always)]
-fn slope(op: Op, a: Fx, b: Fx, r: Fx, da: Fx, db: Fx) -> Fx
-    ensures { result ≡ slope_result op a b r da db }
+pub(crate) fn step_dual(op: Op, value: Fx, a: Fx, b: Fx, da: Dual, db: Dual) -> Dual
+    ensures { result ≡ dual_of op value a b da db }
 {
     match op {
-        Op::X | Op::Y | Op::Z | Op::Const | Op::Floor => none(),
-        Op::Neg => result_of(Op::Neg, da, da),
-        Op::Square => result_of(Op::Mul, twice(a), da),
+        Op::X => Dual {
+            dx: unit(),
+            ..constant(value)
+        },
+        Op::Y => Dual {
+            dy: unit(),
+            ..constant(value)
+        },
+        Op::Z => Dual {
+            dz: unit(),
+            ..constant(value)
+        },
+        Op::Const | Op::Floor => constant(value),
+        Op::Neg => on_axes(Op::Neg, value, da, da),
+        Op::Square => on_axes(Op::Mul, value, uniform(twice(a)), da),
         Op::Sqrt => {
-            if lt(none(), r) {
-                result_of(Op::Div, da, twice(r))
+            if lt(none(), value) {
+                on_axes(Op::Div, value, da, uniform(twice(value)))
             } else {
-                none()
+                constant(value)
             }
         }
         Op::Abs => {
             if le(none(), a) {
-                da
+                Dual { value, ..da }
             } else {
-                result_of(Op::Neg, da, da)
+                on_axes(Op::Neg, value, da, da)
             }
         }
-        Op::Add => result_of(Op::Add, da, db),
-        Op::Sub => result_of(Op::Sub, da, db),
-        Op::Mul => result_of(
-            Op::Add,
-            result_of(Op::Mul, a, db),
-            result_of(Op::Mul, b, da),
-        ),
+        Op::Add => on_axes(Op::Add, value, da, db),
+        Op::Sub => on_axes(Op::Sub, value, da, db),
+        Op::Mul => {
+            let left = on_axes(Op::Mul, value, uniform(a), db);
+            let right = on_axes(Op::Mul, value, uniform(b), da);
+            on_axes(Op::Add, value, left, right)
+        }
         Op::Div => {
             if b == none() {
-                none()
+                constant(value)
             } else {
-                result_of(
-                    Op::Div,
-                    result_of(Op::Sub, da, result_of(Op::Mul, r, db)),
-                    b,
-                )
+                let part = on_axes(Op::Mul, value, uniform(value), db);
+                let rest = on_axes(Op::Sub, value, da, part);
+                on_axes(Op::Div, value, rest, uniform(b))
             }
         }
-        Op::Min => { if le(a, b) { da } else { db } }
-        Op::Max => { if le(b, a) { da } else { db } }
+        Op::Min => {
+            if le(a, b) {
+                Dual { value, ..da }
+            } else {
+                Dual { value, ..db }
+            }
+        }
+        Op::Max => {
+            if le(b, a) {
+                Dual { value, ..da }
+            } else {
+                Dual { value, ..db }
+            }
+        }
+    }
+}
+
+// How many operations `step_dual` applies.
+#[inline(always)]
+pub(crate) fn derivative_cost(op: Op, a: Fx, b: Fx, value: Fx) -> u64
+    ensures cost { result ≡ cost_of_derivatives op a b value }
+    ensures few { result ≤ 9 }
+{
+    match op {
+        Op::Neg | Op::Add | Op::Sub => 3,
+        Op::Square => 4,
+        Op::Sqrt => if lt(none(), value) { 4 } else { 0 },
+        Op::Abs => if le(none(), a) { 0 } else { 3 },
+        Op::Mul => 9,
+        Op::Div => if b == none() { 0 } else { 9 },
+        Op::X | Op::Y | Op::Z | Op::Const | Op::Floor | Op::Min | Op::Max => 0,
+    }
+}
+
+// An operation along each axis.
+#[inline(always)]
+fn on_axes(op: Op, value: Fx, a: Dual, b: Dual) -> Dual
+    ensures { result ≡ record {
+      value = value;
+      dx = op_result op a.dx b.dx;
+      dy = op_result op a.dy b.dy;
+      dz = op_result op a.dz b.dz;
+    } }
+{
+    Dual {
+        value,
+        dx: result_of(op, a.dx, b.dx),
+        dy: result_of(op, a.dy, b.dy),
+        dz: result_of(op, a.dz, b.dz),
+    }
+}
+
+// The same number along each axis.
+#[inline(always)]
+fn uniform(a: Fx) -> Dual
+    ensures { result ≡ record { value = a; dx = a; dy = a; dz = a } }
+{
+    Dual {
+        value: a,
+        dx: a,
+        dy: a,
+        dz: a,
+    }
+}
+
+// A value that is the same everywhere.
+#[inline(always)]
+pub(crate) fn constant(value: Fx) -> Dual
+    ensures { result ≡ record flat_dual { value = value } }
+{
+    Dual {
+        value,
+        dx: none(),
+        dy: none(),
+        dz: none(),
     }
 }
 
@@ -87,7 +175,7 @@ fn twice(a: Fx) -> Fx
 
 // The slope along the axis of a coordinate.
 #[inline(always)]
-pub(crate) fn unit() -> Fx
+fn unit() -> Fx
     ensures { result ≡ one }
 {
     Fx::from_raw(1 << 32)

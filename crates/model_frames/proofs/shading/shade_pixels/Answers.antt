@@ -52,7 +52,7 @@ returns-clause-counted c =
     c.frames_add_up.ensures live
     (heights_counted {T = Unit {0}} {E = Unit {0}} (Ok tt) c.args.tally.now c.heights.new.tally view clauses list live
     c.in_ok-map.ensures.at_most c.in_ok-map.ensures.points c.in_ok-map.ensures.hulls)
-    c.shade.ensures.at_most c.shade.ensures.hulls
+    c.shade.ensures.counted
 
 pub returns-clause-at_most : goal.returns-clause-at_most
 returns-clause-at_most c =
