@@ -1,7 +1,13 @@
-# Completes the verbs and settings of modeller in bash. Read it by `. docs/modeller.bash`, or from ~/.bashrc.
+# Completes the verbs and settings of modeller in bash, and files behind `<` and `>`. Read it by
+# `. docs/modeller.bash`, or from ~/.bashrc.
 _modeller() {
     local word=${COMP_WORDS[COMP_CWORD]} settings=
     COMPREPLY=()
+    if [[ $word == [\<\>]* || ${COMP_WORDS[COMP_CWORD - 1]} == [\<\>]* ]]; then
+        mapfile -t COMPREPLY < <(compgen -f -- "${word##*[<>]}")
+        compopt -o filenames 2>/dev/null
+        return
+    fi
     if [ "$COMP_CWORD" -eq 1 ]; then
         mapfile -t COMPREPLY < <(compgen -W 'render height shade mesh check contour count text solid replay forge' -- "$word")
         return
