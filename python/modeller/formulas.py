@@ -24,7 +24,7 @@ LONGEST_TEXT = 8_388_608  # bytes, of what is read and of what is written: more 
 LONGEST_LINE = 20_000  # characters, of what is no comment
 MOST_LINES = 250_000
 MOST_CLAUSES = 65_535
-MOST_WORDS = 100_000  # words and signs of all formulas together
+MOST_WORDS = 40_000  # words and signs of all formulas together
 
 OPERATORS: dict[type, str] = {ast.Add: "add", ast.Sub: "sub", ast.Mult: "mul", ast.Div: "div"}
 MANY = ("add", "min", "max")  # calls of two formulas or more
