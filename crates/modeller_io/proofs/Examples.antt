@@ -1,9 +1,9 @@
 -- Counts, and what sinks and sources tell, worked out by hand.
-use Rattle.std.proofs.Common.{◌≡◌, ℕ, zero, suc, List, [], ◌∷◌, take, None, Some, refl, ap, arith}
+use Rattle.std.proofs.Common.{◌≡◌, ℕ, zero, suc, List, [], ◌∷◌, ◌++◌, ◌<◌, length, take, None, Some, refl, ap, arith}
 use Rattle.std.specs.Prelude.{slice_index_or}
 use Rattle.modeller_io.specs.declared.read_source.ReadSource.{ReadSource}
 use Rattle.modeller_io.specs.Count.{RoseAtMost, Stands, raised}
-use Rattle.modeller_io.specs.Held.{Extends, GainsPrefix, Grew}
+use Rattle.modeller_io.specs.Held.{Extends, GainsProperPrefix, Grew}
 use Rattle.modeller_io.specs.ReadSource.{bytes_read, read_faults}
 use Rattle.modeller_io.specs.SinkView.{held_with}
 use Rattle.modeller_io.specs.SourceView.{given}
@@ -51,9 +51,16 @@ bytes_go_last = refl
 sink_never_begins_to_tell : Extends None (Some []) [] → ⊥
 sink_never_begins_to_tell h = h
 
--- of two bytes the first alone is a front
-first_byte_is_a_front : GainsPrefix (λ (held : List ℕ). Some held) (1 ∷ []) (1 ∷ 2 ∷ []) (2 ∷ 3 ∷ [])
-first_byte_is_a_front = record { count = 1; within = omega arith; gained = refl }
+-- of two bytes the first alone is a proper prefix, and both are none
+first_byte_is_a_prefix : GainsProperPrefix (λ (held : List ℕ). Some held) (1 ∷ []) (1 ∷ 2 ∷ []) (2 ∷ 3 ∷ [])
+first_byte_is_a_prefix = record { count = 1; within = omega arith; gained = refl }
+
+all_bytes_are_no_proper_prefix : GainsProperPrefix (λ (held : List ℕ). Some held) (1 ∷ []) (1 ∷ 2 ∷ []) (2 ∷ []) → ⊥
+all_bytes_are_no_proper_prefix gained = by gained.count gained.within gained.gained
+  where
+    by : (count : ℕ) → count < 1 → ◌≡◌ {A = List ℕ} (1 ∷ 2 ∷ []) ((1 ∷ []) ++ take count (2 ∷ [])) → ⊥
+    by zero few same = let one : 2 ≡ 1 = ap (λ (bytes : List ℕ). length bytes) same in omega (arith, one)
+    by (suc count) few same = absurd (omega (arith, few))
 
 -- a sink grows by bytes behind those that it holds, and does not change these
 grows_by_one : Grew (λ (held : List ℕ). Some held) (1 ∷ []) (1 ∷ 2 ∷ [])

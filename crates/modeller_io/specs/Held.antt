@@ -1,5 +1,5 @@
 -- What a call does to the bytes that a sink holds, where the sink tells them.
-use Rattle.std.specs.Prelude.{◌≡◌, ℕ, ◌≤◌, List, ◌++◌, length, take, Option, Some, None, ⊤}
+use Rattle.std.specs.Prelude.{◌≡◌, ℕ, ◌<◌, List, ◌++◌, length, take, Option, Some, None, ⊤}
 
 -- What is told after is what was told before and then these bytes. Nothing told after says nothing,
 -- and what was not told before is not told after.
@@ -12,11 +12,11 @@ Extends (Some before) (Some after) bytes = after ≡ before ++ bytes
 abbrev pub Gains : {K : Type 0} → (K → Option (List ℕ)) → K → K → List ℕ → Type 0
 Gains held before after bytes = Extends (held before) (held after) bytes
 
--- it grew by a front of these bytes
-pub record GainsPrefix {K : Type 0} (held : K → Option (List ℕ))
+-- it grew by a proper prefix of these bytes: by fewer of them than there are, from the first one on
+pub record GainsProperPrefix {K : Type 0} (held : K → Option (List ℕ))
     (before after : K) (bytes : List ℕ) : Type 0 where
   pub count : ℕ
-  pub within : count ≤ length bytes
+  pub within : count < length bytes
   pub gained : Gains held before after (take count bytes)
 
 -- it grew by some bytes
