@@ -4,10 +4,12 @@
 mod end;
 mod streams;
 
-ghost use Rattle.std.specs.Prelude.{◌≡◌, drop, IfOk, IfErr};
+ghost use Rattle.std.specs.Prelude.{◌≡◌, ℕ, List, drop, IfOk, IfErr};
 ghost use Rattle.std.specs.IoError.{error_kind};
 ghost use Rattle.modeller.specs.Ends.{HasRun};
-ghost use Rattle.modeller_cmd.specs.Runs.{EndsSo};
+ghost use Rattle.modeller_cmd.specs.Laws.{Laws};
+ghost use Rattle.modeller_cmd.specs.Promises.{IsRun};
+ghost use Rattle.modeller_cmd.specs.Runs.{run_of};
 ghost use Rattle.view_settings.specs.Words.{bytes_of};
 
 use crate::end::{End, exit_code};
@@ -37,25 +39,12 @@ fn end_on<S: Source, K: Sink, N: Sink>(
     streams: &mut Streams<S, K, N>,
     tally: &mut Tally,
 ) -> End
-    ensures ran { IfOk line (λ line. HasRun result (λ status. EndsSo (record {
-      rest = S.rest;
-      taken = S.taken;
-      read_faults = S.faults;
-      held = K.held;
-      write_faults = K.faults;
-      notes_held = N.held;
-      note_faults = N.faults;
-      source = streams.old.source;
-      source_after = streams.new.source;
-      out = streams.old.out;
-      out_after = streams.new.out;
-      notes = streams.old.notes;
-      notes_after = streams.new.notes;
-      first = tally.old;
-      last = tally.new;
-      words = bytes_of (drop 1 line.items);
-      status = status;
-    }))) }
+    ensures ran { IfOk line (λ line. HasRun result (λ status. IsRun (run_of S.rest S.taken S.faults
+        K.held K.faults N.held N.faults (bytes_of (drop 1 line.items)) streams.old.source
+        streams.new.source streams.old.out streams.new.out streams.old.notes streams.new.notes
+        tally.old tally.new status))) }
+    ensures laws { IfOk line (λ line. (input : List ℕ)
+        → Laws (bytes_of (drop 1 line.items)) input) }
     ensures wordless { IfErr line (λ error. result ≡ End.Wordless (error_kind error)) }
     ensures untouched { IfErr line (λ error. streams.new ≡ streams.old) }
     ensures uncounted { IfErr line (λ error. tally.new ≡ tally.old) }

@@ -9,8 +9,6 @@ use Rattle.fixed_ops.specs.Counts.{Counts}
 use Rattle.model_frames.specs.Frames.{Part}
 use Rattle.model_frames.specs.Laws.{FramesAddUp}
 use Rattle.model_frames.specs.Work.{CountsWithin, CountsWork, PointsRiseAtMost}
-use Rattle.modeller_io.specs.Count.{RoseBy}
-use Rattle.modeller_io.specs.Held.{GainsPrefix}
 use Rattle.mesh_report.specs.Reports.{reported}
 use Rattle.ply_check.specs.declared.ply_fault.PlyFault.{PlyFault}
 use Rattle.ply_check.specs.declared.ply_reason.PlyReason.{PlyReason}
@@ -26,6 +24,7 @@ use Rattle.modeller_cmd.specs.Endings.{Ends, IsRefusal, IsExecutionStop}
 use Rattle.modeller_cmd.specs.Output.{input_limit, made, of_forms, of_mesh, of_model, output_as}
 use Rattle.modeller_cmd.specs.Parts.{work_of_parts}
 use Rattle.modeller_cmd.specs.Execution.{Sent, Executed, ExecutedAtOnce}
+use Rattle.modeller_cmd.specs.Writing.{FailsToSend}
 use Rattle.modeller_cmd.specs.Stops.{status_at, stop_of_forms, stop_of_mesh, stop_of_text}
 use Rattle.modeller_cmd.specs.declared.bad_text.BadText.TheVariants as bad
 use Rattle.modeller_cmd.specs.declared.refusal.Refusal.{Refusal}
@@ -45,21 +44,19 @@ sent-none {K} {T} held faults out bytes (Err stop) is =
       stop = tt;
       gained = tt;
       no_fault = tt;
-      front = λ fault. cc;
-      fault = λ fault. cc;
+      failed = λ fault. cc;
       unwritten = λ memory. refl;
     })
 
-pub sent-front : {K T : Type 0} (held : K → Option (List ℕ)) (faults : K → ℕ) (before after : K) (bytes : List ℕ) (r : Result T Stop)
-    → IsErrAnd r (λ stop. stop ≡ WriteFault) → GainsPrefix held before after bytes → RoseBy faults before after 1 → Sent held faults before after bytes r
-sent-front held faults before after bytes (Ok x) is front rose = absurd is
-sent-front {K} {T} held faults before after bytes (Err stop) is front rose =
+pub sent-in-part : {K T : Type 0} (held : K → Option (List ℕ)) (faults : K → ℕ) (before after : K) (bytes : List ℕ) (r : Result T Stop)
+    → IsErrAnd r (λ stop. stop ≡ WriteFault) → FailsToSend held faults before after bytes → Sent held faults before after bytes r
+sent-in-part held faults before after bytes (Ok x) is failed = absurd is
+sent-in-part {K} {T} held faults before after bytes (Err stop) is failed =
     subst (λ s. Sent {T = T} held faults before after bytes (Err s)) (sym is) (record {
       stop = tt;
       gained = tt;
       no_fault = tt;
-      front = λ fault. front;
-      fault = λ fault. rose;
+      failed = λ fault. failed;
       unwritten = λ memory. cc;
     })
 
@@ -163,7 +160,7 @@ module _ {K T : Type 0} (held : K → Option (List ℕ)) (faults : K → ℕ) wh
         ends = search rules;
         stop = tt;
         written = tt;
-        halted = part-halted held faults before after s t part bytes same (sent.front refl) (sent.fault refl) few plain;
+        halted = part-halted held faults before after s t part bytes same (sent.failed refl) few plain;
         refused = λ is. absurd is;
         script = λ is. cc;
         unwritten = λ is. cc;

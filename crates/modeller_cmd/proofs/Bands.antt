@@ -10,13 +10,13 @@ use Rattle.std.proofs.lemmas.List.FromFn.{length-map-range_with_len}
 use Rattle.std.proofs.lemmas.List.Sums.{sum_by-append}
 use Rattle.live_clauses.specs.declared.step.Step.{Step}
 use Rattle.model_frames.specs.Images.{drawn_text}
-use Rattle.modeller_io.specs.Held.{Gains, GainsPrefix}
+use Rattle.modeller_io.specs.Held.{Gains, GainsProperPrefix}
 use Rattle.quad_descent.specs.Pixels.{pixel_at, pixels_of, row_at, rows_from}
 use Rattle.quad_descent.specs.Raster.{Drawing}
 use Rattle.quad_descent.specs.Rows.{AreRows, IsOver, rows_at}
 use Rattle.raster_pgm.specs.Pgm.{pgm_header_of}
 use Rattle.view_places.specs.Window.{Window}
-use Rattle.modeller_cmd.proofs.Gaining.{Extends-none, GainsPrefix-after}
+use Rattle.modeller_cmd.proofs.Gaining.{Extends-none, GainsProperPrefix-after}
 
 -- numbers from one on, and more behind them
 range-parts : (low m n : ℕ) → range_with_len low (m + n) ≡ range_with_len low m ++ range_with_len (low + m) n
@@ -127,10 +127,10 @@ length-text (Some image) view is =
     ∙ ap (λ v. length (pgm_header_of v.w v.h) + v.w * v.h) is
 
 -- a front of bytes is one of these and of what comes behind
-pub front-more : {K : Type 0} (held : K → Option (List ℕ)) (a b : K) (xs ys : List ℕ) → GainsPrefix held a b xs → GainsPrefix held a b (xs ++ ys)
-front-more held a b xs ys front = GainsPrefix-after held a a b [] xs ys (Extends-none (held a)) front
+pub front-more : {K : Type 0} (held : K → Option (List ℕ)) (a b : K) (xs ys : List ℕ) → GainsProperPrefix held a b xs → GainsProperPrefix held a b (xs ++ ys)
+front-more held a b xs ys front = GainsProperPrefix-after held a a b [] xs ys (Extends-none (held a)) front
 
 -- and behind other bytes it is one of all of them
-pub front-then : {K : Type 0} (held : K → Option (List ℕ)) (a b c : K) (xs ys : List ℕ) → Gains held a b xs → GainsPrefix held b c ys → GainsPrefix held a c (xs ++ ys)
+pub front-then : {K : Type 0} (held : K → Option (List ℕ)) (a b c : K) (xs ys : List ℕ) → Gains held a b xs → GainsProperPrefix held b c ys → GainsProperPrefix held a c (xs ++ ys)
 front-then held a b c xs ys first next =
-    subst (λ l. GainsPrefix held a c (xs ++ l)) (append-nil ys) (GainsPrefix-after held a b c xs ys [] first next)
+    subst (λ l. GainsProperPrefix held a c (xs ++ l)) (append-nil ys) (GainsProperPrefix-after held a b c xs ys [] first next)

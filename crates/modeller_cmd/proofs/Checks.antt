@@ -7,22 +7,24 @@ use Rattle.checked_meshes.specs.ModelTexts.{MeshTextsCheck}
 use Rattle.checked_meshes.specs.Readings.{corners_of}
 use Rattle.kuhn_cells.specs.Faces.{Face as Triple, faces}
 use Rattle.kuhn_cells.specs.Grids.{vertices}
-use Rattle.mesh_report.specs.Laws.{VerdictsAreReported}
+use Rattle.mesh_report.specs.Laws.{RefusalsAreReported, VerdictsAreReported}
 use Rattle.mesh_report.specs.Reports.{finding_line, reported}
 use Rattle.mesh_verdict.specs.declared.finding.Finding.TheVariants.{Closed}
 use Rattle.mesh_verdict.specs.Corners.{triples}
 use Rattle.mesh_verdict.specs.Laws.{OneFindingIsRight}
 use Rattle.mesh_verdict.specs.Verdicts.{Verdict}
 use Rattle.model_frames.specs.Meshes.{grid_of}
+use Rattle.ply_check.specs.Answers.{fault_at}
 use Rattle.ply_check.specs.PlyFiles.{PlyReads}
 use Rattle.solid_model.specs.Values.{solid_value}
 use Rattle.view_settings.specs.declared.job.Job.TheVariants.{Check}
+use Rattle.modeller_cmd.specs.Answers.{MeshesAreRefused}
 use Rattle.modeller_cmd.specs.Asking.{asked}
 use Rattle.modeller_cmd.specs.Checks.{ChecksAreExact, VerdictsAreWritten, WrittenMeshesPass}
 use Rattle.modeller_cmd.specs.Output.{input_limit, of_mesh, outcome, output_as}
 use Rattle.modeller_cmd.specs.Parts.{bytes_of_parts}
 use Rattle.modeller_cmd.specs.declared.status.Status.TheVariants.{Done}
-use Rattle.modeller_cmd.proofs.Outcomes.{mesh_reported}
+use Rattle.modeller_cmd.proofs.Outcomes.{mesh_refused, mesh_reported}
 
 outcome_of : (words : List (List ℕ)) (input : List ℕ) → asked words ≡ Ok Check → outcome words input ≡ of_mesh input
 outcome_of words input is = rw is refl
@@ -74,5 +76,14 @@ meshes_pass reports texts words input view clauses asks model window fits same f
           ∙ (all ∙ ap (finding_line Closed (length (vertices g))) (length-map (faces g) corners_of));
     }
 
-pub checks-exact : VerdictsAreReported → OneFindingIsRight → MeshTextsCheck → ChecksAreExact
-checks-exact reports one texts = record { verdicts = verdicts_written reports one; passes = meshes_pass reports texts }
+meshes_refused : RefusalsAreReported → (words : List (List ℕ)) (input : List ℕ) → MeshesAreRefused words input
+meshes_refused refusals words input line reason asks few refuses =
+    let is = outcome_of words input asks ∙ mesh_refused input (fault_at line reason) few (refusals input line reason refuses) in
+    record { refused = ap (λ o. (output_as o).status) is; note = ap (λ o. (output_as o).note) is }
+
+pub checks-exact : VerdictsAreReported → RefusalsAreReported → OneFindingIsRight → MeshTextsCheck → ChecksAreExact
+checks-exact reports refusals one texts = record {
+  verdicts = verdicts_written reports one;
+  passes = meshes_pass reports texts;
+  refused = meshes_refused refusals;
+}

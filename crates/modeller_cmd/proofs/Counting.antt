@@ -3,12 +3,12 @@ use Rattle.std.proofs.Common.{◌≡◌, ℕ, ap, ◌∙◌}
 use Rattle.fixed_ops.specs.Counts.{Counts, no_counts}
 use Rattle.model_frames.specs.Laws.{FramesAddUp}
 use Rattle.model_frames.specs.Work.{CountsWork, FitsCounts, exactly}
-use Rattle.modeller_cmd.specs.CountTexts.{count_text}
+use Rattle.modeller_cmd.specs.CountTexts.{count_lines}
 
 -- such a tally tells the numbers of exact work, so its lines are those of that work
 pub told-text : (frames : FramesAddUp) (counts : Counts) (points spans plain : ℕ) → FitsCounts (exactly points spans plain)
     → CountsWork no_counts counts (exactly points spans plain)
-    → (p s q : ℕ) → p ≡ counts.points → s ≡ counts.spans → q ≡ plain → count_text (exactly p s q) ≡ count_text (exactly points spans plain)
+    → (p s q : ℕ) → p ≡ counts.points → s ≡ counts.spans → q ≡ plain → count_lines p s q ≡ count_lines points spans plain
 told-text frames counts points spans plain fits done p s q one two three =
     let told = frames.told counts points spans plain fits done in
-    ap (λ n. count_text (exactly n s q)) (one ∙ told.0) ∙ ap (λ n. count_text (exactly points n q)) (two ∙ told.1) ∙ ap (λ n. count_text (exactly points spans n)) three
+    ap (λ n. count_lines n s q) (one ∙ told.0) ∙ ap (λ n. count_lines points n q) (two ∙ told.1) ∙ ap (λ n. count_lines points spans n) three

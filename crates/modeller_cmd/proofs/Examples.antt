@@ -1,6 +1,6 @@
 -- The definitions of a run, computed on words, texts and views that were worked out by hand.
-use Rattle.std.proofs.Common.{◌≡◌, ℕ, zero, suc, true, false, pos, negsuc, ◌+◌, ◌*◌, ◌^◌, inl, inr, List, [], ◌∷◌, ◌++◌, length, map, take, Option, Some, None, Result, Err, refl, subst, sym, ap, ◌∙◌, arith}
-use Rattle.std.specs.Prelude.{◌≤◌, ◌⊎◌, codes, slice_get, slice_index_or, ℤ}
+use Rattle.std.proofs.Common.{◌≡◌, ℕ, zero, suc, true, false, pos, negsuc, ◌+◌, ◌*◌, ◌^◌, inl, inr, List, [], ◌∷◌, ◌++◌, length, length-append, map, take, drop, Some, None, Result, Ok, Err, refl, subst, sym, ap, ◌∙◌, arith}
+use Rattle.std.specs.Prelude.{◌<◌, ◌≤◌, codes, slice_get, slice_index_or, ℤ}
 use Rattle.std.specs.Fmt.{digits}
 use Rattle.std.proofs.lemmas.Bool.{le-ltb, lt-ltb}
 use Rattle.box_chains.specs.Chains.{chain_within}
@@ -8,6 +8,7 @@ use Rattle.box_chains.specs.Counts.{points_in, spans_in}
 use Rattle.box_chains.specs.Redrawn.{points_after, spans_after}
 use Rattle.clause_reader.specs.Reading.{on_result, text_read}
 use Rattle.clause_reader.specs.declared.text_reason.TextReason.TheVariants as text
+use Rattle.edit_script.specs.declared.script_fault.ScriptFault.{ScriptFault}
 use Rattle.edit_script.specs.declared.script_reason.ScriptReason.TheVariants as script
 use Rattle.fixed_ops.specs.NumberTexts.{size_text}
 use Rattle.fixed_ops.specs.Numerals.{cut_magnitude, is_unsigned_numeral, nearest_raw, unsigned_raw}
@@ -22,19 +23,20 @@ use Rattle.view_settings.specs.declared.job.Job.{Job}
 use Rattle.view_settings.specs.declared.forge.Forge.{Forge as Wanted}
 use Rattle.view_settings.specs.declared.job.Job.TheVariants.{Count, Forge, Height, Mesh, Render}
 use Rattle.view_settings.specs.declared.word_fault.WordReason.TheVariants as word
+use Rattle.modeller_cmd.specs.Answers.{RefusesText, WritesText}
 use Rattle.modeller_cmd.specs.Asking.{asks_nothing, input_told, reads_nothing}
-use Rattle.modeller_cmd.specs.Endings.{CountsForSome, GainsParts, IsAnswer, IsRead, IsRefusal, IsUnwritten, IsWorked, NoFault, ReadsWhole, TakesLine, Tells}
+use Rattle.modeller_cmd.specs.Endings.{CountsForSome, IsRefusal, ReadsWhole, TakesLine}
 use Rattle.modeller_cmd.specs.Frames.{frame_header, frame_of, refused_line}
 use Rattle.solid_model.specs.declared.edit.EditFault.TheVariants as fault
 use Rattle.model_frames.specs.Heights.{heights_of}
 use Rattle.modeller_cmd.specs.Notes.{line_of}
-use Rattle.modeller_cmd.specs.Output.{Output, WithOutput, input_limit, made, of_solid, output_as, output_of}
+use Rattle.modeller_cmd.specs.Output.{Output, input_limit, made, of_solid, output_as, output_of}
 use Rattle.model_frames.specs.Frames.{Part}
 use Rattle.modeller_cmd.specs.Parts.{bytes_of_parts, work_of_parts}
-use Rattle.modeller_cmd.specs.Writing.{Halted, Written}
+use Rattle.modeller_cmd.specs.Writing.{FailsToSend, Halted, Written}
 use Rattle.modeller_cmd.specs.Statuses.{number_of}
 use Rattle.modeller_cmd.specs.SoundTexts.{HasSoundFrame, MeshFramesAreSound, MeshesAreSound}
-use Rattle.modeller_cmd.specs.Halting.{IsUnbegun, HaltsAt, HaltsIn, HaltsReplay, HaltsRun, WantsMemory, WritesSomething}
+use Rattle.modeller_cmd.specs.Halting.{FailsIn, HaltsAt, HaltsIn, HaltsScript, MayRunOut, RunsOutIn}
 use Rattle.modeller_cmd.specs.Stops.{status_at}
 use Rattle.modeller_cmd.specs.Forging.{forge_text, forged_clauses}
 use Rattle.fixed_ops.specs.Counts.{Counts, RisesAtMost, RisesWithin, no_counts, risen}
@@ -46,13 +48,11 @@ use Rattle.edit_session.specs.Sessions.{State, started}
 use Rattle.modeller_cmd.specs.Replays.{parts_at, replayed, standing, state_after}
 use Rattle.model_frames.specs.SoundTexts.{IsSoundText}
 use Rattle.model_frames.specs.Work.{CountsWithin, CountsWork, exactly, frame_work, no_work}
-use Rattle.modeller_cmd.specs.declared.bad_text.BadText.{BadText}
 use Rattle.modeller_cmd.specs.declared.bad_text.BadText.TheVariants as bad
 use Rattle.modeller_cmd.specs.declared.refusal.Refusal.{Refusal}
 use Rattle.modeller_cmd.specs.declared.refusal.Refusal.TheVariants as refusal
 use Rattle.modeller_cmd.specs.declared.status.Status.{Status}
 use Rattle.modeller_cmd.specs.declared.status.Status.TheVariants as status
-use Rattle.modeller_cmd.specs.declared.stop.Stop.{Stop}
 use Rattle.modeller_cmd.specs.declared.stop.Stop.TheVariants as stop
 
 -- the window from -1 to 1 with so many columns and rows, at this raw height
@@ -287,43 +287,6 @@ refused_words_ask : asks_nothing (codes "forge" ∷ codes "solids=0" ∷ []) ≡
 unfolding digits setting_of
 refused_words_ask = refl
 
--- a count that stands tells of no fault
-count_that_stands : NoFault (λ (n : ℕ). n) 3 3
-count_that_stands = (omega arith, omega arith)
-
--- a count that rose tells of one
-count_that_rose : NoFault (λ (n : ℕ). n) 3 4 → ⊥
-count_that_rose none = omega (arith, none.0)
-
--- at its last value a count tells nothing, since it stands still there
-count_at_its_end : NoFault (λ (n : ℕ). n) last_count last_count → ⊥
-count_at_its_end none = omega (arith, none.1)
-
--- a run answers the status that is expected
-expected_answer : IsAnswer status.BadModel status.BadModel
-expected_answer = refl
-
--- or a fault of the source, or want of memory
-read_fault_answer : IsAnswer status.Usage status.ReadFault
-read_fault_answer = tt
-
-memory_answer : IsAnswer status.Done status.NoMemory
-memory_answer = tt
-
--- a fault of the sink only where there is something to write
-write_fault_answer : IsAnswer status.Done status.WriteFault
-write_fault_answer = refl
-
-no_write_fault : IsAnswer status.BadModel status.WriteFault → ⊥
-no_write_fault same = grind (arith, same)
-
--- and no status but the expected one
-no_other_answer : IsAnswer status.Done status.BadModel → ⊥
-no_other_answer same = grind (arith, same)
-
-no_done_answer : IsAnswer status.Usage status.Done → ⊥
-no_done_answer same = grind (arith, same)
-
 -- sums, differences and products are cut to the range of numbers
 sum_above : op_result op.Add greatest (pos 1) ≡ greatest
 sum_above = refl
@@ -367,74 +330,21 @@ no_room : refused_line 65536 fault.Full ≡ codes "@ refused 65536 Full\n"
 unfolding digits
 no_room = refl
 
--- nothing is counted where the words, the input or the source end a run
-words_count_nothing : IsRefusal status.Usage
-words_count_nothing = tt
+-- words, texts, scripts and long inputs are refused, and no other status is a refusal
+refusals : IsRefusal status.Usage × IsRefusal status.BadModel × IsRefusal status.BadScript × IsRefusal status.TooLong
+refusals = (tt, tt, tt, tt)
 
-model_counts_nothing : IsRefusal status.BadModel
-model_counts_nothing = tt
-
-script_counts_nothing : IsRefusal status.BadScript
-script_counts_nothing = tt
-
-length_counts_nothing : IsRefusal status.TooLong
-length_counts_nothing = tt
-
-source_counts_nothing : IsRefusal status.ReadFault
-source_counts_nothing = tt
-
--- a source is read to its end before a solid or a script is refused, and before anything is written
-model_was_read : IsRead status.BadModel
-model_was_read = tt
-
-script_was_read : IsRead status.BadScript
-script_was_read = tt
-
-written_was_read : IsRead status.WriteFault
-written_was_read = tt
-
--- under a refusal and a fault of the source nothing is written, whatever the words ask for
-refusals_write_nothing : (words : List (List ℕ)) → IsUnwritten words status.BadScript
-refusals_write_nothing words = tt
-
-faults_write_nothing : (words : List (List ℕ)) → IsUnwritten words status.ReadFault
-faults_write_nothing words = tt
-
--- where the sink fails all is counted that was done before
-fault_is_counted : IsWorked (codes "text" ∷ []) status.WriteFault
-fault_is_counted is = grind (arith, is)
-
--- what the notes are told under a fault
-read_fault_is_told : (words : List (List ℕ)) (input : Option (List ℕ)) (takes : List ℕ → Type 0)
-    → Tells words input status.ReadFault takes ≡ takes (codes "modeller: read fault\n")
-read_fault_is_told words input takes = refl
-
-memory_is_told : (words : List (List ℕ)) (input : Option (List ℕ)) (takes : List ℕ → Type 0)
-    → Tells words input status.NoMemory takes ≡ takes (codes "modeller: no memory\n")
-memory_is_told words input takes = refl
+fault_is_no_refusal : IsRefusal status.ReadFault → ⊥
+fault_is_no_refusal is = is
 
 -- each status has its own number, with which the program ends
 numbers_of_statuses : map number_of (status.Done ∷ status.Usage ∷ status.BadModel ∷ status.BadScript ∷ status.TooLong ∷ status.ReadFault ∷ status.WriteFault ∷ status.NoMemory ∷ [])
     ≡ 0 ∷ 2 ∷ 3 ∷ 4 ∷ 5 ∷ 6 ∷ 7 ∷ 8 ∷ []
 numbers_of_statuses = refl
 
--- what is done was counted, and its source was read to the end
-done_is_counted : (words : List (List ℕ)) → IsWorked words status.Done
-done_is_counted words = tt
-
-done_was_read : IsRead status.Done
-done_was_read = tt
-
 -- a source is not read to its end where a byte is left
 byte_is_left : ReadsWhole (λ (s : List ℕ). Some s) (codes "ab") (codes "b") → ⊥
 byte_is_left whole = let none : Some (codes "b") ≡ Some [] = whole.0 in (cc)
-
--- under want of memory nothing is written, but of a script some parts may be
-memory_writes_nothing : IsUnwritten (codes "text" ∷ []) status.NoMemory
-memory_writes_nothing is = grind (arith, is)
-
-script_may_have_written : IsUnwritten (codes "replay" ∷ []) status.NoMemory → ⊥
-script_may_have_written unwritten = unwritten refl
 
 -- the input that is told, and what is asked of it
 input_is_told : input_told (λ (s : List ℕ). Some s) (codes "ab") false ≡ Some (codes "ab")
@@ -443,59 +353,40 @@ input_is_told = refl
 no_input_is_told : input_told (λ (s : List ℕ). Some s) (codes "ab") true ≡ Some []
 no_input_is_told = refl
 
-output_of_what_is_told : WithOutput (λ (s : List ℕ). Some s) (codes "x var-x") (codes "text" ∷ []) (λ output. output.status ≡ status.Done)
-output_of_what_is_told = refl
+-- of some bytes the notes take a proper prefix and count a fault, or all of them and none
+front_without_a_fault : TakesLine (λ (s : List ℕ). Some s) (λ s. 0) [] (codes "a") (codes "ab") → ⊥
+front_without_a_fault (inl whole) = let same : codes "a" ≡ codes "ab" = whole.0 in (cc)
+front_without_a_fault (inr failed) = let rose : 0 ≡ 1 = failed.fault in omega (arith, rose)
 
--- what the notes are told where the words are refused, the input is too long or the sink fails
-words_are_told : (input : Option (List ℕ)) (takes : List ℕ → Type 0)
-    → Tells (codes "draw" ∷ []) input status.Usage takes ≡ takes (codes "modeller: word 1: UnknownVerb\n")
-unfolding digits
-words_are_told input takes = refl
-
-length_is_told : (words : List (List ℕ)) (input : Option (List ℕ)) (takes : List ℕ → Type 0)
-    → Tells words input status.TooLong takes ≡ takes (codes "modeller: input too long\n")
-length_is_told words input takes = refl
-
-write_fault_is_told : (words : List (List ℕ)) (input : Option (List ℕ)) (takes : List ℕ → Type 0)
-    → Tells words input status.WriteFault takes ≡ takes (codes "modeller: write fault\n")
-write_fault_is_told words input takes = refl
-
--- of a solid the line that is refused is told, and no other: its number is the byte at place 15
-abbrev first_line : BadText
-first_line = bad.Model (record { line = 1; reason = text.UnknownName })
-
-abbrev tells_line_2 : BadText → Type 0
-tells_line_2 fault = slice_index_or (line_of (stop.Refused (refusal.Text fault))) 15 0 ≡ 50
-
-another_line_is_told : Tells (codes "text" ∷ []) (Some (codes "x neg y")) status.BadModel (λ line. slice_index_or line 15 0 ≡ 50) → ⊥
-unfolding digits
-another_line_is_told tells =
-    let given : Err (refusal.Text first_line) ≡ Err (refusal.Text tells.fault) = tells.given in
-    let same : first_line ≡ tells.fault = cc in
-    let told : 49 ≡ 50 = subst tells_line_2 (sym same) tells.told in
-    absurd (omega (arith, told))
-
--- the notes take all of the line where they do not fail, and a sink takes parts whole
-front_is_not_all : TakesLine (λ (s : List ℕ). 0) (λ s. Some s) [] (codes "a") (codes "ab") → ⊥
-front_is_not_all takes = let same : codes "a" ≡ codes "ab" = takes.whole (omega arith, omega arith) in (cc)
-
-half_a_part : GainsParts (λ (s : List ℕ). Some s) [] (codes "a") (idle (codes "ab") ∷ []) → ⊥
-half_a_part gains = by gains.count gains.gained
+all_with_a_fault : TakesLine (λ (s : List ℕ). Some s) (λ s. length s) [] (codes "a") (codes "a") → ⊥
+all_with_a_fault (inl whole) = let same : 1 ≡ 0 = whole.1 in omega (arith, same)
+all_with_a_fault (inr failed) = by failed.gained.count failed.gained.within failed.gained.gained
   where
-    by : (count : ℕ) → codes "a" ≡ bytes_of_parts (take count (idle (codes "ab") ∷ [])) → ⊥
-    by zero same = (cc)
-    by (suc count) same =
-        let whole : codes "a" ≡ codes "ab" ++ bytes_of_parts (take count []) = same in (cc)
+    by : (count : ℕ) → count < 1 → codes "a" ≡ take count (codes "a") → ⊥
+    by zero few same = (cc)
+    by (suc count) few same = absurd (omega (arith, few))
 
-other_bytes_are_no_front : TakesLine (λ (s : List ℕ). last_count) (λ s. Some s) [] (codes "b") (codes "ab") → ⊥
-other_bytes_are_no_front takes = by takes.front.count takes.front.gained
+other_bytes_are_no_prefix : FailsToSend (λ (s : List ℕ). Some s) (λ s. last_count) [] (codes "b") (codes "ab") → ⊥
+other_bytes_are_no_prefix failed = by failed.gained.count failed.gained.gained
   where
     by : (count : ℕ) → codes "b" ≡ take count (codes "ab") → ⊥
     by zero same = (cc)
     by (suc count) same = let byte : 98 ≡ 97 = ap (λ s. slice_index_or s 0 0) same in absurd (omega (arith, byte))
 
-half_a_part_without_memory : Halted (λ (s : List ℕ). Some s) (λ s. 0) [] (codes "a") no_counts no_counts (idle (codes "ab") ∷ []) stop.NoMemory → ⊥
-half_a_part_without_memory halted = half_a_part (halted.whole refl)
+-- an output is a text, or the refusal of one
+text_is_written : WritesText (output_of (codes "text" ∷ []) (codes " x  var-x")) (codes "x var-x\n")
+text_is_written = record { done = refl; written = refl }
+
+another_text_is_not : WritesText (output_of (codes "text" ∷ []) (codes "x var-x")) (codes "x var-y\n") → ⊥
+another_text_is_not writes = let same : codes "x var-x\n" ≡ codes "x var-y\n" = writes.written in
+    let byte : 120 ≡ 121 = ap (λ s. slice_index_or s 6 0) same in omega (arith, byte)
+
+text_is_refused : RefusesText (output_of (codes "text" ∷ []) (codes "x neg y")) 1 (codes "UnknownName")
+unfolding digits
+text_is_refused = record { refused = refl; note = refl }
+
+good_text_is_not : RefusesText (output_of (codes "text" ∷ []) (codes "x var-x")) 1 (codes "UnknownName") → ⊥
+good_text_is_not refuses = let same : status.Done ≡ status.BadModel = refuses.refused in (cc)
 
 -- a part of which no byte went out is not written
 unwritten_part : Written (λ (s : List ℕ). Some s) (λ s. 0) [] [] no_counts no_counts (idle (codes "a") ∷ []) → ⊥
@@ -503,7 +394,7 @@ unwritten_part written = let same : [] ≡ codes "a" = written.gained in (cc)
 
 -- where memory is refused nothing of the command is written
 part_without_memory : HaltsIn (λ (s : List ℕ). Some s) (λ s. 0) [] (codes "@") no_counts no_counts [] (started []) commands.Text stop.NoMemory → ⊥
-part_without_memory halts = let same : codes "@" ≡ [] = halts.unwritten refl in (cc)
+part_without_memory halts = let same : codes "@" ≡ [] = halts.gained in (cc)
 
 -- memory is wanted for a frame, for an edit that is accepted and for an undo that brings a clause back, and for no edit that is refused
 abbrev two : List Clause
@@ -512,48 +403,32 @@ two = record { name = codes "x"; op = op.X; a = 0; b = 0; value = pos 0 } ∷ re
 abbrev shown : State
 shown = started two
 
-text_wants_memory : WantsMemory shown commands.Text
+text_wants_memory : MayRunOut shown commands.Text
 text_wants_memory = tt
 
-clause_wants_memory : WantsMemory shown (commands.Edit 4 (edits.Add (codes "y") (record { op = op.Y; args = []; value = pos 0 })))
+clause_wants_memory : MayRunOut shown (commands.Edit 4 (edits.Add (codes "y") (record { op = op.Y; args = []; value = pos 0 })))
 clause_wants_memory = refl
 
-double_name_wants_none : WantsMemory shown (commands.Edit 4 (edits.Add (codes "f") (record { op = op.Y; args = []; value = pos 0 }))) → ⊥
+double_name_wants_none : MayRunOut shown (commands.Edit 4 (edits.Add (codes "f") (record { op = op.Y; args = []; value = pos 0 }))) → ⊥
 double_name_wants_none wants = let is : false ≡ true = wants in (cc)
 
-cut_wants_memory : WantsMemory shown (commands.Edit 4 (edits.Cut (codes "f")))
+cut_wants_memory : MayRunOut shown (commands.Edit 4 (edits.Cut (codes "f")))
 cut_wants_memory = refl
 
-undo_wants_none : WantsMemory shown (commands.Undo 4) → ⊥
+undo_wants_none : MayRunOut shown (commands.Undo 4) → ⊥
 undo_wants_none wants = wants
 
-undo_wants_memory : WantsMemory (state_after shown (commands.Edit 3 (edits.Cut (codes "f")))) (commands.Undo 4)
+undo_wants_memory : MayRunOut (state_after shown (commands.Edit 3 (edits.Cut (codes "f")))) (commands.Undo 4)
 undo_wants_memory = tt
 
-undo_of_a_set_wants_none : WantsMemory (state_after shown (commands.Edit 3 (edits.Set (codes "x") (record { op = op.Z; args = []; value = pos 0 })))) (commands.Undo 4) → ⊥
+undo_of_a_set_wants_none : MayRunOut (state_after shown (commands.Edit 3 (edits.Set (codes "x") (record { op = op.Z; args = []; value = pos 0 })))) (commands.Undo 4) → ⊥
 undo_of_a_set_wants_none wants = wants
 
-stray_wants_none : WantsMemory shown (commands.Stray 4) → ⊥
+stray_wants_none : MayRunOut shown (commands.Stray 4) → ⊥
 stray_wants_none wants = wants
 
-cost_wants_none : WantsMemory shown commands.Cost → ⊥
+cost_wants_none : MayRunOut shown commands.Cost → ⊥
 cost_wants_none wants = wants
-
--- an edit writes a line where it is refused, and nothing where it is accepted, and a cost is always told
-refused_edit_writes : WritesSomething shown (commands.Edit 4 (edits.Cut (codes "x")))
-refused_edit_writes = refl
-
-cost_writes : WritesSomething shown commands.Cost
-cost_writes = tt
-
-accepted_edit_writes_nothing : WritesSomething shown (commands.Edit 4 (edits.Cut (codes "f"))) → ⊥
-accepted_edit_writes_nothing writes = let is : false ≡ true = writes in (cc)
-
-undo_writes : WritesSomething shown (commands.Undo 4)
-undo_writes = refl
-
-undo_of_an_edit_writes_nothing : WritesSomething (state_after shown (commands.Edit 3 (edits.Cut (codes "f")))) (commands.Undo 4) → ⊥
-undo_of_an_edit_writes_nothing writes = (cc)
 
 -- what stands after an edit that is accepted
 after_a_cut : (standing shown (commands.Edit 3 (edits.Cut (codes "f")) ∷ commands.Text ∷ [])).clauses ≡ record { name = codes "x"; op = op.X; a = 0; b = 0; value = pos 0 } ∷ []
@@ -576,16 +451,14 @@ stray_and_text = commands.Stray 3 ∷ commands.Text ∷ []
 
 stray_is_passed : HaltsAt (λ (s : List ℕ). Some s) (λ s. 0) [] [] no_counts no_counts shown stray_and_text stop.NoMemory → ⊥
 unfolding digits replayed standing
-stray_is_passed at = by at.earlier at.command at.later at.split at.counts at.halts
+stray_is_passed at = by at.k at.command at.kth at.counts at.halts
   where
-    by : (earlier : List Command) (command : Command) (later : List Command) → stray_and_text ≡ earlier ++ command ∷ later → (counts : Counts)
-        → HaltsIn (λ (s : List ℕ). Some s) (λ s. 0) [] [] counts no_counts (bytes_of_parts (replayed shown earlier)) (standing shown earlier) command stop.NoMemory → ⊥
-    by [] command later split counts halts =
-        let same : commands.Stray 3 ≡ command = cc in subst (WantsMemory shown) (sym same) (halts.wants refl)
-    by (first ∷ earlier) command later split counts halts =
-        let same : commands.Stray 3 ≡ first = cc in
-        let none : [] ≡ bytes_of_parts (replayed shown (commands.Stray 3 ∷ earlier)) =
-        subst (λ command. [] ≡ bytes_of_parts (replayed shown (command ∷ earlier))) (sym same) (halts.unwritten refl) in
+    by : (k : ℕ) (command : Command) → stray_and_text ≡ take k stray_and_text ++ command ∷ drop (k + 1) stray_and_text → (counts : Counts)
+        → RunsOutIn (λ (s : List ℕ). Some s) (λ s. 0) [] [] counts no_counts (bytes_of_parts (replayed shown (take k stray_and_text))) (standing shown (take k stray_and_text)) command → ⊥
+    by zero command kth counts halts =
+        let same : commands.Stray 3 ≡ command = cc in subst (MayRunOut shown) (sym same) halts.may
+    by (suc k) command kth counts halts =
+        let none : [] ≡ bytes_of_parts (replayed shown (commands.Stray 3 ∷ take k (commands.Text ∷ []))) = halts.gained in
         let byte : None ≡ Some 64 = ap (λ s. slice_get s 0) none in
         (cc)
 
@@ -645,11 +518,6 @@ limit_is_read_whole input full = (refl, omega (arith, full))
 above_limit_is_not : (input : List ℕ) → length input ≡ input_limit + 1 → ReadsWhole (λ (s : List ℕ). Some s) input [] → ⊥
 above_limit_is_not input more whole = let few : length input ≤ input_limit = whole.1 in omega (arith, more, few)
 
--- what is forged is known where the source tells nothing
-forging_is_known : WithOutput (λ (s : List ℕ). None) [] (codes "forge" ∷ codes "solids=7" ∷ []) (λ output. output.status ≡ status.Done)
-unfolding digits setting_of
-forging_is_known = refl
-
 -- one disc that is out of sight, of the seed 0: all its clauses are looked at, once
 disc_out_of_sight : output_as (made (Forge (record { seed = 0; solids = 1; view = record (window 1 1 (pos 0)) { x0 = pos 21474836480; x1 = pos 25769803776 } })) [])
     ≡ done (codes "clauses 12\ninside 0\npoints 0\nspans 12\nplain 12\n") 0 12 12
@@ -666,9 +534,9 @@ unfolding replayed
 frames_have_names = refl
 
 -- the notes are told that a script is refused, and why
-script_is_told : Tells (codes "replay" ∷ []) (Some (codes "x var-x\n")) status.BadScript (λ line. line ≡ codes "modeller: script line 0: NoMark\n")
+script_is_told : (output_of (codes "replay" ∷ []) (codes "x var-x\n")).note ≡ codes "modeller: script line 0: NoMark\n"
 unfolding digits
-script_is_told = record { fault = record { line = 0; reason = script.NoMark }; told = refl; given = refl }
+script_is_told = refl
 
 -- a tally rises by the work of some input, and where the words are refused by none
 abbrev risen_by : ℕ → ℕ → ℕ → Counts
@@ -741,10 +609,8 @@ busy = record { bytes = codes "ab"; work = exactly 1 2 3 }
 front_is_left : Halted (λ (s : List ℕ). Some s) (λ s. length s) [] (codes "a") no_counts (risen_by 1 2 8) (busy ∷ []) stop.WriteFault
 unfolding CountsWithin
 front_is_left = record {
-  front = λ is. record { count = 1; within = omega arith; gained = refl };
-  whole = λ is. cc;
-  write_fault = λ is. refl;
-  no_write_fault = λ other. absurd (other refl);
+  failed = λ is. record { gained = record { count = 1; within = omega arith; gained = refl }; fault = refl };
+  no_fault = λ other. absurd (other refl);
   at_most = record { by = risen_by 1 2 8; within = record { points = omega arith; spans = omega arith; corners = omega arith }; rises = refl };
   plain = record { by = 1; few = omega arith; rises = refl };
   grew = record { bytes = codes "a"; gained = refl };
@@ -755,15 +621,14 @@ fault_is_not_written : Written (λ (s : List ℕ). Some s) (λ s. length s) [] (
 fault_is_not_written written = let same : 1 ≡ 0 = written.no_fault in omega (arith, same)
 
 fault_is_not_memory : Halted (λ (s : List ℕ). Some s) (λ s. length s) [] (codes "a") no_counts no_counts (idle (codes "a") ∷ []) stop.NoMemory → ⊥
-fault_is_not_memory halted = let same : 1 ≡ 0 = halted.no_write_fault (λ is. cc) in omega (arith, same)
+fault_is_not_memory halted = let same : 1 ≡ 0 = halted.no_fault (λ is. cc) in omega (arith, same)
 
 other_bytes_are_left : Halted (λ (s : List ℕ). Some s) (λ s. last_count) [] (codes "b") no_counts no_counts (idle (codes "ab") ∷ []) stop.WriteFault → ⊥
-other_bytes_are_left halted =
-    other_bytes_are_no_front (record { front = halted.front refl; whole = λ none. absurd (omega (arith, none.1)) })
+other_bytes_are_left halted = other_bytes_are_no_prefix (halted.failed refl)
 
 -- such a fault is counted once, nothing beyond the work is, and no byte is lost
 fault_is_counted_once : Halted (λ (s : List ℕ). Some s) (λ s. 0) [] (codes "a") no_counts no_counts (idle (codes "a") ∷ []) stop.WriteFault → ⊥
-fault_is_counted_once halted = let rose : 0 ≡ 1 = halted.write_fault refl in omega (arith, rose)
+fault_is_counted_once halted = let rose : 0 ≡ 1 = (halted.failed refl).fault in omega (arith, rose)
 
 more_than_the_work : Halted (λ (s : List ℕ). Some s) (λ s. last_count) [] [] no_counts (risen_by 0 3 0) (busy ∷ []) stop.WriteFault → ⊥
 unfolding CountsWithin
@@ -780,74 +645,62 @@ more_than_plain halted =
 bytes_are_lost : Halted (λ (s : List ℕ). Some s) (λ s. 0) (codes "ab") (codes "a") no_counts no_counts [] stop.NoMemory → ⊥
 bytes_are_lost halted = let same : codes "a" ≡ codes "ab" ++ halted.grew.bytes = halted.grew.gained in (cc)
 
--- a fault of the sink halts no edit that is accepted
-edit_meets_no_fault : HaltsIn (λ (s : List ℕ). Some s) (λ s. last_count) [] [] no_counts no_counts [] shown (commands.Edit 4 (edits.Cut (codes "f"))) stop.WriteFault → ⊥
-edit_meets_no_fault halts = accepted_edit_writes_nothing (halts.writes refl)
+-- a fault of the sink halts no edit that is accepted, since it writes nothing
+edit_meets_no_fault : FailsIn (λ (s : List ℕ). Some s) (λ s. last_count) [] [] no_counts no_counts [] shown (commands.Edit 4 (edits.Cut (codes "f"))) → ⊥
+edit_meets_no_fault fails = let few : fails.gained.count < 0 = fails.gained.within in omega (arith, few)
 
--- under such a fault the image of a frame was counted, and nothing is left but a front of the frame
+-- under such a fault the image of a frame was counted, and nothing is left but a prefix of the frame
 abbrev drawing : Command
 drawing = commands.Render (window 3 1 (pos 0))
 
-uncounted_frame : HaltsIn (λ (s : List ℕ). Some s) (λ s. last_count) [] [] no_counts no_counts [] shown drawing stop.WriteFault → ⊥
+uncounted_frame : FailsIn (λ (s : List ℕ). Some s) (λ s. last_count) [] [] no_counts no_counts [] shown drawing → ⊥
 unfolding CountsWork points_after spans_after chain_within
-uncounted_frame halts =
-    let counts : RisesWithin no_counts no_counts (risen_by 6 2 0) (risen_by 6 2 8) = halts.counted refl in
+uncounted_frame fails =
+    let counts : RisesWithin no_counts no_counts (risen_by 6 2 0) (risen_by 6 2 8) = fails.worked.counted in
     let points : 0 ≡ risen 0 counts.by.points = ap (λ (counts : Counts). counts.points) counts.rises in
     omega (arith, counts.enough.points, points)
 
-bytes_of_no_frame : HaltsIn (λ (s : List ℕ). Some s) (λ s. last_count) [] (codes "b") no_counts no_counts [] shown commands.Text stop.WriteFault → ⊥
-bytes_of_no_frame halts = let front = halts.front refl in by front.count front.gained
+bytes_of_no_frame : FailsIn (λ (s : List ℕ). Some s) (λ s. last_count) [] (codes "b") no_counts no_counts [] shown commands.Text → ⊥
+bytes_of_no_frame fails = by fails.gained.count fails.gained.gained
   where
     by : (count : ℕ) → codes "b" ≡ take count (bytes_of_parts (parts_at shown commands.Text)) → ⊥
     by zero same = (cc)
     by (suc count) same = let byte : 98 ≡ 64 = ap (λ s. slice_index_or s 0 0) same in absurd (omega (arith, byte))
 
--- no fault of the sink halts a script before anything of it is done
-fault_after_nothing : IsUnbegun stop.WriteFault → ⊥
-fault_after_nothing may = may
-
 -- nothing is counted before the first command of a script, whatever ends it there
 abbrev unwritten : List ℕ
 unwritten = []
 
-counted_before_a_script : HaltsReplay (λ (s : List ℕ). Some s) (λ s. 0) unwritten unwritten no_counts (record no_counts { points = 1 }) (codes "x var-x\n%%\n") stop.NoMemory → ⊥
+counted_before_a_script : HaltsScript (λ (s : List ℕ). Some s) (λ s. 0) unwritten unwritten no_counts (record no_counts { points = 1 }) (codes "x var-x\n%%\n") stop.NoMemory → ⊥
 unfolding digits
-counted_before_a_script halts = either (halts (take 1 two) [] refl refl)
-  where
-    none : (earlier : List Command) (command : Command) (later : List Command) → [] ≡ earlier ++ command ∷ later → ⊥
-    none [] command later split = (cc)
-    none (first ∷ earlier) command later split = (cc)
+counted_before_a_script (inl none) = let same : 1 ≡ 0 = ap (λ (counts : Counts). counts.points) none.1 in omega (arith, same)
+counted_before_a_script (inr replay) =
+    let is : ◌≡◌ {A = Result (List Command) ScriptFault} (Ok []) (Ok replay.commands) = replay.script in
+    let none : [] ≡ replay.commands = cc in
+    let some = subst (λ (commands : List Command). commands ≡ take replay.halts.k commands ++ replay.halts.command ∷ drop (replay.halts.k + 1) commands) (sym none) replay.halts.kth in
+    let long : 0 ≡ length {A = Command} (take replay.halts.k []) + length (replay.halts.command ∷ drop (replay.halts.k + 1) []) =
+    ap length some ∙ length-append (take replay.halts.k []) (replay.halts.command ∷ drop (replay.halts.k + 1) []) in
+    omega (arith, long)
 
-    either : (IsUnbegun stop.NoMemory × (unwritten ≡ unwritten) × (record no_counts { points = 1 } ≡ no_counts))
-        ⊎ HaltsAt (λ (s : List ℕ). Some s) (λ s. 0) unwritten unwritten no_counts (record no_counts { points = 1 }) (started (take 1 two)) [] stop.NoMemory → ⊥
-    either (inl counted) = let same : 1 ≡ 0 = ap (λ (counts : Counts). counts.points) counted.2 in omega (arith, same)
-    either (inr at) = none at.earlier at.command at.later at.split
-
--- half a frame is written of no script that wants memory
-half_a_frame : HaltsRun (λ (s : List ℕ). Some s) (λ s. 0) [] (codes "@") no_counts no_counts (codes "replay" ∷ []) (codes "x var-x\n%%\ntext\n") status.NoMemory → ⊥
+-- half a frame is written of no script that runs out of memory
+half_a_frame : HaltsScript (λ (s : List ℕ). Some s) (λ s. 0) [] (codes "@") no_counts no_counts (codes "x var-x\n%%\ntext\n") stop.NoMemory → ⊥
 unfolding digits replayed standing
-half_a_frame run = by run.stop run.is (run.replay refl)
+half_a_frame (inl none) = let same : codes "@" ≡ [] = none.0 in (cc)
+half_a_frame (inr replay) =
+    let is : ◌≡◌ {A = Result (List Command) ScriptFault} (Ok (commands.Text ∷ [])) (Ok replay.commands) = replay.script in
+    let same : commands.Text ∷ [] ≡ replay.commands = cc in
+    by (subst (λ commands. HaltsAt (λ (s : List ℕ). Some s) (λ s. 0) [] (codes "@") no_counts no_counts (started replay.clauses) commands stop.NoMemory) (sym same) replay.halts)
   where
-    at : (earlier : List Command) (command : Command) (later : List Command) → commands.Text ∷ [] ≡ earlier ++ command ∷ later → (counts : Counts)
-        → HaltsIn (λ (s : List ℕ). Some s) (λ s. 0) [] (codes "@") counts no_counts (bytes_of_parts (replayed (started (take 1 two)) earlier)) (standing (started (take 1 two)) earlier) command stop.NoMemory → ⊥
-    at [] command later split counts halts = let none : codes "@" ≡ [] = halts.unwritten refl in (cc)
-    at (first ∷ []) command later split counts halts = (cc)
-    at (first ∷ second ∷ earlier) command later split counts halts = (cc)
+    at : (state : State) (k : ℕ) (command : Command) → commands.Text ∷ [] ≡ take k (commands.Text ∷ []) ++ command ∷ drop (k + 1) (commands.Text ∷ []) → (counts : Counts)
+        → RunsOutIn (λ (s : List ℕ). Some s) (λ s. 0) [] (codes "@") counts no_counts (bytes_of_parts (replayed state (take k (commands.Text ∷ [])))) (standing state (take k (commands.Text ∷ []))) command → ⊥
+    at state zero command kth counts halts = let none : codes "@" ≡ [] = halts.gained in (cc)
+    at state (suc k) command kth counts halts =
+        let long : 1 ≡ suc (length {A = Command} (take k [])) + length (command ∷ drop (suc k + 1) (commands.Text ∷ [])) =
+        ap length kth ∙ length-append (take (suc k) (commands.Text ∷ [])) (command ∷ drop (suc k + 1) (commands.Text ∷ [])) in
+        omega (arith, long)
 
-    by : (why : Stop) → status.NoMemory ≡ status_at why
-        → HaltsReplay (λ (s : List ℕ). Some s) (λ s. 0) [] (codes "@") no_counts no_counts (codes "x var-x\n%%\ntext\n") why → ⊥
-    by (stop.Refused (refusal.Words fault)) is replay = (cc)
-    by (stop.Refused refusal.TooLong) is replay = (cc)
-    by (stop.Refused (refusal.Text fault)) is replay = (cc)
-    by (stop.Refused (refusal.Script fault)) is replay = (cc)
-    by stop.ReadFault is replay = (cc)
-    by stop.WriteFault is replay = (cc)
-    by stop.NoMemory is replay = either (replay (take 1 two) (commands.Text ∷ []) refl refl)
-      where
-        either : (IsUnbegun stop.NoMemory × (codes "@" ≡ []) × (no_counts ≡ no_counts))
-            ⊎ HaltsAt (λ (s : List ℕ). Some s) (λ s. 0) [] (codes "@") no_counts no_counts (started (take 1 two)) (commands.Text ∷ []) stop.NoMemory → ⊥
-        either (inl none) = let same : codes "@" ≡ [] = none.1 in (cc)
-        either (inr halts) = at halts.earlier halts.command halts.later halts.split halts.counts halts.halts
+    by : {state : State} → HaltsAt (λ (s : List ℕ). Some s) (λ s. 0) [] (codes "@") no_counts no_counts state (commands.Text ∷ []) stop.NoMemory → ⊥
+    by {state} halts = at state halts.k halts.command halts.kth halts.counts halts.halts
 
 -- the text of a mesh that is written is told to be sound, and so is that of a frame: of what stands where it comes
 abbrev cells : ℕ → Window

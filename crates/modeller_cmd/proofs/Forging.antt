@@ -3,7 +3,6 @@ use Rattle.std.proofs.Common.{◌≡◌, ℕ, ◌==◌, ◌++◌, length, map, i
 use Rattle.std.specs.Prelude.{codes, count_by, decimal}
 use Rattle.std.specs.List.{flat_map, range_with_len}
 use Rattle.model_frames.specs.Images.{solid_pixels}
-use Rattle.model_frames.specs.Work.{frame_work}
 use Rattle.fixed_ops.specs.Points.{Point}
 use Rattle.fixed_ops.specs.Raw.{is_inside}
 use Rattle.live_clauses.specs.Live.{root_of}
@@ -35,7 +34,7 @@ inside-same view clauses picture inside is values counted =
 
 -- so the lines of these counts are those of the solid
 pub forged-lines : (view : Window) (clauses : List Clause) (count inside : ℕ) (told : List ℕ) → count ≡ length clauses → inside ≡ inside_of view clauses
-    → told ≡ count_text (frame_work view clauses)
+    → told ≡ count_text view clauses
     → codes "clauses " ++ decimal count ++ codes "\ninside " ++ decimal inside ++ codes "\n" ++ told ≡ forge_text view clauses
 forged-lines view clauses count inside told one two three =
     ap (λ n. codes "clauses " ++ decimal n ++ codes "\ninside " ++ decimal inside ++ codes "\n" ++ told) one

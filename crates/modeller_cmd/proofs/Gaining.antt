@@ -4,7 +4,7 @@ use Rattle.std.specs.Prelude.{OnErr, OnOk}
 use Rattle.std.proofs.Math.Seq.{take-append-add}
 use Rattle.std.proofs.lemmas.List.{take-append-le}
 use Rattle.modeller_io.specs.Count.{RoseBy, Stands, raised}
-use Rattle.modeller_io.specs.Held.{Extends, Gains, GainsPrefix, Grew}
+use Rattle.modeller_io.specs.Held.{Extends, Gains, GainsProperPrefix, Grew}
 
 -- a sink that stands grew by no bytes
 pub Extends-none : (a : Option (List ℕ)) → Extends a a []
@@ -21,14 +21,14 @@ Extends-append (Some x) (Some y) (Some z) xs ys p q =
 pub Gains-then : {K : Type 0} (held : K → Option (List ℕ)) (a b c : K) (xs ys : List ℕ) → Gains held a b xs → Gains held b c ys → Gains held a c (xs ++ ys)
 Gains-then held a b c xs ys p q = Extends-append (held a) (held b) (held c) xs ys p q
 
--- a front of bytes after other bytes is a front of all of them, whatever comes behind
-pub GainsPrefix-after : {K : Type 0} (held : K → Option (List ℕ)) (a b c : K) (xs ys zs : List ℕ) → Gains held a b xs → GainsPrefix held b c ys
-    → GainsPrefix held a c (xs ++ (ys ++ zs))
-GainsPrefix-after held a b c xs ys zs first next = record {
+-- a proper prefix of bytes behind other bytes is one of all of them, whatever comes behind
+pub GainsProperPrefix-after : {K : Type 0} (held : K → Option (List ℕ)) (a b c : K) (xs ys zs : List ℕ) → Gains held a b xs → GainsProperPrefix held b c ys
+    → GainsProperPrefix held a c (xs ++ (ys ++ zs))
+GainsProperPrefix-after held a b c xs ys zs first next = record {
   count = length xs + next.count;
   within = omega (arith, next.within, length-append xs (ys ++ zs), length-append ys zs);
   gained = subst (Gains held a c)
-      (sym (take-append-add xs (ys ++ zs) next.count ∙ ap (λ l. xs ++ l) (take-append-le next.count ys zs next.within)))
+      (sym (take-append-add xs (ys ++ zs) next.count ∙ ap (λ l. xs ++ l) (take-append-le next.count ys zs (omega (arith, next.within)))))
       (Gains-then held a b c xs (take next.count ys) first next.gained);
 }
 
@@ -42,8 +42,8 @@ Grew-after held a b c xs first next = record {
 pub Grew-gains : {K : Type 0} (held : K → Option (List ℕ)) (a b : K) (xs : List ℕ) → Gains held a b xs → Grew held a b
 Grew-gains held a b xs gains = record { bytes = xs; gained = gains }
 
-pub Grew-prefix : {K : Type 0} (held : K → Option (List ℕ)) (a b : K) (xs : List ℕ) → GainsPrefix held a b xs → Grew held a b
-Grew-prefix held a b xs front = record { bytes = take front.count xs; gained = front.gained }
+pub Grew-prefix : {K : Type 0} (held : K → Option (List ℕ)) (a b : K) (xs : List ℕ) → GainsProperPrefix held a b xs → Grew held a b
+Grew-prefix held a b xs prefix = record { bytes = take prefix.count xs; gained = prefix.gained }
 
 -- a count that stood and next rose has risen
 pub RoseBy-after : {K : Type 0} (count : K → ℕ) (a b c : K) (n : ℕ) → Stands count a b → RoseBy count b c n → RoseBy count a c n

@@ -4,21 +4,17 @@ use Rattle.std.specs.Prelude.{IsErrAnd}
 use Rattle.std.specs.Io.KnownBytes.{Consumes}
 use Rattle.modeller_io.specs.Count.{RoseBy}
 use Rattle.modeller_io.specs.Took.{LosesAtMost}
-use Rattle.modeller_io.specs.declared.read_end.ReadEnd.{ReadEnd}
-use Rattle.modeller_io.specs.declared.read_end.ReadEnd.TheVariants as end
 use Rattle.view_settings.specs.Words.{job_of}
 use Rattle.view_settings.specs.declared.job.Job.{Job}
 use Rattle.view_settings.specs.declared.word_fault.WordFault.{WordFault}
-use Rattle.modeller_cmd.specs.Asking.{asked, asks_nothing, input_told, reads_nothing}
-use Rattle.modeller_cmd.specs.Endings.{Ends}
+use Rattle.modeller_cmd.specs.Asking.{asked, input_told, reads_nothing}
 use Rattle.modeller_cmd.specs.Output.{input_limit, outcome}
-use Rattle.modeller_cmd.specs.Stops.{stop_of_end}
 use Rattle.modeller_cmd.specs.declared.refusal.Refusal.{Refusal}
 use Rattle.modeller_cmd.specs.declared.refusal.Refusal.TheVariants as refusal
 use Rattle.modeller_cmd.specs.declared.refusal.Refusal.TheVariants.{Words}
 use Rattle.modeller_cmd.specs.declared.stop.Stop.{Stop}
 use Rattle.modeller_cmd.specs.declared.stop.Stop.TheVariants.{Refused}
-use Rattle.modeller_cmd.proofs.Outcomes.{asked_made, made_long, some_all, some_follows}
+use Rattle.modeller_cmd.proofs.Outcomes.{asked_made, made_long}
 
 -- what is so of the input of a job is so of the input of the words that ask for it
 pub told-by-words : {S : Type 0} (rest : S → Option (List ℕ)) (source : S) (a b : Bool) (P : List ℕ → Type 0) → a ≡ b
@@ -42,25 +38,6 @@ pub reads-some : (nothing : Bool) → (nothing ≡ true → ⊥) → nothing ≡
 reads-some true never = absurd (never refl)
 reads-some false never = refl
 
--- what follows from either answer
-pub either-bool : (b : Bool) (P : Type 0) → (b ≡ true → P) → (b ≡ false → P) → P
-either-bool true P so other = so refl
-either-bool false P so other = other refl
-
--- what ends a run whose input could not be read
-pub read-ends : {S T : Type 0} (words : List (List ℕ)) (job : Job) (rest : S → Option (List ℕ)) (source : S) (why : ReadEnd) (r : Result T Stop)
-    → Ok job ≡ asked words → reads_nothing job ≡ asks_nothing words → reads_nothing job ≡ false → IsErrAnd r (λ stop. stop ≡ stop_of_end why)
-    → (why ≡ end.TooLong → IfSome (rest source) (λ bytes. input_limit < length bytes))
-    → IfSome (input_told rest source (asks_nothing words)) (λ bytes. Ends (outcome words bytes) r)
-read-ends {S} {T} words job rest source why (Ok x) asks same reads is long = absurd is
-read-ends {S} {T} words job rest source end.Failed (Err stop) asks same reads is long =
-    some_all (input_told rest source (asks_nothing words)) _ (λ bytes. subst (λ s. Ends {T = T} (outcome words bytes) (Err s)) (sym is) tt)
-read-ends {S} {T} words job rest source end.NoMemory (Err stop) asks same reads is long =
-    some_all (input_told rest source (asks_nothing words)) _ (λ bytes. subst (λ s. Ends {T = T} (outcome words bytes) (Err s)) (sym is) tt)
-read-ends {S} {T} words job rest source end.TooLong (Err stop) asks same reads is long =
-    told-by-source rest source (asks_nothing words) _ (sym same ∙ reads)
-    (some_follows (rest source) _ _ (λ bytes more. subst (λ s. Ends {T = T} (outcome words bytes) (Err s)) (sym is) (too_long_outcome words job bytes asks reads more)) (long refl))
-
 -- a source that stands lost nothing
 consumes_none : (a : Option (List ℕ)) → Consumes a a []
 consumes_none None = tt
@@ -74,11 +51,12 @@ loses_none rest taken source most stands = record {
   counted = stands;
 }
 
-ended : {T : Type 0} (r : Result T Stop) (stop : Stop) → IsErrAnd r (λ e. e ≡ stop) → r ≡ Err stop
-ended (Ok done) stop is = absurd is
-ended (Err e) stop is = ap (λ s. Err s) is
+-- an ending of which only one stop is known is that stop
+pub stopped : {T : Type 0} (r : Result T Stop) (stop : Stop) → IsErrAnd r (λ e. e ≡ stop) → r ≡ Err stop
+stopped (Ok done) stop is = absurd is
+stopped (Err e) stop is = ap (λ s. Err s) is
 
---- a run whose words are refused ends with their refusal
+-- a run whose words are refused ends with their refusal
 pub words-refused : {T : Type 0} (words : List (List ℕ)) (r : Result T Stop) (why : Refusal) → Err why ≡ asked words → IsErrAnd r (λ e. e ≡ Refused why)
     → (P : Result T Stop → Type 0) → ((fault : WordFault) → asked words ≡ Err (Words fault) → P (Err (Refused (Words fault)))) → P r
 words-refused words r why refused ends P so = by (job_of words) refl
@@ -92,4 +70,4 @@ words-refused words r why refused ends P so = by (job_of words) refl
         let asks : asked words ≡ Err (Words fault) = rw is refl in
         let same : Err why ≡ Err (Words fault) = refused ∙ asks in
         let one : why ≡ Words fault = cc in
-        subst P (sym (ended r (Refused why) ends ∙ ap (λ w. Err (Refused w)) one)) (so fault asks)
+        subst P (sym (stopped r (Refused why) ends ∙ ap (λ w. Err (Refused w)) one)) (so fault asks)

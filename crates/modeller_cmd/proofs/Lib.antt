@@ -1,6 +1,7 @@
 mod AtOnce
 mod Bands
 mod Checks
+mod Consequences
 mod Counting
 mod Edits
 mod Examples
@@ -13,6 +14,7 @@ mod NameExamples
 mod Outcomes
 mod ReplayLaws
 mod RunExamples
+mod Running
 mod ShownModels
 mod Soundness
 mod UndoExamples

@@ -1,5 +1,5 @@
 -- What an outcome says of the status, the bytes and the work of a run.
-use Rattle.std.proofs.Common.{◌≡◌, ◌≢◌, ℕ, ◌≤◌, ◌<◌, false, List, [], ◌∷◌, length, nat_lt, Option, Some, None, Result, Ok, Err, IsOk, IfSome, append-nil, refl, sym, ap, subst, ◌∙◌, arith}
+use Rattle.std.proofs.Common.{◌≡◌, ℕ, ◌≤◌, ◌<◌, false, List, [], ◌∷◌, length, nat_lt, Option, Some, None, Result, Ok, Err, IsOk, IfSome, append-nil, refl, sym, ap, subst, ◌∙◌, arith}
 use Rattle.std.specs.Prelude.{OnSome, true}
 use Rattle.std.specs.Io.KnownBytes.{Consumes}
 use Rattle.std.proofs.lemmas.Bool.{le-ltb, lt-ltb}
@@ -17,10 +17,10 @@ use Rattle.solid_model.specs.declared.clause.Clause.{Clause}
 use Rattle.view_settings.specs.declared.job.Job.{Job}
 use Rattle.view_settings.specs.declared.job.Job.TheVariants.{Forge}
 use Rattle.modeller_cmd.specs.Asking.{asked, asks_nothing, reads_nothing}
-use Rattle.modeller_cmd.specs.Endings.{CountsForSome, Ends, IsAnswer, Makes, status_after}
+use Rattle.modeller_cmd.specs.Endings.{CountsForSome}
 use Rattle.modeller_cmd.specs.Output.{input_limit, made, of_forms, of_mesh, of_model, of_solid, outcome, output_as, output_of, text_part}
 use Rattle.model_frames.specs.Frames.{Part}
-use Rattle.modeller_cmd.specs.Parts.{bytes_of_parts, work_of_parts}
+use Rattle.modeller_cmd.specs.Parts.{work_of_parts}
 use Rattle.modeller_cmd.specs.Statuses.{status_of}
 use Rattle.modeller_cmd.specs.Stops.{status_at}
 use Rattle.modeller_cmd.specs.declared.bad_text.BadText.TheVariants as bad
@@ -41,83 +41,12 @@ pub some_all : {X : Type 0} (told : Option X) (Q : X → Type 0) → ((x : X) �
 some_all None Q all = tt
 some_all (Some x) Q all = all x
 
--- an outcome that makes bytes is done, and its parts are these bytes
-pub made_done : (outcome : Result (List Part) Refusal) (P : List ℕ → Type 0) → Makes outcome P
-    → ((output_as outcome).status ≡ status.Done) × P (bytes_of_parts (output_as outcome).parts)
-made_done (Ok parts) P p = (refl, p)
-made_done (Err why) P p = absurd p
-
-pub made_bytes : (outcome : Result (List Part) Refusal) (P : List ℕ → Type 0) → Makes outcome P → P (bytes_of_parts (output_as outcome).parts)
-made_bytes outcome P p = (made_done outcome P p).1
-
 -- an outcome that has parts is done
 pub ok_done : (outcome : Result (List Part) Refusal) → IsOk outcome → (output_as outcome).status ≡ status.Done
 ok_done (Ok parts) p = refl
 ok_done (Err why) p = absurd (grind (arith, p))
 
-refusal_answer : (why : Refusal) → IsAnswer (status_of why) (status_of why)
-refusal_answer (refusal.Words fault) = refl
-refusal_answer refusal.TooLong = refl
-refusal_answer (refusal.Text fault) = refl
-refusal_answer (refusal.Script fault) = refl
-
--- what ends a run is an answer to its output's status
-pub answer_of : {T : Type 0} (outcome : Result (List Part) Refusal) (ending : Result T Stop) → Ends outcome ending
-    → IsAnswer (output_as outcome).status (status_after ending)
-answer_of outcome (Ok done) p = ok_done outcome p
-answer_of outcome (Err (stop.Refused why)) p = subst (λ o. IsAnswer (output_as o).status (status_of why)) (sym p) (refusal_answer why)
-answer_of outcome (Err stop.ReadFault) p = tt
-answer_of outcome (Err stop.WriteFault) p = ok_done outcome p
-answer_of outcome (Err stop.NoMemory) p = tt
-
--- where no fault ends a run, nor want of memory, its status is the output's
-pub status_of_refusal : (outcome : Result (List Part) Refusal) (why : Stop) → Ends {T = Unit {0}} outcome (Err why)
-    → status_at why ≢ status.ReadFault → status_at why ≢ status.WriteFault → status_at why ≢ status.NoMemory
-    → status_at why ≡ (output_as outcome).status
-status_of_refusal outcome (stop.Refused why) p read write memory = ap (λ o. (output_as o).status) (sym p)
-status_of_refusal outcome stop.ReadFault p read write memory = absurd (read refl)
-status_of_refusal outcome stop.WriteFault p read write memory = absurd (write refl)
-status_of_refusal outcome stop.NoMemory p read write memory = absurd (memory refl)
-
-other_status : (why : Refusal) → status_of why ≡ status.WriteFault → ⊥
-other_status (refusal.Words fault) e = grind (arith, e)
-other_status refusal.TooLong e = grind (arith, e)
-other_status (refusal.Text fault) e = grind (arith, e)
-other_status (refusal.Script fault) e = grind (arith, e)
-
--- only a fault of the sink has its status
-pub write_fault_of : (why : Stop) → status_at why ≡ status.WriteFault → why ≡ stop.WriteFault
-write_fault_of (stop.Refused why) e = absurd (other_status why e)
-write_fault_of stop.ReadFault e = absurd (grind (arith, e))
-write_fault_of stop.WriteFault e = refl
-write_fault_of stop.NoMemory e = absurd (grind (arith, e))
-
--- and only a fault of the source has its own
-other_read : (why : Refusal) → status_of why ≡ status.ReadFault → ⊥
-other_read (refusal.Words fault) e = grind (arith, e)
-other_read refusal.TooLong e = grind (arith, e)
-other_read (refusal.Text fault) e = grind (arith, e)
-other_read (refusal.Script fault) e = grind (arith, e)
-
-pub read_fault_of : (why : Stop) → status_at why ≡ status.ReadFault → why ≡ stop.ReadFault
-read_fault_of (stop.Refused why) e = absurd (other_read why e)
-read_fault_of stop.ReadFault e = refl
-read_fault_of stop.WriteFault e = absurd (grind (arith, e))
-read_fault_of stop.NoMemory e = absurd (grind (arith, e))
-
--- only want of memory has its own status, and no stop has that of work that is done
-other_memory : (why : Refusal) → status_of why ≡ status.NoMemory → ⊥
-other_memory (refusal.Words fault) e = grind (arith, e)
-other_memory refusal.TooLong e = grind (arith, e)
-other_memory (refusal.Text fault) e = grind (arith, e)
-other_memory (refusal.Script fault) e = grind (arith, e)
-
-pub no_memory_of : (why : Stop) → status_at why ≡ status.NoMemory → why ≡ stop.NoMemory
-no_memory_of (stop.Refused why) e = absurd (other_memory why e)
-no_memory_of stop.ReadFault e = absurd (grind (arith, e))
-no_memory_of stop.WriteFault e = absurd (grind (arith, e))
-no_memory_of stop.NoMemory e = refl
-
+-- no stop has the status of work that is done
 refusal_not_done : (why : Refusal) → status_of why ≡ status.Done → ⊥
 refusal_not_done (refusal.Words fault) e = grind (arith, e)
 refusal_not_done refusal.TooLong e = grind (arith, e)

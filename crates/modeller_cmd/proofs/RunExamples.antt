@@ -1,16 +1,23 @@
 -- What is so of a run, and what no run does, on runs that were worked out by hand.
-use Rattle.std.proofs.Common.{◌≡◌, ◌+◌, ◌-◌, ◌*◌, ◌/◌, ◌≤◌, min, ℕ, zero, suc, List, ◌∷◌, ◌++◌, [], length, take, Some, None, Ok, Err, ap, refl, arith, ◌∙◌}
+use Rattle.std.proofs.Common.{◌≡◌, ◌+◌, ◌-◌, ◌*◌, ◌/◌, ◌<◌, ◌≤◌, min, ℕ, suc, List, ◌∷◌, ◌++◌, [], length, take, inl, inr, subst, Some, None, Ok, Err, ap, refl, arith, ◌∙◌}
+use Rattle.std.proofs.lemmas.List.{length-take}
 use Rattle.std.specs.Prelude.{codes}
 use Rattle.std.specs.Fmt.{digits}
+use Rattle.clause_reader.specs.declared.text_reason.TextReason.TheVariants as reasons
 use Rattle.view_places.specs.Window.{Window}
 use Rattle.view_settings.specs.Setting.{setting_of}
 use Rattle.fixed_ops.specs.Counts.{Counts, RisesAtMost, RisesWithin, no_counts, risen}
 use Rattle.model_frames.specs.Work.{CountsWithin, CountsWork, PointsRiseAtMost}
 use Rattle.modeller_cmd.specs.Bands.{HasRoom, most_rows}
 use Rattle.modeller_cmd.specs.Execution.{Executed}
-use Rattle.modeller_cmd.specs.Output.{output_of}
-use Rattle.modeller_cmd.specs.Parts.{bytes_of_parts}
-use Rattle.modeller_cmd.specs.Runs.{EndsSo, OfOutput, Run, input_of}
+use Rattle.modeller_cmd.specs.Endings.{TakesLine}
+use Rattle.modeller_cmd.specs.Notes.{refusal_line}
+use Rattle.modeller_cmd.specs.Promises.{IsRun, SourceAfter}
+use Rattle.modeller_cmd.specs.Runs.{OfOutput, Run, input_of}
+use Rattle.modeller_cmd.specs.Statuses.{status_of}
+use Rattle.modeller_cmd.specs.declared.bad_text.BadText.TheVariants as bad
+use Rattle.modeller_cmd.specs.declared.refusal.Refusal.{Refusal}
+use Rattle.modeller_cmd.specs.declared.refusal.Refusal.TheVariants as refusal
 use Rattle.modeller_cmd.specs.declared.status.Status.TheVariants as status
 use Rattle.modeller_cmd.specs.declared.stop.Stop.TheVariants as stop
 use Rattle.view_settings.specs.declared.job.Job.TheVariants as jobs
@@ -39,12 +46,13 @@ narrower_rows view columns rows = ap (λ w. min (65536 / w) view.h) columns ∙ 
 abbrev run : Run (List ℕ) (List ℕ) (List ℕ)
 run = record {
   rest = λ s. Some s;
-  taken = λ s. 0;
+  taken = λ s. 9 - length s;
   read_faults = λ s. 0;
   held = λ s. Some s;
   write_faults = λ s. 0;
   notes_held = λ s. Some s;
   note_faults = λ s. 0;
+  words = codes "text" ∷ [];
   source = codes " x  var-x";
   source_after = [];
   out = codes "a";
@@ -53,7 +61,6 @@ run = record {
   notes_after = codes "b";
   first = no_counts;
   last = no_counts;
-  words = codes "text" ∷ [];
   status = status.Done;
 }
 
@@ -74,125 +81,199 @@ output_of_a_run = refl
 nothing_of_what_is_not_told : OfOutput (record run { rest = λ s. None }) (λ output. ⊥)
 nothing_of_what_is_not_told = tt
 
--- a run that is done has written all of its output, and nothing to the notes
-half_is_written : EndsSo (record run { out_after = codes "ax" }) → ⊥
-half_is_written ends = let same : codes "ax" ≡ codes "ax var-x\n" = (ends.done refl).1 in (cc)
+-- that run keeps every promise
+no_less_no_more : RisesWithin no_counts no_counts no_counts no_counts
+no_less_no_more = record {
+  by = no_counts;
+  enough = record { points = omega arith; spans = omega arith; corners = omega arith };
+  within = record { points = omega arith; spans = omega arith; corners = omega arith };
+  rises = refl;
+}
 
-note_of_what_is_done : EndsSo (record run { notes_after = codes "bc" }) → ⊥
-note_of_what_is_done ends = let same : codes "bc" ≡ codes "b" = ends.silent refl in (cc)
+none_at_most : RisesAtMost no_counts no_counts no_counts
+none_at_most = record { by = no_counts; within = record { points = omega arith; spans = omega arith; corners = omega arith }; rises = refl }
+
+whole_run : IsRun run
+unfolding CountsWork CountsWithin
+whole_run = record {
+  done = λ is. record {
+    output = (refl, refl, no_less_no_more);
+    read = λ asks. (refl, omega arith);
+    silent = refl;
+  };
+  refused = λ is. absurd is;
+  read_fault = λ is. absurd cc;
+  write_fault = λ is. absurd cc;
+  out_of_memory = λ is. absurd cc;
+  always = record {
+    usage = (λ is. cc, λ refused. absurd (grind (arith, refused)));
+    too_long = λ more few. absurd (omega (arith, more));
+    no_read_fault = λ other. refl;
+    no_write_fault = λ other. refl;
+    unasked = λ nothing. cc;
+    lost = record { bytes = codes " x  var-x"; within = omega arith; lost = refl; counted = omega arith };
+    notes = record { by = 0; within = omega arith; rose = refl };
+    at_most = none_at_most;
+    plain = record { by = 0; few = omega arith; rises = refl };
+    grew = record { bytes = codes "x var-x\n"; gained = refl };
+    some = record {
+      input = codes " x  var-x";
+      few = omega arith;
+      work = none_at_most;
+      plain = record { by = 0; few = omega arith; rises = refl };
+    };
+  };
+}
+
+-- a run that is done has written all of its output, and nothing to the notes
+half_is_written : IsRun (record run { out_after = codes "ax" }) → ⊥
+half_is_written is = let same : codes "ax" ≡ codes "ax var-x\n" = (is.done refl).output.1 in (cc)
+
+note_of_what_is_done : IsRun (record run { notes_after = codes "bc" }) → ⊥
+note_of_what_is_done is = let same : codes "bc" ≡ codes "b" = (is.done refl).silent in (cc)
 
 -- it has the status of its output, and reads its source to the end
-words_are_good : EndsSo (record run { status = status.Usage }) → ⊥
-words_are_good ends = let same : status.Done ≡ status.Usage = ends.answer in (cc)
+words_are_good : IsRun (record run { status = status.Usage }) → ⊥
+words_are_good is = let refused = is.always.usage.0 refl in absurd (grind (arith, refused))
 
-source_is_left : EndsSo (record run { source_after = codes "x" }) → ⊥
-source_is_left ends = let none : Some (codes "x") ≡ Some [] = (ends.read refl tt).0 in (cc)
+source_is_left : IsRun (record run { source_after = codes "x" }) → ⊥
+source_is_left is = let none : Some (codes "x") ≡ Some [] = ((is.done refl).read refl).0 in (cc)
 
 -- a fault that was counted ends a run as one, and no other is
-fault_of_the_source : EndsSo (record run { status = status.ReadFault }) → ⊥
-fault_of_the_source ends = let rose : 0 ≡ 1 = ends.read_fault refl in omega (arith, rose)
+fault_of_the_source : IsRun (record run { status = status.ReadFault }) → ⊥
+fault_of_the_source is = let rose : 0 ≡ 1 = (is.read_fault refl).fault in omega (arith, rose)
 
-fault_of_the_sink : EndsSo (record run { status = status.WriteFault }) → ⊥
-fault_of_the_sink ends = let rose : 0 ≡ 1 = ends.write_fault refl in omega (arith, rose)
+fault_of_the_sink : IsRun (record run { status = status.WriteFault }) → ⊥
+fault_of_the_sink is = let rose : 0 ≡ 1 = (is.write_fault refl).fault in omega (arith, rose)
 
-source_failed : EndsSo (record run { read_faults = λ s. length s; source = codes "x"; source_after = codes "xyz" }) → ⊥
-source_failed ends = let stands : 3 ≡ 1 = ends.no_read_fault (λ is. cc) in omega (arith, stands)
+source_failed : IsRun (record run { read_faults = λ s. length s; source = codes "x"; source_after = codes "xyz" }) → ⊥
+source_failed is = let stands : 3 ≡ 1 = is.always.no_read_fault (λ e. cc) in omega (arith, stands)
 
-sink_failed : EndsSo (record run { write_faults = λ s. length s }) → ⊥
-sink_failed ends = let stands : 9 ≡ 1 = ends.no_write_fault (λ is. cc) in omega (arith, stands)
+sink_failed : IsRun (record run { write_faults = λ s. length s }) → ⊥
+sink_failed is = let stands : 9 ≡ 1 = is.always.no_write_fault (λ e. cc) in omega (arith, stands)
+
+-- a sink that failed holds a proper prefix of the output, and not all of it
+abbrev failed : Run (List ℕ) (List ℕ) (List ℕ)
+failed = record run {
+  status = status.WriteFault;
+  write_faults = λ s. length s / 9;
+  notes_after = codes "bmodeller: write fault\n";
+}
+
+all_is_written_of_a_fault : IsRun failed → ⊥
+all_is_written_of_a_fault is = let output = (is.write_fault refl).output in by output.1.count output.1.within output.1.gained
+  where
+    by : (count : ℕ) → count < 8 → codes "ax var-x\n" ≡ codes "a" ++ take count (codes "x var-x\n") → ⊥
+    by count few same =
+        let long : 9 ≡ suc (length (take count (codes "x var-x\n"))) = ap length same in
+        omega (arith, few, long, length-take count (codes "x var-x\n"))
 
 -- an input that is too long took one byte more than 8 MiB
-short_input : EndsSo (record run { status = status.TooLong }) → ⊥
-short_input ends = let rose : 0 ≡ 8388609 = ends.too_long refl in omega (arith, rose)
+short_input : IsRun (record run { status = status.TooLong }) → ⊥
+short_input is = let refused = is.refused tt in by refused.why refused.status refused.source
+  where
+    by : (why : Refusal) → status.TooLong ≡ status_of why → SourceAfter (record run { status = status.TooLong }) why → ⊥
+    by refusal.TooLong same source = let rose : 9 ≡ 8388609 = source in omega (arith, rose)
+    by (refusal.Words fault) same source = (cc)
+    by (refusal.Text bad) same source = (cc)
+    by (refusal.Script fault) same source = (cc)
 
 -- a script alone is refused as one
-bad_script_of_no_script : EndsSo (record run { status = status.BadScript }) → ⊥
-bad_script_of_no_script ends = let asks : Ok jobs.Text ≡ Ok jobs.Replay = ends.script refl in (cc)
+bad_script_of_no_script : IsRun (record run { status = status.BadScript }) → ⊥
+bad_script_of_no_script is = let asks : Ok jobs.Text ≡ Ok jobs.Replay = (is.refused tt).script refl in (cc)
 
 -- words are refused exactly where the run says so
-bad_words_are_told : EndsSo (record run { words = codes "draw" ∷ [] }) → ⊥
-bad_words_are_told ends = let told : status.Done ≡ status.Usage = ends.usage.1 refl in (cc)
+bad_words_are_told : IsRun (record run { words = codes "draw" ∷ [] }) → ⊥
+bad_words_are_told is = let told : status.Done ≡ status.Usage = is.always.usage.1 refl in (cc)
 
 -- the source is left as it was by words that ask for none of it
-source_is_read_for_a_forge : EndsSo (record run { words = codes "forge" ∷ codes "solids=7" ∷ [] }) → ⊥
+source_is_read_for_a_forge : IsRun (record run { words = codes "forge" ∷ codes "solids=7" ∷ [] }) → ⊥
 unfolding digits setting_of
-source_is_read_for_a_forge ends = let same : [] ≡ codes " x  var-x" = (ends.unasked refl).0 in (cc)
+source_is_read_for_a_forge is = let same : [] ≡ codes " x  var-x" = is.always.unasked refl in (cc)
 
 -- and by all others it loses at most one byte more than 8 MiB
 read_past_the_limit : (after : List ℕ) → length after ≡ 8388610
-    → EndsSo (record run { rest = λ s. None; taken = λ s. length s; source = []; source_after = after }) → ⊥
-read_past_the_limit after many ends =
-    let lost = ends.lost (λ e. cc) in
+    → IsRun (record run { rest = λ s. None; taken = λ s. length s; source = []; source_after = after }) → ⊥
+read_past_the_limit after many is =
+    let lost = is.always.lost in
     let few : length lost.bytes ≤ 8388609 = lost.within in
     let rose : length after ≡ risen 0 (length lost.bytes) = lost.counted in
     omega (arith, many, few, rose)
 
 -- where the words are refused nothing is read, and where anything is refused nothing is written or counted
-read_for_bad_words : EndsSo (record run { status = status.Usage; words = codes "draw" ∷ [] }) → ⊥
-read_for_bad_words ends = let same : [] ≡ codes " x  var-x" = ends.unread refl in (cc)
+read_for_bad_words : IsRun (record run { status = status.Usage; words = codes "draw" ∷ [] }) → ⊥
+read_for_bad_words is = let refused = is.refused tt in by refused.why refused.status refused.source
+  where
+    by : (why : Refusal) → status.Usage ≡ status_of why → SourceAfter (record run { status = status.Usage; words = codes "draw" ∷ [] }) why → ⊥
+    by (refusal.Words fault) same source = let left : [] ≡ codes " x  var-x" = source in (cc)
+    by refusal.TooLong same source = (cc)
+    by (refusal.Text bad) same source = (cc)
+    by (refusal.Script fault) same source = (cc)
 
-written_for_a_bad_model : EndsSo (record run { status = status.BadModel; source = codes "x" }) → ⊥
-written_for_a_bad_model ends = let same : codes "ax var-x\n" ≡ codes "a" = ends.unwritten tt in (cc)
+written_for_a_bad_model : IsRun (record run { status = status.BadModel; source = codes "x" }) → ⊥
+written_for_a_bad_model is = let same : codes "ax var-x\n" ≡ codes "a" = (is.refused tt).unwritten in (cc)
 
 abbrev counted : Counts
 counted = record { points = 1; spans = 0; corners = 0 }
 
-counted_for_a_bad_model : EndsSo (record run { status = status.BadModel; last = counted }) → ⊥
-counted_for_a_bad_model ends =
-    let same : 1 ≡ 0 = ap (λ (counts : Counts). counts.points) (ends.uncounted tt) in omega (arith, same)
+counted_for_a_bad_model : IsRun (record run { status = status.BadModel; last = counted }) → ⊥
+counted_for_a_bad_model is =
+    let same : 1 ≡ 0 = ap (λ (counts : Counts). counts.points) (is.refused tt).uncounted in omega (arith, same)
 
 -- where nothing fails no status is told but that of the output
-bad_model_of_a_good_one : EndsSo (record run { status = status.BadModel }) → ⊥
-bad_model_of_a_good_one ends =
-    let same : status.BadModel ≡ status.Done = ends.complete (λ asks. (omega arith, omega arith)) (omega arith, omega arith) (λ e. cc) in (cc)
+bad_model_of_a_good_one : IsRun (record run { status = status.BadModel }) → ⊥
+bad_model_of_a_good_one is = let why = (is.refused tt).outcome in (cc)
 
 -- no byte of the sink is lost, and the notes fail at most once
-lost_bytes : EndsSo (record run { out_after = [] }) → ⊥
-lost_bytes ends = let same : [] ≡ codes "a" ++ ends.gained.bytes = ends.gained.gained in (cc)
+lost_bytes : IsRun (record run { out_after = [] }) → ⊥
+lost_bytes is = let same : [] ≡ codes "a" ++ is.always.grew.bytes = is.always.grew.gained in (cc)
 
-notes_that_recover : EndsSo (record run { note_faults = λ s. 4 - length s; notes_after = codes "bc" }) → ⊥
-notes_that_recover ends = omega (arith, ends.never_falls)
+notes_that_recover : IsRun (record run { note_faults = λ s. 4 - length s; notes_after = codes "bc" }) → ⊥
+notes_that_recover is = omega (arith, is.always.notes.rose)
 
-notes_that_fail_twice : EndsSo (record run { note_faults = λ s. length s; notes_after = codes "bcd" }) → ⊥
-notes_that_fail_twice ends = omega (arith, ends.fails_once.within, ends.fails_once.rose)
+notes_that_fail_twice : IsRun (record run { note_faults = λ s. length s; notes_after = codes "bcd" }) → ⊥
+notes_that_fail_twice is = omega (arith, is.always.notes.within, is.always.notes.rose)
 
--- without memory the sink holds whole parts, and not the half of one
-half_of_a_part : EndsSo (record run { status = status.NoMemory; out_after = codes "ax" }) → ⊥
-half_of_a_part ends = let has = ends.whole refl in by has.count has.within has.gained
-  where
-    by : (count : ℕ) → count ≤ 1 → codes "ax" ≡ codes "a" ++ bytes_of_parts (take count (output_of (codes "text" ∷ []) (codes " x  var-x")).parts) → ⊥
-    by zero few gained = let same : codes "ax" ≡ codes "a" = gained in (cc)
-    by (suc zero) few gained = let same : codes "ax" ≡ codes "ax var-x\n" = gained in (cc)
-    by (suc (suc count)) few gained = absurd (omega (arith, few))
+-- without memory the sink holds nothing of a text
+part_without_memory : IsRun (record run { status = status.NoMemory; out_after = codes "ax" }) → ⊥
+part_without_memory is = let same : codes "ax" ≡ codes "a" = (is.out_of_memory refl).unwritten (λ replays. cc) in (cc)
 
 -- a model that is refused is told in the notes
-bad_model_is_not_told : EndsSo (record run { source = codes "x"; out_after = codes "a"; status = status.BadModel }) → ⊥
+abbrev no_operation : Refusal
+no_operation = refusal.Text (bad.Model (record { line = 1; reason = reasons.NoOperation }))
+
+bad_model_is_not_told : IsRun (record run { source = codes "x"; out_after = codes "a"; status = status.BadModel }) → ⊥
 unfolding digits
-bad_model_is_not_told ends =
-    let takes = ends.noted refl (λ e. cc) in
-    let told : codes "b" ≡ codes "bmodeller: line 1: NoOperation\n" = takes.whole (omega arith, omega arith) in
-    (cc)
+bad_model_is_not_told is =
+    let refused = is.refused tt in
+    let because : Err no_operation ≡ Err refused.why = refused.outcome in
+    let same : refused.why ≡ no_operation = cc in
+    by (subst (λ why. TakesLine (λ (s : List ℕ). Some s) (λ s. 0) (codes "b") (codes "b") (refusal_line why)) same refused.line)
+  where
+    by : TakesLine (λ (s : List ℕ). Some s) (λ s. 0) (codes "b") (codes "b") (codes "modeller: line 1: NoOperation\n") → ⊥
+    by (inl whole) = let told : codes "b" ≡ codes "bmodeller: line 1: NoOperation\n" = whole.0 in (cc)
+    by (inr failed) = let rose : 0 ≡ 1 = failed.fault in omega (arith, rose)
 
 -- what was done is counted between the least and the most of its work, which is none
-counted_for_no_work : EndsSo (record run { last = counted }) → ⊥
+counted_for_no_work : IsRun (record run { last = counted }) → ⊥
 unfolding CountsWork
-counted_for_no_work ends =
-    let work : RisesWithin no_counts counted no_counts no_counts = ends.counted tt in
+counted_for_no_work is =
+    let work : RisesWithin no_counts counted no_counts no_counts = (is.done refl).output.2 in
     let points : 1 ≡ risen 0 work.by.points = ap (λ (counts : Counts). counts.points) work.rises in
     omega (arith, work.within.points, points)
 
 -- no more is counted than the work, which is none
-more_than_no_work : EndsSo (record run { last = counted }) → ⊥
+more_than_no_work : IsRun (record run { last = counted }) → ⊥
 unfolding CountsWithin
-more_than_no_work ends =
-    let work : RisesAtMost no_counts counted no_counts = ends.work in
+more_than_no_work is =
+    let work : RisesAtMost no_counts counted no_counts = is.always.at_most in
     let points : 1 ≡ risen 0 work.by.points = ap (λ (counts : Counts). counts.points) work.rises in
     omega (arith, work.within.points, points)
 
 -- nor than evaluating all clauses at all samples, of which a text has none
-more_than_plain_evaluation : EndsSo (record run { last = counted }) → ⊥
-more_than_plain_evaluation ends =
-    let work : PointsRiseAtMost no_counts counted 0 = ends.plain in
+more_than_plain_evaluation : IsRun (record run { last = counted }) → ⊥
+more_than_plain_evaluation is =
+    let work : PointsRiseAtMost no_counts counted 0 = is.always.plain in
     let points : 1 ≡ risen 0 work.by = work.rises in
     omega (arith, work.few, points)
 

@@ -2,7 +2,9 @@
 use Rattle.std.proofs.Common.{◌≡◌, ℕ, ◌≤◌, Bool, true, false, List, [], ◌∷◌, ◌++◌, length, append-nil, Result, Ok, Err, refl, ap, sym, subst, ◌∙◌, arith}
 use Rattle.std.specs.Prelude.{All, IfOk, nat_lt}
 use Rattle.std.proofs.lemmas.Bool.{ltb-false}
+use Rattle.clause_reader.specs.ModelText.{model_text}
 use Rattle.clause_reader.specs.Reading.{text_read}
+use Rattle.clause_reader.specs.ReadingLaws.{ReadingIsExact, RefusingIsExact}
 use Rattle.contour_frames.specs.ClosedTexts.{ContourTextsAreClosed, IsClosedText}
 use Rattle.contour_frames.specs.Contours.{contour_part, contour_text}
 use Rattle.edit_script.specs.Commands.{MayBeDrawn}
@@ -14,14 +16,17 @@ use Rattle.edit_script.specs.declared.command.Command.TheVariants as commands
 use Rattle.edit_session.specs.Sessions.{started}
 use Rattle.model_frames.specs.Meshes.{mesh_text}
 use Rattle.model_frames.specs.SoundTexts.{IsSoundText, MeshTextsAreSound}
+use Rattle.solid_lang.specs.Compiled.{compiled}
+use Rattle.solid_lang.specs.Judged.{fault_at}
 use Rattle.solid_lang.specs.Reading.{SolidReads}
 use Rattle.solid_lang.specs.Solids.{SolidTree}
 use Rattle.solid_lang.specs.Translated.{translated}
-use Rattle.solid_lang.specs.TranslationLaws.{SaysValuesOf, TranslationsKeepValues}
+use Rattle.solid_lang.specs.TranslationLaws.{RefusalsStand, SaysValuesOf, SolidsAreTranslated, TranslationsKeepValues}
 use Rattle.solid_lang.specs.declared.solid_fault.SolidFault.{SolidFault}
 use Rattle.view_settings.specs.Verbs.{IsJob}
 use Rattle.view_settings.specs.declared.job.Job.{Job}
 use Rattle.view_settings.specs.declared.job.Job.TheVariants.{Contour, Mesh, Replay, Solid}
+use Rattle.modeller_cmd.specs.Answers.{SolidsAreCompiled, SolidsAreRefused}
 use Rattle.modeller_cmd.specs.Asking.{asked}
 use Rattle.view_places.specs.Window.{Window}
 use Rattle.solid_model.specs.declared.clause.Clause.{Clause}
@@ -29,6 +34,9 @@ use Rattle.modeller_cmd.specs.Output.{input_limit, made, of_forms, of_solid, out
 use Rattle.model_frames.specs.Frames.{Part, frame_part}
 use Rattle.modeller_cmd.specs.Parts.{bytes_of_parts}
 use Rattle.modeller_cmd.specs.Replays.{framed, replayed, standing, state_after}
+use Rattle.modeller_cmd.specs.Checks.{ChecksAreExact}
+use Rattle.modeller_cmd.specs.Laws.{Laws}
+use Rattle.modeller_cmd.specs.ShownModels.{ModelsAreShown}
 use Rattle.modeller_cmd.specs.SoundTexts.{ContoursAreClosed, HasSoundFrame, MeshFramesAreSound, MeshesAreSound, SolidsKeepValues}
 use Rattle.model_frames.specs.declared.frame.Frame.TheVariants as frames
 use Rattle.modeller_cmd.specs.declared.refusal.Refusal.{Refusal}
@@ -52,7 +60,7 @@ few_of input solid makes done = by (nat_lt input_limit (length input)) refl
     by true is = let refused = rw is at done in absurd (grind (arith, refused))
     by false is = ltb-false input_limit (length input) is
 
-pub run_is_sound : (words : List (List ℕ)) (input : List ℕ) (r : Result Job Refusal) → r ≡ asked words → IfOk r IsJob → MeshTextsAreSound
+run_is_sound : (words : List (List ℕ)) (input : List ℕ) (r : Result Job Refusal) → r ≡ asked words → IfOk r IsJob → MeshTextsAreSound
     → MeshesAreSound words input
 run_is_sound words input r is keeps texts view clauses asks reads done =
     let job = job_kept r (Mesh view) (is ∙ asks) keeps in
@@ -64,7 +72,7 @@ run_is_sound words input r is keeps texts view clauses asks reads done =
     subst (IsSoundText view clauses) (sym bytes) (texts view clauses job.0 job.1)
 
 -- and so it is of the paths of a contour
-pub run_is_closed : (words : List (List ℕ)) (input : List ℕ) (r : Result Job Refusal) → r ≡ asked words → IfOk r IsJob → ContourTextsAreClosed
+run_is_closed : (words : List (List ℕ)) (input : List ℕ) (r : Result Job Refusal) → r ≡ asked words → IfOk r IsJob → ContourTextsAreClosed
     → ContoursAreClosed words input
 run_is_closed words input r is keeps texts view clauses asks reads done =
     let job = job_kept r (Contour view) (is ∙ asks) keeps in
@@ -93,11 +101,26 @@ run_keeps input solid texts reads done = by (nat_lt input_limit (length input)) 
     by true is = let refused = rw is at done in absurd (grind (arith, refused))
     by false is = written (ltb-false input_limit (length input) is) (translated input) refl
 
-pub run_keeps_values : (words : List (List ℕ)) (input : List ℕ) → TranslationsKeepValues → SolidsKeepValues words input
+run_keeps_values : (words : List (List ℕ)) (input : List ℕ) → TranslationsKeepValues → SolidsKeepValues words input
 run_keeps_values words input texts solid asks reads done =
     let made_of = outcome_of words input Solid asks in
     subst (λ o. SaysValuesOf solid (bytes_of_parts (output_as o).parts)) (sym made_of)
     (run_keeps input solid texts reads (ap (λ o. (output_as o).status) (sym made_of) ∙ done))
+
+-- a solid becomes the model that it compiles to, or is refused
+run_compiles : (words : List (List ℕ)) (input : List ℕ) → SolidsAreTranslated → SolidsAreCompiled words input
+run_compiles words input texts solid asks few reads small =
+    let text = model_text (compiled solid) in
+    let is = outcome_of words input Solid asks ∙ forms_translated input text few (texts input solid reads small) in
+    record {
+      done = ap (λ o. (output_as o).status) is;
+      written = ap (λ o. bytes_of_parts (output_as o).parts) is ∙ append-nil text;
+    }
+
+run_refuses : (words : List (List ℕ)) (input : List ℕ) → RefusalsStand → SolidsAreRefused words input
+run_refuses words input refusals line reason asks few refuses =
+    let is = outcome_of words input Solid asks ∙ forms_refused input (fault_at line reason) few (refusals input line reason refuses) in
+    record { refused = ap (λ o. (output_as o).status) is; note = ap (λ o. (output_as o).note) is }
 
 -- what the commands of a script write for a mesh is the frame of the text of a sound one
 script_frames : (clauses : List Clause) (before after : List Command) (view : Window) (input : List ℕ) → MeshTextsAreSound → length input ≤ input_limit
@@ -119,10 +142,29 @@ script_frames clauses before after view input texts few reads says keeps =
     }
 
 -- so it is of every run
-pub frames_are_sound : (words : List (List ℕ)) (input : List ℕ) → MeshTextsAreSound → DrawsMayBeDrawn → MeshFramesAreSound words input
+frames_are_sound : (words : List (List ℕ)) (input : List ℕ) → MeshTextsAreSound → DrawsMayBeDrawn → MeshFramesAreSound words input
 frames_are_sound words input texts draws clauses before after view replays reads says done =
     let made_of = outcome_of words input Replay replays in
     let finished = ap (λ o. (output_as o).status) (sym made_of) ∙ done in
     let few = few_of input (before_mark input) (λ solid. parts_replayed solid (script_read input)) finished in
     subst (HasSoundFrame view (standing (started clauses) before).clauses (replayed (started clauses) before)) (ap (λ o. (output_as o).parts) (sym made_of))
     (script_frames clauses before after view input texts few reads says (draws input))
+
+-- all that is so of the output of these words
+pub laws_of : (words : List (List ℕ)) (input : List ℕ) (r : Result Job Refusal) → r ≡ asked words → IfOk r IsJob → ReadingIsExact → RefusingIsExact → MeshTextsAreSound → ContourTextsAreClosed
+    → SolidsAreTranslated → RefusalsStand → TranslationsKeepValues → DrawsMayBeDrawn → ChecksAreExact → ModelsAreShown → Laws words input
+laws_of words input r is keeps reading refusing meshes contours translated refused values draws checks shown = record {
+  reading = reading;
+  refusing = refusing;
+  sound = run_is_sound words input r is keeps meshes;
+  sound_frames = frames_are_sound words input meshes draws;
+  closed = run_is_closed words input r is keeps contours;
+  compiled = run_compiles words input translated;
+  values = run_keeps_values words input values;
+  refused_solids = run_refuses words input refused;
+  verdicts = checks.verdicts words input;
+  passes = checks.passes words input;
+  refused_meshes = checks.refused words input;
+  frames = shown.frames words input;
+  undos = shown.undos words input;
+}

@@ -1,29 +1,23 @@
 -- What waits while commands are played, and which command a fault of the sink halts.
-use Rattle.std.proofs.Common.{◌≡◌, ◌⊎◌, ℕ, ◌+◌, ◌-◌, ◌<◌, ◌≤◌, List, [], ◌∷◌, ◌++◌, length, take, Option, inl, inr, Result, Ok, Err, refl, sym, ap, subst, ◌∙◌, append_assoc, append-nil, length-append, arith}
-use Rattle.std.specs.Prelude.{IfErr, IsErr, OnOk, ⊤}
-use Rattle.std.proofs.Math.Seq.{take-append-add, take-append_seam}
+use Rattle.std.proofs.Common.{◌≡◌, ◌⊎◌, ℕ, ◌+◌, ◌-◌, ◌<◌, ◌≤◌, List, [], ◌∷◌, ◌++◌, length, take, drop, Option, inl, inr, Result, Ok, Err, refl, sym, ap, subst, ◌∙◌, append_assoc, append-nil, length-append, arith}
+use Rattle.std.specs.Prelude.{IfErr, OnOk, ⊤}
+use Rattle.std.proofs.Math.Seq.{drop-append-add, take-append-add, take-append_seam}
 use Rattle.std.proofs.lemmas.Bool.{cases_lt}
 use Rattle.std.proofs.lemmas.List.{take-append-le}
 use Rattle.edit_script.specs.declared.command.Command.{Command}
-use Rattle.edit_script.specs.declared.command.Command.TheVariants as commands
 use Rattle.edit_session.specs.Sessions.{State}
 use Rattle.fixed_ops.specs.Counts.{Counts}
-use Rattle.clause_reader.specs.Reading.{on_result}
 use Rattle.model_frames.specs.Frames.{Part}
 use Rattle.model_frames.specs.Laws.{FramesAddUp}
 use Rattle.model_frames.specs.Work.{CountsWithin, CountsWork, PointsRiseAtMost, both, no_work}
 use Rattle.modeller_io.specs.Count.{Stands}
-use Rattle.modeller_io.specs.Held.{Gains, GainsPrefix, Grew}
-use Rattle.solid_model.specs.Edits.{edited}
-use Rattle.solid_model.specs.declared.clause.Clause.{Clause}
-use Rattle.solid_model.specs.declared.edit.Edit.{Edit}
-use Rattle.solid_model.specs.declared.edit.EditFault.{EditFault as Fault}
+use Rattle.modeller_io.specs.Held.{Gains, GainsProperPrefix}
 use Rattle.modeller_cmd.specs.Endings.{IsHalt}
-use Rattle.modeller_cmd.specs.Halting.{HaltsAt, HaltsIn, WantsMemory, WritesSomething}
+use Rattle.modeller_cmd.specs.Halting.{HaltsAt, HaltsIn, MayRunOut}
 use Rattle.modeller_cmd.specs.Parts.{bytes_of_parts, work_of_parts}
-use Rattle.modeller_cmd.specs.Pending.{FailsIn, HaltsPlay, IsPlayed, WaitsOrSent}
-use Rattle.modeller_cmd.specs.Replays.{parts_at, refusal, replayed, standing, state_after, undo_parts}
-use Rattle.modeller_cmd.specs.Writing.{Halted, Written}
+use Rattle.modeller_cmd.specs.Pending.{HaltsPlay, IsPlayed, WaitsOrSent}
+use Rattle.modeller_cmd.specs.Replays.{parts_at, replayed, standing, state_after}
+use Rattle.modeller_cmd.specs.Writing.{FailsToSend, Halted, Worked, Written}
 use Rattle.modeller_cmd.specs.declared.stop.Stop.{Stop}
 use Rattle.modeller_cmd.specs.declared.stop.Stop.TheVariants as stop
 use Rattle.modeller_cmd.proofs.Gaining.{Extends-none, Gains-then, Grew-gains, RoseBy-after}
@@ -57,28 +51,7 @@ idle-work state (x ∷ xs) idle =
 idle-behind : (ps qs : List Part) → work_of_parts qs ≡ no_work → work_of_parts (ps ++ qs) ≡ work_of_parts ps
 idle-behind ps qs none = work-append ps qs ∙ ap (both (work_of_parts ps)) none ∙ both-none (work_of_parts ps)
 
--- a command that writes some bytes writes something
-some-bytes : (state : State) (command : Command) → 0 < length (bytes_of_parts (parts_at state command)) → WritesSomething state command
-some-bytes state (commands.Edit line edit) some = by (edited state.clauses edit) refl
-  where
-    by : (r : Result (List Clause) Fault) → edited state.clauses edit ≡ r → IsErr (edited state.clauses edit)
-    by (Ok new) is =
-        let more : 0 < length (bytes_of_parts []) = subst (λ (given : Result (List Clause) Fault). 0 < length (bytes_of_parts (on_result given (λ new. []) (λ fault. refusal line fault ∷ [])))) is some in
-        absurd (omega (arith, more))
-    by (Err fault) is = rw is refl
-some-bytes state (commands.Undo line) some = by state.undo some
-  where
-    by : (edits : List Edit) → 0 < length (bytes_of_parts (undo_parts line edits)) → edits ≡ []
-    by [] more = refl
-    by (last ∷ others) more = absurd (omega (arith, more))
-some-bytes state (commands.Stray line) some = tt
-some-bytes state (commands.Render view) some = tt
-some-bytes state (commands.Height view) some = tt
-some-bytes state (commands.Mesh view) some = tt
-some-bytes state commands.Text some = tt
-some-bytes state commands.Cost some = tt
-
--- The command in whose bytes so many of those of idle commands end: it writes something, and neither it nor those
+-- The command in whose bytes so many of those of idle commands end, of which some are left: neither it nor those
 -- before it take work.
 pub record Place (state : State) (commands : List Command) (count : ℕ) : Type 0 where
   pub earlier : List Command
@@ -86,10 +59,9 @@ pub record Place (state : State) (commands : List Command) (count : ℕ) : Type 
   pub later : List Command
   pub split : commands ≡ earlier ++ command ∷ later
   pub over : ℕ
-  pub within : over ≤ length (bytes_of_parts (parts_at (standing state earlier) command))
+  pub within : over < length (bytes_of_parts (parts_at (standing state earlier) command))
   pub front : take count (bytes_of_parts (replayed state commands))
       ≡ bytes_of_parts (replayed state earlier) ++ take over (bytes_of_parts (parts_at (standing state earlier) command))
-  pub writes : WritesSomething (standing state earlier) command
   pub before : Idle state earlier
   pub none : work_of_parts (parts_at (standing state earlier) command) ≡ no_work
 
@@ -111,16 +83,15 @@ place-behind state x xs count none place =
           ∙ ap (λ front. bytes ++ front) place.front
           ∙ sym (append_assoc bytes (bytes_of_parts (replayed (state_after state x) place.earlier)) (take place.over (bytes_of_parts (parts_at (standing (state_after state x) place.earlier) place.command))))
           ∙ ap (λ front. front ++ take place.over (bytes_of_parts (parts_at (standing (state_after state x) place.earlier) place.command))) (sym (bytes-append (parts_at state x) (replayed (state_after state x) place.earlier)));
-      writes = place.writes;
       before = (none, place.before);
       none = place.none;
     }
 
 -- the place in the first command
 place-here : (state : State) (x : Command) (xs : List Command) (count : ℕ) → work_of_parts (parts_at state x) ≡ no_work
-    → 0 < length (bytes_of_parts (parts_at state x)) → count ≤ length (bytes_of_parts (parts_at state x)) → Place state (x ∷ xs) count
+    → count < length (bytes_of_parts (parts_at state x)) → Place state (x ∷ xs) count
 unfolding replayed standing
-place-here state x xs count none some within = record {
+place-here state x xs count none within = record {
   earlier = [];
   command = x;
   later = xs;
@@ -128,36 +99,28 @@ place-here state x xs count none some within = record {
   over = count;
   within = within;
   front = ap (take count) (bytes-append (parts_at state x) (replayed (state_after state x) xs))
-      ∙ take-append-le count (bytes_of_parts (parts_at state x)) (bytes_of_parts (replayed (state_after state x) xs)) within;
-  writes = some-bytes state x some;
+      ∙ take-append-le count (bytes_of_parts (parts_at state x)) (bytes_of_parts (replayed (state_after state x) xs)) (omega (arith, within));
   before = tt;
   none = none;
 }
 
--- some bytes of idle commands end in one of these
-pub placed : (state : State) (xs : List Command) (count : ℕ) → Idle state xs → 0 < length (bytes_of_parts (replayed state xs))
-    → count ≤ length (bytes_of_parts (replayed state xs)) → Place state xs count
+-- some bytes of idle commands, but not all, end in one of these
+pub placed : (state : State) (xs : List Command) (count : ℕ) → Idle state xs → count < length (bytes_of_parts (replayed state xs)) → Place state xs count
 unfolding replayed
-placed state [] count idle some within = absurd (omega (arith, some))
-placed state (x ∷ xs) count idle some within =
-    by (λ n. placed (state_after state x) xs n idle.1) (cases_lt 0 (length (bytes_of_parts (parts_at state x)))) (cases_lt (length (bytes_of_parts (parts_at state x))) count)
+placed state [] count idle within = absurd (omega (arith, within))
+placed state (x ∷ xs) count idle within =
+    by (λ n. placed (state_after state x) xs n idle.1) (cases_lt count (length (bytes_of_parts (parts_at state x))))
   where
     both-long : length (bytes_of_parts (parts_at state x ++ replayed (state_after state x) xs)) ≡ length (bytes_of_parts (parts_at state x)) + length (bytes_of_parts (replayed (state_after state x) xs))
     both-long = ap length (bytes-append (parts_at state x) (replayed (state_after state x) xs)) ∙ length-append (bytes_of_parts (parts_at state x)) (bytes_of_parts (replayed (state_after state x) xs))
 
-    behind : ((n : ℕ) → 0 < length (bytes_of_parts (replayed (state_after state x) xs)) → n ≤ length (bytes_of_parts (replayed (state_after state x) xs)) → Place (state_after state x) xs n)
-        → length (bytes_of_parts (parts_at state x)) ≤ count → 0 < length (bytes_of_parts (replayed (state_after state x) xs)) → Place state (x ∷ xs) count
-    behind next past more =
+    by : ((n : ℕ) → n < length (bytes_of_parts (replayed (state_after state x) xs)) → Place (state_after state x) xs n)
+        → (count < length (bytes_of_parts (parts_at state x))) ⊎ (length (bytes_of_parts (parts_at state x)) ≤ count) → Place state (x ∷ xs) count
+    by next (inl here) = place-here state x xs count idle.0 here
+    by next (inr past) =
         let n = count - length (bytes_of_parts (parts_at state x)) in
         let left : length (bytes_of_parts (parts_at state x)) + n ≡ count = omega (arith, past) in
-        subst (Place state (x ∷ xs)) left (place-behind state x xs n idle.0 (next n more (omega (arith, past, within, both-long))))
-
-    by : ((n : ℕ) → 0 < length (bytes_of_parts (replayed (state_after state x) xs)) → n ≤ length (bytes_of_parts (replayed (state_after state x) xs)) → Place (state_after state x) xs n)
-        → (0 < length (bytes_of_parts (parts_at state x))) ⊎ (length (bytes_of_parts (parts_at state x)) ≤ 0)
-        → (length (bytes_of_parts (parts_at state x)) < count) ⊎ (count ≤ length (bytes_of_parts (parts_at state x))) → Place state (x ∷ xs) count
-    by next (inl has) (inr here) = place-here state x xs count idle.0 has here
-    by next (inl has) (inl past) = behind next (omega (arith, past)) (omega (arith, past, within, both-long))
-    by next (inr none) past = behind next (omega (arith, none)) (omega (arith, none, some, both-long))
+        subst (Place state (x ∷ xs)) left (place-behind state x xs n idle.0 (next n (omega (arith, past, within, both-long))))
 
 -- Of some commands the first were replayed and what they write was written, what those behind them write waits, and
 -- the others are left.
@@ -173,23 +136,56 @@ pub record Passed {K : Type 0} (held : K → Option (List ℕ)) (faults : K → 
 -- bytes behind those that a sink took before
 pub halts-behind : {K : Type 0} (held : K → Option (List ℕ)) (faults : K → ℕ) (a b c : K) (s t : Counts) (xs ys : List ℕ) (state : State) (command : Command) (why : Stop)
     → Gains held a b xs → Stands faults a b → HaltsIn held faults b c s t ys state command why → HaltsIn held faults a c s t (xs ++ ys) state command why
-halts-behind held faults a b c s t xs ys state command why gained stands halts = record {
-  halt = halts.halt;
-  unwritten = λ is. Gains-then held a b c xs ys gained (halts.unwritten is);
-  front = λ is. let beyond = halts.front is in record {
-    count = beyond.count;
-    within = beyond.within;
-    gained = subst (Gains held a c) (sym (append_assoc xs ys (take beyond.count (bytes_of_parts (parts_at state command)))))
-        (Gains-then held a b c xs (ys ++ take beyond.count (bytes_of_parts (parts_at state command))) gained beyond.gained);
+halts-behind held faults a b c s t xs ys state command stop.WriteFault gained stands halts = record {
+  gained = record {
+    count = halts.gained.count;
+    within = halts.gained.within;
+    gained = subst (Gains held a c) (sym (append_assoc xs ys (take halts.gained.count (bytes_of_parts (parts_at state command)))))
+        (Gains-then held a b c xs (ys ++ take halts.gained.count (bytes_of_parts (parts_at state command))) gained halts.gained.gained);
   };
-  wants = halts.wants;
-  writes = halts.writes;
-  counted = halts.counted;
+  fault = RoseBy-after faults a b c 1 stands halts.fault;
+  worked = halts.worked;
+}
+halts-behind held faults a b c s t xs ys state command stop.NoMemory gained stands halts = record {
+  may = halts.may;
+  gained = Gains-then held a b c xs ys gained halts.gained;
+  no_fault = halts.no_fault ∙ stands;
   at_most = halts.at_most;
   plain = halts.plain;
-  write_fault = λ is. RoseBy-after faults a b c 1 stands (halts.write_fault is);
-  no_write_fault = λ is. halts.no_write_fault is ∙ stands;
 }
+halts-behind held faults a b c s t xs ys state command stop.ReadFault gained stands halts = absurd halts
+halts-behind held faults a b c s t xs ys state command (stop.Refused why) gained stands halts = absurd halts
+
+-- what halts a command is a fault of the sink, or a lack of memory
+halts-is : {K : Type 0} (held : K → Option (List ℕ)) (faults : K → ℕ) (a b : K) (s t : Counts) (bytes : List ℕ) (state : State) (command : Command) (why : Stop)
+    → HaltsIn held faults a b s t bytes state command why → IsHalt why
+halts-is held faults a b s t bytes state command stop.WriteFault halts = tt
+halts-is held faults a b s t bytes state command stop.NoMemory halts = tt
+halts-is held faults a b s t bytes state command stop.ReadFault halts = absurd halts
+halts-is held faults a b s t bytes state command (stop.Refused why) halts = absurd halts
+
+pub halts-at-is : {K : Type 0} (held : K → Option (List ℕ)) (faults : K → ℕ) (before after : K) (first last : Counts) (state : State) (commands : List Command) (why : Stop)
+    → HaltsAt held faults before after first last state commands why → IsHalt why
+halts-at-is held faults before after first last state commands why at =
+    halts-is held faults before after at.counts last (bytes_of_parts (replayed state (take at.k commands))) (standing state (take at.k commands)) at.command why at.halts
+
+-- the command between some and others is the one of the number of the former
+halts-between : {K : Type 0} (held : K → Option (List ℕ)) (faults : K → ℕ) (before after : K) (first counts last : Counts) (state : State) (commands earlier later : List Command) (command : Command) (why : Stop)
+    → commands ≡ earlier ++ command ∷ later → Worked first counts (work_of_parts (replayed state earlier))
+    → HaltsIn held faults before after counts last (bytes_of_parts (replayed state earlier)) (standing state earlier) command why
+    → HaltsAt held faults before after first last state commands why
+halts-between held faults before after first counts last state commands earlier later command why is worked halts =
+    let k = length earlier in
+    let start : earlier ≡ take k commands = sym (ap (take k) is ∙ take-append_seam earlier (command ∷ later)) in
+    let rest : later ≡ drop (k + 1) commands = sym (ap (drop (k + 1)) is ∙ drop-append-add earlier (command ∷ later) 1) in
+    record {
+      k = k;
+      command = command;
+      kth = is ∙ ap (λ xs. xs ++ command ∷ later) start ∙ ap (λ xs. take k commands ++ command ∷ xs) rest;
+      counts = counts;
+      worked = subst (λ xs. Worked first counts (work_of_parts (replayed state xs))) start worked;
+      halts = subst (λ xs. HaltsIn held faults before after counts last (bytes_of_parts (replayed state xs)) (standing state xs) command why) start halts;
+    }
 
 module _ (frames : FramesAddUp) {K : Type 0} (held : K → Option (List ℕ)) (faults : K → ℕ) (before : K) (first : Counts) (opened : State) (commands : List Command) where
   -- before the first command
@@ -265,43 +261,34 @@ module _ (frames : FramesAddUp) {K : Type 0} (held : K → Option (List ℕ)) (f
         let parts : sent ++ quiet ≡ replayed opened (so_far.sent ++ idle) = sym (replayed-append opened so_far.sent idle) in
         let work : work_of_parts sent ≡ work_of_parts (replayed opened (so_far.sent ++ idle)) = sym (idle-behind sent quiet (idle-work shown idle none)) ∙ ap work_of_parts parts in
         let bytes : bytes_of_parts sent ++ bytes_of_parts quiet ≡ bytes_of_parts (replayed opened (so_far.sent ++ idle)) = sym (bytes-append sent quiet) ∙ ap bytes_of_parts parts in
-        record {
-          earlier = so_far.sent ++ idle;
-          command = command;
-          later = later;
-          split = split;
-          counts = last;
-          worked = record {
-            counted = subst (CountsWork first last) work so_far.written.counted;
-            at_most = subst (CountsWithin first last) work so_far.written.at_most;
-            plain = subst (λ w. PointsRiseAtMost first last w.plain) work so_far.written.plain;
-          };
-          halts = subst (λ all. HaltsIn held faults before next last then all (standing opened (so_far.sent ++ idle)) command why) bytes
-              (subst (λ state. HaltsIn held faults before next last then (bytes_of_parts sent ++ bytes_of_parts quiet) state command why) (sym (standing-append opened so_far.sent idle))
-              (halts-behind held faults before after next last then (bytes_of_parts sent) (bytes_of_parts quiet) (standing shown idle) command why so_far.written.gained so_far.written.no_fault halts));
-        }
+        halts-between held faults before next first last then opened commands (so_far.sent ++ idle) later command why split
+        (record {
+          counted = subst (CountsWork first last) work so_far.written.counted;
+          at_most = subst (CountsWithin first last) work so_far.written.at_most;
+          plain = subst (λ w. PointsRiseAtMost first last w.plain) work so_far.written.plain;
+        })
+        (subst (λ all. HaltsIn held faults before next last then all (standing opened (so_far.sent ++ idle)) command why) bytes
+        (subst (λ state. HaltsIn held faults before next last then (bytes_of_parts sent ++ bytes_of_parts quiet) state command why) (sym (standing-append opened so_far.sent idle))
+        (halts-behind held faults before after next last then (bytes_of_parts sent) (bytes_of_parts quiet) (standing shown idle) command why so_far.written.gained so_far.written.no_fault halts)))
 
     -- a fault of the sink when what waited is written halts one of the commands that write it
-    pub halts-waiting : FailsIn held faults after next waited → then ≡ last → HaltsAt held faults before next first then opened commands stop.WriteFault
+    pub halts-waiting : FailsToSend held faults after next waited → then ≡ last → HaltsAt held faults before next first then opened commands stop.WriteFault
     halts-waiting fails still =
-        let front = subst (GainsPrefix held after next) so_far.bytes fails.front in
-        let place = placed shown so_far.waiting front.count so_far.idle (subst (λ bytes. 0 < length bytes) so_far.bytes fails.some) front.within in
+        let prefix = subst (GainsProperPrefix held after next) so_far.bytes fails.gained in
+        let place = placed shown so_far.waiting prefix.count so_far.idle prefix.within in
         let split = so_far.parts
         ∙ ap (λ waiting. (so_far.sent ++ waiting) ++ left) place.split
         ∙ ap (λ commands. commands ++ left) (sym (append_assoc so_far.sent place.earlier (place.command ∷ place.later)))
         ∙ append_assoc (so_far.sent ++ place.earlier) (place.command ∷ place.later) left in
         halts-at place.earlier place.command (place.later ++ left) stop.WriteFault split place.before
         (subst (λ counts. HaltsIn held faults after next last counts (bytes_of_parts (replayed shown place.earlier)) (standing shown place.earlier) place.command stop.WriteFault) (sym still) (record {
-          halt = tt;
-          unwritten = λ is. cc;
-          front = λ _. record { count = place.over; within = place.within; gained = subst (Gains held after next) place.front front.gained };
-          wants = λ is. cc;
-          writes = λ _. place.writes;
-          counted = λ _. subst (CountsWork last last) (sym place.none) (frames.none last);
-          at_most = frames.within_none last (work_of_parts (parts_at (standing shown place.earlier) place.command));
-          plain = frames.plain_none last (work_of_parts (parts_at (standing shown place.earlier) place.command)).plain;
-          write_fault = λ _. fails.fault;
-          no_write_fault = λ other. absurd (other refl);
+          gained = record { count = place.over; within = place.within; gained = subst (Gains held after next) place.front prefix.gained };
+          fault = fails.fault;
+          worked = record {
+            counted = subst (CountsWork last last) (sym place.none) (frames.none last);
+            at_most = frames.within_none last (work_of_parts (parts_at (standing shown place.earlier) place.command));
+            plain = frames.plain_none last (work_of_parts (parts_at (standing shown place.earlier) place.command)).plain;
+          };
         }))
 
     -- and something may halt the next command
@@ -355,38 +342,22 @@ pub halted-at : (frames : FramesAddUp) {K : Type 0} (held : K → Option (List �
     → HaltsAt held faults before after first last state commands why → Halted held faults before after first last (replayed state commands) why
 halted-at frames held faults before after first last state commands why at =
     subst (λ parts. Halted held faults before after first last parts why)
-    (sym (ap (replayed state) at.split ∙ replayed-between state at.earlier at.command at.later)) (record {
-      front = λ is. let beyond = at.halts.front is in record {
-        count = length (bytes_of_parts ps) + beyond.count;
-        within = omega (arith, beyond.within, ap length three ∙ length-append (bytes_of_parts ps) (bytes_of_parts qs ++ bytes_of_parts rs), length-append (bytes_of_parts qs) (bytes_of_parts rs));
-        gained = subst (Gains held before after) (sym (ap (take (length (bytes_of_parts ps) + beyond.count)) three
-            ∙ take-append-add (bytes_of_parts ps) (bytes_of_parts qs ++ bytes_of_parts rs) beyond.count
-            ∙ ap (λ front. bytes_of_parts ps ++ front) (take-append-le beyond.count (bytes_of_parts qs) (bytes_of_parts rs) beyond.within))) beyond.gained;
-      };
-      whole = λ is. record {
-        count = length ps;
-        within = omega (arith, length-append ps (qs ++ rs));
-        gained = subst (Gains held before after) (ap bytes_of_parts (sym first-parts)) (at.halts.unwritten is);
-      };
-      write_fault = at.halts.write_fault;
-      no_write_fault = at.halts.no_write_fault;
-      at_most = subst (CountsWithin first last) (sym work)
-          (frames.within_sum first at.counts last (work_of_parts ps) (both (work_of_parts qs) (work_of_parts rs)) at.worked.at_most
-          (frames.within_more at.counts last (work_of_parts qs) (work_of_parts rs) at.halts.at_most));
-      plain = subst (λ w. PointsRiseAtMost first last w.plain) (sym work)
-          (frames.plain_sum first at.counts last (work_of_parts ps).plain (both (work_of_parts qs) (work_of_parts rs)).plain at.worked.plain
-          (frames.plain_more at.counts last (work_of_parts qs).plain (work_of_parts rs).plain at.halts.plain));
-      grew = grown why refl at.halts.halt;
-    })
+    (sym (ap (replayed state) at.kth ∙ replayed-between state earlier at.command later)) (by why at.halts)
   where
+    earlier : List Command
+    earlier = take at.k commands
+
+    later : List Command
+    later = drop (at.k + 1) commands
+
     ps : List Part
-    ps = replayed state at.earlier
+    ps = replayed state earlier
 
     qs : List Part
-    qs = parts_at (standing state at.earlier) at.command
+    qs = parts_at (standing state earlier) at.command
 
     rs : List Part
-    rs = replayed (state_after (standing state at.earlier) at.command) at.later
+    rs = replayed (state_after (standing state earlier) at.command) later
 
     three : bytes_of_parts (ps ++ (qs ++ rs)) ≡ bytes_of_parts ps ++ (bytes_of_parts qs ++ bytes_of_parts rs)
     three = bytes-append ps (qs ++ rs) ∙ ap (λ bytes. bytes_of_parts ps ++ bytes) (bytes-append qs rs)
@@ -394,15 +365,43 @@ halted-at frames held faults before after first last state commands why at =
     work : work_of_parts (ps ++ (qs ++ rs)) ≡ both (work_of_parts ps) (both (work_of_parts qs) (work_of_parts rs))
     work = work-append ps (qs ++ rs) ∙ ap (both (work_of_parts ps)) (work-append qs rs)
 
-    first-parts : take (length ps) (ps ++ (qs ++ rs)) ≡ ps
-    first-parts = take-append_seam ps (qs ++ rs)
+    few : CountsWithin at.counts last (work_of_parts qs) → CountsWithin first last (work_of_parts (ps ++ (qs ++ rs)))
+    few within = subst (CountsWithin first last) (sym work)
+        (frames.within_sum first at.counts last (work_of_parts ps) (both (work_of_parts qs) (work_of_parts rs)) at.worked.at_most
+        (frames.within_more at.counts last (work_of_parts qs) (work_of_parts rs) within))
 
-    grown : (stopped : Stop) → why ≡ stopped → IsHalt stopped → Grew held before after
-    grown stop.WriteFault is halt = let beyond = at.halts.front is in
-        Grew-gains held before after (bytes_of_parts ps ++ take beyond.count (bytes_of_parts qs)) beyond.gained
-    grown stop.NoMemory is halt = Grew-gains held before after (bytes_of_parts ps) (at.halts.unwritten is)
-    grown stop.ReadFault is halt = absurd halt
-    grown (stop.Refused refusal) is halt = absurd halt
+    plainly : PointsRiseAtMost at.counts last (work_of_parts qs).plain → PointsRiseAtMost first last (work_of_parts (ps ++ (qs ++ rs))).plain
+    plainly within = subst (λ w. PointsRiseAtMost first last w.plain) (sym work)
+        (frames.plain_sum first at.counts last (work_of_parts ps).plain (both (work_of_parts qs) (work_of_parts rs)).plain at.worked.plain
+        (frames.plain_more at.counts last (work_of_parts qs).plain (work_of_parts rs).plain within))
+
+    by : (halt : Stop) → HaltsIn held faults before after at.counts last (bytes_of_parts ps) (standing state earlier) at.command halt
+        → Halted held faults before after first last (ps ++ (qs ++ rs)) halt
+    by stop.WriteFault halts = record {
+      failed = λ is. record {
+        gained = record {
+          count = length (bytes_of_parts ps) + halts.gained.count;
+          within = omega (arith, halts.gained.within, ap length three ∙ length-append (bytes_of_parts ps) (bytes_of_parts qs ++ bytes_of_parts rs), length-append (bytes_of_parts qs) (bytes_of_parts rs));
+          gained = subst (Gains held before after) (sym (ap (take (length (bytes_of_parts ps) + halts.gained.count)) three
+              ∙ take-append-add (bytes_of_parts ps) (bytes_of_parts qs ++ bytes_of_parts rs) halts.gained.count
+              ∙ ap (λ prefix. bytes_of_parts ps ++ prefix) (take-append-le halts.gained.count (bytes_of_parts qs) (bytes_of_parts rs) (omega (arith, halts.gained.within))))) halts.gained.gained;
+        };
+        fault = halts.fault;
+      };
+      no_fault = λ other. absurd (other refl);
+      at_most = few halts.worked.at_most;
+      plain = plainly halts.worked.plain;
+      grew = Grew-gains held before after (bytes_of_parts ps ++ take halts.gained.count (bytes_of_parts qs)) halts.gained.gained;
+    }
+    by stop.NoMemory halts = record {
+      failed = λ is. cc;
+      no_fault = λ other. halts.no_fault;
+      at_most = few halts.at_most;
+      plain = plainly halts.plain;
+      grew = Grew-gains held before after (bytes_of_parts ps) halts.gained;
+    }
+    by stop.ReadFault halts = absurd halts
+    by (stop.Refused refusal) halts = absurd halts
 
 -- a command that draws no frame was played, or halted
 module _ (frames : FramesAddUp) {K T : Type 0} (held : K → Option (List ℕ)) (faults : K → ℕ) (before after : K) (counts : Counts) (lines : List ℕ) (state : State) (command : Command) (r : Result T Stop)
@@ -416,27 +415,22 @@ module _ (frames : FramesAddUp) {K T : Type 0} (held : K → Option (List ℕ)) 
       by (Ok x) said unsent = inl (record { sink = unsent; counts = refl; idle = none; bytes = said })
       by (Err why) said unsent = tt
 
-  pub quiet-halts : IfErr r IsHalt → (r ≡ Err stop.WriteFault → FailsIn held faults before after lines) → (r ≡ Err stop.NoMemory → Gains held before after lines)
-      → (r ≡ Err stop.NoMemory → Stands faults before after) → (r ≡ Err stop.NoMemory → WantsMemory state command)
+  pub quiet-halts : IfErr r IsHalt → (r ≡ Err stop.WriteFault → FailsToSend held faults before after lines) → (r ≡ Err stop.NoMemory → Gains held before after lines)
+      → (r ≡ Err stop.NoMemory → Stands faults before after) → (r ≡ Err stop.NoMemory → MayRunOut state command)
       → IfErr r (HaltsPlay held faults before after counts counts lines state command)
   quiet-halts = by r
     where
-      by : (r : Result T Stop) → IfErr r IsHalt → (r ≡ Err stop.WriteFault → FailsIn held faults before after lines) → (r ≡ Err stop.NoMemory → Gains held before after lines)
-          → (r ≡ Err stop.NoMemory → Stands faults before after) → (r ≡ Err stop.NoMemory → WantsMemory state command)
+      by : (r : Result T Stop) → IfErr r IsHalt → (r ≡ Err stop.WriteFault → FailsToSend held faults before after lines) → (r ≡ Err stop.NoMemory → Gains held before after lines)
+          → (r ≡ Err stop.NoMemory → Stands faults before after) → (r ≡ Err stop.NoMemory → MayRunOut state command)
           → IfErr r (HaltsPlay held faults before after counts counts lines state command)
       by (Ok x) halt failed sent stands wants = tt
       by (Err stop.WriteFault) halt failed sent stands wants = inl (refl, refl, failed refl)
-      by (Err stop.NoMemory) halt failed sent stands wants = inr (record {
-        halt = tt;
-        unwritten = λ is. sent refl;
-        front = λ is. cc;
-        wants = λ is. wants refl;
-        writes = λ is. cc;
-        counted = λ is. cc;
+      by (Err stop.NoMemory) halt failed sent stands may = inr (record {
+        may = may refl;
+        gained = sent refl;
+        no_fault = stands refl;
         at_most = frames.within_none counts (work_of_parts (parts_at state command));
         plain = frames.plain_none counts (work_of_parts (parts_at state command)).plain;
-        write_fault = λ is. cc;
-        no_write_fault = λ is. stands refl;
       })
       by (Err stop.ReadFault) halt failed sent stands wants = absurd halt
       by (Err (stop.Refused refusal)) halt failed sent stands wants = absurd halt
@@ -450,37 +444,36 @@ module _ {K T : Type 0} (held : K → Option (List ℕ)) (faults : K → ℕ) (b
       by (Ok x) written = inr (record { unwaited = none; emptied = none; written = written })
       by (Err why) written = tt
 
-  pub frame-halts : (state : State) (command : Command) → WantsMemory state command → WritesSomething state command → IfErr r IsHalt
+  pub frame-halts : (state : State) (command : Command) → MayRunOut state command → IfErr r IsHalt
       → IfErr r (Halted held faults before after first last (parts_at state command)) → (r ≡ Err stop.NoMemory → after ≡ before)
       → (r ≡ Err stop.WriteFault → CountsWork first last (work_of_parts (parts_at state command)))
       → IfErr r (HaltsPlay held faults before after first last lines state command)
-  frame-halts state command wants writes = by r
+  frame-halts state command may = by r
     where
-      at : (why : Stop) → IsHalt why → Halted held faults before after first last (parts_at state command) why → (why ≡ stop.NoMemory → after ≡ before)
-          → (why ≡ stop.WriteFault → CountsWork first last (work_of_parts (parts_at state command)))
-          → HaltsPlay held faults before after first last lines state command why
-      at why halt halted unwritten counted = inr (record {
-        halt = halt;
-        unwritten = λ is. subst (Gains held before after) (sym none) (subst (λ k. Gains held before k []) (sym (unwritten is)) (Extends-none (held before)));
-        front = λ is. let front = halted.front is in record {
-          count = front.count;
-          within = front.within;
-          gained = subst (λ bytes. Gains held before after (bytes ++ take front.count (bytes_of_parts (parts_at state command)))) (sym none) front.gained;
-        };
-        wants = λ is. wants;
-        writes = λ is. writes;
-        counted = counted;
-        at_most = halted.at_most;
-        plain = halted.plain;
-        write_fault = halted.write_fault;
-        no_write_fault = halted.no_write_fault;
-      })
-
       by : (r : Result T Stop) → IfErr r IsHalt → IfErr r (Halted held faults before after first last (parts_at state command)) → (r ≡ Err stop.NoMemory → after ≡ before)
           → (r ≡ Err stop.WriteFault → CountsWork first last (work_of_parts (parts_at state command)))
           → IfErr r (HaltsPlay held faults before after first last lines state command)
       by (Ok x) halt halted unwritten counted = tt
-      by (Err why) halt halted unwritten counted = at why halt halted (λ is. unwritten (ap (λ why. Err why) is)) (λ is. counted (ap (λ why. Err why) is))
+      by (Err stop.WriteFault) halt halted unwritten counted =
+          let failed = halted.failed refl in
+          inr (record {
+            gained = record {
+              count = failed.gained.count;
+              within = failed.gained.within;
+              gained = subst (λ bytes. Gains held before after (bytes ++ take failed.gained.count (bytes_of_parts (parts_at state command)))) (sym none) failed.gained.gained;
+            };
+            fault = failed.fault;
+            worked = record { counted = counted refl; at_most = halted.at_most; plain = halted.plain };
+          })
+      by (Err stop.NoMemory) halt halted unwritten counted = inr (record {
+        may = may;
+        gained = subst (Gains held before after) (sym none) (subst (λ k. Gains held before k []) (sym (unwritten refl)) (Extends-none (held before)));
+        no_fault = halted.no_fault (λ is. cc);
+        at_most = halted.at_most;
+        plain = halted.plain;
+      })
+      by (Err stop.ReadFault) halt halted unwritten counted = absurd halt
+      by (Err (stop.Refused refusal)) halt halted unwritten counted = absurd halt
 
 -- what is so of a command is so where it is told
 pub at-command : (P : Command → Type 0) (command told : Command) → command ≡ told → P told → P command

@@ -1,5 +1,5 @@
 -- What waits to be written, and where a script is halted, worked out by hand.
-use Rattle.std.proofs.Common.{◌≡◌, ℕ, zero, suc, pos, negsuc, inl, inr, List, [], ◌∷◌, ◌++◌, length, take, Option, Some, refl, sym, ap, subst, arith}
+use Rattle.std.proofs.Common.{◌≡◌, ◌+◌, ◌<◌, ◌∙◌, drop, length-append, ℕ, zero, suc, pos, negsuc, inl, inr, List, [], ◌∷◌, ◌++◌, length, take, Option, Some, refl, sym, ap, subst, arith}
 use Rattle.std.specs.Prelude.{codes, slice_index_or}
 use Rattle.std.specs.Fmt.{digits}
 use Rattle.edit_script.specs.declared.command.Command.{Command}
@@ -11,11 +11,11 @@ use Rattle.model_frames.specs.Frames.{Part}
 use Rattle.model_frames.specs.Work.{CountsWithin, CountsWork, Work, exactly, no_work}
 use Rattle.solid_model.specs.declared.edit.Edit.TheVariants as edits
 use Rattle.view_places.specs.Window.{Window}
-use Rattle.modeller_cmd.specs.Halting.{HaltsAt, HaltsIn}
+use Rattle.modeller_cmd.specs.Halting.{FailsIn, HaltsAt, HaltsIn, RunsOutIn}
 use Rattle.modeller_cmd.specs.Parts.{bytes_of_parts, work_of_parts}
-use Rattle.modeller_cmd.specs.Pending.{Draws, FailsIn, GoesOut, HaltsPlay, IsPlayed, Waits, WaitsOrSent}
+use Rattle.modeller_cmd.specs.Pending.{Draws, GoesOut, HaltsPlay, IsPlayed, Waits, WaitsOrSent}
 use Rattle.modeller_cmd.specs.Replays.{parts_at, replayed, standing}
-use Rattle.modeller_cmd.specs.Writing.{GainsBeyond, Worked}
+use Rattle.modeller_cmd.specs.Writing.{FailsToSend, GainsBeyond, Worked}
 use Rattle.modeller_cmd.specs.declared.stop.Stop.TheVariants as stop
 
 -- a sink that is what it holds, of which no call fails, and one with a fault for each of its bytes
@@ -101,18 +101,18 @@ sent_with_a_fault : WaitsOrSent told each [] (codes "b") (codes "b") [] → ⊥
 sent_with_a_fault (inl waits) = let same : codes "b" ≡ [] = waits.0 in (cc)
 sent_with_a_fault (inr sent) = let same : 1 ≡ 0 = sent.1 in omega (arith, same)
 
--- a sink fails in some bytes: it takes a front of them, and counts one fault
-fails_behind_a_byte : FailsIn told each [] (codes "a") (codes "ab")
-fails_behind_a_byte = record { some = omega arith; front = record { count = 1; within = omega arith; gained = refl }; fault = refl }
+-- a sink fails in some bytes: it takes a proper prefix of them, and counts one fault
+fails_behind_a_byte : FailsToSend told each [] (codes "a") (codes "ab")
+fails_behind_a_byte = record { gained = record { count = 1; within = omega arith; gained = refl }; fault = refl }
 
-fails_in_nothing : FailsIn told each [] (codes "a") [] → ⊥
-fails_in_nothing fails = absurd (omega (arith, fails.some))
+fails_in_nothing : FailsToSend told each [] (codes "a") [] → ⊥
+fails_in_nothing fails = let few : fails.gained.count < 0 = fails.gained.within in omega (arith, few)
 
-fails_twice : FailsIn told each [] (codes "ab") (codes "abc") → ⊥
+fails_twice : FailsToSend told each [] (codes "ab") (codes "abc") → ⊥
 fails_twice fails = let twice : 2 ≡ 1 = fails.fault in omega (arith, twice)
 
-fails_behind_another : FailsIn told each [] (codes "b") (codes "ab") → ⊥
-fails_behind_another fails = by fails.front.count fails.front.gained
+fails_behind_another : FailsToSend told each [] (codes "b") (codes "ab") → ⊥
+fails_behind_another fails = by fails.gained.count fails.gained.gained
   where
     by : (count : ℕ) → codes "b" ≡ take count (codes "ab") → ⊥
     by zero same = (cc)
@@ -174,15 +174,22 @@ played_before_what_waits : IsPlayed told none [] (codes "b") no_counts no_counts
 played_before_what_waits (inl waits) = let same : codes "b" ≡ [] = waits.sink in (cc)
 played_before_what_waits (inr goes) = let same : codes "a" ≡ [] = goes.unwaited in (cc)
 
--- all of some bytes and a front of others
-front_beyond : GainsBeyond told [] (codes "abc") (codes "ab") (codes "cd")
-front_beyond = record { count = 1; within = omega arith; gained = refl }
+-- all of some bytes and a proper prefix of others
+prefix_beyond : GainsBeyond told [] (codes "abc") (codes "ab") (codes "cd")
+prefix_beyond = record { count = 1; within = omega arith; gained = refl }
 
-all_beyond : GainsBeyond told (codes "x") (codes "xab") (codes "a") (codes "b")
-all_beyond = record { count = 1; within = omega arith; gained = refl }
+none_beyond : GainsBeyond told (codes "x") (codes "xa") (codes "a") (codes "b")
+none_beyond = record { count = 0; within = omega arith; gained = refl }
 
-front_is_short : GainsBeyond told [] (codes "a") (codes "ab") (codes "c") → ⊥
-front_is_short beyond = let same : codes "a" ≡ codes "ab" ++ take beyond.count (codes "c") = beyond.gained in (cc)
+all_beyond : GainsBeyond told [] (codes "ab") (codes "a") (codes "b") → ⊥
+all_beyond beyond = by beyond.count beyond.within beyond.gained
+  where
+    by : (count : ℕ) → count < 1 → codes "ab" ≡ codes "a" ++ take count (codes "b") → ⊥
+    by zero few same = (cc)
+    by (suc count) few same = absurd (omega (arith, few))
+
+prefix_is_short : GainsBeyond told [] (codes "a") (codes "ab") (codes "c") → ⊥
+prefix_is_short beyond = let same : codes "a" ≡ codes "ab" ++ take beyond.count (codes "c") = beyond.gained in (cc)
 
 -- work is counted: no less, no more than its bound, and no more evaluations than plain ones
 work_is_counted : Worked no_counts (counts_of 1 2 8) (exactly 1 2 3)
@@ -217,16 +224,11 @@ more_than_plain worked =
     let points : 4 ≡ risen 0 worked.plain.by = worked.plain.rises in
     omega (arith, worked.plain.few, points)
 
--- Under a fault in a text the sink has taken what stands before it and a front of it, and nothing was counted.
-halts_in_a_text : HaltsIn told each [] (codes "@") no_counts no_counts [] shown commands.Text stop.WriteFault
-unfolding digits CountsWork CountsWithin
-halts_in_a_text = record {
-  halt = tt;
-  unwritten = λ is. cc;
-  front = λ is. record { count = 1; within = omega arith; gained = refl };
-  wants = λ is. tt;
-  writes = λ is. tt;
-  counted = λ is. record {
+-- Under a fault in a text the sink has taken what stands before it and a proper prefix of it, and nothing was counted.
+abbrev unevaluated : Worked no_counts no_counts no_work
+unfolding CountsWork CountsWithin
+unevaluated = record {
+  counted = record {
     by = no_counts;
     enough = record { points = omega arith; spans = omega arith; corners = omega arith };
     within = record { points = omega arith; spans = omega arith; corners = omega arith };
@@ -234,52 +236,52 @@ halts_in_a_text = record {
   };
   at_most = record { by = no_counts; within = record { points = omega arith; spans = omega arith; corners = omega arith }; rises = refl };
   plain = record { by = 0; few = omega arith; rises = refl };
-  write_fault = λ is. refl;
-  no_write_fault = λ other. absurd (other refl);
 }
 
--- for want of memory it has what stands before it, and no fault
+halts_in_a_text : HaltsIn told each [] (codes "@") no_counts no_counts [] shown commands.Text stop.WriteFault
+unfolding digits
+halts_in_a_text = record {
+  gained = record { count = 1; within = omega arith; gained = refl };
+  fault = refl;
+  worked = unevaluated;
+}
+
+-- for lack of memory it has what stands before it, and no fault
 halts_before_a_text : HaltsIn told none [] (codes "ab") no_counts no_counts (codes "ab") shown commands.Text stop.NoMemory
 unfolding digits CountsWithin
 halts_before_a_text = record {
-  halt = tt;
-  unwritten = λ is. refl;
-  front = λ is. cc;
-  wants = λ is. tt;
-  writes = λ is. tt;
-  counted = λ is. cc;
+  may = tt;
+  gained = refl;
+  no_fault = refl;
   at_most = record { by = no_counts; within = record { points = omega arith; spans = omega arith; corners = omega arith }; rises = refl };
   plain = record { by = 0; few = omega arith; rises = refl };
-  write_fault = λ is. cc;
-  no_write_fault = λ other. refl;
 }
 
-lines_before_are_lost : HaltsIn told none [] [] no_counts no_counts (codes "ab") shown commands.Text stop.NoMemory → ⊥
-lines_before_are_lost halts = let same : [] ≡ codes "ab" = halts.unwritten refl in (cc)
+lines_before_are_lost : RunsOutIn told none [] [] no_counts no_counts (codes "ab") shown commands.Text → ⊥
+lines_before_are_lost halts = let same : [] ≡ codes "ab" = halts.gained in (cc)
 
-lines_before_are_cut : HaltsIn told each [] (codes "a") no_counts no_counts (codes "ab") shown commands.Text stop.WriteFault → ⊥
+lines_before_are_cut : FailsIn told each [] (codes "a") no_counts no_counts (codes "ab") shown commands.Text → ⊥
 lines_before_are_cut halts =
-    let front = halts.front refl in
-    let same : codes "a" ≡ codes "ab" ++ take front.count (bytes_of_parts (parts_at shown commands.Text)) = front.gained in
+    let same : codes "a" ≡ codes "ab" ++ take halts.gained.count (bytes_of_parts (parts_at shown commands.Text)) = halts.gained.gained in
     (cc)
 
 read_fault_halts_none : HaltsIn told none [] [] no_counts no_counts [] shown commands.Text stop.ReadFault → ⊥
-read_fault_halts_none halts = halts.halt
+read_fault_halts_none halts = halts
 
-fault_is_not_counted : HaltsIn told none [] [] no_counts no_counts [] shown commands.Text stop.WriteFault → ⊥
-fault_is_not_counted halts = let rose : 0 ≡ 1 = halts.write_fault refl in omega (arith, rose)
+fault_is_not_counted : FailsIn told none [] [] no_counts no_counts [] shown commands.Text → ⊥
+fault_is_not_counted halts = let rose : 0 ≡ 1 = halts.fault in omega (arith, rose)
 
-memory_is_a_fault : HaltsIn told each [] (codes "a") no_counts no_counts (codes "a") shown commands.Text stop.NoMemory → ⊥
-memory_is_a_fault halts = let same : 1 ≡ 0 = halts.no_write_fault (λ is. cc) in omega (arith, same)
+memory_is_a_fault : RunsOutIn told each [] (codes "a") no_counts no_counts (codes "a") shown commands.Text → ⊥
+memory_is_a_fault halts = let same : 1 ≡ 0 = halts.no_fault in omega (arith, same)
 
-text_takes_steps : HaltsIn told none [] [] no_counts (counts_of 0 1 0) [] shown commands.Text stop.NoMemory → ⊥
+text_takes_steps : RunsOutIn told none [] [] no_counts (counts_of 0 1 0) [] shown commands.Text → ⊥
 unfolding CountsWithin
 text_takes_steps halts =
     let work : RisesAtMost no_counts (counts_of 0 1 0) no_counts = halts.at_most in
     let spans : 1 ≡ risen 0 work.by.spans = ap (λ (counts : Counts). counts.spans) work.rises in
     omega (arith, work.within.spans, spans)
 
-text_takes_evaluations : HaltsIn told none [] [] no_counts (counts_of 1 0 0) [] shown commands.Text stop.NoMemory → ⊥
+text_takes_evaluations : RunsOutIn told none [] [] no_counts (counts_of 1 0 0) [] shown commands.Text → ⊥
 text_takes_evaluations halts =
     let points : 1 ≡ risen 0 halts.plain.by = halts.plain.rises in
     omega (arith, halts.plain.few, points)
@@ -288,33 +290,23 @@ text_takes_evaluations halts =
 halts_at_the_first : HaltsAt told each [] (codes "@") no_counts no_counts shown (commands.Text ∷ commands.Text ∷ []) stop.WriteFault
 unfolding digits replayed standing CountsWork CountsWithin
 halts_at_the_first = record {
-  earlier = [];
+  k = 0;
   command = commands.Text;
-  later = commands.Text ∷ [];
-  split = refl;
+  kth = refl;
   counts = no_counts;
-  worked = record {
-    counted = record {
-      by = no_counts;
-      enough = record { points = omega arith; spans = omega arith; corners = omega arith };
-      within = record { points = omega arith; spans = omega arith; corners = omega arith };
-      rises = refl;
-    };
-    at_most = record { by = no_counts; within = record { points = omega arith; spans = omega arith; corners = omega arith }; rises = refl };
-    plain = record { by = 0; few = omega arith; rises = refl };
-  };
+  worked = unevaluated;
   halts = halts_in_a_text;
 }
 
 -- what those before a halt took is counted, be it nothing
 counted_before_a_text : HaltsAt told none [] [] no_counts (counts_of 0 1 0) shown (commands.Text ∷ []) stop.NoMemory → ⊥
 unfolding digits replayed standing CountsWithin
-counted_before_a_text at = by at.earlier at.command at.later at.split at.counts at.worked at.halts
+counted_before_a_text at = by at.k at.command at.kth at.counts at.worked at.halts
   where
-    by : (earlier : List Command) (command : Command) (later : List Command) → commands.Text ∷ [] ≡ earlier ++ command ∷ later → (counts : Counts)
-        → Worked no_counts counts (work_of_parts (replayed shown earlier))
-        → HaltsIn told none [] [] counts (counts_of 0 1 0) (bytes_of_parts (replayed shown earlier)) (standing shown earlier) command stop.NoMemory → ⊥
-    by [] command later split counts worked halts =
+    by : (k : ℕ) (command : Command) → commands.Text ∷ [] ≡ take k (commands.Text ∷ []) ++ command ∷ drop (k + 1) (commands.Text ∷ []) → (counts : Counts)
+        → Worked no_counts counts (work_of_parts (replayed shown (take k (commands.Text ∷ []))))
+        → RunsOutIn told none [] [] counts (counts_of 0 1 0) (bytes_of_parts (replayed shown (take k (commands.Text ∷ [])))) (standing shown (take k (commands.Text ∷ []))) command → ⊥
+    by zero command kth counts worked halts =
         let same : commands.Text ≡ command = cc in
         let first : RisesAtMost no_counts counts no_counts = worked.at_most in
         let text : CountsWithin counts (counts_of 0 1 0) (work_of_parts (parts_at shown commands.Text)) = subst (λ command. CountsWithin counts (counts_of 0 1 0) (work_of_parts (parts_at shown command))) (sym same) halts.at_most in
@@ -322,8 +314,10 @@ counted_before_a_text at = by at.earlier at.command at.later at.split at.counts 
         let before : counts.spans ≡ risen 0 first.by.spans = ap (λ (counts : Counts). counts.spans) first.rises in
         let after : 1 ≡ risen counts.spans next.by.spans = ap (λ (counts : Counts). counts.spans) next.rises in
         omega (arith, first.within.spans, next.within.spans, before, after)
-    by (first ∷ []) command later split counts worked halts = (cc)
-    by (first ∷ second ∷ earlier) command later split counts worked halts = (cc)
+    by (suc k) command kth counts worked halts =
+        let long : 1 ≡ suc (length {A = Command} (take k [])) + length (command ∷ drop (suc k + 1) (commands.Text ∷ [])) =
+        ap length kth ∙ length-append (take (suc k) (commands.Text ∷ [])) (command ∷ drop (suc k + 1) (commands.Text ∷ [])) in
+        omega (arith, long)
 
 -- a command is halted in what waits, of which nothing is counted, or behind it
 halts_in_what_waits : HaltsPlay told each [] (codes "a") no_counts no_counts (codes "ab") shown commands.Text stop.WriteFault
@@ -334,8 +328,8 @@ halts_behind_what_waits = inr halts_before_a_text
 
 counts_in_what_waits : HaltsPlay told each [] (codes "a") no_counts (counts_of 1 0 0) (codes "ab") shown commands.Text stop.WriteFault → ⊥
 counts_in_what_waits (inl fails) = let points : 1 ≡ 0 = ap (λ (counts : Counts). counts.points) fails.1 in omega (arith, points)
-counts_in_what_waits (inr halts) = let points : 1 ≡ risen 0 halts.plain.by = halts.plain.rises in omega (arith, halts.plain.few, points)
+counts_in_what_waits (inr halts) = let points : 1 ≡ risen 0 halts.worked.plain.by = halts.worked.plain.rises in omega (arith, halts.worked.plain.few, points)
 
 memory_in_what_waits : HaltsPlay told each [] (codes "a") no_counts no_counts (codes "ab") shown commands.Text stop.NoMemory → ⊥
 memory_in_what_waits (inl fails) = (cc)
-memory_in_what_waits (inr halts) = let same : codes "a" ≡ codes "ab" = halts.unwritten refl in (cc)
+memory_in_what_waits (inr halts) = let same : codes "a" ≡ codes "ab" = halts.gained in (cc)

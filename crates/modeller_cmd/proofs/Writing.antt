@@ -1,20 +1,17 @@
 -- Parts that are written one after the other, up to what halts that.
-use Rattle.std.proofs.Common.{◌≡◌, ◌≢◌, ℕ, ◌+◌, List, [], ◌∷◌, ◌++◌, length, take, Option, Result, Ok, Err, refl, sym, ap, subst, ◌∙◌, append-nil, length-append, arith}
+use Rattle.std.proofs.Common.{◌≡◌, ◌≢◌, ℕ, List, [], ◌∷◌, ◌++◌, Option, Result, Ok, Err, refl, sym, subst, ◌∙◌, append-nil}
 use Rattle.std.specs.Prelude.{IfErr, IsErrAnd}
-use Rattle.std.proofs.Math.Seq.{take-append-add}
-use Rattle.std.proofs.lemmas.List.{take-append-le}
-use Rattle.model_frames.specs.Work.{CountsWithin, CountsWork, PointsRiseAtMost, both, no_work}
+use Rattle.model_frames.specs.Work.{CountsWithin, CountsWork, PointsRiseAtMost, no_work}
 use Rattle.model_frames.specs.Laws.{FramesAddUp}
 use Rattle.fixed_ops.specs.Counts.{Counts}
-use Rattle.modeller_io.specs.Count.{RoseBy, Stands}
-use Rattle.modeller_io.specs.Held.{Gains, GainsPrefix}
-use Rattle.modeller_cmd.specs.Endings.{GainsParts}
+use Rattle.modeller_io.specs.Count.{Stands}
+use Rattle.modeller_io.specs.Held.{Gains}
 use Rattle.model_frames.specs.Frames.{Part}
 use Rattle.modeller_cmd.specs.Parts.{bytes_of_parts, work_of_parts}
-use Rattle.modeller_cmd.specs.Writing.{Halted, Written}
+use Rattle.modeller_cmd.specs.Writing.{FailsToSend, Halted, Written}
 use Rattle.modeller_cmd.specs.declared.stop.Stop.{Stop}
 use Rattle.modeller_cmd.specs.declared.stop.Stop.TheVariants.{WriteFault, NoMemory}
-use Rattle.modeller_cmd.proofs.Gaining.{Extends-none, Gains-then, GainsPrefix-after, Grew-after, Grew-gains, Grew-prefix, RoseBy-after}
+use Rattle.modeller_cmd.proofs.Gaining.{Extends-none, Gains-then, Grew-gains, Grew-prefix}
 use Rattle.modeller_cmd.proofs.WorkSums.{both-none, bytes-append, work-append}
 
 -- nothing was written
@@ -42,60 +39,13 @@ written-then frames held faults a b c s t u ps qs first next =
           (frames.plain_sum s t u (work_of_parts ps).plain (work_of_parts qs).plain first.plain next.plain);
     }
 
--- the bytes and the work of three lists of parts
-bytes-three : (ps qs rs : List Part) → bytes_of_parts (ps ++ (qs ++ rs)) ≡ bytes_of_parts ps ++ (bytes_of_parts qs ++ bytes_of_parts rs)
-bytes-three ps qs rs =
-    bytes-append ps (qs ++ rs) ∙ ap (λ bytes. bytes_of_parts ps ++ bytes) (bytes-append qs rs)
-
-work-three : (ps qs rs : List Part) → work_of_parts (ps ++ (qs ++ rs)) ≡ both (work_of_parts ps) (both (work_of_parts qs) (work_of_parts rs))
-work-three ps qs rs =
-    work-append ps (qs ++ rs) ∙ ap (both (work_of_parts ps)) (work-append qs rs)
-
--- the first parts of a list, and the first of the next
-parts-more : {K : Type 0} (held : K → Option (List ℕ)) (a b c : K) (ps qs rs : List Part)
-    → Gains held a b (bytes_of_parts ps) → GainsParts held b c qs → GainsParts held a c (ps ++ (qs ++ rs))
-parts-more held a b c ps qs rs first next =
-    let front : take (length ps + next.count) (ps ++ (qs ++ rs)) ≡ ps ++ take next.count qs =
-    take-append-add ps (qs ++ rs) next.count ∙ ap (λ l. ps ++ l) (take-append-le next.count qs rs next.within) in
-    record {
-      count = length ps + next.count;
-      within = omega (arith, next.within, length-append ps (qs ++ rs), length-append qs rs);
-      gained = subst (Gains held a c) (sym (ap bytes_of_parts front ∙ bytes-append ps (take next.count qs)))
-          (Gains-then held a b c (bytes_of_parts ps) (bytes_of_parts (take next.count qs)) first next.gained);
-    }
-
--- what halts the parts that follow halts them all
-pub halted-after : (frames : FramesAddUp) {K : Type 0} (held : K → Option (List ℕ)) (faults : K → ℕ) (a b c : K) (s t u : Counts) (ps qs rs : List Part) (stop : Stop)
-    → Written held faults a b s t ps → Halted held faults b c t u qs stop → Halted held faults a c s u (ps ++ (qs ++ rs)) stop
-halted-after frames held faults a b c s t u ps qs rs stop first next =
-    let work = sym (work-three ps qs rs) in
-    record {
-      front = λ is. subst (GainsPrefix held a c) (sym (bytes-three ps qs rs))
-          (GainsPrefix-after held a b c (bytes_of_parts ps) (bytes_of_parts qs) (bytes_of_parts rs) first.gained (next.front is));
-      whole = λ is. parts-more held a b c ps qs rs first.gained (next.whole is);
-      write_fault = λ is. RoseBy-after faults a b c 1 first.no_fault (next.write_fault is);
-      no_write_fault = λ is. next.no_write_fault is ∙ first.no_fault;
-      at_most = subst (CountsWithin s u) work
-          (frames.within_sum s t u (work_of_parts ps) (both (work_of_parts qs) (work_of_parts rs)) first.at_most
-          (frames.within_more t u (work_of_parts qs) (work_of_parts rs) next.at_most));
-      plain = subst (λ w. PointsRiseAtMost s u w.plain) work
-          (frames.plain_sum s t u (work_of_parts ps).plain (both (work_of_parts qs) (work_of_parts rs)).plain first.plain
-          (frames.plain_more t u (work_of_parts qs).plain (work_of_parts rs).plain next.plain));
-      grew = Grew-after held a b c (bytes_of_parts ps) first.gained next.grew;
-    }
-
--- no parts were written, and work within theirs was counted
-pub parts-none : {K : Type 0} (held : K → Option (List ℕ)) (out : K) (parts : List Part) → GainsParts held out out parts
-parts-none held out parts = record { count = 0; within = omega arith; gained = Extends-none (held out) }
-
+-- nothing was written, and work within that of the parts was counted
 pub halted-before : {K : Type 0} (held : K → Option (List ℕ)) (faults : K → ℕ) (out : K) (s t : Counts) (parts : List Part) (stop : Stop)
     → stop ≢ WriteFault → CountsWithin s t (work_of_parts parts) → PointsRiseAtMost s t (work_of_parts parts).plain
     → Halted held faults out out s t parts stop
 halted-before held faults out s t parts stop other few plain = record {
-  front = λ is. absurd (other is);
-  whole = λ _. parts-none held out parts;
-  write_fault = λ is. absurd (other is);
-  no_write_fault = λ _. refl;
+  failed = λ is. absurd (other is);
+  no_fault = λ _. refl;
   at_most = few;
   plain = plain;
   grew = Grew-gains held out out [] (Extends-none (held out));
@@ -107,7 +57,7 @@ pub halted-at-once : (frames : FramesAddUp) {K : Type 0} (held : K → Option (L
 halted-at-once frames held faults out counts parts stop other =
     halted-before held faults out counts counts parts stop other (frames.within_none counts (work_of_parts parts)) (frames.plain_none counts (work_of_parts parts).plain)
 
--- want of memory is no fault of a sink
+-- a lack of memory is no fault of a sink
 pub memory-other : (stop : Stop) → stop ≡ NoMemory → stop ≢ WriteFault
 memory-other stop is fault = cc
 
@@ -126,16 +76,14 @@ module _ {K : Type 0} (held : K → Option (List ℕ)) (faults : K → ℕ) (bef
     plain = subst (λ w. PointsRiseAtMost s t w.plain) (sym (both-none part.work)) plain;
   }
 
-  pub part-halted : GainsPrefix held before after bytes → RoseBy faults before after 1
+  pub part-halted : FailsToSend held faults before after bytes
       → CountsWithin s t part.work → PointsRiseAtMost s t part.work.plain → Halted held faults before after s t (part ∷ []) WriteFault
-  part-halted front rose few plain = record {
-    front = λ _. subst (GainsPrefix held before after) one-bytes front;
-    whole = λ memory. cc;
-    write_fault = λ _. rose;
-    no_write_fault = λ other. absurd (other refl);
+  part-halted failed few plain = record {
+    failed = λ _. subst (FailsToSend held faults before after) one-bytes failed;
+    no_fault = λ other. absurd (other refl);
     at_most = subst (CountsWithin s t) (sym (both-none part.work)) few;
     plain = subst (λ w. PointsRiseAtMost s t w.plain) (sym (both-none part.work)) plain;
-    grew = Grew-prefix held before after bytes front;
+    grew = Grew-prefix held before after bytes failed.gained;
   }
 
 -- the work of one part that is done

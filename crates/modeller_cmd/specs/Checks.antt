@@ -14,6 +14,7 @@ use Rattle.solid_model.specs.Values.{solid_value}
 use Rattle.solid_model.specs.declared.clause.Clause.{Clause}
 use Rattle.view_places.specs.Window.{FitsMesh, IsWindow, Window}
 use Rattle.view_settings.specs.declared.job.Job.TheVariants.{Check}
+use Rattle.modeller_cmd.specs.Answers.{MeshesAreRefused}
 use Rattle.modeller_cmd.specs.Asking.{asked}
 use Rattle.modeller_cmd.specs.Output.{Output, input_limit, output_of}
 use Rattle.modeller_cmd.specs.Parts.{bytes_of_parts}
@@ -51,3 +52,4 @@ WrittenMeshesPass words input =
 pub record ChecksAreExact : Type 0 where
   pub verdicts : (words : List (List ℕ)) (input : List ℕ) → VerdictsAreWritten words input
   pub passes : (words : List (List ℕ)) (input : List ℕ) → WrittenMeshesPass words input
+  pub refused : (words : List (List ℕ)) (input : List ℕ) → MeshesAreRefused words input

@@ -3,29 +3,28 @@ use Rattle.std.specs.Prelude.{◌≡◌, ◌≢◌, ℕ, List, Option, Result, E
 use Rattle.fixed_ops.specs.Counts.{Counts}
 use Rattle.model_frames.specs.Frames.{Part}
 use Rattle.model_frames.specs.Work.{CountsWork}
-use Rattle.modeller_io.specs.Count.{RoseBy, Stands}
-use Rattle.modeller_io.specs.Held.{Gains, GainsPrefix}
+use Rattle.modeller_io.specs.Count.{Stands}
+use Rattle.modeller_io.specs.Held.{Gains}
 use Rattle.view_settings.specs.declared.job.Job.{Job}
 use Rattle.view_settings.specs.declared.job.Job.TheVariants.{Replay}
 use Rattle.modeller_cmd.specs.Endings.{Ends, IsExecutionStop, IsHalt, IsRefusal, status_after}
 use Rattle.modeller_cmd.specs.Output.{made, output_as}
 use Rattle.modeller_cmd.specs.Parts.{work_of_parts}
-use Rattle.modeller_cmd.specs.Writing.{Halted, Written}
-use Rattle.modeller_cmd.specs.Halting.{HaltsReplay}
+use Rattle.modeller_cmd.specs.Writing.{FailsToSend, Halted, Written}
+use Rattle.modeller_cmd.specs.Halting.{HaltsScript}
 use Rattle.modeller_cmd.specs.declared.refusal.Refusal.{Refusal}
 use Rattle.modeller_cmd.specs.declared.status.Status.TheVariants.{BadScript}
 use Rattle.modeller_cmd.specs.declared.stop.Stop.{Stop}
 use Rattle.modeller_cmd.specs.declared.stop.Stop.TheVariants.{NoMemory, WriteFault}
 
--- Bytes were sent to a sink. A fault of it leaves it with a front of them, and want of memory with
--- none.
+-- Bytes were sent to a sink. A fault of it leaves it with a proper prefix of them, and a lack of
+-- memory with none.
 pub record Sent {K T : Type 0} (held : K → Option (List ℕ)) (faults : K → ℕ) (before after : K)
     (bytes : List ℕ) (result : Result T Stop) : Type 0 where
   pub stop : IfErr result IsHalt
   pub gained : OnOk result (Gains held before after bytes)
   pub no_fault : OnOk result (Stands faults before after)
-  pub front : result ≡ Err WriteFault → GainsPrefix held before after bytes
-  pub fault : result ≡ Err WriteFault → RoseBy faults before after 1
+  pub failed : result ≡ Err WriteFault → FailsToSend held faults before after bytes
   pub unwritten : result ≡ Err NoMemory → after ≡ before
 
 -- Work of this outcome was done, and its parts were written when the last of them was made: where
@@ -60,4 +59,4 @@ pub record Executed {K T : Type 0} (held : K → Option (List ℕ)) (faults : K 
   pub unwritten : job ≢ Replay → result ≡ Err NoMemory → after ≡ before
   pub counted : job ≢ Replay → result ≡ Err WriteFault
       → CountsWork first last (work_of_parts (output_as (made job input)).parts)
-  pub halts : job ≡ Replay → IfErr result (HaltsReplay held faults before after first last input)
+  pub halts : job ≡ Replay → IfErr result (HaltsScript held faults before after first last input)

@@ -22,7 +22,7 @@ inside_of view clauses = count_by (λ pixel. pixel == 255) (solid_pixels view cl
 abbrev pub forge_text : Window → List Clause → List ℕ
 forge_text view clauses =
     codes "clauses " ++ decimal (length clauses) ++ codes "\ninside "
-    ++ decimal (inside_of view clauses) ++ codes "\n" ++ count_text (frame_work view clauses)
+    ++ decimal (inside_of view clauses) ++ codes "\n" ++ count_text view clauses
 
 -- the part that tells them of the solid that is forged
 abbrev pub forge_part : Forge → Part

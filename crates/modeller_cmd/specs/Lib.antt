@@ -1,3 +1,4 @@
+pub mod Answers
 pub mod Asking
 pub mod Bands
 pub mod Checks
@@ -7,10 +8,12 @@ pub mod Execution
 pub mod Forging
 pub mod Frames
 pub mod Halting
+pub mod Laws
 pub mod Notes
 pub mod Output
 pub mod Parts
 pub mod Pending
+pub mod Promises
 pub mod Replays
 pub mod Runs
 pub mod ShownModels

@@ -1,6 +1,6 @@
 -- What a run gives for its words and its input: a status, the bytes in their parts, and a note
 -- line.
-use Rattle.std.specs.Prelude.{ℕ, nat_lt, List, [], ◌∷◌, length, Option, Result, Ok, Err, IfSome, if◌then◌else◌}
+use Rattle.std.specs.Prelude.{ℕ, nat_lt, List, [], ◌∷◌, length, Result, Ok, Err, if◌then◌else◌}
 use Rattle.clause_reader.specs.Reading.{on_result, text_read}
 use Rattle.contour_frames.specs.Contours.{contour_part}
 use Rattle.edit_script.specs.Marks.{before_mark}
@@ -17,7 +17,7 @@ use Rattle.solid_model.specs.declared.clause.Clause.{Clause}
 use Rattle.view_places.specs.Window.{Window}
 use Rattle.view_settings.specs.declared.job.Job.{Job}
 use Rattle.view_settings.specs.declared.job.Job.TheVariants as jobs
-use Rattle.modeller_cmd.specs.Asking.{asked, asks_nothing, input_told}
+use Rattle.modeller_cmd.specs.Asking.{asked}
 use Rattle.modeller_cmd.specs.CountTexts.{count_text}
 use Rattle.modeller_cmd.specs.Forging.{forge_part}
 use Rattle.modeller_cmd.specs.Notes.{refusal_line}
@@ -43,7 +43,7 @@ parts_replayed clauses (Err fault) = Err (Script fault)
 -- the part that tells the work of an image
 abbrev pub count_part : Window → List Clause → Part
 count_part view clauses = record {
-  bytes = count_text (frame_work view clauses);
+  bytes = count_text view clauses;
   work = frame_work view clauses;
 }
 
@@ -119,9 +119,3 @@ output_as (Err refusal) =
 -- what a run gives for these words and this input, where nothing fails
 abbrev pub output_of : List (List ℕ) → List ℕ → Output
 output_of words input = output_as (outcome words input)
-
--- where the input is known, this holds of the output that the words ask for of it
-abbrev pub WithOutput : {S : Type 0} → (S → Option (List ℕ)) → S → List (List ℕ) → (Output → Type 0)
-    → Type 0
-WithOutput rest source words P =
-    IfSome (input_told rest source (asks_nothing words)) (λ input. P (output_of words input))

@@ -1,16 +1,16 @@
 -- What comes of bytes that wait to be written while commands are played.
-use Rattle.std.specs.Prelude.{◌≡◌, ◌⊎◌, ℕ, ◌<◌, List, [], ◌++◌, length, Option, ⊤}
+use Rattle.std.specs.Prelude.{◌≡◌, ◌⊎◌, ℕ, List, [], ◌++◌, Option, ⊤}
 use Rattle.edit_script.specs.declared.command.Command.{Command}
 use Rattle.edit_script.specs.declared.command.Command.TheVariants as commands
 use Rattle.edit_session.specs.Sessions.{State}
 use Rattle.fixed_ops.specs.Counts.{Counts}
 use Rattle.model_frames.specs.Frames.{Part}
 use Rattle.model_frames.specs.Work.{no_work}
-use Rattle.modeller_io.specs.Count.{RoseBy, Stands}
-use Rattle.modeller_io.specs.Held.{Gains, GainsPrefix}
+use Rattle.modeller_io.specs.Count.{Stands}
+use Rattle.modeller_io.specs.Held.{Gains}
 use Rattle.modeller_cmd.specs.Halting.{HaltsIn}
 use Rattle.modeller_cmd.specs.Parts.{bytes_of_parts, work_of_parts}
-use Rattle.modeller_cmd.specs.Writing.{Written}
+use Rattle.modeller_cmd.specs.Writing.{FailsToSend, Written}
 use Rattle.modeller_cmd.specs.declared.stop.Stop.{Stop}
 use Rattle.modeller_cmd.specs.declared.stop.Stop.TheVariants.{WriteFault}
 
@@ -29,13 +29,6 @@ abbrev pub WaitsOrSent : {K : Type 0} → (K → Option (List ℕ)) → (K → �
 WaitsOrSent held faults before after waited waits =
     ((after ≡ before) × (waits ≡ waited))
     ⊎ (Gains held before after waited × Stands faults before after × (waits ≡ []))
-
--- the sink failed when these bytes were written: it has taken a front of them, and there are some
-pub record FailsIn {K : Type 0} (held : K → Option (List ℕ)) (faults : K → ℕ)
-    (before after : K) (bytes : List ℕ) : Type 0 where
-  pub some : 0 < length bytes
-  pub front : GainsPrefix held before after bytes
-  pub fault : RoseBy faults before after 1
 
 -- what a command writes waits behind what waited before, and nothing was evaluated for it
 pub record Waits {K : Type 0} (before after : K) (first last : Counts) (waited waits : List ℕ)
@@ -65,5 +58,5 @@ IsPlayed held faults before after first last waited waits parts =
 abbrev pub HaltsPlay : {K : Type 0} → (K → Option (List ℕ)) → (K → ℕ) → K → K → Counts → Counts
     → List ℕ → State → Command → Stop → Type 0
 HaltsPlay held faults before after first last waited state command stop =
-    ((stop ≡ WriteFault) × (last ≡ first) × FailsIn held faults before after waited)
+    ((stop ≡ WriteFault) × (last ≡ first) × FailsToSend held faults before after waited)
     ⊎ HaltsIn held faults before after first last waited state command stop

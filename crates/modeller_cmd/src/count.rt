@@ -1,8 +1,8 @@
 // The work of an image, as text.
 ghost use Rattle.std.specs.Prelude.{◌≡◌, ◌≤◌, length, IfOk, OnOk};
 ghost use Rattle.model_frames.specs.Images.{plain_points as plain_points_of};
-ghost use Rattle.model_frames.specs.Work.{CountsWithin, CountsWork, PointsRiseAtMost, exactly, frame_work};
-ghost use Rattle.modeller_cmd.specs.CountTexts.{count_text};
+ghost use Rattle.model_frames.specs.Work.{CountsWithin, CountsWork, PointsRiseAtMost, frame_work};
+ghost use Rattle.modeller_cmd.specs.CountTexts.{count_lines, count_text};
 ghost use Rattle.modeller_cmd.specs.Output.{count_part, input_limit, of_model};
 ghost use Rattle.modeller_cmd.specs.Execution.{ExecutedAtOnce};
 
@@ -42,7 +42,7 @@ fn count_image(
     view: &View,
     tally: &mut Tally,
 ) -> Result<Vec<u8>, AllocError>
-    ensures ok { IfOk result (λ text. text.items ≡ count_text (frame_work view.now model.now)) }
+    ensures ok { IfOk result (λ text. text.items ≡ count_text view.now model.now) }
     ensures counted { OnOk result (CountsWork tally.old tally.new (frame_work view.now model.now)) }
     ensures at_most { CountsWithin tally.old tally.new (frame_work view.now model.now) }
     ensures plain { PointsRiseAtMost tally.old tally.new
@@ -66,7 +66,7 @@ pub(crate) fn plain_points(model: &Model, view: &View) -> u64
 
 // The three lines of these counts.
 fn count_lines(alloc: Global, points: u64, spans: u64, plain: u64) -> Result<Vec<u8>, AllocError>
-    ensures { IfOk result (λ text. text.items ≡ count_text (exactly points spans plain)) }
+    ensures { IfOk result (λ text. text.items ≡ count_lines points spans plain) }
 {
     let text = format!(in alloc; "points {points}\nspans {spans}\nplain {plain}\n")?;
     Ok(text.into_bytes())

@@ -1,12 +1,12 @@
 // A model that is made from a seed, and what its image takes, as text.
 ghost use Rattle.std.specs.Prelude.{◌≡◌, ◌==◌, ◌≤◌, ◌++◌, [], ◌∷◌, Ok, codes, count_by, decimal, length, IfOk, OnOk};
 ghost use Rattle.model_frames.specs.Images.{plain_points as plain_points_of};
-ghost use Rattle.model_frames.specs.Work.{CountsWithin, CountsWork, PointsRiseAtMost, exactly, frame_work};
+ghost use Rattle.model_frames.specs.Work.{CountsWithin, CountsWork, PointsRiseAtMost, frame_work};
 ghost use Rattle.quad_descent.specs.Pixels.{pixels_of};
 ghost use Rattle.view_settings.specs.Verbs.{IsJob};
 ghost use Rattle.view_settings.specs.declared.job.Job.TheVariants as jobs;
 ghost use Rattle.modeller_cmd.specs.Bands.{HasRoom};
-ghost use Rattle.modeller_cmd.specs.CountTexts.{count_text};
+ghost use Rattle.modeller_cmd.specs.CountTexts.{count_lines};
 ghost use Rattle.modeller_cmd.specs.Forging.{forge_part, forge_text, forged_clauses};
 ghost use Rattle.modeller_cmd.specs.Execution.{ExecutedAtOnce};
 
@@ -137,7 +137,7 @@ fn forge_lines(
 ) -> Result<Vec<u8>, AllocError>
     ensures { IfOk result (λ text. text.items
         ≡ codes "clauses " ++ decimal clauses ++ codes "\ninside " ++ decimal inside ++ codes "\n"
-        ++ count_text (exactly points spans plain)) }
+        ++ count_lines points spans plain) }
 {
     let text = format!(in alloc;
         "clauses {clauses}\ninside {inside}\npoints {points}\nspans {spans}\nplain {plain}\n"

@@ -2,7 +2,7 @@
 ghost use Rattle.std.specs.Prelude.{◌≡◌, ◌≤◌, codes, length, OnErr, OnOk};
 ghost use Rattle.model_frames.specs.Images.{drawn_text};
 ghost use Rattle.modeller_io.specs.Count.{RoseBy, Stands};
-ghost use Rattle.modeller_io.specs.Held.{Gains, GainsPrefix};
+ghost use Rattle.modeller_io.specs.Held.{Gains, GainsProperPrefix};
 ghost use Rattle.quad_descent.specs.Rows.{IsOver};
 ghost use Rattle.modeller_cmd.specs.Bands.{HasRoom};
 ghost use Rattle.modeller_cmd.specs.CountTexts.{cost_text};
@@ -22,7 +22,7 @@ use view_settings::View;
 pub fn write_frame<K: Sink>(out: &mut K, name: &[u8], bytes: &[u8]) -> Result<(), Failed>
     requires { length name.now ≤ 6 }
     ensures ok { OnOk result (Gains K.held out.old out.new (frame_of name.now bytes.now)) }
-    ensures err { OnErr result (GainsPrefix K.held out.old out.new (frame_of name.now bytes.now)) }
+    ensures err { OnErr result (GainsProperPrefix K.held out.old out.new (frame_of name.now bytes.now)) }
     ensures no_fault { OnOk result (Stands K.faults out.old out.new) }
     ensures cause { OnErr result (RoseBy K.faults out.old out.new 1) }
 {
@@ -42,7 +42,7 @@ pub fn write_image_frame<K: Sink, R: RowSource>(
     requires room { HasRoom view.now buffer.old }
     ensures ok { OnOk result (Gains K.held out.old out.new
         (frame_of (codes "render") (drawn_text (R.image image.now)))) }
-    ensures err { OnErr result (GainsPrefix K.held out.old out.new
+    ensures err { OnErr result (GainsProperPrefix K.held out.old out.new
         (frame_of (codes "render") (drawn_text (R.image image.now)))) }
     ensures no_fault { OnOk result (Stands K.faults out.old out.new) }
     ensures cause { OnErr result (RoseBy K.faults out.old out.new 1) }

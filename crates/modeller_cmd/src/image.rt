@@ -2,7 +2,7 @@
 ghost use Rattle.std.specs.Prelude.{◌≡◌, ◌+◌, ◌-◌, ◌*◌, ◌<◌, ◌≤◌, ◌++◌, length, take, OnErr, OnOk};
 ghost use Rattle.model_frames.specs.Images.{drawn_text};
 ghost use Rattle.modeller_io.specs.Count.{RoseBy, Stands};
-ghost use Rattle.modeller_io.specs.Held.{Gains, GainsPrefix};
+ghost use Rattle.modeller_io.specs.Held.{Gains, GainsProperPrefix};
 ghost use Rattle.quad_descent.specs.Rows.{IsOver, rows_at};
 ghost use Rattle.modeller_cmd.specs.Bands.{HasRoom, most_rows as rows_at_once};
 ghost use Rattle.modeller_cmd.specs.Execution.{Sent};
@@ -66,7 +66,7 @@ pub fn write_image<K: Sink, R: RowSource>(
     ensures ok { OnOk result
         (Gains K.held out.old out.new (line.now ++ drawn_text (R.image image.now))) }
     ensures err { OnErr result
-        (GainsPrefix K.held out.old out.new (line.now ++ drawn_text (R.image image.now))) }
+        (GainsProperPrefix K.held out.old out.new (line.now ++ drawn_text (R.image image.now))) }
     ensures no_fault { OnOk result (Stands K.faults out.old out.new) }
     ensures cause { OnErr result (RoseBy K.faults out.old out.new 1) }
 {
@@ -92,7 +92,7 @@ fn write_bands<K: Sink, R: RowSource>(
     requires room { rows_at_once view.now * view.now.w ≤ length buffer.old }
     ensures ok { OnOk result (Gains K.held out.old out.new
         (rows_at (R.image image.now) first ((view.now.h - first) * view.now.w))) }
-    ensures err { OnErr result (GainsPrefix K.held out.old out.new
+    ensures err { OnErr result (GainsProperPrefix K.held out.old out.new
         (rows_at (R.image image.now) first ((view.now.h - first) * view.now.w))) }
     ensures no_fault { OnOk result (Stands K.faults out.old out.new) }
     ensures cause { OnErr result (RoseBy K.faults out.old out.new 1) }
@@ -121,7 +121,7 @@ fn write_band<K: Sink, R: RowSource>(
     requires room { start + rows * view.now.w ≤ length buffer.old }
     ensures ok { OnOk result (Gains K.held out.old out.new
         (take start buffer.old ++ rows_at (R.image image.now) row (rows * view.now.w))) }
-    ensures err { OnErr result (GainsPrefix K.held out.old out.new
+    ensures err { OnErr result (GainsProperPrefix K.held out.old out.new
         (take start buffer.old ++ rows_at (R.image image.now) row (rows * view.now.w))) }
     ensures no_fault { OnOk result (Stands K.faults out.old out.new) }
     ensures cause { OnErr result (RoseBy K.faults out.old out.new 1) }

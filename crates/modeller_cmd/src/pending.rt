@@ -2,7 +2,7 @@
 ghost use Rattle.std.specs.Prelude.{◌≡◌, ◌↔◌, ◌+◌, ◌*◌, ◌<◌, ◌≤◌, ◌++◌, [], length, IsTrue, OnErr, OnOk};
 ghost use Rattle.modeller_io.specs.Count.{Stands};
 ghost use Rattle.modeller_io.specs.Held.{Gains};
-ghost use Rattle.modeller_cmd.specs.Pending.{FailsIn};
+ghost use Rattle.modeller_cmd.specs.Writing.{FailsToSend};
 ghost use Rattle.modeller_cmd.specs.declared.line.TheConstants.{LINE_LIMIT};
 ghost use Rattle.modeller_cmd.specs.declared.pending.TheConstants.{PENDING_LIMIT};
 
@@ -61,7 +61,7 @@ impl PendingLines {
         ensures sent { OnOk result (Gains K.held out.old out.new self.old) }
         ensures no_fault { OnOk result (Stands K.faults out.old out.new) }
         ensures empty { OnOk result (self.new ≡ []) }
-        ensures failed { OnErr result (FailsIn K.held K.faults out.old out.new self.old) }
+        ensures failed { OnErr result (FailsToSend K.held K.faults out.old out.new self.old) }
     {
         write_all(out, self.bytes.as_slice())?;
         self.bytes.clear();

@@ -7,12 +7,12 @@ ghost use Rattle.edit_session.specs.Sessions.{after_frame};
 ghost use Rattle.fixed_ops.specs.Counts.{Counts};
 ghost use Rattle.modeller_cmd.specs.Endings.{Ends, IsExecutionStop, IsHalt, IsRefusal, status_after};
 ghost use Rattle.modeller_cmd.specs.Output.{input_limit, made, output_as};
-ghost use Rattle.modeller_cmd.specs.Writing.{Halted, Written};
+ghost use Rattle.modeller_cmd.specs.Writing.{FailsToSend, Halted, Written};
 ghost use Rattle.modeller_cmd.specs.Frames.{refused_line};
 ghost use Rattle.modeller_cmd.specs.Replays.{cost_part, framed, parts_at, replayed, state_after};
-ghost use Rattle.modeller_cmd.specs.Halting.{HaltsAt, HaltsReplay};
+ghost use Rattle.modeller_cmd.specs.Halting.{HaltsAt, HaltsScript};
 ghost use Rattle.modeller_cmd.specs.Parts.{bytes_of_parts, work_of_parts};
-ghost use Rattle.modeller_cmd.specs.Pending.{Draws, FailsIn, HaltsPlay, IsPlayed, WaitsOrSent};
+ghost use Rattle.modeller_cmd.specs.Pending.{Draws, HaltsPlay, IsPlayed, WaitsOrSent};
 ghost use Rattle.modeller_cmd.specs.declared.line.TheConstants.{LINE_LIMIT};
 ghost use Rattle.modeller_cmd.specs.declared.pending.TheConstants.{PENDING_LIMIT};
 ghost use Rattle.model_frames.specs.Frames.{CanDraw};
@@ -41,8 +41,8 @@ use view_settings::{Job, View};
 /// script was read.
 ///
 /// `Refused`: the model is refused, or else the script, and nothing was written. `WriteFault`: the
-/// sink failed, and has taken a front of the bytes. `NoMemory`: memory was refused, and the sink
-/// has taken what the first commands write, and nothing of the next one.
+/// sink failed, and has taken a proper prefix of the bytes. `NoMemory`: memory was refused, and the
+/// sink has taken what the first commands write, and nothing of the next one.
 pub fn replay<K: Sink>(
     alloc: Global,
     input: &[u8],
@@ -59,7 +59,7 @@ pub fn replay<K: Sink>(
     ensures refused { IsRefusal (status_after result)
         → (out.new ≡ out.old) × (tally.new ≡ tally.old) }
     ensures halts { IfErr result
-        (HaltsReplay K.held K.faults out.old out.new tally.old tally.new input.now) }
+        (HaltsScript K.held K.faults out.old out.new tally.old tally.new input.now) }
 {
     frames_add_up();
     let model = read_model(alloc, model_text(input))?;
@@ -137,7 +137,7 @@ fn make_way<K: Sink>(
         (WaitsOrSent K.held K.faults out.old out.new lines.old lines.new) }
     ensures way { OnOk result (Draws command.now → lines.new ≡ []) }
     ensures room { OnOk result (length lines.new + 2 * LINE_LIMIT ≤ PENDING_LIMIT) }
-    ensures failed { OnErr result (FailsIn K.held K.faults out.old out.new lines.old) }
+    ensures failed { OnErr result (FailsToSend K.held K.faults out.old out.new lines.old) }
 {
     if draws(command) || !lines.has_room() {
         lines.write(out)?;
@@ -311,7 +311,7 @@ fn change<K: Sink>(
     ensures sent { result ≡ Err Stop.NoMemory → Gains K.held out.old out.new lines.old }
     ensures no_fault { result ≡ Err Stop.NoMemory → Stands K.faults out.old out.new }
     ensures failed { result ≡ Err Stop.WriteFault
-        → FailsIn K.held K.faults out.old out.new lines.old }
+        → FailsToSend K.held K.faults out.old out.new lines.old }
 {
     match session.apply_lent(edit) {
         Ok(()) => Ok(()),
@@ -337,7 +337,7 @@ fn take_back<K: Sink>(
     ensures sent { result ≡ Err Stop.NoMemory → Gains K.held out.old out.new lines.old }
     ensures no_fault { result ≡ Err Stop.NoMemory → Stands K.faults out.old out.new }
     ensures failed { result ≡ Err Stop.WriteFault
-        → FailsIn K.held K.faults out.old out.new lines.old }
+        → FailsToSend K.held K.faults out.old out.new lines.old }
 {
     match session.undo() {
         Ok(()) => Ok(()),
@@ -361,7 +361,7 @@ fn refuse<K: Sink>(
     ensures sent { result ≡ Err Stop.NoMemory → Gains K.held out.old out.new lines.old }
     ensures no_fault { result ≡ Err Stop.NoMemory → Stands K.faults out.old out.new }
     ensures failed { result ≡ Err Stop.WriteFault
-        → FailsIn K.held K.faults out.old out.new lines.old }
+        → FailsToSend K.held K.faults out.old out.new lines.old }
 {
     match fault {
         EditFault::NoMemory => {

@@ -2,7 +2,7 @@
 ghost use Rattle.std.specs.Prelude.{◌+◌, ◌≤◌, ◌++◌, length, OnErr, OnOk};
 ghost use Rattle.model_frames.specs.Drawn.{drawn_bytes};
 ghost use Rattle.modeller_io.specs.Count.{RoseBy, Stands};
-ghost use Rattle.modeller_io.specs.Held.{Gains, GainsPrefix};
+ghost use Rattle.modeller_io.specs.Held.{Gains, GainsProperPrefix};
 ghost use Rattle.modeller_cmd.specs.Execution.{Sent};
 ghost use Rattle.modeller_cmd.specs.declared.send.TheConstants.{SHORT};
 
@@ -34,7 +34,7 @@ pub fn send_text<K: Sink>(out: &mut K, text: &[u8]) -> Result<(), Stop>
 /// Writes pieces, one after the other. After `Failed` some of all this was taken, from its front.
 pub fn write_pieces<K: Sink>(out: &mut K, mut text: Pieces) -> Result<(), Failed>
     ensures ok { OnOk result (Gains K.held out.old out.new (text.entry.piece ++ text.entry.rest)) }
-    ensures err { OnErr result (GainsPrefix K.held out.old out.new
+    ensures err { OnErr result (GainsProperPrefix K.held out.old out.new
         (text.entry.piece ++ text.entry.rest)) }
     ensures no_fault { OnOk result (Stands K.faults out.old out.new) }
     ensures cause { OnErr result (RoseBy K.faults out.old out.new 1) }
@@ -49,7 +49,7 @@ pub fn write_pieces<K: Sink>(out: &mut K, mut text: Pieces) -> Result<(), Failed
 /// Writes a text, and another one after it. After `Failed` some of both was taken, from their front.
 pub fn write_texts<K: Sink>(out: &mut K, first: &[u8], next: &[u8]) -> Result<(), Failed>
     ensures ok { OnOk result (Gains K.held out.old out.new (first.now ++ next.now)) }
-    ensures err { OnErr result (GainsPrefix K.held out.old out.new (first.now ++ next.now)) }
+    ensures err { OnErr result (GainsProperPrefix K.held out.old out.new (first.now ++ next.now)) }
     ensures no_fault { OnOk result (Stands K.faults out.old out.new) }
     ensures cause { OnErr result (RoseBy K.faults out.old out.new 1) }
 {
@@ -64,7 +64,7 @@ pub fn write_texts<K: Sink>(out: &mut K, first: &[u8], next: &[u8]) -> Result<()
 fn write_joined<K: Sink>(out: &mut K, first: &[u8], next: &[u8]) -> Result<(), Failed>
     requires { length first.now + length next.now ≤ SHORT }
     ensures ok { OnOk result (Gains K.held out.old out.new (first.now ++ next.now)) }
-    ensures err { OnErr result (GainsPrefix K.held out.old out.new (first.now ++ next.now)) }
+    ensures err { OnErr result (GainsProperPrefix K.held out.old out.new (first.now ++ next.now)) }
     ensures no_fault { OnOk result (Stands K.faults out.old out.new) }
     ensures cause { OnErr result (RoseBy K.faults out.old out.new 1) }
 {
@@ -77,7 +77,7 @@ fn write_joined<K: Sink>(out: &mut K, first: &[u8], next: &[u8]) -> Result<(), F
 // Writes two texts one after the other.
 fn write_apart<K: Sink>(out: &mut K, first: &[u8], next: &[u8]) -> Result<(), Failed>
     ensures ok { OnOk result (Gains K.held out.old out.new (first.now ++ next.now)) }
-    ensures err { OnErr result (GainsPrefix K.held out.old out.new (first.now ++ next.now)) }
+    ensures err { OnErr result (GainsProperPrefix K.held out.old out.new (first.now ++ next.now)) }
     ensures no_fault { OnOk result (Stands K.faults out.old out.new) }
     ensures cause { OnErr result (RoseBy K.faults out.old out.new 1) }
 {

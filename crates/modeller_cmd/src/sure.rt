@@ -1,11 +1,11 @@
 // A run none of whose reads and writes can fail.
-ghost use Rattle.std.specs.Prelude.{◌≡◌, ◌⊎◌, Some};
-ghost use Rattle.modeller_io.specs.Held.{Extends};
+ghost use Rattle.std.specs.Prelude.{◌≡◌, ◌⊎◌, ℕ, List, Some};
 ghost use Rattle.view_settings.specs.Words.{bytes_of};
+ghost use Rattle.modeller_cmd.specs.Laws.{Laws};
 ghost use Rattle.modeller_cmd.specs.Output.{output_of};
-ghost use Rattle.modeller_cmd.specs.Parts.{bytes_of_parts};
-ghost use Rattle.modeller_cmd.specs.Runs.{EndsSo};
-ghost use Rattle.modeller_cmd.specs.declared.status.Status.TheVariants.{Done, NoMemory};
+ghost use Rattle.modeller_cmd.specs.Promises.{IsRun};
+ghost use Rattle.modeller_cmd.specs.Runs.{run_of};
+ghost use Rattle.modeller_cmd.specs.declared.status.Status.TheVariants.{NoMemory};
 
 use crate::Status;
 use crate::command::run_and_report;
@@ -26,28 +26,10 @@ pub fn run_surely(
 ) -> Status
     ensures answer { (result ≡ (output_of (bytes_of words.now) source.old.rest).status)
         ⊎ (result ≡ NoMemory) }
-    ensures done { result ≡ Done
-        → Extends out.old.held out.new.held
-        (bytes_of_parts (output_of (bytes_of words.now) source.old.rest).parts) }
-    ensures ends { EndsSo (record {
-      rest = λ s. Some s.rest;
-      taken = λ s. s.taken;
-      read_faults = λ _. 0;
-      held = λ s. s.held;
-      write_faults = λ _. 0;
-      notes_held = λ s. s.held;
-      note_faults = λ _. 0;
-      source = source.old;
-      source_after = source.new;
-      out = out.old;
-      out_after = out.new;
-      notes = notes.old;
-      notes_after = notes.new;
-      first = tally.old;
-      last = tally.new;
-      words = bytes_of words.now;
-      status = result;
-    }) }
+    ensures run { IsRun (run_of (λ s. Some s.rest) (λ s. s.taken) (λ _. 0) (λ s. s.held) (λ _. 0)
+        (λ s. s.held) (λ _. 0) (bytes_of words.now) source.old source.new out.old out.new
+        notes.old notes.new tally.old tally.new result) }
+    ensures laws { (input : List ℕ) → Laws (bytes_of words.now) input }
 {
     run_and_report(alloc, words, source, out, notes, tally)
 }

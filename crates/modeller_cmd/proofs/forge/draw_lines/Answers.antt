@@ -4,9 +4,9 @@ use Rattle.std.specs.Prelude.{codes, decimal}
 use Rattle.std.proofs.lemmas.Result.{IfOk-weaker}
 use Rattle.live_clauses.specs.Live.{root_of}
 use Rattle.model_frames.specs.Images.{plain_points}
-use Rattle.model_frames.specs.Work.{CountsWork, exactly, frame_work}
+use Rattle.model_frames.specs.Work.{CountsWork, frame_work}
 use Rattle.quad_descent.specs.Raster.{fresh_points, fresh_spans}
-use Rattle.modeller_cmd.specs.CountTexts.{count_text}
+use Rattle.modeller_cmd.specs.CountTexts.{count_lines}
 use Rattle.modeller_cmd.specs.Forging.{forge_text}
 use Rattle.modeller_cmd.proofs.Counting.{told-text}
 use Rattle.modeller_cmd.proofs.Forging.{forged-lines, inside-same}
@@ -22,7 +22,7 @@ returns-clause-ok c =
     c.points.result c.spans.result c.plain_points-plain.result c.points.ensures c.spans.ensures c.plain_points-plain.ensures in
     IfOk-weaker c.forge_lines.result
     (λ text. text.items ≡ codes "clauses " ++ decimal c.len.result ++ codes "\ninside " ++ decimal c.in_ok-inside.inside ++ codes "\n"
-    ++ count_text (exactly c.points.result c.spans.result c.plain_points-plain.result))
+    ++ count_lines c.points.result c.spans.result c.plain_points-plain.result)
     (λ text. text.items ≡ forge_text view clauses)
-    (λ text told. told ∙ forged-lines view clauses c.len.result c.in_ok-inside.inside (count_text (exactly c.points.result c.spans.result c.plain_points-plain.result)) c.len.ensures.len inside lines)
+    (λ text told. told ∙ forged-lines view clauses c.len.result c.in_ok-inside.inside (count_lines c.points.result c.spans.result c.plain_points-plain.result) c.len.ensures.len inside lines)
     c.forge_lines.ensures

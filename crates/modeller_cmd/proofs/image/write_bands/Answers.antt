@@ -1,8 +1,8 @@
 use Rattle.std.proofs.Common.{◌<◌, ◌*◌, ◌+◌, ◌-◌, arith, ap, subst, ◌∙◌}
-use Rattle.modeller_io.specs.Held.{Gains, GainsPrefix}
+use Rattle.modeller_io.specs.Held.{Gains, GainsProperPrefix}
 use Rattle.quad_descent.specs.Rows.{rows_at}
 use Rattle.modeller_cmd.proofs.Bands.{rows-next, rows-three}
-use Rattle.modeller_cmd.proofs.Gaining.{GainsPrefix-after, Gains-then, on-err}
+use Rattle.modeller_cmd.proofs.Gaining.{GainsProperPrefix-after, Gains-then, on-err}
 use Rattle.modeller_cmd.proofs.image.write_bands.Goals as goal
 
 pub returns-in_err-write_band-clause-err : goal.returns-in_err-write_band-clause-err
@@ -15,9 +15,9 @@ returns-in_err-write_band-clause-err g c =
     let rows = c.band_rows-rows.result in
     let so_far = c.loop-row.invariant in
     on-err c.from_residual.result _
-    (subst (GainsPrefix g.K.Sink.held c.args.out.now c.write_band.new.out)
+    (subst (GainsProperPrefix g.K.Sink.held c.args.out.now c.write_band.new.out)
     (rows-three image view first row rows c.requires.over some so_far.above c.band_rows-rows.ensures.within)
-    (GainsPrefix-after g.K.Sink.held c.args.out.now c.loop-row.out c.write_band.new.out (rows_at image first ((row - first) * view.w)) (rows_at image row (rows * view.w))
+    (GainsProperPrefix-after g.K.Sink.held c.args.out.now c.loop-row.out c.write_band.new.out (rows_at image first ((row - first) * view.w)) (rows_at image row (rows * view.w))
     (rows_at image (row + rows) ((view.h - (row + rows)) * view.w)) so_far.gained c.in_err-write_band.ensures.err))
 
 pub loop-row-preserved : goal.loop-row-preserved

@@ -1,7 +1,7 @@
 -- The first piece has the line, the header and the first rows, and the rows below follow.
 use Rattle.std.proofs.Common.{◌<◌, ◌*◌, ◌-◌, ◌++◌, arith, ap, refl, subst, ◌∙◌}
 use Rattle.std.proofs.lemmas.Result.{on_err_weaker, on_ok_weaker}
-use Rattle.modeller_io.specs.Held.{Gains, GainsPrefix}
+use Rattle.modeller_io.specs.Held.{Gains, GainsProperPrefix}
 use Rattle.quad_descent.specs.Rows.{rows_at}
 use Rattle.raster_pgm.specs.Pgm.{pgm_header_of}
 use Rattle.modeller_cmd.proofs.Bands.{front-more, front-then, text-in-bands}
@@ -19,9 +19,9 @@ returns-in_err-write_band-clause-err g c =
     ∙ two-pieces _ _ c.args.line.now (pgm_header_of view.w view.h) c.put_text-start.ensures.front
     (c.as_slice.ensures.value ∙ c.pgm_head.ensures.image refl ∙ ap (λ v. pgm_header_of v.w v.h) c.view.view_is) in
     on-err c.from_residual.result _
-    (subst (GainsPrefix g.K.Sink.held c.args.out.now c.write_band.new.out) (text-in-bands image view rows c.args.line.now c.requires.over some (omega (arith, c.band_rows-rows.ensures.within)))
+    (subst (GainsProperPrefix g.K.Sink.held c.args.out.now c.write_band.new.out) (text-in-bands image view rows c.args.line.now c.requires.over some (omega (arith, c.band_rows-rows.ensures.within)))
     (front-more g.K.Sink.held c.args.out.now c.write_band.new.out _ (rows_at image rows ((view.h - rows) * view.w))
-    (subst (λ before. GainsPrefix g.K.Sink.held c.args.out.now c.write_band.new.out (before ++ first)) front c.in_err-write_band.ensures.err)))
+    (subst (λ before. GainsProperPrefix g.K.Sink.held c.args.out.now c.write_band.new.out (before ++ first)) front c.in_err-write_band.ensures.err)))
 
 pub returns-clause-ok : goal.returns-clause-ok
 returns-clause-ok g c =
@@ -54,7 +54,7 @@ returns-clause-err g c =
     ∙ two-pieces _ _ c.args.line.now (pgm_header_of view.w view.h) c.put_text-start.ensures.front
     (c.as_slice.ensures.value ∙ c.pgm_head.ensures.image refl ∙ ap (λ v. pgm_header_of v.w v.h) c.view.view_is) in
     on_err_weaker c.write_bands.result
-    (λ rest. subst (GainsPrefix g.K.Sink.held c.args.out.now c.write_bands.new.out) (text-in-bands image view rows c.args.line.now c.requires.over some (omega (arith, c.band_rows-rows.ensures.within)))
+    (λ rest. subst (GainsProperPrefix g.K.Sink.held c.args.out.now c.write_bands.new.out) (text-in-bands image view rows c.args.line.now c.requires.over some (omega (arith, c.band_rows-rows.ensures.within)))
     (front-then g.K.Sink.held c.args.out.now c.write_band.new.out c.write_bands.new.out (head ++ first) below
     (subst (λ before. Gains g.K.Sink.held c.args.out.now c.write_band.new.out (before ++ first)) front c.in_ok-write_band.ensures.ok) rest))
     c.write_bands.ensures.err

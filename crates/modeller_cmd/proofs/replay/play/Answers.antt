@@ -88,7 +88,7 @@ returns-in-Render-clause-halted g c =
     c.args.command.now (Command.Render c.in-Render.view) c.in-Render.is
     (frame-halts g.K.Sink.held g.K.Sink.faults c.args.out.now c.show_image.new.out c.args.tally.now c.show_image.new.tally c.args.lines.now c.show_image.result
     (c.requires.way (at-command Draws c.args.command.now (Command.Render c.in-Render.view) c.in-Render.is tt))
-    c.args.session.now (Command.Render c.in-Render.view) tt tt c.show_image.ensures.stop c.show_image.ensures.halted c.show_image.ensures.unwritten c.show_image.ensures.counted)
+    c.args.session.now (Command.Render c.in-Render.view) tt c.show_image.ensures.stop c.show_image.ensures.halted c.show_image.ensures.unwritten c.show_image.ensures.counted)
 
 pub returns-in-Height-clause-played : goal.returns-in-Height-clause-played
 returns-in-Height-clause-played g c =
@@ -104,7 +104,7 @@ returns-in-Height-clause-halted g c =
     c.args.command.now (Command.Height c.in-Height.view) c.in-Height.is
     (frame-halts g.K.Sink.held g.K.Sink.faults c.args.out.now c.show.new.out c.args.tally.now c.show.new.tally c.args.lines.now c.show.result
     (c.requires.way (at-command Draws c.args.command.now (Command.Height c.in-Height.view) c.in-Height.is tt))
-    c.args.session.now (Command.Height c.in-Height.view) tt tt c.show.ensures.stop c.show.ensures.halted c.show.ensures.unwritten c.show.ensures.counted)
+    c.args.session.now (Command.Height c.in-Height.view) tt c.show.ensures.stop c.show.ensures.halted c.show.ensures.unwritten c.show.ensures.counted)
 
 pub returns-in-Mesh-clause-played : goal.returns-in-Mesh-clause-played
 returns-in-Mesh-clause-played g c =
@@ -120,7 +120,7 @@ returns-in-Mesh-clause-halted g c =
     c.args.command.now (Command.Mesh c.in-Mesh.view) c.in-Mesh.is
     (frame-halts g.K.Sink.held g.K.Sink.faults c.args.out.now c.show_mesh.new.out c.args.tally.now c.show_mesh.new.tally c.args.lines.now c.show_mesh.result
     (c.requires.way (at-command Draws c.args.command.now (Command.Mesh c.in-Mesh.view) c.in-Mesh.is tt))
-    c.args.session.now (Command.Mesh c.in-Mesh.view) tt tt c.show_mesh.ensures.stop c.show_mesh.ensures.halted c.show_mesh.ensures.unwritten c.show_mesh.ensures.counted)
+    c.args.session.now (Command.Mesh c.in-Mesh.view) tt c.show_mesh.ensures.stop c.show_mesh.ensures.halted c.show_mesh.ensures.unwritten c.show_mesh.ensures.counted)
 
 pub returns-in-Text-clause-played : goal.returns-in-Text-clause-played
 returns-in-Text-clause-played g c =
@@ -136,4 +136,4 @@ returns-in-Text-clause-halted g c =
     c.args.command.now Command.Text c.in-Text.is
     (frame-halts g.K.Sink.held g.K.Sink.faults c.args.out.now c.show-in-Text.new.out c.args.tally.now c.show-in-Text.new.tally c.args.lines.now c.show-in-Text.result
     (c.requires.way (at-command Draws c.args.command.now Command.Text c.in-Text.is tt))
-    c.args.session.now Command.Text tt tt c.show-in-Text.ensures.stop c.show-in-Text.ensures.halted c.show-in-Text.ensures.unwritten c.show-in-Text.ensures.counted)
+    c.args.session.now Command.Text tt c.show-in-Text.ensures.stop c.show-in-Text.ensures.halted c.show-in-Text.ensures.unwritten c.show-in-Text.ensures.counted)

@@ -4,7 +4,7 @@ use Rattle.modeller_cmd.specs.Halting.{HaltsAt}
 use Rattle.modeller_cmd.specs.Replays.{replayed}
 use Rattle.modeller_cmd.specs.Writing.{Halted}
 use Rattle.modeller_cmd.specs.declared.stop.Stop.TheVariants.{WriteFault}
-use Rattle.modeller_cmd.proofs.Waiting.{Passed, halted-at, halts-next, halts-waiting, passed-all, passed-none, passed-played, passed-sent}
+use Rattle.modeller_cmd.proofs.Waiting.{Passed, halted-at, halts-at-is, halts-next, halts-waiting, passed-all, passed-none, passed-played, passed-sent}
 use Rattle.modeller_cmd.proofs.Writing.{ends-with}
 use Rattle.modeller_cmd.proofs.replay.play_commands.Goals as goal
 
@@ -53,7 +53,8 @@ returns-in_err-step-clause-halted g c =
 pub returns-in_err-step-clause-stop : goal.returns-in_err-step-clause-stop
 returns-in_err-step-clause-stop g c =
     ends-with c.from_residual-in_err-step.result c.in_err-step.field-0.0 IsHalt c.from_residual-in_err-step.ensures.1
-    (halts-next c.frames_add_up.ensures g.K.Sink.held g.K.Sink.faults c.args.out.now c.args.tally.now c.args.session.now c.args.commands c.make_way.new.out c.step.new.out c.loop-command.tally c.step.new.tally c.loop-command.session c.loop-command.commands c.make_way.new.lines (passed-sent c.frames_add_up.ensures g.K.Sink.held g.K.Sink.faults c.args.out.now c.args.tally.now c.args.session.now c.args.commands c.loop-command.out c.make_way.new.out c.loop-command.tally c.loop-command.tally c.loop-command.session c.loop-command.commands c.loop-command.lines c.loop-command.invariant c.make_way.new.lines c.in_ok-make_way.ensures.sent) c.in-Some.command c.next.new.self c.in_err-step.field-0.0 c.in-Some.ensures.next c.in_err-step.ensures.halted).halts.halt
+    (halts-at-is g.K.Sink.held g.K.Sink.faults c.args.out.now c.step.new.out c.args.tally.now c.step.new.tally c.args.session.now c.args.commands c.in_err-step.field-0.0
+    (halts-next c.frames_add_up.ensures g.K.Sink.held g.K.Sink.faults c.args.out.now c.args.tally.now c.args.session.now c.args.commands c.make_way.new.out c.step.new.out c.loop-command.tally c.step.new.tally c.loop-command.session c.loop-command.commands c.make_way.new.lines (passed-sent c.frames_add_up.ensures g.K.Sink.held g.K.Sink.faults c.args.out.now c.args.tally.now c.args.session.now c.args.commands c.loop-command.out c.make_way.new.out c.loop-command.tally c.loop-command.tally c.loop-command.session c.loop-command.commands c.loop-command.lines c.loop-command.invariant c.make_way.new.lines c.in_ok-make_way.ensures.sent) c.in-Some.command c.next.new.self c.in_err-step.field-0.0 c.in-Some.ensures.next c.in_err-step.ensures.halted))
 
 pub returns-in_err-write-clause-ends : goal.returns-in_err-write-clause-ends
 returns-in_err-write-clause-ends g c =

@@ -21,7 +21,7 @@ returns-in_err-write_frame-clause-halted g c =
     c.from_residual-in_err-write_frame.ensures.1
     (part-halted g.K.Sink.held g.K.Sink.faults c.args.out.now c.write_frame.new.out c.args.tally.now c.frame.new.tally part (frame_of c.name.result.now c.deref.result.now)
     (ap (λ name. frame_of name c.deref.result.now) c.name.ensures.name ∙ ap (frame_of (frame_name c.args.frame.now)) (c.deref.ensures.value ∙ c.in_ok-bytes.ensures.bytes))
-    c.in_err-write_frame.ensures.err c.in_err-write_frame.ensures.cause c.in_ok-bytes.ensures.at_most c.in_ok-bytes.ensures.plain)
+    (record { gained = c.in_err-write_frame.ensures.err; fault = c.in_err-write_frame.ensures.cause }) c.in_ok-bytes.ensures.at_most c.in_ok-bytes.ensures.plain)
 
 pub returns-clause-written : goal.returns-clause-written
 returns-clause-written g c =

@@ -46,7 +46,7 @@ returns-in_err-write_frame-clause-halted g c =
     c.from_residual-in_err-write_frame.ensures.1
     (part-halted g.K.Sink.held g.K.Sink.faults c.args.out.now c.write_frame.new.out c.args.tally.now c.draw_mesh.new.tally part (frame_of (codes "mesh") c.deref.result.now)
     (ap (frame_of (codes "mesh")) (c.deref.ensures.value ∙ c.in_ok-mesh_text_in.ensures.text ∙ c.in_ok-draw_mesh.ensures.text))
-    c.in_err-write_frame.ensures.err c.in_err-write_frame.ensures.cause c.in_ok-draw_mesh.ensures.at_most (rises-plain c.args.tally.now c.draw_mesh.new.tally c.args.session.now c.args.view.now c.in_ok-draw_mesh.ensures.plain))
+    (record { gained = c.in_err-write_frame.ensures.err; fault = c.in_err-write_frame.ensures.cause }) c.in_ok-draw_mesh.ensures.at_most (rises-plain c.args.tally.now c.draw_mesh.new.tally c.args.session.now c.args.view.now c.in_ok-draw_mesh.ensures.plain))
 
 pub returns-clause-written : goal.returns-clause-written
 returns-clause-written g c =

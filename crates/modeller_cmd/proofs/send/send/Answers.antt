@@ -1,6 +1,6 @@
 use Rattle.std.proofs.Common.{subst}
-use Rattle.modeller_io.specs.Held.{Gains, GainsPrefix}
-use Rattle.modeller_cmd.proofs.AtOnce.{sent-front, sent-none}
+use Rattle.modeller_io.specs.Held.{Gains, GainsProperPrefix}
+use Rattle.modeller_cmd.proofs.AtOnce.{sent-in-part, sent-none}
 use Rattle.model_frames.specs.Drawn.{drawn_bytes}
 use Rattle.modeller_cmd.proofs.send.send.Goals as goal
 
@@ -9,15 +9,17 @@ returns-in_err-pieces g c = sent-none g.K.Sink.held g.K.Sink.faults c.args.out.n
 
 pub returns-in_err-write_pieces : goal.returns-in_err-write_pieces
 returns-in_err-write_pieces g c =
-    sent-front g.K.Sink.held g.K.Sink.faults c.args.out.now c.write_pieces.new.out (drawn_bytes c.args.drawn.now) c.from_residual-in_err-write_pieces.result c.from_residual-in_err-write_pieces.ensures.1
-    (subst (GainsPrefix g.K.Sink.held c.args.out.now c.write_pieces.new.out) c.in_ok-pieces.ensures c.in_err-write_pieces.ensures.err) c.in_err-write_pieces.ensures.cause
+    sent-in-part g.K.Sink.held g.K.Sink.faults c.args.out.now c.write_pieces.new.out (drawn_bytes c.args.drawn.now) c.from_residual-in_err-write_pieces.result c.from_residual-in_err-write_pieces.ensures.1
+    (record {
+      gained = subst (GainsProperPrefix g.K.Sink.held c.args.out.now c.write_pieces.new.out) c.in_ok-pieces.ensures c.in_err-write_pieces.ensures.err;
+      fault = c.in_err-write_pieces.ensures.cause;
+    })
 
 pub returns : goal.returns
 returns g c = record {
   stop = tt;
   gained = subst (Gains g.K.Sink.held c.args.out.now c.write_pieces.new.out) c.in_ok-pieces.ensures c.in_ok-write_pieces.ensures.ok;
   no_fault = c.in_ok-write_pieces.ensures.no_fault;
-  front = λ is. cc;
-  fault = λ is. cc;
+  failed = λ is. cc;
   unwritten = λ is. cc;
 }

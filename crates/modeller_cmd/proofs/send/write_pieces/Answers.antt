@@ -1,7 +1,7 @@
 -- Each piece is written after those before it, and none is left behind.
 use Rattle.std.proofs.Common.{◌≡◌, ◌++◌, ◌∙◌, [], ap, append-nil, append_assoc, refl, subst, sym}
-use Rattle.modeller_io.specs.Held.{Gains, GainsPrefix}
-use Rattle.modeller_cmd.proofs.Gaining.{GainsPrefix-after, Gains-then, RoseBy-after, on-err}
+use Rattle.modeller_io.specs.Held.{Gains, GainsProperPrefix}
+use Rattle.modeller_cmd.proofs.Gaining.{GainsProperPrefix-after, Gains-then, RoseBy-after, on-err}
 use Rattle.modeller_cmd.proofs.send.write_pieces.Goals as goal
 
 pub loop-out-init : goal.loop-out-init
@@ -30,10 +30,10 @@ pub returns-in_err-write_all-2-clause-err : goal.returns-in_err-write_all-2-clau
 returns-in_err-write_all-2-clause-err g c =
     let so_far = c.loop-out.invariant in
     on-err c.from_residual-in_err-write_all-2.result _
-    (subst (GainsPrefix g.K.Sink.held c.args.out.now c.write_all-in-loop-out.new.sink)
+    (subst (GainsProperPrefix g.K.Sink.held c.args.out.now c.write_all-in-loop-out.new.sink)
     (ap (λ rest. so_far.front ++ rest) (sym (c.loop-out-test.ensures.more refl)) ∙ so_far.whole)
-    (GainsPrefix-after g.K.Sink.held c.args.out.now c.loop-out.out c.write_all-in-loop-out.new.sink so_far.front c.advance.new.self.piece c.advance.new.self.rest so_far.gained
-    (subst (GainsPrefix g.K.Sink.held c.loop-out.out c.write_all-in-loop-out.new.sink) c.piece-in-loop-out.ensures c.in_err-write_all-2.ensures.err)))
+    (GainsProperPrefix-after g.K.Sink.held c.args.out.now c.loop-out.out c.write_all-in-loop-out.new.sink so_far.front c.advance.new.self.piece c.advance.new.self.rest so_far.gained
+    (subst (GainsProperPrefix g.K.Sink.held c.loop-out.out c.write_all-in-loop-out.new.sink) c.piece-in-loop-out.ensures c.in_err-write_all-2.ensures.err)))
 
 pub returns-in_err-write_all-2-clause-cause : goal.returns-in_err-write_all-2-clause-cause
 returns-in_err-write_all-2-clause-cause g c =
