@@ -24,7 +24,7 @@ use Rattle.height_map.specs.Columns.{IsAmong}
 use Rattle.height_map.specs.Desks.{IsPlaced, MayDraw, MayReceive}
 use Rattle.normal_shade.specs.Lit.{pruned}
 use Rattle.normal_shade.specs.Marks.{has_top_at, some_top_at}
-use Rattle.normal_shade.specs.Shading.{HasRoom, pruned_at}
+use Rattle.normal_shade.specs.Shading.{pruned_at}
 use Rattle.normal_shade.proofs.Lit.{Becomes, lit-none, lit-then}
 use Rattle.normal_shade.proofs.Longest.{columns-there, half-placed, list-kept, may-more, placed-may}
 use Rattle.normal_shade.proofs.Visits.{decided-by, outcome_at, pruned-is, pruned-tape, told-by, undecided-whole}
@@ -114,11 +114,6 @@ decision-more before after b at t more among told = told ∙ same-told (λ place
 pub told-more : (before after : Tracing) (b : Indices) (at : ℕ) (o : Outcome (List Step)) → HasMore before after → at < length before.lists
     → o ≡ asked_outcome (samples before) (list_of before at) (held_box b) → o ≡ asked_outcome (samples after) (list_of after at) (held_box b)
 told-more before after b at o more among told = told ∙ same-told (λ places list. asked_outcome places list (held_box b)) before after at more among
-
-pub room-more : (before after : Tracing) (tops pixels scratch other_pixels other_scratch : ℕ) → after.room ≡ before.room → other_pixels ≡ pixels → other_scratch ≡ scratch → HasRoom before tops pixels scratch
-    → HasRoom after tops other_pixels other_scratch
-room-more before after tops pixels scratch other_pixels other_scratch same of_pixels of_scratch room =
-    record { picture = of_pixels ∙ room.picture; duals = omega (arith, room.duals, same, of_scratch) }
 
 -- ---- some boxes that are shaded one by one
 

@@ -1,5 +1,6 @@
 pub mod Choices
 pub mod Reached
+pub mod DualRows
 pub mod Sums
 pub mod Lit
 pub mod Visits

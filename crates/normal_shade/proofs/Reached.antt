@@ -154,7 +154,7 @@ pub branches-length : (steps : List Step) (value : ℕ → ℤ) → length (bran
 branches-length steps value = length-map-range_with_len (λ k. branch (step_at steps k).op (value (step_at steps k).a) (value (step_at steps k).b)) 0 (length steps)
 
 -- a sum of one number more
-sum-more : (f : ℕ → ℕ) (a n j : ℕ) → a + n ≡ j → sum_by f (range_with_len a (suc n)) ≡ sum_by f (range_with_len a n) + f j
+pub sum-more : (f : ℕ → ℕ) (a n j : ℕ) → a + n ≡ j → sum_by f (range_with_len a (suc n)) ≡ sum_by f (range_with_len a n) + f j
 sum-more f a zero j e =
     let same : a ≡ j = omega (arith, e) in
     omega (arith, sum_by-cons f a (range_with_len (a + 1) 0), ap f same)
@@ -248,10 +248,10 @@ module _ (p : Point) (steps : List Step) (tape : IsTape steps) where
   value-is place step is = meaning_at-step (number_at p) (number_at-reads p) steps place step tape.each is
 
   -- a step that is reached has its dual number, by those of the operands that are reached with it
-  pub dual-more : (place : ℕ) (step : Step) (value : ℕ → ℤ) (duals : List Sloped) → slice_get steps place ≡ Some step → HasValues p steps value
-      → AreDuals p steps duals place → is_reached p steps place ≡ true
-      → dual_of step.op (value place) (value step.a) (value step.b) (dual_in step.a duals) (dual_in step.b duals) ≡ meaning_at (sloped_at p) steps place
-  dual-more place step value duals is values read reached =
+  pub dual-more : (place : ℕ) (step : Step) (value : ℕ → ℤ) (dual : ℕ → Sloped) → slice_get steps place ≡ Some step → HasValues p steps value
+      → AreDuals p steps dual place → is_reached p steps place ≡ true
+      → dual_of step.op (value place) (value step.a) (value step.b) (dual step.a) (dual step.b) ≡ meaning_at (sloped_at p) steps place
+  dual-more place step value dual is values read reached =
       let within : place < length steps = slice_get_within steps place step is in
       let there : step_at steps place ≡ step = get_or_from_slice_get steps place step _ is in
       let stands = tape.each place step is in
@@ -267,36 +267,39 @@ module _ (p : Point) (steps : List Step) (tape : IsTape steps) where
       values place within ∙ value-is place step is ∙ ap (λ v. step_value step.op p step.value v (value_at p steps step.b)) value_a ∙ ap (λ v. step_value step.op p step.value a.value v) value_b in
       let takes : branch (step_at steps place).op (value_at p steps (step_at steps place).a) (value_at p steps (step_at steps place).b) ≡ branch step.op a.value b.value =
       ap (λ (s : Step). branch s.op (value_at p steps s.a) (value_at p steps s.b)) there ∙ ap (λ v. branch step.op v (value_at p steps step.b)) value_a ∙ ap (λ v. branch step.op a.value v) value_b in
-      let first : First step.op (branch step.op a.value b.value) → dual_in step.a duals ≡ a = λ reads.
+      let first : First step.op (branch step.op a.value b.value) → dual step.a ≡ a = λ reads.
       read step.a (stands.fits.first reads.1)
       (subst (λ (s : Step). is_reached p steps s.a ≡ true) there (first-reached place within reached
       (λ right. reads.0 (sym takes ∙ right), subst (λ (s : Step). 0 < arity_of s.op) (sym there) reads.1))) in
-      let second : Second step.op (branch step.op a.value b.value) → dual_in step.b duals ≡ b = λ reads.
+      let second : Second step.op (branch step.op a.value b.value) → dual step.b ≡ b = λ reads.
       read step.b (stands.fits.second reads.1)
       (subst (λ (s : Step). is_reached p steps s.b ≡ true) there (second-reached place within reached
       (λ left. reads.0 (sym takes ∙ left), subst (λ (s : Step). 1 < arity_of s.op) (sym there) reads.1))) in
-      ap (λ r. dual_of step.op r (value step.a) (value step.b) (dual_in step.a duals) (dual_in step.b duals)) is_r
-      ∙ ap (λ v. dual_of step.op (step_value step.op p step.value a.value b.value) v (value step.b) (dual_in step.a duals) (dual_in step.b duals)) is_a
-      ∙ ap (λ v. dual_of step.op (step_value step.op p step.value a.value b.value) a.value v (dual_in step.a duals) (dual_in step.b duals)) is_b
-      ∙ dual_is step.op p step.value a b (dual_in step.a duals) (dual_in step.b duals) first second
+      ap (λ r. dual_of step.op r (value step.a) (value step.b) (dual step.a) (dual step.b)) is_r
+      ∙ ap (λ v. dual_of step.op (step_value step.op p step.value a.value b.value) v (value step.b) (dual step.a) (dual step.b)) is_a
+      ∙ ap (λ v. dual_of step.op (step_value step.op p step.value a.value b.value) a.value v (dual step.a) (dual step.b)) is_b
+      ∙ dual_is step.op p step.value a b (dual step.a) (dual step.b) first second
       ∙ sym (meaning_at-step (sloped_at p) (sloped_at-reads p) steps place step tape.each is)
 
   -- so one more of them stands
-  pub duals-more : (place : ℕ) (duals : List Sloped) (new : Sloped) → place < length duals → AreDuals p steps duals place
-      → (is_reached p steps place ≡ true → new ≡ meaning_at (sloped_at p) steps place) → AreDuals p steps (set duals place new) (place + 1)
-  duals-more place duals new room read made k below reached =
+  pub duals-next : (place : ℕ) (was dual : ℕ → Sloped) → AreDuals p steps was place → ((k : ℕ) → k < place → dual k ≡ was k)
+      → (is_reached p steps place ≡ true → dual place ≡ meaning_at (sloped_at p) steps place) → AreDuals p steps dual (place + 1)
+  duals-next place was dual read kept made k below reached =
       elim (cases_eq k place) [
-        | inl e ↦ ap (λ (i : ℕ). get_or (set duals place new) i flat) e ∙ get_or-set_same duals place new flat room
-            ∙ made (subst (λ i. is_reached p steps i ≡ true) e reached) ∙ ap (meaning_at (sloped_at p) steps) (sym e)
-        | inr other ↦ get_or-set_other duals place k new flat other ∙ read k (omega (arith, below, other)) reached
+        | inl e ↦ ap dual e ∙ made (subst (λ i. is_reached p steps i ≡ true) e reached) ∙ ap (meaning_at (sloped_at p) steps) (sym e)
+        | inr other ↦ kept k (omega (arith, below, other)) ∙ read k (omega (arith, below, other)) reached
       ]
 
-  pub duals-stay : (place : ℕ) (duals : List Sloped) → AreDuals p steps duals place → is_reached p steps place ≡ false → AreDuals p steps duals (place + 1)
-  duals-stay place duals read unreached k below reached =
-      elim (cases_eq k place) [
-        | inl e ↦ absurd (false≢true (sym unreached ∙ subst (λ i. is_reached p steps i ≡ true) e reached))
-        | inr other ↦ read k (omega (arith, below, other)) reached
-      ]
+  pub duals-more : (place : ℕ) (duals : List Sloped) (new : Sloped) → place < length duals → AreDuals p steps (λ k. dual_in k duals) place
+      → (is_reached p steps place ≡ true → new ≡ meaning_at (sloped_at p) steps place) → AreDuals p steps (λ k. dual_in k (set duals place new)) (place + 1)
+  duals-more place duals new room read made =
+      duals-next place (λ k. dual_in k duals) (λ k. dual_in k (set duals place new)) read
+      (λ k below. get_or-set_other duals place k new flat (λ e. omega (arith, below, e)))
+      (λ reached. get_or-set_same duals place new flat room ∙ made reached)
+
+  pub duals-stay : (place : ℕ) (dual : ℕ → Sloped) → AreDuals p steps dual place → is_reached p steps place ≡ false → AreDuals p steps dual (place + 1)
+  duals-stay place dual read unreached =
+      duals-next place dual dual read (λ k below. refl) (λ reached. absurd (false≢true (sym unreached ∙ reached)))
 
   -- what the derivatives of one more step take
   pub cost-more : (place : ℕ) (step : Step) (value : ℕ → ℤ) (cost : ℕ) → slice_get steps place ≡ Some step → HasValues p steps value → is_reached p steps place ≡ true
@@ -325,8 +328,8 @@ module _ (p : Point) (steps : List Step) (tape : IsTape steps) where
       omega (arith, so_far, none, more)
 
   -- the last step has the list's dual number
-  pub last-dual : (duals : List Sloped) → AreDuals p steps duals (length steps) → dual_in (length steps - 1) duals ≡ tape_meaning (sloped_at p) steps
-  last-dual duals read = read (length steps - 1) (omega (arith, tape.some)) last-reached
+  pub last-dual : (dual : ℕ → Sloped) → AreDuals p steps dual (length steps) → dual (length steps - 1) ≡ tape_meaning (sloped_at p) steps
+  last-dual dual read = read (length steps - 1) (omega (arith, tape.some)) last-reached
 
   -- the marks that the values leave are those of the steps that are reached
   pub marks-reach : (l : ℕ) (value : ℕ → ℤ) (marks : List ℕ) → HasValues p steps value → AreMarks l steps (branches_of steps value) marks → MarksReached p steps l marks
@@ -335,14 +338,14 @@ module _ (p : Point) (steps : List Step) (tape : IsTape steps) where
 
   -- what a walk up the list writes at a step that is reached, from what it read
   module _ (place : ℕ) (step : Step) (value : ℕ → ℤ) (is : slice_get steps place ≡ Some step) (values : HasValues p steps value) (reached : is_reached p steps place ≡ true) (r left right : ℤ) (here : r ≡ value place) (first : left ≡ value step.a) (second : right ≡ value step.b) where
-    pub dual-written : (duals : List Sloped) (da db : Sloped) → da ≡ dual_in step.a duals → db ≡ dual_in step.b duals → AreDuals p steps duals place
+    pub dual-written : (dual : ℕ → Sloped) (da db : Sloped) → da ≡ dual step.a → db ≡ dual step.b → AreDuals p steps dual place
         → dual_of step.op r left right da db ≡ meaning_at (sloped_at p) steps place
-    dual-written duals da db for_a for_b read =
+    dual-written dual da db for_a for_b read =
         ap (λ v. dual_of step.op v left right da db) here ∙ ap (λ v. dual_of step.op (value place) v right da db) first
         ∙ ap (λ v. dual_of step.op (value place) (value step.a) v da db) second
         ∙ ap (λ d. dual_of step.op (value place) (value step.a) (value step.b) d db) for_a
-        ∙ ap (λ d. dual_of step.op (value place) (value step.a) (value step.b) (dual_in step.a duals) d) for_b
-        ∙ dual-more place step value duals is values read reached
+        ∙ ap (λ d. dual_of step.op (value place) (value step.a) (value step.b) (dual step.a) d) for_b
+        ∙ dual-more place step value dual is values read reached
 
     pub cost-written : (count cost : ℕ) → count ≡ derivatives_below p steps place → cost ≡ derivative_cost step.op left right r → count + cost ≡ derivatives_below p steps (place + 1)
     cost-written count cost so_far same =

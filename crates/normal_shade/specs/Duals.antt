@@ -1,5 +1,5 @@
 -- Dual numbers: values with their derivatives along the three axes.
-use Rattle.std.specs.Prelude.{◌≡◌, ℕ, ◌<◌, true, ℤ, pos, List, length, slice_index_or}
+use Rattle.std.specs.Prelude.{◌≡◌, ℕ, ◌<◌, true, ℤ, pos, List, [], length, slice_index_or}
 use Rattle.fixed_ops.specs.Points.{Point}
 use Rattle.fixed_ops.specs.Slopes.{Sloped, flat, one, slope_result}
 use Rattle.fixed_ops.specs.declared.operation.Op.{Op}
@@ -13,6 +13,10 @@ use Rattle.normal_shade.specs.Branches.{is_reached}
 -- the dual number in a lane of a row, or at a place
 abbrev pub dual_in : ℕ → List Sloped → Sloped
 dual_in lane row = slice_index_or row lane flat
+
+-- the dual number in a lane of the row at a place
+abbrev pub dual_at : ℕ → List (List Sloped) → ℕ → Sloped
+dual_at lane rows place = dual_in lane (slice_index_or rows place [])
 
 -- The dual number of a step that has the value r, whose operands have the values a and b and these dual
 -- numbers. Of a minimum and a maximum only that of the operand is read whose branch is taken.
@@ -37,6 +41,6 @@ MarksReached p steps lane marks = (place : ℕ) → place < length steps
     → is_marked lane marks place ≡ is_reached p steps place
 
 -- each step before a place that is reached at a point has its dual number there
-abbrev pub AreDuals : Point → List Step → List Sloped → ℕ → Type 0
-AreDuals p steps duals end = (place : ℕ) → place < end → is_reached p steps place ≡ true
-    → dual_in place duals ≡ meaning_at (sloped_at p) steps place
+abbrev pub AreDuals : Point → List Step → (ℕ → Sloped) → ℕ → Type 0
+AreDuals p steps dual end = (place : ℕ) → place < end → is_reached p steps place ≡ true
+    → dual place ≡ meaning_at (sloped_at p) steps place

@@ -1,20 +1,14 @@
--- What shading a box needs, and the work that it takes.
-use Rattle.std.specs.Prelude.{◌≡◌, ℕ, ◌≤◌, Bool, List, if◌then◌else◌}
+-- The work that shading a box takes.
+use Rattle.std.specs.Prelude.{ℕ, Bool, List, if◌then◌else◌}
 use Rattle.std.specs.List.{sum_by}
 use Rattle.live_clauses.specs.declared.step.Step.{Step}
 use Rattle.view_places.specs.Boxes.{Indices, halves_of}
 use Rattle.box_chains.specs.Chains.{Descent, Visit, half_visit, is_split, sum_over}
-use Rattle.box_chains.specs.Desks.{Tracing}
 use Rattle.box_chains.specs.Sums.{Sample}
 use Rattle.box_chains.specs.Tested.{spans_where}
 use Rattle.box_chains.specs.declared.outcome.Outcome.{Outcome}
 use Rattle.box_chains.specs.declared.outcome.Outcome.TheVariants.{Inside, Outside, Open}
 use Rattle.normal_shade.specs.Lit.{lit_where}
-
--- there are as many pixels as tops, and room for the dual numbers of each step of the lists
-pub record HasRoom (desk : Tracing) (tops pixels room : ℕ) : Type 0 where
-  pub picture : pixels ≡ tops
-  pub duals : desk.room ≤ room
 
 -- the number of the list that a traced box prunes, or else of the one that it received
 abbrev pub pruned_at : ℕ → Outcome ℕ → ℕ

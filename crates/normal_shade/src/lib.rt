@@ -4,6 +4,7 @@
 
 mod branches;
 mod dual;
+mod dual_lanes;
 mod gradients;
 mod laws;
 mod lighting;

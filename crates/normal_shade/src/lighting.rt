@@ -10,7 +10,7 @@ ghost use Rattle.normal_shade.specs.Marks.{has_top_at, is_marked, lit_along, sha
 ghost use Rattle.normal_shade.specs.TopSamples.{HasTop, IsSample, lit_samples, nth, point_at, samples_along, stand_at};
 ghost use Rattle.view_places.specs.Boxes.{Indices};
 
-use crate::gradients::gradient_lanes;
+use crate::dual_lanes::gradient_lanes;
 use crate::scratch::Scratch;
 use crate::top_sample::TopSample;
 use crate::tops::is_within;

@@ -37,10 +37,10 @@ pub fn shade(
 {
     layers_hold();
     // A list can be evaluated.
-    let len = tape.len();
+    let _len = tape.len();
     let mut desk = Desk::new(alloc, view, Lattice::Height, tape)?;
     let root = desk.root();
-    let mut scratch = Scratch::new(alloc, len)?;
+    let mut scratch = Scratch::new(alloc);
     let mut pixels = vec![in alloc; 0u8; view.w as usize * view.h as usize]?;
     // The list that the desk was made with has the number 0.
     shade_box(&mut desk, root, 0, tops, &mut scratch, &mut pixels, tally)?;

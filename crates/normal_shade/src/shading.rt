@@ -13,7 +13,7 @@ ghost use Rattle.height_map.specs.Desks.{IsPlaced, MayDraw, MayReceive};
 ghost use Rattle.live_clauses.specs.Live.{IsWhole};
 ghost use Rattle.normal_shade.specs.Lit.{lit_in, lit_where};
 ghost use Rattle.normal_shade.specs.Marks.{has_top_at, is_marked, shade_at, some_top_at};
-ghost use Rattle.normal_shade.specs.Shading.{HasRoom, boxes_points, pruned_at, spans_below};
+ghost use Rattle.normal_shade.specs.Shading.{boxes_points, pruned_at, spans_below};
 ghost use Rattle.view_places.specs.Boxes.{halves_of};
 
 use crate::lighting::light_tops;
@@ -37,7 +37,7 @@ pub fn shade_box(
     tally: &mut Tally,
 ) -> Result<(), AllocError>
     requires may { MayDraw desk.old b received (length tops.now) }
-    requires room { HasRoom desk.old (length tops.now) (length pixels.old) scratch.old }
+    requires picture { length pixels.old ≡ length tops.now }
     ensures pixels { OnOk result (Changes (has_top_at desk.old.view.w tops.now b)
         (λ p old. shade_at desk.old.view (list_of desk.old received) tops.now p)
         pixels.old pixels.new) }
@@ -82,7 +82,8 @@ fn is_split(traced: &TracedBox, b: IndexBox) -> bool
     traced.decision.is_none() && is_long(b, LEAF)
 }
 
-// Gives each column that has its top sample in a box the light there, by the list of a number.
+// Gives each column that has its top sample in a box the light there, by the list of a number. AllocError:
+// there is no memory for its dual numbers, and nothing was lit.
 #[inline]
 fn light_box(
     desk: &Desk,
@@ -92,20 +93,22 @@ fn light_box(
     scratch: &mut Scratch,
     pixels: &mut [u8],
     tally: &mut Tally,
-)
+) -> Result<(), AllocError>
     requires may { MayDraw desk.now b at (length tops.now) }
-    requires room { HasRoom desk.now (length tops.now) (length pixels.old) scratch.old }
-    ensures pixels { Changes (has_top_at desk.now.view.w tops.now b)
+    requires picture { length pixels.old ≡ length tops.now }
+    ensures pixels { OnOk result (Changes (has_top_at desk.now.view.w tops.now b)
         (λ p old. shade_at desk.now.view (list_of desk.now at) tops.now p)
-        pixels.old pixels.new }
-    ensures room { scratch.new ≡ scratch.old }
-    ensures counted { RisesBy tally.old tally.new (points_of
+        pixels.old pixels.new) }
+    ensures counted { OnOk result (RisesBy tally.old tally.new (points_of
         (lit_in (is_marked desk.now.view.w tops.now) (layered desk.now.view) b
-        (list_of desk.now at))) }
+        (list_of desk.now at)))) }
+    ensures none { OnErr result (tally.new ≡ tally.old) }
 {
     let w = desk.places.w();
     let list = desk.lists.list(at);
+    scratch.make_room(list.len() as usize)?;
     light_tops(&desk.places, w, b, &list, tops, scratch, pixels, tally);
+    Ok(())
 }
 
 // Shades a box that was traced, by the list that it prunes: a decided box and a leaf at once, and another
@@ -122,7 +125,7 @@ fn shade_traced(
     tally: &mut Tally,
 ) -> Result<(), AllocError>
     requires may { MayDraw desk.old b received (length tops.now) }
-    requires room { HasRoom desk.old (length tops.now) (length pixels.old) scratch.old }
+    requires picture { length pixels.old ≡ length tops.now }
     requires decision { traced.now.decision
         ≡ decision_of (samples desk.old) (list_of desk.old received) b }
     requires told { seen desk.old.lists traced.now.outcome
@@ -132,7 +135,6 @@ fn shade_traced(
     ensures pixels { OnOk result (Changes (has_top_at desk.old.view.w tops.now b)
         (λ p old. shade_at desk.old.view (list_of desk.old received) tops.now p)
         pixels.old pixels.new) }
-    ensures room { scratch.new ≡ scratch.old }
     ensures counted { OnOk result (CountsExactly
         (lit_where (is_marked desk.old.view.w tops.now) (layered desk.old.view)
         (visit b (list_of desk.old received)))
@@ -153,8 +155,7 @@ fn shade_traced(
     if is_split(traced, b) {
         shade_children(desk, b, pruned, tops, scratch, pixels, tally)
     } else {
-        light_box(desk, b, pruned, tops, scratch, pixels, tally);
-        Ok(())
+        light_box(desk, b, pruned, tops, scratch, pixels, tally)
     }
 }
 
@@ -172,12 +173,11 @@ fn shade_children(
 ) -> Result<(), AllocError>
     requires may { MayDraw desk.old b pruned (length tops.now) }
     requires whole { IsWhole (list_of desk.old pruned) }
-    requires room { HasRoom desk.old (length tops.now) (length pixels.old) scratch.old }
+    requires picture { length pixels.old ≡ length tops.now }
     requires long { IsTrue (is_long_for 8 b) }
     ensures pixels { OnOk result (Changes (has_top_at desk.old.view.w tops.now b)
         (λ p old. shade_at desk.old.view (list_of desk.old pruned) tops.now p)
         pixels.old pixels.new) }
-    ensures room { scratch.new ≡ scratch.old }
     ensures counted { OnOk result (CountsExactly
         (boxes_points (is_marked desk.old.view.w tops.now) (layered desk.old.view)
         (list_of desk.old pruned) (halves_of 8 b))
@@ -216,13 +216,12 @@ fn shade_boxes(
 ) -> Result<(), AllocError>
     requires placed { All (IsPlaced desk.old (length tops.now)) boxes.now }
     requires receive { MayReceive desk.old received }
-    requires room { HasRoom desk.old (length tops.now) (length pixels.old) scratch.old }
+    requires picture { length pixels.old ≡ length tops.now }
     requires few { length boxes.now ≤ 8 }
     requires some { All (λ b. IsTrue (has_some (is_marked desk.old.view.w tops.now) b)) boxes.now }
     ensures pixels { OnOk result (Changes (some_top_at desk.old.view.w tops.now boxes.now)
         (λ p old. shade_at desk.old.view (list_of desk.old received) tops.now p)
         pixels.old pixels.new) }
-    ensures room { scratch.new ≡ scratch.old }
     ensures counted { OnOk result (CountsExactly
         (boxes_points (is_marked desk.old.view.w tops.now) (layered desk.old.view)
         (list_of desk.old received) boxes.now)

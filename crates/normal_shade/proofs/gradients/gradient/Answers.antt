@@ -20,7 +20,7 @@ returns-clause-slopes c =
     let regs = c.write_derivatives-count.new.duals in
     get_or_read regs (c.len-len.result - 1) c.index-regs-len.result (omega (arith, c.len-len.ensures.len, c.requires.room, ap length c.steps-list.ensures.steps, tape.some, c.write_derivatives-count.auto.duals, c.write_values.auto.duals)) c.index-regs-len.is flat
     ∙ ap (λ n. dual_in (n - 1) regs) c.len-len.ensures.len
-    ∙ last-dual p list tape regs (c.write_derivatives-count.ensures.duals p c.write_values.ensures.values reached)
+    ∙ last-dual p list tape (λ place. dual_in place regs) (c.write_derivatives-count.ensures.duals p c.write_values.ensures.values reached)
     ∙ ap (tape_meaning (sloped_at p)) c.steps-list.ensures.steps
 
 pub returns-clause-counted : goal.returns-clause-counted

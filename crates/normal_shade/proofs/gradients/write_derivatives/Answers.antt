@@ -37,9 +37,9 @@ loop-at-preserved c =
           record {
             values = λ k. ap (λ l. (dual_in k l).value) w.duals-is ∙ values-stay duals at w.step_dual.result k room kept ∙ was.values k;
             duals = λ p values marks.
-                subst (λ l. AreDuals p list l (at + 1)) (sym w.duals-is)
+                subst (λ l. AreDuals p list (λ k. dual_in k l) (at + 1)) (sym w.duals-is)
                 (duals-more p list tape at duals w.step_dual.result room (was.duals p values marks)
-                (λ reached. w.step_dual.ensures ∙ dual-written p list tape at step value is values reached _ _ _ here first second duals _ _ for_a for_b (was.duals p values marks)));
+                (λ reached. w.step_dual.ensures ∙ dual-written p list tape at step value is values reached _ _ _ here first second (λ k. dual_in k duals) _ _ for_a for_b (was.duals p values marks)));
             cost = λ p values marks.
                 let reached : is_reached p list at ≡ true = sym (marks at within) ∙ sym c.is_set.ensures ∙ w.if-is_set.true in
                 w.count-is ∙ cost-written p list tape at step value is values reached _ _ _ here first second c.loop-at.count w.derivative_cost-count.result (was.cost p values marks) w.derivative_cost-count.ensures.cost;
@@ -49,7 +49,7 @@ loop-at-preserved c =
       | else-is_set w ↦ record {
         duals = λ p values marks.
             let unreached : is_reached p list at ≡ false = sym (marks at within) ∙ sym c.is_set.ensures ∙ w.if-is_set.false in
-            subst (λ l. AreDuals p list l (at + 1)) (sym w.duals-is) (duals-stay p list tape at c.loop-at.duals (was.duals p values marks) unreached);
+            subst (λ l. AreDuals p list (λ k. dual_in k l) (at + 1)) (sym w.duals-is) (duals-stay p list tape at (λ k. dual_in k c.loop-at.duals) (was.duals p values marks) unreached);
         cost = λ p values marks.
             let unreached : is_reached p list at ≡ false = sym (marks at within) ∙ sym c.is_set.ensures ∙ w.if-is_set.false in
             w.count-is ∙ cost-stays p list tape at c.loop-at.count unreached (was.cost p values marks);

@@ -1,6 +1,5 @@
 use Rattle.std.proofs.Common.{◌≡◌, ◌*◌, ap, arith, length, replicate, subst, sym, ◌∙◌}
 use Rattle.std.proofs.lemmas.List.{length-replicate, with_items_is}
-use Rattle.box_chains.specs.Desks.{Tracing}
 use Rattle.box_chains.specs.Tallied.{CountsAtMost, CountsExactly}
 use Rattle.view_places.specs.Boxes.{IsBox}
 use Rattle.view_places.specs.Spans.{root_box_of}
@@ -12,9 +11,6 @@ use Rattle.normal_shade.proofs.picture.shade.Goals as goal
 
 pub returns-in_err-desk-clause-at_most : goal.returns-in_err-desk-clause-at_most
 returns-in_err-desk-clause-at_most c = c.layers_hold.ensures.bounds.none c.args.tally.now _ _
-
-pub returns-in_err-scratch-clause-at_most : goal.returns-in_err-scratch-clause-at_most
-returns-in_err-scratch-clause-at_most c = c.layers_hold.ensures.bounds.none c.args.tally.now _ _
 
 pub returns-in_err-pixels-clause-at_most : goal.returns-in_err-pixels-clause-at_most
 returns-in_err-pixels-clause-at_most c = c.layers_hold.ensures.bounds.none c.args.tally.now _ _
@@ -59,11 +55,8 @@ pub shade_box-requires-clause-may : goal.shade_box-requires-clause-may
 shade_box-requires-clause-may c =
     map-may c.args.view.now c.args.tape.now c.in_ok-desk.desk c.root-root.result c.args.tops.now c.in_ok-desk.ensures c.root-root.ensures (subst IsWindow c.view.view_is c.view.invariant) c.len-len.ensures.tape c.requires.tops
 
-pub shade_box-requires-clause-room : goal.shade_box-requires-clause-room
-shade_box-requires-clause-room c =
+pub shade_box-requires-clause-picture : goal.shade_box-requires-clause-picture
+shade_box-requires-clause-picture c =
     let count : c.view.inside.w * c.view.inside.h ≡ length c.args.tops.now =
     dark-count c.args.view.now c.args.tape.now c.args.tops.now c.view.inside.w c.view.inside.h (ap (λ v. v.w) c.view.view_is) (ap (λ v. v.h) c.view.view_is) c.requires.tops in
-    record {
-      picture = ap length (c.deref_mut.ensures.value ∙ c.in_ok-pixels.ensures.items_if_clones_equal (λ y h. h)) ∙ length-replicate (c.view.inside.w * c.view.inside.h) 0 ∙ count;
-      duals = omega (arith, c.in_ok-scratch.ensures, ap (λ (d : Tracing). d.room) c.in_ok-desk.ensures, c.len-len.ensures.len);
-    }
+    ap length (c.deref_mut.ensures.value ∙ c.in_ok-pixels.ensures.items_if_clones_equal (λ y h. h)) ∙ length-replicate (c.view.inside.w * c.view.inside.h) 0 ∙ count

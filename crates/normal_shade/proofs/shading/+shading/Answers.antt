@@ -1,4 +1,4 @@
-use Rattle.std.proofs.Common.{◌≡◌, ◌<◌, ap, arith, length, refl, subst, sym, true, ◌∙◌}
+use Rattle.std.proofs.Common.{◌≡◌, ◌<◌, ap, arith, length, subst, sym, true, ◌∙◌}
 use Rattle.std.specs.Prelude.{None}
 use Rattle.std.specs.List.{All, filter}
 use Rattle.std.proofs.lemmas.List.Elements.{All-filter, All-weaker, filter_passes}
@@ -13,7 +13,7 @@ use Rattle.view_places.specs.Boxes.{IsBox, halves_of}
 use Rattle.normal_shade.specs.Lit.{lit_where}
 use Rattle.normal_shade.specs.Marks.{has_top_at, is_marked, shade_at}
 use Rattle.normal_shade.specs.Shading.{spans_below}
-use Rattle.normal_shade.proofs.Descents.{AreTold, IsPruned, all-lit, begun-lit, decision-at, halves-placed, moved, next-is, next-lit, on_err, on_err-then, on_ok-then, pruned-of, room-more, told-many}
+use Rattle.normal_shade.proofs.Descents.{AreTold, IsPruned, all-lit, begun-lit, decision-at, halves-placed, moved, next-is, next-lit, on_err, on_err-then, on_ok-then, pruned-of, told-many}
 use Rattle.normal_shade.proofs.Held.{lit-halves, lit-pruned}
 use Rattle.normal_shade.proofs.Lit.{Becomes}
 use Rattle.normal_shade.proofs.Longest.{few-kept, longest, longest-at, longest-kept, parts-shorter}
@@ -32,7 +32,7 @@ shade_traced-shade_children-requires t c =
     let decision = decision-at desk c.args.b c.args.received (length c.args.tops.now) c.args.traced.now.decision c.requires.may c.requires.decision in
     let splits = sym (split-is (layered desk.view) v c.args.traced.now.decision decision) ∙ sym c.is_split.ensures ∙ c.if-is_split.true in
     let own = subst (λ n. IsPruned desk c.args.b c.args.received n (length c.args.tops.now)) (sym at) prunes in
-    (omega (arith, c.decreases), (own.may, (own.whole (split-undecided (layered desk.view) v splits), (c.requires.room, split-long (layered desk.view) v splits))))
+    (omega (arith, c.decreases), (own.may, (own.whole (split-undecided (layered desk.view) v splits), (c.requires.picture, split-long (layered desk.view) v splits))))
 
 pub shade_traced-light_box-requires-clause-may : goal.shade_traced-light_box-requires-clause-may
 shade_traced-light_box-requires-clause-may t c =
@@ -77,8 +77,10 @@ pub shade_traced-returns-else-is_split-clause-pixels : goal.shade_traced-returns
 shade_traced-returns-else-is_split-clause-pixels t c =
     let desk = c.args.desk.now in
     let prunes = pruned-of c.layers_hold.ensures desk c.args.b c.args.received (length c.args.tops.now) c.args.traced.now.outcome c.requires.may c.requires.told c.requires.hands in
-    lit-pruned c.layers_hold.ensures c.live_lists_keep_slopes.ensures desk.view (list_of desk c.args.received) (list_of desk c.pruned_list-pruned.result) c.args.b c.args.tops.now c.args.pixels.now c.light_box.new.pixels
-    c.requires.may.visit_is (ap (list_of desk) c.pruned_list-pruned.ensures ∙ prunes.is) c.light_box.ensures.pixels
+    on_ok-then c.light_box.result _ _
+    (lit-pruned c.layers_hold.ensures c.live_lists_keep_slopes.ensures desk.view (list_of desk c.args.received) (list_of desk c.pruned_list-pruned.result) c.args.b c.args.tops.now c.args.pixels.now c.light_box.new.pixels
+    c.requires.may.visit_is (ap (list_of desk) c.pruned_list-pruned.ensures ∙ prunes.is))
+    c.light_box.ensures.pixels
 
 pub shade_traced-returns-else-is_split-clause-counted : goal.shade_traced-returns-else-is_split-clause-counted
 shade_traced-returns-else-is_split-clause-counted t c =
@@ -87,8 +89,19 @@ shade_traced-returns-else-is_split-clause-counted t c =
     let prunes = pruned-of c.layers_hold.ensures desk c.args.b c.args.received (length c.args.tops.now) c.args.traced.now.outcome c.requires.may c.requires.told c.requires.hands in
     let decision = decision-at desk c.args.b c.args.received (length c.args.tops.now) c.args.traced.now.decision c.requires.may c.requires.decision in
     let whole = sym (split-is (layered desk.view) v c.args.traced.now.decision decision) ∙ sym c.is_split.ensures ∙ c.if-is_split.false in
-    end-counted c.layers_hold.ensures (is_marked desk.view.w c.args.tops.now) (layered desk.view) v (list_of desk c.pruned_list-pruned.result) c.args.tally.now c.light_box.new.tally (omega arith) c.requires.may.visit_is.box whole
-    (ap (list_of desk) c.pruned_list-pruned.ensures ∙ prunes.is) c.light_box.ensures.counted
+    on_ok-then c.light_box.result _ _
+    (end-counted c.layers_hold.ensures (is_marked desk.view.w c.args.tops.now) (layered desk.view) v (list_of desk c.pruned_list-pruned.result) c.args.tally.now c.light_box.new.tally (omega arith) c.requires.may.visit_is.box whole
+    (ap (list_of desk) c.pruned_list-pruned.ensures ∙ prunes.is))
+    c.light_box.ensures.counted
+
+pub shade_traced-returns-else-is_split-clause-at_most : goal.shade_traced-returns-else-is_split-clause-at_most
+shade_traced-returns-else-is_split-clause-at_most t c =
+    let desk = c.args.desk.now in
+    let v = visit c.args.b (list_of desk c.args.received) in
+    on_err-then c.light_box.result _ _
+    (λ same. subst (λ n. CountsAtMost (lit_where (is_marked desk.view.w c.args.tops.now) (layered desk.view) v) (spans_below (is_marked desk.view.w c.args.tops.now) (layered desk.view) v) c.args.tally.now n) (sym same)
+    (c.layers_hold.ensures.bounds.none c.args.tally.now _ _))
+    c.light_box.ensures.none
 
 -- ---- the children of a box that is split
 
@@ -108,7 +121,7 @@ shade_children-shade_boxes-shaded-requires t c =
         (
           record { tape = may.visit_is.tape; room = record { among = may.among; room = may.room; whole = c.requires.whole } },
           (
-            c.requires.room,
+            c.requires.picture,
             (
               omega (arith, few-kept test (halves_of 8 b), ap length kept, ap length children, c.as_slice-children.ensures.fits),
               subst (All (λ h. test h ≡ true)) (sym kept) (filter_passes test (halves_of 8 b)),
@@ -175,8 +188,7 @@ shade_boxes-loop-n-init t c =
       more = c.in_ok-traced.ensures.more;
       told = subst (AreTold desk c.trace_held_boxes.new.self.lists c.args.received boxes) (sym c.as_slice-traced.ensures.value)
           (record { decisions = c.in_ok-traced.ensures.decisions; outcomes = c.in_ok-traced.ensures.outcomes; hand = c.in_ok-traced.ensures.shorter });
-      room = room-more desk c.trace_held_boxes.new.self (length tops) (length c.args.pixels.now) c.args.scratch.now (length c.args.pixels.now) c.args.scratch.now c.in_ok-traced.ensures.more.room refl refl c.requires.room;
-      same = refl;
+      picture = c.requires.picture;
       pixels = begun-lit desk.view.w tops boxes (shade_at desk.view list tops) c.args.pixels.now;
       counted = begun-counted c.layers_hold.ensures (is_marked desk.view.w tops) (layered desk.view) list boxes c.args.tally.now c.trace_held_boxes.new.tally c.in_ok-traced.ensures.counted;
     }
@@ -194,7 +206,7 @@ shade_boxes-shade_traced-requires t c =
     let within : n < length boxes = omega (arith, c.loop-n-test.true) in
     let next = next-is desk c.loop-n.desk boxes c.as_slice-traced.result.now c.args.received (length c.args.tops.now) n c.index-boxes-n.result (record { decision = None; outcome = Inside }) was.more c.requires.placed c.requires.receive
     was.told within c.index-boxes-n.is in
-    (omega (arith, longest-at boxes n c.index-boxes-n.result within c.index-boxes-n.is, c.decreases), (next.may, (was.room, (next.decision, (next.told, next.hands)))))
+    (omega (arith, longest-at boxes n c.index-boxes-n.result within c.index-boxes-n.is, c.decreases), (next.may, (was.picture, (next.decision, (next.told, next.hands)))))
 
 pub shade_boxes-loop-n-preserved : goal.shade_boxes-loop-n-preserved
 shade_boxes-loop-n-preserved t c =
@@ -214,9 +226,7 @@ shade_boxes-loop-n-preserved t c =
     record {
       more = subst (HasMore desk) (sym after.kept) was.more;
       told = subst (λ (d : Tracing). AreTold desk d.lists received boxes traced) (sym after.kept) was.told;
-      room = room-more here c.shade_traced.new.desk (length tops) (length c.loop-n.pixels) c.loop-n.scratch (length c.shade_traced.new.pixels) c.shade_traced.new.scratch
-          (ap (λ (d : Tracing). d.room) after.kept) c.shade_traced.auto.pixels after.room was.room;
-      same = after.room ∙ was.same;
+      picture = c.shade_traced.auto.pixels ∙ was.picture;
       pixels = next-lit desk.view.w tops boxes n b (shade_at desk.view list tops) c.args.pixels.now c.loop-n.pixels c.shade_traced.new.pixels within c.index-boxes-n.is was.pixels
           (moved (λ v l. Becomes (has_top_at v.w tops b) (shade_at v l tops) c.loop-n.pixels c.shade_traced.new.pixels) desk here received was.more among after.pixels);
       counted = next-counted c.layers_hold.ensures (is_marked desk.view.w tops) (layered desk.view) list boxes n b c.args.tally.now c.loop-n.tally c.shade_traced.new.tally within c.index-boxes-n.is was.counted

@@ -5,7 +5,6 @@ use Rattle.box_chains.specs.Tallied.{CountsExactly}
 use Rattle.height_map.specs.Bound.{layered}
 use Rattle.height_map.specs.Columns.{Changes}
 use Rattle.normal_shade.specs.Marks.{is_marked, shade_at, some_top_at}
-use Rattle.normal_shade.specs.Shading.{HasRoom}
 use Rattle.normal_shade.proofs.Descents.{AreTold}
 use Rattle.normal_shade.proofs.Longest.{longest}
 use Rattle.normal_shade.proofs.Work.{begun_points, begun_spans}
@@ -25,8 +24,7 @@ abbrev pub invariant-shade_boxes-loop-n : goal.invariant-shade_boxes-loop-n
 invariant-shade_boxes-loop-n l = let list = list_of l.fn.desk l.received in let w = l.fn.desk.view.w in record {
   more : HasMore l.fn.desk l.desk;
   told : AreTold l.fn.desk l.desk.lists l.received l.fn.boxes l.traced;
-  room : HasRoom l.desk (length l.fn.tops) (length l.pixels) l.scratch;
-  same : l.scratch ≡ l.fn.scratch;
+  picture : length l.pixels ≡ length l.fn.tops;
   pixels : Changes (some_top_at w l.fn.tops (take l.n l.fn.boxes)) (λ p old. shade_at l.fn.desk.view list l.fn.tops p) l.fn.pixels l.pixels;
   counted : CountsExactly (begun_points (is_marked w l.fn.tops) (layered l.fn.desk.view) list l.fn.boxes l.n)
       (begun_spans (is_marked w l.fn.tops) (layered l.fn.desk.view) list l.fn.boxes l.n) l.fn.tally l.tally;

@@ -8,7 +8,7 @@ use Rattle.choice_trace.specs.Lanes.{number_at, point_in}
 use Rattle.normal_shade.specs.DualWork.{derivatives_below, dual_points}
 use Rattle.normal_shade.specs.Duals.{HasValues, MarksReached}
 use Rattle.normal_shade.proofs.Reached.{sum-lanes}
-use Rattle.normal_shade.proofs.gradients.gradient_lanes.Goals as goal
+use Rattle.normal_shade.proofs.dual_lanes.gradient_lanes.Goals as goal
 
 -- what is read of a buffer again is what was written
 again : {X : Type 0} (len : ℕ) (new old : List X) → len ≡ length new → take len (new ++ drop (length new) old) ≡ new
