@@ -1,44 +1,35 @@
 -- The paths of a contour are closed, and those of a list that has a solid's values are the solid's.
-use Rattle.std.proofs.Common.{◌≡◌, ℕ, List, length, refl, sym, ap, subst, ◌∙◌}
+use Rattle.std.proofs.Common.{◌≡◌, List, refl, sym, ap, subst, ◌∙◌}
 use Rattle.contour_lines.specs.Laws.{PlanesAreBordered}
 use Rattle.contour_lines.specs.PlaneGrids.{plane_over}
 use Rattle.fixed_ops.specs.Points.{Point}
 use Rattle.live_clauses.specs.Steps.{tape_value}
 use Rattle.live_clauses.specs.declared.step.Step.{Step}
-use Rattle.path_writer.specs.Laws.{ContoursHavePaths}
-use Rattle.path_writer.specs.Paths.{loops_of, path_of}
+use Rattle.path_writer.specs.Paths.{path_of}
+use Rattle.plane_loops.specs.Closed.{ContoursAreClosed}
 use Rattle.plane_loops.specs.Contours.{Contour, IsContour}
-use Rattle.plane_loops.specs.Laws.{ContoursAreWorkedOut, LoopsAreLong, OneContour, OneSegmentEachWay, SegmentsAreDistinct}
+use Rattle.plane_loops.specs.Laws.{ContoursAreWorkedOut, OneContour}
 use Rattle.plane_loops.specs.Planes.{IsBordered, PlaneGrid}
 use Rattle.plane_loops.specs.WorkedOut.{contour_of}
 use Rattle.solid_model.specs.Values.{solid_value}
 use Rattle.solid_model.specs.declared.clause.Clause.{Clause}
-use Rattle.view_places.specs.Window.{FitsContour, Window}
+use Rattle.view_places.specs.Window.{Window}
 use Rattle.contour_frames.specs.ClosedTexts.{ContourTextsAreClosed}
 use Rattle.contour_frames.specs.Contours.{contour_text, solid_plane}
 
-pub texts_closed : PlanesAreBordered → ContoursAreWorkedOut → SegmentsAreDistinct → OneSegmentEachWay → LoopsAreLong → ContoursHavePaths → ContourTextsAreClosed
-texts_closed planes worked distinct each long paths view clauses fits =
+pub texts_closed : PlanesAreBordered → ContoursAreWorkedOut → ContoursAreClosed → ContourTextsAreClosed
+texts_closed planes worked closed view clauses fits =
     let g = solid_plane view clauses in
     let border = planes view (λ p. solid_value p clauses) fits.square in
     let contour = worked g border in
-    let written = paths view g (contour_of g) refl fits.square contour in
-    record {
-      contour = contour_of g;
-      «is» = contour;
-      written = refl;
-      follow = written.follow;
-      long = long g border (loops_of (contour_of g)) written.follow;
-      distinct = distinct g;
-      each_way = each g border;
-    }
+    record { contour = contour_of g; «is» = contour; written = refl; closed = closed g (contour_of g) border contour }
 
 -- two contours of a grid are one
 only : OneContour → ContoursAreWorkedOut → (g : PlaneGrid) → IsBordered g → (c : Contour) → IsContour g c → c ≡ contour_of g
 only one worked g border c «is» = (one g border).only c «is» ∙ sym ((one g border).only (contour_of g) (worked g border))
 
 -- the grid of a list that has the solid's values is the solid's
-plane_same : (view : Window) (clauses : List Clause) (list : List Step) → ((p : Point) → tape_value p list ≡ solid_value p clauses)
+pub plane_same : (view : Window) (clauses : List Clause) (list : List Step) → ((p : Point) → tape_value p list ≡ solid_value p clauses)
     → plane_over view (λ p. tape_value p list) ≡ solid_plane view clauses
 plane_same view clauses list same = λ k. plane_over view (λ p. same p k)
 

@@ -51,7 +51,7 @@ segment from to = record { from = record { x = from.0; y = from.1; dir = from.2 
 
 first_two_differ : (bytes : List ℕ) → IsClosedText window inside bytes → segment (0, 0, 3) (1, 0, 2) ≢ segment (0, 1, 1) (0, 0, 3)
 unfolding segments
-first_two_differ bytes closed = closed.distinct 0 1 (segment (0, 0, 0) (0, 0, 0)) (omega arith) (omega arith)
+first_two_differ bytes closed = closed.closed.distinct 0 1 (segment (0, 0, 0) (0, 0, 0)) (omega arith) (omega arith)
 
 -- values are those at the height of the view
 at_the_height : (solid_plane window (record { name = codes "z"; op = Z; a = 0; b = 0; value = pos 0 } ∷ [])).values ≡ replicate 9 (pos 2147483648)

@@ -2,8 +2,7 @@
 ghost use Rattle.contour_frames.specs.ClosedTexts.{ContourTextsAreClosed};
 
 use contour_lines::borders_are_outside;
-use path_writer::contours_have_paths;
-use plane_loops::{loops_are_long, one_contour, one_segment_each_way};
+use plane_loops::{contours_are_closed, one_contour};
 
 /// The paths of the contour of each solid are closed loops, over each view of which a contour may be
 /// drawn: of the segments, none of which is listed twice, exactly one leaves each vertex and exactly one
@@ -13,7 +12,5 @@ pub fn contour_texts_are_closed()
 {
     borders_are_outside();
     one_contour();
-    one_segment_each_way();
-    loops_are_long();
-    contours_have_paths();
+    contours_are_closed();
 }

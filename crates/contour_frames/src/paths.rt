@@ -2,6 +2,7 @@
 ghost use Rattle.std.specs.Prelude.{◌≡◌, length, IfOk, OnOk};
 ghost use Rattle.view_places.specs.Window.{FitsContour, IsWindow};
 ghost use Rattle.model_frames.specs.Work.{CountsWithin, CountsWork, PointsRiseAtMost};
+ghost use Rattle.contour_frames.specs.ClosedTexts.{IsClosedText};
 ghost use Rattle.contour_frames.specs.Contours.{contour_text, contour_work, plain_contour};
 
 use contour_lines::{borders_are_outside, contour, contour_work_is_bounded};
@@ -14,9 +15,10 @@ use solid_model::Model;
 use std::alloc::{AllocError, Global};
 use view_places::View;
 
-/// The contour of a model over a view, at its height, as path data: a line for each loop. The work of
-/// the boxes that are looked into and of the corners of working cells is counted. AllocError: memory was
-/// refused, after some of that work perhaps.
+/// The contour of a model over a view, at its height, as path data: a line for each loop. The loops are
+/// closed: exactly one segment comes to each vertex, and exactly one goes on. The work of the boxes that
+/// are looked into and of the corners of working cells is counted. AllocError: memory was refused, after
+/// some of that work perhaps.
 pub fn contour_paths(
     alloc: Global,
     model: &Model,
@@ -25,6 +27,7 @@ pub fn contour_paths(
 ) -> Result<Vec<u8>, AllocError>
     requires { FitsContour view.now }
     ensures ok { IfOk result (λ text. text.items ≡ contour_text view.now model.now) }
+    ensures closed { IfOk result (λ text. IsClosedText view.now model.now text.items) }
     ensures counted { OnOk result (CountsWork tally.old tally.new (contour_work view.now model.now)) }
     ensures at_most { CountsWithin tally.old tally.new (contour_work view.now model.now) }
     ensures plain { PointsRiseAtMost tally.old tally.new

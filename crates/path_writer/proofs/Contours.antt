@@ -1,8 +1,7 @@
 -- The contours of grids have paths.
-use Rattle.std.proofs.Common.{◌≡◌, ℕ, suc, ◌+◌, ◌-◌, ◌*◌, ◌/◌, ◌<◌, ◌≤◌, ℤ, Bool, true, false, List, [], ◌∷◌, ◌++◌, length, map, take, drop, refl, ap, sym, subst, ◌∙◌, append_assoc, length-append, arith}
+use Rattle.std.proofs.Common.{◌≡◌, ℕ, suc, ◌+◌, ◌-◌, ◌*◌, ◌/◌, ◌<◌, ◌≤◌, ℤ, Bool, true, false, List, [], ◌∷◌, ◌++◌, length, map, refl, sym, subst, length-append, arith}
 use Rattle.std.specs.Prelude.{All, flat_map, get_or, if◌then◌else◌, max, min, nat_le, unsigned_abs, ◌&&◌}
 use Rattle.std.specs.List.{concat, range_with_len}
-use Rattle.std.proofs.Math.Seq.{drop-append_seam, take-append_seam}
 use Rattle.std.proofs.lemmas.Bool.Decides.{nat_tests}
 use Rattle.std.proofs.lemmas.List.{length-map}
 use Rattle.std.proofs.lemmas.List.Elements.{All-append, All-cons, All-filter, All-map, All-nil, filter_passes}
@@ -12,26 +11,12 @@ use Rattle.kuhn_cells.specs.Corners.{along_x, along_y}
 use Rattle.mesh_laws.specs.Places.{way_up}
 use Rattle.plane_loops.specs.Contours.{AreJoined, AreLoops, StartsLowest, ends_from}
 use Rattle.plane_loops.specs.Planes.{PlaneEdge, PlaneGrid, PlanePoint, directions, edge_from, edges, is_inside_at, is_mixed, is_point, mixed_edges, over_square, point, upper, value_at, lower, vertex_on}
+use Rattle.plane_loops.proofs.Closing.{loops_with}
 use Rattle.view_places.specs.Window.{Window}
 use Rattle.path_writer.specs.Laws.{ContoursHavePaths, HasItsPaths}
-use Rattle.path_writer.specs.Paths.{pieces_from}
 use Rattle.path_writer.specs.Written.{ArePiecesTo, IsInPlane}
 
--- ---- the loops are the pieces of the order
-
-pieces_whole : (before : List ℕ) (loops : List (List ℕ)) → pieces_from (length before) (before ++ concat loops) (ends_from (length before) loops) ≡ loops
-pieces_whole before [] = refl
-pieces_whole before (loop ∷ loops) =
-    let n = length before in
-    let count : (n + length loop) - n ≡ length loop = omega arith in
-    let first : take ((n + length loop) - n) (drop n (before ++ (loop ++ concat loops))) ≡ loop =
-    ap (λ k. take k (drop n (before ++ (loop ++ concat loops)))) count
-    ∙ ap (take (length loop)) (drop-append_seam before (loop ++ concat loops)) ∙ take-append_seam loop (concat loops) in
-    let others : pieces_from (n + length loop) (before ++ (loop ++ concat loops)) (ends_from (n + length loop) loops) ≡ loops =
-    subst (λ k. pieces_from k (before ++ (loop ++ concat loops)) (ends_from k loops) ≡ loops) (length-append before loop)
-    (subst (λ (xs : List ℕ). pieces_from (length (before ++ loop)) xs (ends_from (length (before ++ loop)) loops) ≡ loops) (append_assoc before loop (concat loops))
-    (pieces_whole (before ++ loop) loops)) in
-    ap (λ l. l ∷ pieces_from (n + length loop) (before ++ (loop ++ concat loops)) (ends_from (n + length loop) loops)) first ∙ ap (λ ls. loop ∷ ls) others
+-- ---- the loops are pieces of the order
 
 starts_some : (loop : List ℕ) → StartsLowest loop → 1 ≤ length loop
 starts_some [] starts = absurd starts
@@ -120,12 +105,11 @@ pub contours_have_paths : ContoursHavePaths
 contours_have_paths w g c across along contour =
     let loops = contour.loops in
     let follow = contour.follow in
-    let same = pieces_whole [] loops in
     subst (HasItsPaths w g) (sym contour.is) (record {
       written = record {
         placed = All-map (IsInPlane w) (vertex_on g) (mixed_edges g) (placed w g across along);
         known = λ k d less. subst (λ n. get_or (concat loops) k d < n) (sym (length-map (mixed_edges g) (vertex_on g))) (follow.within k d less);
         pieces = subst (λ last. ArePiecesTo 0 last (ends_from 0 loops)) (omega arith) (ends_are 0 loops follow.lowest);
       };
-      follow = subst (AreLoops (length (mixed_edges g)) (AreJoined g)) (sym same) follow;
+      follow = subst (AreLoops (length (mixed_edges g)) (AreJoined g)) (sym (loops_with g loops)) follow;
     })

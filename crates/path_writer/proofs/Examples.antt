@@ -7,7 +7,7 @@ use Rattle.plane_loops.specs.Contours.{Contour}
 use Rattle.plane_loops.specs.declared.plane_vertex.PlaneVertex.{PlaneVertex}
 use Rattle.view_places.specs.Window.{Window}
 use Rattle.path_writer.specs.Apart.{raw_of}
-use Rattle.path_writer.specs.Paths.{in_space, path_of, pieces_from}
+use Rattle.path_writer.specs.Paths.{in_space, path_of}
 use Rattle.path_writer.specs.Written.{ArePiecesTo}
 
 abbrev vertex : ℕ → ℕ → ℕ → ℕ → PlaneVertex
@@ -58,9 +58,6 @@ two_loops : path_of window (record {
 }) ≡ codes "M -0.5000000000 -1.0000000000 L 0.0000000000 -0.5000000000 L -0.5000000000 -0.5000000000 Z\nM 0.0000000000 -0.5000000000 Z\n"
 unfolding digits size_text
 two_loops = refl
-
-pieces : pieces_from {A = ℕ} 1 (5 ∷ 6 ∷ 7 ∷ 8 ∷ []) (2 ∷ 4 ∷ []) ≡ (6 ∷ []) ∷ (7 ∷ 8 ∷ []) ∷ []
-pieces = refl
 
 no_loop_is_empty : ArePiecesTo 0 3 (3 ∷ 3 ∷ []) → ⊥
 no_loop_is_empty are = omega (arith, are.1.0)

@@ -2,10 +2,13 @@
 use Rattle.std.proofs.Common.{◌≡◌, ℕ, suc, ◌+◌, ◌-◌, ◌<◌, ◌≤◌, List, [], ◌∷◌, ◌++◌, length, map, take, drop, ap, sym, subst, ◌∙◌, append_assoc, add-one, drop-cons, take_all, arith}
 use Rattle.std.specs.Prelude.{codes, get_or, if◌then◌else◌, is_ok, OnOk, Result, Ok, Err}
 use Rattle.std.specs.List.{flat_map}
-use Rattle.std.proofs.lemmas.List.{append-nil, flat_map_more, length-drop, map-append, take_more}
-use Rattle.plane_loops.specs.Contours.{Contour}
+use Rattle.std.proofs.lemmas.List.{append-nil, drop_all, flat_map_more, length-drop, map-append, take_more}
+use Rattle.plane_loops.specs.Contours.{Contour, IsContour}
+use Rattle.plane_loops.specs.Planes.{IsBordered, PlaneGrid}
+use Rattle.plane_loops.proofs.Closing.{contours_are_closed}
 use Rattle.plane_loops.specs.declared.plane_vertex.PlaneVertex.{PlaneVertex}
 use Rattle.view_places.specs.Window.{Window}
+use Rattle.path_writer.specs.Closed.{AreClosedPaths}
 use Rattle.path_writer.specs.Paths.{path_line, path_of, pieces_from, vertex_at}
 use Rattle.path_writer.specs.Written.{ArePiecesTo}
 
@@ -66,3 +69,15 @@ put_behind (Err error) new old xs whole «is» same = tt
 -- a line of some length, from its start on
 pub from_start : (length_of start : ℕ) (line parts : List ℕ) → length line ≡ length_of → drop start line ≡ parts → take (length_of - start) (drop start line) ≡ parts
 from_start n start line parts long «is» = take_all (n - start) (drop start line) (omega (arith, length-drop start line, long)) ∙ «is»
+
+-- once no piece is left, the lines so far are all
+pub lines_all : (text all : List ℕ) (f : List ℕ → List ℕ) (start : ℕ) (order ends : List ℕ) (i : ℕ) → length ends ≤ i
+    → text ++ flat_map f (pieces_from start order (drop i ends)) ≡ all → text ≡ all
+lines_all text all f start order ends i none lines =
+    sym (append-nil text) ∙ sym (ap (λ l. text ++ flat_map f (pieces_from start order l)) (drop_all i ends none)) ∙ lines
+
+-- the paths of a contour of a bordered grid are closed
+pub paths_are_closed : (view : Window) (c : Contour) (bytes : List ℕ) → bytes ≡ path_of view c → (g : PlaneGrid) → IsBordered g → IsContour g c
+    → AreClosedPaths view g bytes
+paths_are_closed view c bytes written g border contour =
+    record { contour = c; «is» = contour; written = written; closed = contours_are_closed g c border contour }

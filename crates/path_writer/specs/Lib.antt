@@ -1,4 +1,5 @@
 pub mod Apart
+pub mod Closed
 pub mod Laws
 pub mod Paths
 pub mod Written

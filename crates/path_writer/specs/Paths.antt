@@ -1,8 +1,9 @@
 -- Contours as path data, in the form of SVG.
-use Rattle.std.specs.Prelude.{ℕ, ◌-◌, List, [], ◌∷◌, ◌++◌, codes, drop, get_or, map, take}
+use Rattle.std.specs.Prelude.{ℕ, List, [], ◌∷◌, ◌++◌, codes, get_or, map}
 use Rattle.std.specs.List.{flat_map}
 use Rattle.fixed_ops.specs.NumberTexts.{number_text}
 use Rattle.plane_loops.specs.Contours.{Contour}
+pub use Rattle.plane_loops.specs.Contours.{loops_of, pieces_from}
 use Rattle.plane_loops.specs.declared.plane_vertex.PlaneVertex.{PlaneVertex}
 use Rattle.tetra_mesh.specs.declared.vertex.Vertex.{Vertex}
 use Rattle.tetra_mesh.specs.Places.{vertex_place}
@@ -27,15 +28,6 @@ line_to w v = codes " L " ++ place_text w v
 abbrev pub path_line : Window → List PlaneVertex → List ℕ
 path_line w [] = []
 path_line w (v ∷ vs) = (codes "M " ++ place_text w v) ++ flat_map (line_to w) vs ++ codes " Z\n"
-
--- the pieces of a list that end at these places, of which the first starts at a place of its own
-abbrev pub pieces_from : {A : Type 0} → ℕ → List A → List ℕ → List (List A)
-pieces_from start xs [] = []
-pieces_from start xs (end ∷ ends) = take (end - start) (drop start xs) ∷ pieces_from end xs ends
-
--- the loops of a contour, by the numbers of their vertices
-abbrev pub loops_of : Contour → List (List ℕ)
-loops_of c = pieces_from 0 c.order c.ends
 
 -- the vertex of a number
 abbrev pub vertex_at : List PlaneVertex → ℕ → PlaneVertex

@@ -2,6 +2,9 @@
 // https://www.w3.org/TR/SVG2/paths.html#PathData
 ghost use Rattle.std.specs.Prelude.{◌≡◌, ◌<◌, ◌++◌, All, IfOk, OnOk, length, map};
 ghost use Rattle.std.specs.List.{flat_map};
+ghost use Rattle.plane_loops.specs.Contours.{IsContour};
+ghost use Rattle.plane_loops.specs.Planes.{IsBordered, PlaneGrid};
+ghost use Rattle.path_writer.specs.Closed.{AreClosedPaths};
 ghost use Rattle.path_writer.specs.Paths.{line_to, path_line, path_of, vertex_at};
 ghost use Rattle.path_writer.specs.Written.{CanBeWritten, IsInPlane};
 
@@ -16,10 +19,14 @@ const USUAL: usize = 30;
 
 /// The paths of a contour over a view: a line for each loop, which moves to its first vertex, draws
 /// lines to the others, one after the other, and closes the loop. Places are number texts of raw
-/// numbers, and y is not turned over. AllocError: there is no memory for it.
+/// numbers, and y is not turned over. The paths of a contour of a grid whose border is outside are
+/// closed loops: exactly one segment comes to each vertex, and exactly one goes on. AllocError: there is
+/// no memory for it.
 pub fn path_text(alloc: Global, contour: &Loops, view: &View) -> Result<Vec<u8>, AllocError>
     requires { CanBeWritten view.now contour.now }
-    ensures { IfOk result (λ text. text.items ≡ path_of view.now contour.now) }
+    ensures text { IfOk result (λ text. text.items ≡ path_of view.now contour.now) }
+    ensures closed { (g : PlaneGrid) → IsBordered g → IsContour g contour.now
+        → IfOk result (λ text. AreClosedPaths view.now g text.items) }
 {
     let places = GridPlaces::new(view);
     let mut text = Vec::with_capacity(alloc, contour.order.len().saturating_mul(USUAL))?;

@@ -2,7 +2,8 @@
 use Rattle.std.proofs.Common.{◌≡◌, ◌≢◌, ℕ, zero, suc, ◌<◌, ◌≤◌, ℤ, pos, negsuc, true, false, List, [], ◌∷◌, refl, arith, get_or}
 use Rattle.std.proofs.lemmas.Bool.{and_parts, false≢true, leb-true}
 use Rattle.plane_loops.specs.declared.plane_vertex.PlaneVertex.{PlaneVertex}
-use Rattle.plane_loops.specs.Contours.{contour_with, ends_from}
+use Rattle.plane_loops.specs.Closed.{IsClosedContour}
+use Rattle.plane_loops.specs.Contours.{contour_with, ends_from, loops_of, pieces_from}
 use Rattle.plane_loops.specs.Following.{edges_before, loops_by, loops_from, mark_all, next_by, place_of, successors_by, walk}
 use Rattle.plane_loops.specs.Laws.{SegmentsAreDistinct}
 use Rattle.plane_loops.specs.Planes.{IsBordered, PlaneGrid, is_border, is_inside_at, mixed_edges, point, vertices}
@@ -52,6 +53,22 @@ loops_of_middle = refl
 contour_of_middle : contour_of middle_inside ≡ contour_with middle_inside ((0 ∷ 1 ∷ 3 ∷ 5 ∷ 4 ∷ 2 ∷ []) ∷ [])
 unfolding contour_of edges_before next_by walk mark_all loops_from
 contour_of_middle = refl
+
+-- whose loops are the pieces of its order
+loops_of_contour : loops_of (contour_with middle_inside ((0 ∷ 1 ∷ 3 ∷ 5 ∷ 4 ∷ 2 ∷ []) ∷ [])) ≡ (0 ∷ 1 ∷ 3 ∷ 5 ∷ 4 ∷ 2 ∷ []) ∷ []
+loops_of_contour = refl
+
+pieces : pieces_from {A = ℕ} 1 (5 ∷ 6 ∷ 7 ∷ 8 ∷ []) (2 ∷ 4 ∷ []) ≡ (6 ∷ []) ∷ (7 ∷ 8 ∷ []) ∷ []
+pieces = refl
+
+-- a contour is not closed where one of its loops goes there and back alone
+there_and_back : IsClosedContour middle_inside (record { vertices = []; order = 0 ∷ 1 ∷ 3 ∷ 5 ∷ []; ends = 2 ∷ 4 ∷ [] }) → ⊥
+there_and_back closed = omega (arith, closed.long 0 [] (omega arith))
+
+-- nor where its loops leave out a vertex, here the one on the edge from (1, 1) in the direction 3
+left_out : IsClosedContour middle_inside (record { vertices = []; order = 0 ∷ 1 ∷ 3 ∷ 4 ∷ 2 ∷ []; ends = 5 ∷ [] }) → ⊥
+unfolding mixed_edges
+left_out closed = omega (arith, closed.follow.once 5 (omega arith))
 
 -- two loops, one after the other, and where each of them ends
 two_loops : loops_by (1 ∷ 3 ∷ 4 ∷ 0 ∷ 5 ∷ 2 ∷ []) ≡ (0 ∷ 1 ∷ 3 ∷ []) ∷ (2 ∷ 4 ∷ 5 ∷ []) ∷ []

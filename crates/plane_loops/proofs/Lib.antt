@@ -1,5 +1,6 @@
 pub mod Examples
 pub mod ArrivalLaws
+pub mod Closing
 pub mod CompleteLaws
 pub mod DistinctLaws
 pub mod GridLaws

@@ -1,5 +1,5 @@
 -- The contour of a plane grid: loops along its segments.
-use Rattle.std.specs.Prelude.{◌≡◌, ℕ, ◌+◌, ◌==◌, ◌<◌, List, [], ◌∷◌, count_by, get_or, length, All, AllPairs, Contains}
+use Rattle.std.specs.Prelude.{◌≡◌, ℕ, ◌+◌, ◌-◌, ◌==◌, ◌<◌, List, [], ◌∷◌, count_by, drop, get_or, length, take, All, AllPairs, Contains}
 use Rattle.std.specs.List.{concat}
 use Rattle.mesh_laws.specs.Manifold.{cycle_arcs}
 use Rattle.plane_loops.specs.declared.plane_vertex.PlaneVertex.{PlaneVertex}
@@ -37,6 +37,15 @@ pub record Contour : Type 0 where
   pub vertices : List PlaneVertex
   pub order : List ℕ
   pub ends : List ℕ
+
+-- the pieces of a list that end at these places, of which the first starts at a place of its own
+abbrev pub pieces_from : {A : Type 0} → ℕ → List A → List ℕ → List (List A)
+pieces_from start xs [] = []
+pieces_from start xs (end ∷ ends) = take (end - start) (drop start xs) ∷ pieces_from end xs ends
+
+-- the loops of a contour, by the numbers of their vertices
+abbrev pub loops_of : Contour → List (List ℕ)
+loops_of c = pieces_from 0 c.order c.ends
 
 -- where each loop ends, where so many vertices stand before the first
 abbrev pub ends_from : ℕ → List (List ℕ) → List ℕ

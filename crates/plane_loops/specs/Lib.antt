@@ -1,3 +1,4 @@
+pub mod Closed
 pub mod Contours
 pub mod Following
 pub mod Laws

@@ -1,5 +1,6 @@
 // What always holds of the definitions that the contracts cite. The functions compute nothing: what
 // they ensure is the law.
+ghost use Rattle.plane_loops.specs.Closed.{ContoursAreClosed};
 ghost use Rattle.plane_loops.specs.Sides.{InsideIsLeft};
 ghost use Rattle.plane_loops.specs.Laws.{ContoursAreWorkedOut, LoopsAreLong, OneContour, OneSegmentEachWay, SegmentsAreDistinct, SegmentsJoinVertices};
 
@@ -22,6 +23,13 @@ pub fn one_segment_each_way()
 /// Every loop of a contour has at least three vertices.
 pub fn loops_are_long()
     ensures { LoopsAreLong }
+{}
+
+/// Each contour of such a grid is closed: its loops run along the segments, each vertex on one loop, once,
+/// every loop has at least three, and of the segments, none of which is listed twice, exactly one leaves
+/// each vertex and exactly one arrives there.
+pub fn contours_are_closed()
+    ensures { ContoursAreClosed }
 {}
 
 /// The inside ends of the two edges between which a segment runs lie on its left, on the lattice of

@@ -12,7 +12,9 @@ mod plane_vertex;
 mod signs;
 mod successors;
 
-pub use laws::{inside_is_left, loops_are_long, one_contour, one_segment_each_way};
+pub use laws::{
+    contours_are_closed, inside_is_left, loops_are_long, one_contour, one_segment_each_way,
+};
 pub use linking::link_loops;
 pub use loops::Loops;
 pub use plane_vertex::PlaneVertex;

@@ -2,6 +2,4 @@ use Rattle.contour_frames.proofs.Closed.{texts_closed}
 use Rattle.contour_frames.proofs.laws.contour_texts_are_closed.Goals as goal
 
 pub returns : goal.returns
-returns c =
-    texts_closed c.borders_are_outside.ensures.planes c.one_contour.ensures.worked_out c.one_segment_each_way.ensures.distinct c.one_segment_each_way.ensures.once
-    c.loops_are_long.ensures c.contours_have_paths.ensures
+returns c = texts_closed c.borders_are_outside.ensures.planes c.one_contour.ensures.worked_out c.contours_are_closed.ensures

@@ -1,11 +1,13 @@
 -- The contour of the root list is the solid's, and its work is bounded.
 use Rattle.std.proofs.Common.{◌≡◌, ◌∙◌, refl, subst}
+use Rattle.std.specs.Prelude.{IfOk}
 use Rattle.std.proofs.lemmas.Result.{IfOk-weaker}
 use Rattle.contour_lines.specs.PlaneGrids.{plane_over}
 use Rattle.live_clauses.specs.Steps.{IsTape, tape_value}
+use Rattle.path_writer.specs.Closed.{AreClosedPaths}
 use Rattle.path_writer.specs.Paths.{path_of}
 use Rattle.contour_frames.specs.Contours.{contour_text}
-use Rattle.contour_frames.proofs.Closed.{contour_same}
+use Rattle.contour_frames.proofs.Closed.{contour_same, plane_same}
 use Rattle.contour_frames.proofs.ContourWork.{contour_counted, contour_plain, contour_within}
 use Rattle.contour_frames.proofs.paths.contour_paths.Goals as goal
 
@@ -33,7 +35,15 @@ returns-clause-ok c =
     let same = contour_same c.borders_are_outside.ensures.planes c.one_contour.ensures.one c.one_contour.ensures.worked_out view clauses
     c.in_ok-list.list c.requires.square c.in_ok-list.ensures.value c.in_ok-loops.loops c.in_ok-loops.ensures.contour in
     IfOk-weaker c.path_text.result (λ text. text.items ≡ path_of view c.in_ok-loops.loops) (λ text. text.items ≡ contour_text view clauses)
-    (λ text written. written ∙ same) c.path_text.ensures
+    (λ text written. written ∙ same) c.path_text.ensures.text
+
+pub returns-clause-closed : goal.returns-clause-closed
+returns-clause-closed c =
+    let view = c.args.view.now in
+    let list = c.in_ok-list.list in
+    let border = c.borders_are_outside.ensures.planes view (λ p. tape_value p list) c.requires.square in
+    subst (λ g. IfOk c.path_text.result (λ text. AreClosedPaths view g text.items)) (plane_same view c.args.model.now list c.in_ok-list.ensures.value)
+    (c.path_text.ensures.closed (plane_over view (λ p. tape_value p list)) border c.in_ok-loops.ensures.contour)
 
 pub returns-clause-counted : goal.returns-clause-counted
 returns-clause-counted c =

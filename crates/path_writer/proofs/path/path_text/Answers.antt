@@ -1,9 +1,10 @@
 -- The next loop.
-use Rattle.std.proofs.Common.{◌≡◌, ℕ, ◌+◌, ◌-◌, ◌<◌, All, ap, drop, get_or, length, rules, subst, sym, ◌∙◌}
+use Rattle.std.proofs.Common.{◌≡◌, ℕ, ◌+◌, ◌-◌, ◌<◌, ◌≤◌, All, ap, drop, get_or, length, map, rules, subst, sym, ◌∙◌}
 use Rattle.std.proofs.lemmas.List.Elements.{All-drop, All-take}
 use Rattle.plane_loops.specs.Contours.{Contour}
+use Rattle.path_writer.specs.Paths.{path_line, path_of, vertex_at}
 use Rattle.path_writer.specs.Written.{ArePiecesTo, IsInPlane}
-use Rattle.path_writer.proofs.PathLaws.{next_line, next_piece}
+use Rattle.path_writer.proofs.PathLaws.{lines_all, next_line, next_piece, paths_are_closed}
 use Rattle.path_writer.proofs.path.path_text.Goals as goal
 
 pub slice_bounds-numbers-end : goal.slice_bounds-numbers-end
@@ -40,3 +41,12 @@ loop-end-preserved c =
       pieces = subst (λ k. ArePiecesTo k (length contour.order) (drop (i + 1) contour.ends)) (ap (λ l. get_or l i 0) (sym ends)) next.2;
       lines = next_line c.args.view.now c.new-places.result contour c.deref-in-loop-end.result.now c.deref.result.now c.deref-end-items.result.now c.loop-end.start i c.loop-end.text.items c.push_loop.new.text.items before.places vertices order ends c.loop-end-test.true c.in_ok-push_loop.ensures before.lines;
     }
+
+pub returns-clause-closed : goal.returns-clause-closed
+returns-clause-closed c =
+    let contour = c.args.contour.now in
+    let view = c.args.view.now in
+    let ends : c.deref-end-items.result.now ≡ contour.ends = c.deref-end-items.ensures.value ∙ ap (λ (x : Contour). x.ends) c.contour.view_is in
+    let none : length contour.ends ≤ c.loop-end.end-index = subst (λ l. length l ≤ c.loop-end.end-index) ends c.loop-end-test.false in
+    let written = lines_all c.loop-end.text.items (path_of view contour) (λ loop. path_line view (map (vertex_at contour.vertices) loop)) c.loop-end.start contour.order contour.ends c.loop-end.end-index none c.loop-end.invariant.lines in
+    paths_are_closed view contour c.loop-end.text.items written
