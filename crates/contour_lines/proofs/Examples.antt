@@ -1,5 +1,5 @@
 -- Plane grids and their work, computed on lists that were worked out by hand.
-use Rattle.std.proofs.Common.{◌≡◌, ℕ, zero, suc, ◌<◌, ℤ, pos, negsuc, true, false, [], ◌∷◌, List, refl, sym, ap, arith}
+use Rattle.std.proofs.Common.{◌≡◌, ℕ, zero, suc, ◌<◌, ℤ, pos, negsuc, true, false, [], ◌∷◌, List, inl, inr, refl, sym, ap, ◌∙◌, arith}
 use Rattle.std.specs.Prelude.{◌||◌, All, None, Some, if◌then◌else◌, is_some, unwrap_or}
 use Rattle.std.proofs.lemmas.Bool.{false≢true}
 use Rattle.fixed_ops.specs.Raw.{is_inside}
@@ -13,7 +13,7 @@ use Rattle.oct_descent.specs.Ways.{way_within}
 use Rattle.view_places.specs.Window.{Window}
 use Rattle.contour_lines.specs.declared.gap.Gap.{Gap}
 use Rattle.contour_lines.specs.Bound.{contour_least, contour_points, contour_spans, flat_least, flat_points, plane_lengths, plane_working_lengths}
-use Rattle.contour_lines.specs.Corners.{AllShow, IsSeen}
+use Rattle.contour_lines.specs.Corners.{AllShow, IsSeen, IsShown}
 use Rattle.contour_lines.specs.Gaps.{AreGaps, IsCornerBelow, StandsIn, has_gap, lies_at, spot}
 use Rattle.contour_lines.specs.Planes.{laid_flat, plane_value}
 use Rattle.contour_lines.specs.Signs.{signs_at}
@@ -197,3 +197,18 @@ none_seen_inside_is_refused h = let side : true ≡ false = h.none_inside refl 0
 
 some_unknown_is_refused : IsSeen inside_known (point 0 0 0) (record { all = false; inside = true; outside = false }) → ⊥
 some_unknown_is_refused h = let known : true ≡ false = (h.lacks refl).unknown in (cc)
+
+-- that cell is shown, and the other one, whose known corners all lie outside, is not
+all_known_is_shown : IsShown inside_known (point 0 0 0)
+all_known_is_shown = inl (λ c few. refl)
+
+one_side_is_not_shown : IsShown three_known (point 0 0 0) → ⊥
+one_side_is_not_shown (inl known) = let corner : false ≡ true = known 3 (omega arith) in (cc)
+one_side_is_not_shown (inr sides) = by sides.0.corner sides.0.value sides.0.few sides.0.known sides.0.side
+  where
+    by : (c : ℕ) (v : ℤ) → c < 4 → three_known.at (further (point 0 0 0) c) ≡ Some v → is_inside v ≡ true → ⊥
+    by zero v few is inside = false≢true (ap is_inside (ap (λ o. unwrap_or o v) is) ∙ inside)
+    by (suc zero) v few is inside = false≢true (ap is_inside (ap (λ o. unwrap_or o v) is) ∙ inside)
+    by (suc (suc zero)) v few is inside = false≢true (ap is_inside (ap (λ o. unwrap_or o v) is) ∙ inside)
+    by (suc (suc (suc zero))) v few is inside = false≢true (ap is_some is)
+    by (suc (suc (suc (suc c)))) v few is inside = absurd (omega (arith, few))

@@ -1,7 +1,8 @@
 -- Cells that are looked into, and flags.
-use Rattle.std.proofs.Common.{◌≡◌, ℕ, ◌<◌, ◌≤◌, ℤ, Bool, true, false, cond, Result, Ok, Err, inl, refl, arith}
+use Rattle.std.proofs.Common.{◌≡◌, ℕ, ◌<◌, ◌≤◌, ℤ, Bool, true, false, cond, Result, Ok, Err, inl, inr, refl, sym, ◌∙◌, arith}
 use mir.Val.{bool_byte}
-use Rattle.std.specs.Prelude.{OnOk}
+use Rattle.std.specs.Prelude.{OnOk, not}
+use Rattle.std.proofs.lemmas.Bool.{false≢true}
 use Rattle.box_chains.specs.Chains.{Visit, is_long}
 use Rattle.box_chains.specs.Visits.{IsVisit}
 use Rattle.kuhn_cells.specs.Triangles.{GridPoint, further, point}
@@ -11,7 +12,8 @@ use Rattle.oct_descent.specs.Known.{AllKnown, AreRight, AreSettled, AreWorked, K
 use Rattle.oct_descent.specs.Ways.{Covers, is_open}
 use Rattle.view_places.specs.Boxes.{Indices}
 use Rattle.view_places.specs.Window.{Window}
-use Rattle.contour_lines.specs.Corners.{ShowsCorner}
+use Rattle.contour_lines.specs.declared.seen.Seen.{Seen}
+use Rattle.contour_lines.specs.Corners.{AllShow, IsSeen, IsShown, ShowsCorner}
 use Rattle.contour_lines.specs.Ways.{cell_square, flat_value, floor_of, planar, plane}
 use Rattle.contour_lines.proofs.Corners.{IsLow, IsOne, floor-square, mask-covered, square-floor}
 
@@ -39,6 +41,21 @@ known-settled view g b t one known s lies = inl (λ p covers. known p (square-fl
 -- those of a working one too
 pub known-worked : (view : Window) (v : Visit) (t : Known) → IsOne v.box → AllKnown t (floor_of v.box) → AreWorked (planar view) v t
 known-worked view v t one known s lies works p covers = known p (square-floor v.box s p one lies covers)
+
+-- where the known corners of a cell show how it lies, though some corner is not known, what is seen of them has both sides
+pub shown-sides : (t : Known) (p : GridPoint) (seen : Seen) → IsSeen t p seen → seen.all ≡ false → IsShown t p → (seen.inside ≡ true) × (seen.outside ≡ true)
+shown-sides t p seen is lacks (inl known) =
+    let corner = is.lacks lacks in
+    absurd (false≢true (sym corner.unknown ∙ known corner.corner corner.few))
+shown-sides t p seen is lacks (inr sides) = (by true seen.inside seen.inside refl sides.0 is.none_inside, by false seen.outside seen.outside refl sides.1 is.none_outside)
+  where
+    unlike : (inside : Bool) → inside ≡ not inside → ⊥
+    unlike true e = false≢true (sym e)
+    unlike false e = false≢true e
+
+    by : (inside told side : Bool) → told ≡ side → ShowsCorner t p inside → (told ≡ false → AllShow t p 4 (not inside)) → told ≡ true
+    by inside told true e shows none = e
+    by inside told false e shows none = absurd (unlike inside (sym shows.side ∙ none e shows.corner shows.value shows.few shows.known))
 
 -- a flag as a number
 pub byte-is : (b : Bool) → bool_byte b ≡ cond b 1 0

@@ -1,5 +1,5 @@
 -- What the known corners of a cell show.
-use Rattle.std.specs.Prelude.{◌≡◌, ℕ, ◌<◌, ℤ, Bool, true, false, not, ◌||◌, Option, Some, None}
+use Rattle.std.specs.Prelude.{◌≡◌, ℕ, ◌<◌, ℤ, Bool, true, false, not, ◌||◌, Option, Some, None, ◌⊎◌}
 use Rattle.fixed_ops.specs.Raw.{is_inside}
 use Rattle.kuhn_cells.specs.Triangles.{GridPoint, further}
 use Rattle.oct_descent.specs.Known.{Known}
@@ -34,6 +34,13 @@ pub record IsSeen (t : Known) (p : GridPoint) (seen : Seen) : Type 0 where
   pub none_inside : seen.inside ≡ false → AllShow t p 4 false
   pub outside : seen.outside ≡ true → ShowsCorner t p false
   pub none_outside : seen.outside ≡ false → AllShow t p 4 true
+
+-- The known corners of a cell show how it lies: all corners are known, or some known one is inside
+-- and some is outside.
+abbrev pub IsShown : Known → GridPoint → Type 0
+IsShown t p =
+    ((c : ℕ) → c < 4 → is_known (t.at (further p c)) ≡ true)
+    ⊎ (ShowsCorner t p true × ShowsCorner t p false)
 
 -- what is seen with one more corner
 abbrev pub side_seen : Seen → Option ℤ → Seen

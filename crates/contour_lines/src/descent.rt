@@ -10,6 +10,7 @@ ghost use Rattle.interval_ops.specs.HullCounts.{CountsHulls};
 ghost use Rattle.kuhn_cells.specs.Sizes.{SameSize};
 ghost use Rattle.kuhn_cells.specs.Triangles.{point};
 ghost use Rattle.live_clauses.specs.Live.{IsWhole};
+ghost use Rattle.oct_descent.specs.Bound.{CountsNoHull};
 ghost use Rattle.oct_descent.specs.Asked.{IsToldAt, asked_of, longer};
 ghost use Rattle.oct_descent.specs.Halves.{ChargesBelow, ChargesHalves, MayLook, PaysHalves};
 ghost use Rattle.oct_descent.specs.Known.{AreSettled, AreWorked, ChargesBox, Grows, Known, PaysBox};
@@ -17,7 +18,7 @@ ghost use Rattle.oct_descent.specs.Ways.{is_open as is_open_for, is_open_by};
 ghost use Rattle.view_places.specs.Boxes.{halves_of};
 ghost use Rattle.view_places.specs.Spans.{IsInRoot};
 ghost use Rattle.view_places.specs.Window.{size_of};
-ghost use Rattle.contour_lines.specs.Corners.{IsSeen};
+ghost use Rattle.contour_lines.specs.Corners.{IsSeen, IsShown};
 ghost use Rattle.contour_lines.specs.Tables.{known_of};
 ghost use Rattle.contour_lines.specs.Ways.{flat_value, meets_sides as meets_sides_of, planar, plane};
 
@@ -293,8 +294,11 @@ fn look_into_cell(
         (known_of values.old) (known_of values.new) tally.old tally.new }
     ensures paid { PaysBox (planar desk.old.view) (visit b (list_of desk.old received))
         (known_of values.old) (known_of values.new) tally.old tally.new }
+    ensures untraced { IsShown (known_of values.old) (point b.x0 b.y0 0)
+        → CountsNoHull tally.old tally.new }
     ensures kept { desk.new ≡ desk.old }
 {
+    layers_hold();
     planes_hold();
     values.holds();
     let seen = seen(values, b.x0, b.y0);

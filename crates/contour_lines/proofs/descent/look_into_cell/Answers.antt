@@ -1,13 +1,15 @@
-use Rattle.std.proofs.Common.{ap, arith, length, subst, sym, ◌∙◌}
+use Rattle.std.proofs.Common.{ap, arith, length, refl, subst, sym, ◌∙◌}
 use Rattle.box_chains.specs.Chains.{visit}
 use Rattle.box_chains.specs.Desks.{Tracing, list_of}
 use Rattle.kuhn_cells.specs.Triangles.{further, point}
 use Rattle.oct_descent.specs.Tables.{is_known}
 use Rattle.oct_descent.specs.Known.{ChargesCorners, PaysCorners}
+use Rattle.oct_descent.proofs.Looks.{corners-untraced, left-untraced}
+use Rattle.contour_lines.specs.Corners.{IsShown}
 use Rattle.contour_lines.specs.Tables.{known_at, known_of}
 use Rattle.contour_lines.specs.Ways.{flat_value, floor_of, planar}
 use Rattle.contour_lines.proofs.Corners.{all-known, floor-square, low-is, short-one}
-use Rattle.contour_lines.proofs.Looks.{known-settled, known-worked, on_ok-then}
+use Rattle.contour_lines.proofs.Looks.{known-settled, known-worked, on_ok-then, shown-sides}
 use Rattle.contour_lines.proofs.descent.look_into_cell.Goals as goal
 
 pub returns-then-seen-clause-settled : goal.returns-then-seen-clause-settled
@@ -78,3 +80,16 @@ returns-clause-paid c =
     (sym c.is_working.ensures.open ∙ c.if-not-is_working.false) c.requires.one
     (λ p covers. floor-square c.args.b p (short-one c.args.b c.requires.may.visit_is.box c.requires.one) covers) c.is_working.ensures.counted
     (subst (λ (d : Tracing). PaysCorners (floor_of c.args.b) (length (list_of d c.args.received)) (known_of c.args.values.now) (known_of c.fill_cell.new.values) c.is_working.new.tally c.fill_cell.new.tally) c.is_working.ensures.kept c.fill_cell.ensures.paid)
+
+pub returns-then-seen-clause-untraced : goal.returns-then-seen-clause-untraced
+returns-then-seen-clause-untraced c shown = left-untraced c.layers_hold.ensures c.args.tally.now c.args.tally.now refl
+
+pub returns-then-not-is_working-clause-untraced : goal.returns-then-not-is_working-clause-untraced
+returns-then-not-is_working-clause-untraced c shown =
+    let sides = shown-sides (known_of c.args.values.now) _ c.seen-seen.result c.seen-seen.ensures c.if-seen.false (subst (λ i. IsShown (known_of c.args.values.now) (point i.x0 i.y0 0)) (sym c.b.view_is) shown) in
+    left-untraced c.layers_hold.ensures c.args.tally.now c.is_working.new.tally (c.is_working.ensures.untraced sides.0 sides.1)
+
+pub returns-clause-untraced : goal.returns-clause-untraced
+returns-clause-untraced c shown =
+    let sides = shown-sides (known_of c.args.values.now) _ c.seen-seen.result c.seen-seen.ensures c.if-seen.false (subst (λ i. IsShown (known_of c.args.values.now) (point i.x0 i.y0 0)) (sym c.b.view_is) shown) in
+    corners-untraced (floor_of c.args.b) (length (list_of c.args.desk.now c.args.received)) (known_of c.args.values.now) (known_of c.fill_cell.new.values) c.args.tally.now c.is_working.new.tally c.fill_cell.new.tally (c.is_working.ensures.untraced sides.0 sides.1) (subst (λ (d : Tracing). ChargesCorners (floor_of c.args.b) (length (list_of d c.args.received)) (known_of c.args.values.now) (known_of c.fill_cell.new.values) c.is_working.new.tally c.fill_cell.new.tally) c.is_working.ensures.kept c.fill_cell.ensures.counted)
