@@ -1,9 +1,9 @@
 -- What looking into the boxes of a plane grid takes.
 use Rattle.std.proofs.Common.{◌≡◌, ℕ, zero, suc, ◌+◌, ◌*◌, ◌≤◌, Bool, true, false, List, [], ◌∷◌, ◌++◌, length, max, replicate, if◌then◌else◌, Ok, Err, ap, subst, length-append, arith, mul-le-mul_left}
-use Rattle.std.specs.Prelude.{IfOk, OnOk, Result}
+use Rattle.std.specs.Prelude.{OnOk, Result}
 use Rattle.std.proofs.lemmas.List.{length-map}
 use Rattle.box_chains.specs.Tallied.{CountsAtMost, work_of}
-use Rattle.contour_lines.specs.Bound.{contour_least, contour_points, contour_spans}
+use Rattle.contour_lines.specs.Bound.{contour_least, contour_long_spans, contour_points, contour_spans}
 use Rattle.contour_lines.specs.Laws.{ContourPointsAreBounded}
 use Rattle.fixed_ops.specs.Counts.{Counts, RisesWithin, risen}
 use Rattle.interval_ops.specs.declared.choice.Choice.{Choice}
@@ -12,12 +12,12 @@ use Rattle.live_clauses.specs.Choices.{step_at}
 use Rattle.live_clauses.specs.Live.{is_kept, live_below, new_place, renumbered, root_of}
 use Rattle.live_clauses.specs.Steps.{IsTape, step_of, steps_of}
 use Rattle.live_clauses.specs.declared.step.Step.{Step}
-use Rattle.model_frames.specs.Work.{CountsWithin, CountsWork, PointsRiseAtMost, Work}
-use Rattle.oct_descent.specs.Bound.{CountsAtLeast}
+use Rattle.model_frames.specs.Work.{CountsWithin, CountsWork, PointsRiseAtMost}
+use Rattle.oct_descent.specs.Bound.{CountsAtLeast, CountsHullsAtLeast}
 use Rattle.solid_model.specs.declared.clause.Clause.{Clause}
 use Rattle.view_places.specs.Window.{IsWindow, Window}
 use Rattle.contour_frames.specs.Contours.{contour_work, plain_contour}
-use Rattle.contour_frames.proofs.LeastWork.{least-most}
+use Rattle.contour_frames.proofs.LeastWork.{least-most, long-all}
 
 -- no more steps are kept than there are
 kept-few : (steps : List Step) (choices : List Choice) (n : ℕ) → length (live_below steps choices n) ≤ n
@@ -51,37 +51,39 @@ counts-same : (counts : Counts) (points spans corners : ℕ) → counts.points �
 counts-same counts points spans corners p s c = λ k. record { points = p k; spans = s k; corners = c k }
 
 -- what is counted at most and at least lies between these
-between : (before after : Counts) (points spans low : ℕ) → low ≤ points → CountsAtMost points spans before after
-    → CountsAtLeast low before after → RisesWithin before after (work_of low 0 0) (work_of points spans (4 * spans))
-between before after points spans low p h few = record {
-  by = work_of (max h.by.points low) h.by.spans h.by.corners;
+between : (before after : Counts) (points spans low long : ℕ) → low ≤ points → long ≤ spans → CountsAtMost points spans before after
+    → CountsAtLeast low before after → CountsHullsAtLeast long before after → RisesWithin before after (work_of low long 0) (work_of points spans (4 * spans))
+between before after points spans low long p s h few hulls = record {
+  by = work_of (max h.by.points low) (max h.by.spans long) h.by.corners;
   enough = record { points = omega arith; spans = omega arith; corners = omega arith };
   within = record {
     points = omega (arith, h.few.points, p);
-    spans = h.few.spans;
+    spans = omega (arith, h.few.spans, s);
     corners = h.few.corners;
   };
-  rises = counts-same after (risen before.points (max h.by.points low)) (risen before.spans h.by.spans) (risen before.corners h.by.corners)
+  rises = counts-same after (risen before.points (max h.by.points low)) (risen before.spans (max h.by.spans long)) (risen before.corners h.by.corners)
       (risen-between before.points after.points h.by.points few.by.points low (ap (λ c. c.points) h.rises) (ap (λ c. c.points) few.rises) few.many)
-      (ap (λ c. c.spans) h.rises)
+      (risen-between before.spans after.spans h.by.spans hulls.by.spans long (ap (λ c. c.spans) h.rises) (ap (λ c. c.spans) hulls.rises) hulls.many)
       (ap (λ c. c.corners) h.rises);
 }
 
 -- so it is of a contour that is drawn
 done : (before after : Counts) (view : Window) (clauses : List Clause) (list : List Step) → list ≡ root_of clauses
     → CountsAtMost (contour_points view list) (contour_spans view list) before after → CountsAtLeast (contour_least view list) before after
-    → CountsWork before after (contour_work view clauses)
+    → CountsHullsAtLeast (contour_long_spans view list) before after → CountsWork before after (contour_work view clauses)
 unfolding CountsWork
-done before after view clauses list is h points =
-    between before after (contour_points view (root_of clauses)) (contour_spans view (root_of clauses)) (contour_least view (root_of clauses)) (least-most view (root_of clauses))
+done before after view clauses list is h points hulls =
+    let root = root_of clauses in
+    between before after (contour_points view root) (contour_spans view root) (contour_least view root) (contour_long_spans view root) (least-most view root) (long-all view root)
     (subst (λ l. CountsAtMost (contour_points view l) (contour_spans view l) before after) is h)
     (subst (λ l. CountsAtLeast (contour_least view l) before after) is points)
+    (subst (λ l. CountsHullsAtLeast (contour_long_spans view l) before after) is hulls)
 
 pub contour_counted : {T E : Type 0} (r : Result T E) (before after : Counts) (view : Window) (clauses : List Clause) (list : List Step) → list ≡ root_of clauses
     → CountsAtMost (contour_points view list) (contour_spans view list) before after → CountsAtLeast (contour_least view list) before after
-    → OnOk r (CountsWork before after (contour_work view clauses))
-contour_counted (Err e) before after view clauses list is h points = tt
-contour_counted (Ok y) before after view clauses list is h points = done before after view clauses list is h points
+    → CountsHullsAtLeast (contour_long_spans view list) before after → OnOk r (CountsWork before after (contour_work view clauses))
+contour_counted (Err e) before after view clauses list is h points hulls = tt
+contour_counted (Ok y) before after view clauses list is h points hulls = done before after view clauses list is h points hulls
 
 -- a contour takes no more evaluations than evaluating each clause at each point of the grid
 pub contour_plain : (before after : Counts) (view : Window) (clauses : List Clause) (list : List Step) → list ≡ root_of clauses → IsWindow view → IsTape list

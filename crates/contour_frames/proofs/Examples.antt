@@ -6,7 +6,7 @@ use Rattle.box_chains.specs.Tallied.{work_of}
 use Rattle.contour_lines.specs.Bound.{flat_least, flat_points}
 use Rattle.fixed_ops.specs.NumberTexts.{size_text}
 use Rattle.fixed_ops.specs.declared.operation.Op.TheVariants.{X, Z, Const}
-use Rattle.oct_descent.specs.Bound.{cell_spans_in}
+use Rattle.oct_descent.specs.Bound.{cell_spans_in, long_spans_in}
 use Rattle.oct_descent.specs.Ways.{way_within}
 use Rattle.plane_loops.specs.Following.{edges_before, loops_from, mark_all, next_by, walk}
 use Rattle.plane_loops.specs.Planes.{mixed_edges}
@@ -63,11 +63,11 @@ one_loop : contour_text window inside
 unfolding contour_of edges_before next_by walk mark_all loops_from mixed_edges digits size_text
 one_loop = refl
 
--- each of the nine points takes an evaluation of the one clause that is live, the box and its four cells are traced, and
--- plain evaluation takes both clauses
+-- each of the nine points takes an evaluation of the one clause that is live, the box is traced and its four cells may be,
+-- and plain evaluation takes both clauses
 work_of_one_loop : contour_work window inside
-    ≡ record { least = work_of 9 0 0; most = work_of 9 5 20; bound = work_of 9 5 20; plain = 18 }
-unfolding flat_points flat_least cell_spans_in way_within
+    ≡ record { least = work_of 9 1 0; most = work_of 9 5 20; bound = work_of 9 5 20; plain = 18 }
+unfolding flat_points flat_least cell_spans_in long_spans_in way_within
 work_of_one_loop = refl
 
 plain_points : plain_contour (record window { nx = 3 }) 7 ≡ 84
@@ -78,7 +78,7 @@ part_of_one_loop : contour_part window inside
     ≡ record {
       bytes = codes "M -0.9999847412 -0.9999847412 L 0.0000000000 -0.9999847412 L 0.9999847412 0.0000000000 "
           ++ codes "L 0.9999847412 0.9999847412 L 0.0000000000 0.9999847412 L -0.9999847412 0.0000000000 Z\n";
-      work = record { least = work_of 9 0 0; most = work_of 9 5 20; bound = work_of 9 5 20; plain = 18 };
+      work = record { least = work_of 9 1 0; most = work_of 9 5 20; bound = work_of 9 5 20; plain = 18 };
     }
-unfolding contour_of edges_before next_by walk mark_all loops_from mixed_edges digits size_text flat_points flat_least cell_spans_in way_within
+unfolding contour_of edges_before next_by walk mark_all loops_from mixed_edges digits size_text flat_points flat_least cell_spans_in long_spans_in way_within
 part_of_one_loop = refl

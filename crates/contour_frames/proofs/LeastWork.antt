@@ -3,15 +3,17 @@ use Rattle.std.proofs.Common.{ℕ, ◌-◌, ◌≤◌, Bool, true, false, List, 
 use Rattle.std.specs.Prelude.{◌&&◌}
 use Rattle.std.specs.List.{flat_map, range_with_len, sum_by}
 use Rattle.std.proofs.lemmas.List.Sums.{sum_by-le-sum_by}
+use Rattle.box_chains.specs.Chains.{is_long}
+use Rattle.box_chains.specs.Counts.{first_lengths, is_first}
 use Rattle.box_chains.specs.Sums.{Sample, maximum, sum_in}
-use Rattle.contour_lines.specs.Bound.{contour_least, contour_points, flat_least, flat_points, plane_lengths, plane_working_lengths, points_of_plane}
+use Rattle.contour_lines.specs.Bound.{contour_least, contour_long_spans, contour_points, contour_spans, flat_least, flat_points, plane_lengths, plane_working_lengths, points_of_plane}
 use Rattle.contour_lines.specs.Planes.{laid_flat}
 use Rattle.contour_lines.specs.Ways.{planar, plane_root}
 use Rattle.kuhn_cells.specs.Grids.{over_block}
 use Rattle.kuhn_cells.specs.Triangles.{GridPoint, point}
 use Rattle.live_clauses.specs.declared.step.Step.{Step}
-use Rattle.oct_descent.specs.Bound.{has_point, least, sample_of}
-use Rattle.oct_descent.specs.Ways.{is_working, way_end}
+use Rattle.oct_descent.specs.Bound.{cell_spans_in, has_point, least, long_lengths, long_spans_in, sample_of}
+use Rattle.oct_descent.specs.Ways.{is_working, way, way_end}
 use Rattle.view_places.specs.Boxes.{Indices}
 use Rattle.view_places.specs.Window.{Window, size_of}
 
@@ -76,6 +78,23 @@ flat-least view list =
         (λ cell. if has_point (d.cell (sample_of cell)) p then (if is_working d v (sample_of cell) then length (way_end d v (sample_of cell)).list else 0) ∷ [] else [])
         (λ cell. cell-less (has_point (d.cell (sample_of cell)) p) (is_working d v (sample_of cell)) (length (way_end d v (sample_of cell)).list)) in
         omega (arith, least-greatest (plane_working_lengths view list p), few)
+
+-- a box of more than one cell is a box
+long-less : (long first : Bool) (n : ℕ) → (if long && first then n else 0) ≤ (if first then n else 0)
+long-less true first n = omega arith
+long-less false true n = omega arith
+long-less false false n = omega arith
+
+-- the steps traced over the boxes of more than one cell are some of those traced over all
+pub long-all : (view : Window) (list : List Step) → contour_long_spans view list ≤ contour_spans view list
+unfolding long_spans_in cell_spans_in
+long-all view list =
+    let d = planar (laid_flat view) in
+    let v = plane_root (laid_flat view) list in
+    sum-less v.box (λ s. long_lengths d s (way d v s)) (λ s. first_lengths s (way d v s))
+    (λ s. sum_by-le-sum_by (λ w. if is_long d.boxes.leaf w.box && is_first w.box s then length w.list else 0)
+    (λ w. if is_first w.box s then length w.list else 0) (way d v s)
+    (λ w. long-less (is_long d.boxes.leaf w.box) (is_first w.box s) (length w.list)))
 
 pub least-most : (view : Window) (list : List Step) → contour_least view list ≤ contour_points view list
 least-most view list = flat-least (laid_flat view) list

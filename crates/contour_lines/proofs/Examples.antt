@@ -6,13 +6,13 @@ use Rattle.fixed_ops.specs.Raw.{is_inside}
 use Rattle.fixed_ops.specs.declared.operation.Op.TheVariants.{X, Z, Const}
 use Rattle.kuhn_cells.specs.Triangles.{further, point}
 use Rattle.live_clauses.specs.declared.step.Step.{Step}
-use Rattle.oct_descent.specs.Bound.{cell_spans_in}
+use Rattle.oct_descent.specs.Bound.{cell_spans_in, long_spans_in}
 use Rattle.oct_descent.specs.Known.{Known}
 use Rattle.oct_descent.specs.Tables.{is_known, same_point}
 use Rattle.oct_descent.specs.Ways.{way_within}
 use Rattle.view_places.specs.Window.{Window}
 use Rattle.contour_lines.specs.declared.gap.Gap.{Gap}
-use Rattle.contour_lines.specs.Bound.{contour_least, contour_points, contour_spans, flat_least, flat_points, plane_lengths, plane_working_lengths}
+use Rattle.contour_lines.specs.Bound.{contour_least, contour_long_spans, contour_points, contour_spans, flat_least, flat_points, plane_lengths, plane_working_lengths}
 use Rattle.contour_lines.specs.Corners.{AllShow, IsSeen, IsShown}
 use Rattle.contour_lines.specs.Gaps.{AreGaps, IsCornerBelow, StandsIn, has_gap, lies_at, spot}
 use Rattle.contour_lines.specs.Planes.{laid_flat, plane_value}
@@ -52,6 +52,11 @@ full_least = refl
 full_spans : contour_spans (window (pos 0) 2) full ≡ 5
 unfolding cell_spans_in way_within
 full_spans = refl
+
+-- of the five boxes one has more than one cell
+full_long : contour_long_spans (window (pos 0) 2) full ≡ 1
+unfolding long_spans_in way_within
+full_long = refl
 
 full_inner : plane_value (window (pos 0) 2) full 1 1 ≡ negsuc 4294967295
 full_inner = refl
@@ -98,6 +103,17 @@ up_spans = refl
 down_points : contour_points (window (negsuc 4294967295) 3) up ≡ 16
 unfolding flat_points way_within
 down_points = refl
+
+-- of three by three cells the box of all is split into one cell, two boxes of two cells and one of four: four boxes of
+-- more than one cell
+down_long : contour_long_spans (window (negsuc 4294967295) 3) up ≡ 4
+unfolding long_spans_in way_within
+down_long = refl
+
+-- a box that is decided outside is traced all the same
+up_long : contour_long_spans (window (pos 4294967296) 2) up ≡ 1
+unfolding long_spans_in way_within
+up_long = refl
 
 -- of the four cells at the inner point the two with x up to 0 receive the one step, and the others are no working ones
 lengths_at_inner : plane_lengths (laid_flat (window (pos 0) 2)) half (point 1 1 0) ≡ 1 ∷ 0 ∷ 1 ∷ 0 ∷ []

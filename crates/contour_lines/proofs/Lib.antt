@@ -9,4 +9,5 @@ pub mod Looks
 pub mod PlaneLaws
 pub mod RowLaws
 pub mod SideLaws
+pub mod Traced
 pub mod Work

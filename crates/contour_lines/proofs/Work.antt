@@ -7,14 +7,14 @@ use Rattle.fixed_ops.specs.Counts.{Counts}
 use Rattle.kuhn_cells.specs.Triangles.{GridPoint}
 use Rattle.live_clauses.specs.Steps.{IsTape}
 use Rattle.live_clauses.specs.declared.step.Step.{Step}
-use Rattle.oct_descent.specs.Bound.{CountsAtLeast}
+use Rattle.oct_descent.specs.Bound.{CountsAtLeast, CountsHullsAtLeast, long_spans_in}
 use Rattle.oct_descent.specs.GridLaws.{LawsOf}
 use Rattle.oct_descent.specs.Known.{AreSettled, AreWorked, ChargesBox, Grows, PaysBox}
 use Rattle.view_places.specs.Boxes.{Indices}
 use Rattle.view_places.specs.Spans.{root_box_of}
 use Rattle.view_places.specs.Window.{IsWindow, Window, size_of}
 use Rattle.view_places.specs.declared.lattice.Lattice.TheVariants as lattices
-use Rattle.contour_lines.specs.Bound.{flat_least, flat_points, flat_spans}
+use Rattle.contour_lines.specs.Bound.{flat_least, flat_long_spans, flat_points, flat_spans}
 use Rattle.contour_lines.specs.Tables.{PlaneValues, known_at, known_of}
 use Rattle.contour_lines.specs.Trees.{IsTold}
 use Rattle.contour_lines.specs.Ways.{flat_value, planar, plane, points_of_plane}
@@ -55,6 +55,13 @@ pub whole-paid : (laws : LawsOf plane) (view other : Window) (list : List Step) 
 unfolding flat_least
 whole-paid laws view other list b before after told now same root n none worked pays =
     laws.whole.paid view other list b (known_of before) (known_of after) told now same root (ap points_of_plane n) none worked pays
+
+-- nor are fewer boxes traced than those of more than one cell
+pub whole-traced : (view other : Window) (list : List Step) (b : Indices) (told now : Counts) → other ≡ view → b ≡ root_box_of view lattices.Grid
+    → CountsHullsAtLeast (long_spans_in (planar other) (visit b list)) told now → CountsHullsAtLeast (flat_long_spans view list) told now
+whole-traced view other list b told now same root traced =
+    subst (λ c. CountsHullsAtLeast (long_spans_in (planar view) (visit c list)) told now) root
+    (subst (λ w. CountsHullsAtLeast (long_spans_in (planar w) (visit b list)) told now) same traced)
 
 -- and what it leaves tells the grid
 pub whole-told : (laws : LawsOf plane) (view other : Window) (list : List Step) (b : Indices) (before after : PlaneValues) → other ≡ view → b ≡ root_box_of view lattices.Grid → before.n ≡ size_of view

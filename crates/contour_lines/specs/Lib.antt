@@ -6,5 +6,6 @@ pub mod PlaneGrids
 pub mod Planes
 pub mod Signs
 pub mod Tables
+pub mod Traced
 pub mod Trees
 pub mod Ways

@@ -2,11 +2,11 @@
 ghost use Rattle.std.specs.Prelude.{IfOk, OnOk};
 ghost use Rattle.box_chains.specs.Tallied.{CountsAtMost};
 ghost use Rattle.live_clauses.specs.Steps.{tape_value};
-ghost use Rattle.oct_descent.specs.Bound.{CountsAtLeast};
+ghost use Rattle.oct_descent.specs.Bound.{CountsAtLeast, CountsHullsAtLeast};
 ghost use Rattle.plane_loops.specs.Closed.{IsClosedContour};
 ghost use Rattle.plane_loops.specs.Contours.{IsContour};
 ghost use Rattle.view_places.specs.Window.{FitsContour, IsWindow};
-ghost use Rattle.contour_lines.specs.Bound.{contour_least, contour_points, contour_spans};
+ghost use Rattle.contour_lines.specs.Bound.{contour_least, contour_long_spans, contour_points, contour_spans};
 ghost use Rattle.contour_lines.specs.PlaneGrids.{plane_over};
 
 use crate::planes::plane_table;
@@ -34,6 +34,8 @@ pub fn contour(
         (contour_spans view.now list.now) tally.old tally.new }
     ensures at_least { OnOk result
         (CountsAtLeast (contour_least view.now list.now) tally.old tally.new) }
+    ensures traced { OnOk result
+        (CountsHullsAtLeast (contour_long_spans view.now list.now) tally.old tally.new) }
 {
     window_holds(view);
     let table = plane_table(alloc, list, view, tally)?;

@@ -10,7 +10,7 @@ ghost use Rattle.interval_ops.specs.HullCounts.{CountsHulls};
 ghost use Rattle.kuhn_cells.specs.Sizes.{SameSize};
 ghost use Rattle.kuhn_cells.specs.Triangles.{point};
 ghost use Rattle.live_clauses.specs.Live.{IsWhole};
-ghost use Rattle.oct_descent.specs.Bound.{CountsNoHull};
+ghost use Rattle.oct_descent.specs.Bound.{CountsHullsAtLeast, CountsNoHull, long_spans_in};
 ghost use Rattle.oct_descent.specs.Asked.{IsToldAt, asked_of, longer};
 ghost use Rattle.oct_descent.specs.Halves.{ChargesBelow, ChargesHalves, MayLook, PaysHalves};
 ghost use Rattle.oct_descent.specs.Known.{AreSettled, AreWorked, ChargesBox, Grows, Known, PaysBox};
@@ -20,6 +20,7 @@ ghost use Rattle.view_places.specs.Spans.{IsInRoot};
 ghost use Rattle.view_places.specs.Window.{size_of};
 ghost use Rattle.contour_lines.specs.Corners.{IsSeen, IsShown};
 ghost use Rattle.contour_lines.specs.Tables.{known_of};
+ghost use Rattle.contour_lines.specs.Traced.{halves_long_spans, long_spans_below};
 ghost use Rattle.contour_lines.specs.Ways.{flat_value, meets_sides as meets_sides_of, planar, plane};
 
 use crate::corner_values::seen;
@@ -38,7 +39,8 @@ use view_places::{IndexBox, split};
 const LEAF: u32 = 1;
 
 /// Looks into a box, which receives a list: evaluates the corners of its working cells that are not known.
-/// AllocError: there is no memory for a shorter list, or for evaluating one.
+/// Each box of more than one cell on the ways to its cells is traced. AllocError: there is no memory for a
+/// shorter list, or for evaluating one.
 pub fn look_into(
     desk: &mut Desk,
     b: IndexBox,
@@ -59,6 +61,8 @@ pub fn look_into(
         (known_of values.old) (known_of values.new) tally.old tally.new }
     ensures paid { PaysBox (planar desk.old.view) (visit b (list_of desk.old received))
         (known_of values.old) (known_of values.new) tally.old tally.new }
+    ensures traced { OnOk result (CountsHullsAtLeast
+        (long_spans_in (planar desk.old.view) (visit b (list_of desk.old received))) tally.old tally.new) }
     ensures more { HasMore desk.old desk.new }
 {
     layers_hold();
@@ -98,8 +102,12 @@ fn look_into_told(
         (known_of values.old) (known_of values.new) tally.old tally.new }
     ensures paid { PaysBox (planar desk.old.view) (visit b (list_of desk.old received))
         (known_of values.old) (known_of values.new) tally.old tally.new }
+    ensures traced { OnOk result (CountsHullsAtLeast
+        (long_spans_below (planar desk.old.view) (visit b (list_of desk.old received)))
+        tally.old tally.new) }
     ensures kept { desk.new ≡ desk.old }
 {
+    layers_hold();
     planes_hold();
     if !is_long(b, LEAF) {
         return look_into_cell(desk, b, received, values, tally);
@@ -136,6 +144,9 @@ fn look_into_halves(
         (known_of values.old) (known_of values.new) tally.old tally.new }
     ensures paid { PaysHalves (planar desk.old.view) (list_of desk.old live) (halves_of 1 b)
         (known_of values.old) (known_of values.new) tally.old tally.new }
+    ensures traced { OnOk result (CountsHullsAtLeast
+        (halves_long_spans (planar desk.old.view) (list_of desk.old live) (halves_of 1 b))
+        tally.old tally.new) }
     ensures kept { desk.new ≡ desk.old }
 {
     let count = desk.lists.len();
@@ -170,6 +181,9 @@ fn look_into_each_half(
         (known_of values.old) (known_of values.new) tally.old tally.new }
     ensures paid { PaysHalves (planar desk.old.view) (list_of desk.old live) (halves_of 1 b)
         (known_of values.old) (known_of values.new) tally.old tally.new }
+    ensures traced { OnOk result (CountsHullsAtLeast
+        (halves_long_spans (planar desk.old.view) (list_of desk.old live) (halves_of 1 b))
+        tally.old tally.new) }
     ensures more { HasMore desk.old desk.new }
 {
     layers_hold();

@@ -1,9 +1,9 @@
 // The values and the signs of a plane grid.
 ghost use Rattle.std.specs.Prelude.{◌≡◌, IfOk, OnOk};
 ghost use Rattle.box_chains.specs.Tallied.{CountsAtMost};
-ghost use Rattle.oct_descent.specs.Bound.{CountsAtLeast};
+ghost use Rattle.oct_descent.specs.Bound.{CountsAtLeast, CountsHullsAtLeast};
 ghost use Rattle.view_places.specs.Window.{FitsContour, IsWindow};
-ghost use Rattle.contour_lines.specs.Bound.{contour_least, contour_points, contour_spans, flat_least, flat_points, flat_spans};
+ghost use Rattle.contour_lines.specs.Bound.{contour_least, contour_long_spans, contour_points, contour_spans, flat_least, flat_long_spans, flat_points, flat_spans};
 ghost use Rattle.contour_lines.specs.Signs.{HasCorners, HasSigns};
 ghost use Rattle.contour_lines.specs.Tables.{known_of};
 ghost use Rattle.contour_lines.specs.Trees.{IsTold};
@@ -35,8 +35,8 @@ pub struct PlaneTable {
 /// Looks into the boxes of the plane grid of a list of steps over a view, at its height. Each step that is
 /// traced over a box is counted, at most four corners with it, and each step that is evaluated at a point.
 /// In all there are no more evaluations than one of a list at each corner of a working cell, the longest
-/// that such a cell receives, and no fewer than one of the shortest. AllocError: there is no memory for the
-/// values.
+/// that such a cell receives, and no fewer than one of the shortest. Each box of more than one cell on the
+/// ways to the cells is traced. AllocError: there is no memory for the values.
 pub fn plane_table(
     alloc: Global,
     list: &Tape,
@@ -51,6 +51,8 @@ pub fn plane_table(
         (contour_spans view.now list.now) tally.old tally.new }
     ensures at_least { OnOk result
         (CountsAtLeast (contour_least view.now list.now) tally.old tally.new) }
+    ensures traced { OnOk result
+        (CountsHullsAtLeast (contour_long_spans view.now list.now) tally.old tally.new) }
 {
     planes_hold();
     flat_view();
@@ -80,6 +82,8 @@ fn look_into_all(
     ensures at_most { CountsAtMost (flat_points view.now list.now) (flat_spans view.now list.now)
         tally.old tally.new }
     ensures at_least { OnOk result (CountsAtLeast (flat_least view.now list.now) tally.old tally.new) }
+    ensures traced { OnOk result
+        (CountsHullsAtLeast (flat_long_spans view.now list.now) tally.old tally.new) }
 {
     layers_hold();
     planes_hold();

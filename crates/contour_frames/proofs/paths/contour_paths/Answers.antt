@@ -48,7 +48,7 @@ returns-clause-closed c =
 pub returns-clause-counted : goal.returns-clause-counted
 returns-clause-counted c =
     contour_counted c.path_text.result c.args.tally.now c.contour.new.tally c.args.view.now c.args.model.now c.in_ok-list.list
-    c.in_ok-list.ensures.live c.in_ok-loops.ensures.at_most c.in_ok-loops.ensures.at_least
+    c.in_ok-list.ensures.live c.in_ok-loops.ensures.at_most c.in_ok-loops.ensures.at_least c.in_ok-loops.ensures.traced
 
 pub returns-clause-at_most : goal.returns-clause-at_most
 returns-clause-at_most c =

@@ -14,17 +14,30 @@ use Rattle.kuhn_cells.specs.Sizes.{SameSize}
 use Rattle.view_places.specs.Boxes.{halves_of}
 use Rattle.view_places.specs.Window.{size_of}
 use Rattle.oct_descent.specs.Asked.{IsToldAt, longer}
+use Rattle.oct_descent.specs.Bound.{CountsHullsAtLeast}
 use Rattle.oct_descent.specs.Halves.{ChargesBelow}
 use Rattle.oct_descent.specs.Known.{AreRight, AreSettled, AreWorked, Grows, PaysBox}
+use Rattle.oct_descent.proofs.Looks.{on_ok}
 use Rattle.contour_lines.specs.Tables.{known_of}
+use Rattle.contour_lines.specs.Traced.{long_spans_below}
 use Rattle.contour_lines.specs.Ways.{flat_value, planar, plane}
 use Rattle.contour_lines.proofs.Looks.{byte-is, byte-most, on_ok-then}
+use Rattle.contour_lines.proofs.Traced.{all-traced, cell-traced, cell-traced_below, closed-traced, first-traced, halves-traced, next-traced}
 use Rattle.contour_lines.proofs.descent.+looking.Goals as goal
 
 pub look_into_told-returns-then-not-is_long-clause-counted : goal.look_into_told-returns-then-not-is_long-clause-counted
 look_into_told-returns-then-not-is_long-clause-counted t c =
     let v = visit c.args.b (list_of c.args.desk.now c.args.received) in
     c.planes_hold.ensures.looks.cell_below (planar c.args.desk.now.view) v (known_of c.args.values.now) (known_of c.look_into_cell.new.values) c.args.tally.now c.look_into_cell.new.tally (sym c.is_long.ensures ∙ c.if-not-is_long.true) c.look_into_cell.ensures.counted
+
+pub look_into_told-returns-then-not-is_long-clause-traced : goal.look_into_told-returns-then-not-is_long-clause-traced
+look_into_told-returns-then-not-is_long-clause-traced t c =
+    let view = c.args.desk.now.view in
+    let v = visit c.args.b (list_of c.args.desk.now c.args.received) in
+    on_ok c.look_into_cell.result _
+    (cell-traced_below (planar view) v c.args.tally.now c.look_into_cell.new.tally
+    (cell-traced c.layers_hold.ensures view v (known_of c.args.values.now) (known_of c.look_into_cell.new.values) c.args.tally.now c.look_into_cell.new.tally c.requires.may.visit_is.box
+    (sym c.is_long.ensures ∙ c.if-not-is_long.true) c.look_into_cell.ensures.paid))
 
 pub look_into_told-look_into_halves-requires : goal.look_into_told-look_into_halves-requires
 look_into_told-look_into_halves-requires t c =
@@ -98,6 +111,18 @@ look_into_told-returns-in-Open-clause-paid t c =
     let opened = c.planes_hold.ensures.telling.opened (samples c.args.desk.now) (list_of c.args.desk.now c.args.received) c.args.b c.args.desk.now.lists c.args.outcomes.now c.args.at at Inside c.requires.may.lattice (c.requires.told long) c.in-Open.is in
     c.planes_hold.ensures.handing.paid view v live (known_of c.args.values.now) (known_of c.look_into_halves.new.values) c.args.tally.now c.look_into_halves.new.tally c.requires.may.visit_is opened.open' long opened.same c.look_into_halves.ensures.paid
 
+pub look_into_told-returns-in-Open-clause-traced : goal.look_into_told-returns-in-Open-clause-traced
+look_into_told-returns-in-Open-clause-traced t c =
+    let view = c.args.desk.now.view in
+    let v = visit c.args.b (list_of c.args.desk.now c.args.received) in
+    let at = c.in-Open.live in
+    let live = list_of c.args.desk.now at in
+    let long = sym c.is_long.ensures ∙ c.if-not-is_long.false in
+    let opened = c.planes_hold.ensures.telling.opened (samples c.args.desk.now) (list_of c.args.desk.now c.args.received) c.args.b c.args.desk.now.lists c.args.outcomes.now c.args.at at Inside c.requires.may.lattice (c.requires.told long) c.in-Open.is in
+    on_ok-then c.look_into_halves.result _ _
+    (halves-traced c.layers_hold.ensures view v live c.args.tally.now c.look_into_halves.new.tally c.requires.may.visit_is opened.open' long opened.same)
+    c.look_into_halves.ensures.traced
+
 pub look_into_told-returns-in-Inside-clause-settled : goal.look_into_told-returns-in-Inside-clause-settled
 look_into_told-returns-in-Inside-clause-settled t c =
     let view = c.args.desk.now.view in
@@ -125,6 +150,14 @@ look_into_told-returns-in-Inside-clause-counted t c =
 pub look_into_told-returns-in-Inside-clause-paid : goal.look_into_told-returns-in-Inside-clause-paid
 look_into_told-returns-in-Inside-clause-paid t c =
     λ f due. c.planes_hold.ensures.work.unpaid f (known_of c.args.values.now) c.args.tally.now
+
+pub look_into_told-returns-in-Inside-clause-traced : goal.look_into_told-returns-in-Inside-clause-traced
+look_into_told-returns-in-Inside-clause-traced t c =
+    let view = c.args.desk.now.view in
+    let v = visit c.args.b (list_of c.args.desk.now c.args.received) in
+    let long = sym c.is_long.ensures ∙ c.if-not-is_long.false in
+    let closed = c.planes_hold.ensures.telling.closed (samples c.args.desk.now) (list_of c.args.desk.now c.args.received) c.args.b c.args.desk.now.lists c.args.outcomes.now c.args.at Inside c.requires.may.lattice (c.requires.told long) c.in-Inside.is in
+    closed-traced c.layers_hold.ensures view v c.args.tally.now c.requires.may.visit_is.box closed
 
 pub look_into_each_half-trace_longer-requires-clause-within : goal.look_into_each_half-trace_longer-requires-clause-within
 look_into_each_half-trace_longer-requires-clause-within t c =
@@ -162,6 +195,7 @@ look_into_each_half-loop-half-init t c =
       counted = c.planes_hold.ensures.halves.first (planar view) live halves c.n.result (known_of c.args.values.now) c.args.tally.now c.trace_longer.new.tally hulls;
       worked = All-nil (λ h. AreWorked (planar view) (visit h live) (known_of c.args.values.now));
       paid = c.planes_hold.ensures.halves.begun_paid (planar view) live halves _ (known_of c.args.values.now) c.args.tally.now c.trace_longer.new.tally (c.layers_hold.ensures.bounds.hulls c.args.tally.now c.trace_longer.new.tally _ hulls);
+      traced = first-traced (planar view) live halves c.n.result c.args.tally.now c.trace_longer.new.tally hulls;
     }
 
 pub look_into_each_half-look_into_told-requires : goal.look_into_each_half-look_into_told-requires
@@ -270,6 +304,8 @@ look_into_each_half-loop-half-preserved t c =
       worked = c.planes_hold.ensures.halves.next_worked view c.loop-half.desk.view live c.args.b half halves c.loop-half.half-index (known_of c.loop-half.values) (known_of c.look_into_told.new.values) same c.loop-half-test.true c.half-item.is grown (subst (λ l. AreWorked (planar c.loop-half.desk.view) (visit half l) (known_of c.look_into_told.new.values)) list after.worked) before.worked;
       paid = c.planes_hold.ensures.halves.next_paid view c.loop-half.desk.view live half halves c.loop-half.half-index (known_of c.args.values.now) (known_of c.loop-half.values) (known_of c.look_into_told.new.values) c.args.tally.now c.loop-half.tally c.look_into_told.new.tally
           same c.loop-half-test.true c.half-item.is before.paid (subst (λ l. PaysBox (planar c.loop-half.desk.view) (visit half l) (known_of c.loop-half.values) (known_of c.look_into_told.new.values) c.loop-half.tally c.look_into_told.new.tally) list after.paid);
+      traced = next-traced c.layers_hold.ensures view c.loop-half.desk.view live half halves c.loop-half.half-index _ c.args.tally.now c.loop-half.tally c.look_into_told.new.tally same c.loop-half-test.true c.half-item.is before.traced
+          (subst (λ l. CountsHullsAtLeast (long_spans_below (planar c.loop-half.desk.view) (visit half l)) c.loop-half.tally c.look_into_told.new.tally) list after.traced);
     }
 
 pub look_into_each_half-returns-clause-settled : goal.look_into_each_half-returns-clause-settled
@@ -303,6 +339,12 @@ look_into_each_half-returns-clause-paid t c =
     let halves = c.as_slice-half-items.result.now in
     c.planes_hold.ensures.halves.paid (planar view) (list_of c.args.desk.now c.args.live) (halves_of 1 c.args.b) halves (known_of c.args.values.now) (known_of c.loop-half.values) c.args.tally.now c.loop-half.tally turned c.loop-half.invariant.paid
 
+pub look_into_each_half-returns-clause-traced : goal.look_into_each_half-returns-clause-traced
+look_into_each_half-returns-clause-traced t c =
+    let turned = subst (IsPermutation (halves_of 1 c.args.b)) (sym c.as_slice-half-items.ensures.value) c.in_turn-halves.ensures in
+    let halves = c.as_slice-half-items.result.now in
+    all-traced (planar c.args.desk.now.view) (list_of c.args.desk.now c.args.live) (halves_of 1 c.args.b) halves c.loop-half.half-index c.args.tally.now c.loop-half.tally turned (omega (arith, c.loop-half-test.false)) c.loop-half.invariant.traced
+
 pub look_into_halves-returns-clause-kept : goal.look_into_halves-returns-clause-kept
 look_into_halves-returns-clause-kept t c = c.cut.ensures.back c.args.desk.now c.look_into_each_half-looked.ensures.more (c.len-count.ensures ∙ ap (λ (d : Tracing). length d.lists) c.desk.view_is)
 
@@ -329,3 +371,11 @@ look_into_told-returns-in-Inside-2-clause-counted t c =
 pub look_into_told-returns-in-Inside-2-clause-paid : goal.look_into_told-returns-in-Inside-2-clause-paid
 look_into_told-returns-in-Inside-2-clause-paid t c =
     λ f due. c.planes_hold.ensures.work.unpaid f (known_of c.args.values.now) c.args.tally.now
+
+pub look_into_told-returns-in-Inside-2-clause-traced : goal.look_into_told-returns-in-Inside-2-clause-traced
+look_into_told-returns-in-Inside-2-clause-traced t c =
+    let view = c.args.desk.now.view in
+    let v = visit c.args.b (list_of c.args.desk.now c.args.received) in
+    let long = sym c.is_long.ensures ∙ c.if-not-is_long.false in
+    let closed = c.planes_hold.ensures.telling.closed (samples c.args.desk.now) (list_of c.args.desk.now c.args.received) c.args.b c.args.desk.now.lists c.args.outcomes.now c.args.at Inside c.requires.may.lattice (c.requires.told long) c.in-Inside.is in
+    closed-traced c.layers_hold.ensures view v c.args.tally.now c.requires.may.visit_is.box closed

@@ -6,11 +6,13 @@ use Rattle.box_chains.specs.Outcomes.{HandsOn, all_seen, asked_outcomes}
 use Rattle.kuhn_cells.specs.Triangles.{GridPoint}
 use Rattle.view_places.specs.Window.{size_of}
 use Rattle.oct_descent.specs.Asked.{longer}
+use Rattle.oct_descent.specs.Bound.{CountsHullsAtLeast}
 use Rattle.oct_descent.specs.Halves.{PaysHalves, halves_below, owned}
 use Rattle.oct_descent.specs.Known.{AreSettled, AreWorked, Charges, Grows}
 use Rattle.oct_descent.specs.Tables.{IsEnough}
 use Rattle.contour_lines.specs.Tables.{known_of}
 use Rattle.contour_lines.specs.Ways.{flat_value, planar, plane}
+use Rattle.contour_lines.proofs.Traced.{halves_long_below}
 use Rattle.contour_lines.proofs.descent.+looking.Given as goal
 
 -- a box has three turns before its halves have theirs
@@ -35,4 +37,5 @@ invariant-look_into_each_half-loop-half l = let list = list_of l.fn.desk l.live 
       → Charges f (owned list l.half-items + halves_below d list (take l.half-index l.half-items)) (known_of l.fn.values) (known_of l.values) l.fn.tally l.tally;
   worked : All (λ h. AreWorked d (visit h list) (known_of l.values)) (take l.half-index l.half-items);
   paid : PaysHalves d list l.half-items (known_of l.fn.values) (known_of l.values) l.fn.tally l.tally;
+  traced : CountsHullsAtLeast (owned list l.half-items + halves_long_below d list (take l.half-index l.half-items)) l.fn.tally l.tally;
 }

@@ -4,6 +4,7 @@ use Rattle.box_chains.specs.Chains.{visit}
 use Rattle.box_chains.specs.Desks.{Tracing, list_of}
 use Rattle.box_chains.specs.Visits.{IsVisit}
 use Rattle.live_clauses.specs.declared.step.Step.{Step}
+use Rattle.oct_descent.specs.Bound.{CountsHullsAtLeast, long_spans_in}
 use Rattle.oct_descent.specs.Known.{AreSettled, AreWorked, ChargesBox, Grows, PaysBox}
 use Rattle.oct_descent.specs.Tables.{is_known}
 use Rattle.view_places.specs.Spans.{root_box_of}
@@ -11,7 +12,7 @@ use Rattle.view_places.specs.Window.{size_of}
 use Rattle.view_places.specs.declared.lattice.Lattice.TheVariants.{Grid}
 use Rattle.contour_lines.specs.Tables.{known_of}
 use Rattle.contour_lines.specs.Ways.{flat_value, planar}
-use Rattle.contour_lines.proofs.Work.{whole-counted, whole-paid, whole-told}
+use Rattle.contour_lines.proofs.Work.{whole-counted, whole-paid, whole-told, whole-traced}
 use Rattle.contour_lines.proofs.planes.look_into_all.Goals as goal
 
 pub look_into-requires : goal.look_into-requires
@@ -67,6 +68,16 @@ returns-clause-at_least c =
     (c.in_ok-values.ensures.n ∙ c.grid-n.ensures.size) c.in_ok-values.ensures.none
     (subst (λ (l : List Step). AreWorked (planar desk.view) (visit c.root-root.result l) (known_of c.look_into.new.values)) is c.in_ok-look_into.ensures.worked)
     (subst (λ (l : List Step). PaysBox (planar desk.view) (visit c.root-root.result l) (known_of c.in_ok-values.values) (known_of c.look_into.new.values) c.args.tally.now c.look_into.new.tally) is c.in_ok-look_into.ensures.paid)
+
+pub returns-clause-traced : goal.returns-clause-traced
+returns-clause-traced c =
+    let made = c.in_ok-desk.ensures in
+    let view = ap (λ (d : Tracing). d.view) made in
+    let is = ap (λ (d : Tracing). list_of d 0) made in
+    let root = subst (λ (d : Tracing). c.root-root.result ≡ root_box_of d.view d.lattice) made c.root-root.ensures in
+    let desk = c.in_ok-desk.desk in
+    whole-traced c.args.view.now desk.view c.args.list.now c.root-root.result c.args.tally.now c.look_into.new.tally view root
+    (subst (λ (l : List Step). CountsHullsAtLeast (long_spans_in (planar desk.view) (visit c.root-root.result l)) c.args.tally.now c.look_into.new.tally) is c.in_ok-look_into.ensures.traced)
 
 pub returns-clause-told : goal.returns-clause-told
 returns-clause-told c =
