@@ -23,8 +23,8 @@ use Rattle.modeller_cmd.specs.declared.stop.Stop.TheVariants as stop
 use Rattle.view_settings.specs.declared.job.Job.TheVariants as jobs
 
 -- how many bytes are written together of so many rows of so many columns
-rows_together : (view : Window) (w h : ℕ) → view.w ≡ w → view.h ≡ h → most_rows view * view.w ≡ min (65536 / w) h * w
-rows_together view w h columns rows = ap (λ n. min (65536 / n) view.h * n) columns ∙ ap (λ n. min (65536 / w) n * w) rows
+rows_together : (view : Window) (w h : ℕ) → view.w ≡ w → view.h ≡ h → most_rows view * view.w ≡ min (min 16 (65536 / w)) h * w
+rows_together view w h columns rows = ap (λ n. min (min 16 (65536 / n)) view.h * n) columns ∙ ap (λ n. min (min 16 (65536 / w)) n * w) rows
 
 -- a line takes 64 bytes at most, and a header 24: with sixteen rows of three columns 136 in all
 room_for_rows : (view : Window) (buffer : List ℕ) → view.w ≡ 3 → view.h ≡ 16 → length buffer ≡ 136 → HasRoom view buffer
@@ -34,12 +34,15 @@ no_room_for_rows : (view : Window) (buffer : List ℕ) → view.w ≡ 3 → view
 no_room_for_rows view buffer columns rows bytes room =
     let fits : 88 + most_rows view * view.w ≤ length buffer = room in omega (arith, rows_together view 3 16 columns rows, bytes, fits)
 
--- of rows of 4,096 bytes sixteen are written together, and of 3,855 seventeen
+-- sixteen rows are written together, of 4,096 bytes and of one, and fewer only where there are fewer
 widest_rows : (view : Window) → view.w ≡ 4096 → view.h ≡ 20 → most_rows view ≡ 16
-widest_rows view columns rows = ap (λ w. min (65536 / w) view.h) columns ∙ ap (min 16) rows
+widest_rows view columns rows = ap (λ w. min (min 16 (65536 / w)) view.h) columns ∙ ap (min 16) rows
 
-narrower_rows : (view : Window) → view.w ≡ 3855 → view.h ≡ 20 → most_rows view ≡ 17
-narrower_rows view columns rows = ap (λ w. min (65536 / w) view.h) columns ∙ ap (min 17) rows
+narrowest_rows : (view : Window) → view.w ≡ 1 → view.h ≡ 20 → most_rows view ≡ 16
+narrowest_rows view columns rows = ap (λ w. min (min 16 (65536 / w)) view.h) columns ∙ ap (min 16) rows
+
+few_rows : (view : Window) → view.w ≡ 3855 → view.h ≡ 15 → most_rows view ≡ 15
+few_rows view columns rows = ap (λ w. min (min 16 (65536 / w)) view.h) columns ∙ ap (min 16) rows
 
 -- a run of the verb `text`: its source holds a clause and is read to its end, and its sink holds what was written; nothing
 -- fails, and nothing is noted or counted

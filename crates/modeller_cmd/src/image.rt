@@ -17,7 +17,11 @@ use raster_pgm::pgm_head;
 use std::alloc::{AllocError, Global};
 use view_settings::View;
 
-/// How many bytes of rows are written at once: sixteen rows of the widest image, and more of others.
+/// The most rows of an image that are written at once. So few fit the cache of a processor, and a leaf,
+/// which has at most eight, lies in at most two such pieces.
+pub const BAND_ROWS: u32 = 16;
+
+/// The most bytes of rows that are written at once: as many as sixteen rows of the widest image have.
 pub const BAND_BYTES: u32 = 65_536;
 
 /// The most bytes that stand before the first rows: a line, and the header.
@@ -179,5 +183,5 @@ pub fn band_rows(view: &View, row: u32) -> u32
 fn most_rows(view: &View) -> u32
     ensures { result ≡ rows_at_once view.now }
 {
-    (BAND_BYTES / view.w).min(view.h)
+    BAND_ROWS.min(BAND_BYTES / view.w).min(view.h)
 }

@@ -8,5 +8,6 @@ pub mod OldLaws
 pub mod PaintLaws
 pub mod Painted
 pub mod Redrawn
+pub mod RowParts
 mod Scans
 pub mod Stands

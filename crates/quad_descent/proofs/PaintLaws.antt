@@ -1,7 +1,7 @@
 -- How painted rows are those of their parts.
 use Rattle.std.proofs.Common.{◌≡◌, ℕ, ◌+◌, ◌-◌, ◌*◌, ◌/◌, ◌%◌, ◌<◌, ◌≤◌, Bool, true, false, cond, List, length, map, get_or, set, refl, sym, ap, subst, ◌∙◌, ◌⊎◌, inl, inr, arith}
 use Rattle.std.specs.Prelude.{max, min, nat_le, nat_lt, ◌==◌, ◌&&◌, ◌||◌}
-use Rattle.std.specs.List.{list_any, range_with_len}
+use Rattle.std.specs.List.{range_with_len}
 use Rattle.fixed_ops.specs.Raw.{is_inside}
 use Rattle.live_clauses.specs.Steps.{tape_value}
 use Rattle.live_clauses.specs.declared.step.Step.{Step}
@@ -145,10 +145,6 @@ covers-row w row j p b some narrow below above layer = rw (row-among w (j - row)
     by (inr other) =
         let same : nat_lt (row + p / w) (j + 1) ≡ nat_lt (row + p / w) j = grind (arith, nat_tests, other, below) in
         rw (ne_eqb (p / w) (j - row) other, same) refl
-
--- some of these boxes has a sample at a place
-abbrev pub covered : ℕ → ℕ → List Indices → ℕ → Bool
-covered w row halves p = list_any (λ half. covers w row half p) halves
 
 -- the row of a place of so many rows
 pub row-below : (w rows p : ℕ) → p < rows * w → p / w < rows

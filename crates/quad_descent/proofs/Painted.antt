@@ -1,18 +1,14 @@
 -- What the nodes of a tree say of its samples.
-use Rattle.std.proofs.Common.{◌≡◌, ℕ, zero, suc, ◌+◌, ◌-◌, ◌*◌, ◌/◌, ◌%◌, ◌<◌, ◌≤◌, Bool, true, false, cond, List, [], ◌∷◌, ◌++◌, add-zero, zero-add, append-nil, length, map, get_or, take, drop, refl, sym, ap, subst, ◌∙◌, arith}
-use Rattle.std.specs.Prelude.{nat_lt, ◌||◌, Option, Some, None, count_by}
-use Rattle.std.specs.List.{flat_map, list_any, range_with_len}
-use Rattle.std.proofs.Math.Bool.{or_comm}
+use Rattle.std.proofs.Common.{◌≡◌, ℕ, zero, suc, ◌+◌, ◌-◌, ◌*◌, ◌/◌, ◌%◌, ◌<◌, ◌≤◌, Bool, true, false, cond, List, [], ◌∷◌, ◌++◌, add-zero, zero-add, append-nil, length, map, get_or, refl, sym, ap, subst, ◌∙◌, arith}
+use Rattle.std.specs.Prelude.{nat_lt, ◌||◌, Option, Some, None}
+use Rattle.std.specs.List.{flat_map, range_with_len}
 use Rattle.std.proofs.Math.Nat.{mod-lt, mul-div_cancel_left}
 use Rattle.std.proofs.lemmas.Grind.{flat_map-append}
 use Rattle.std.proofs.lemmas.Bool.{ltb-false, ltb-true, or_parts}
-use Rattle.std.proofs.lemmas.List.{drop_more, map-append, take_more}
+use Rattle.std.proofs.lemmas.List.{map-append}
 use Rattle.std.proofs.lemmas.List.Concat.{flat_map-cons}
-use Rattle.std.proofs.lemmas.List.Folds.{list_any-append}
 use Rattle.std.proofs.lemmas.List.FromFn.{fill_by_all}
-use Rattle.std.proofs.lemmas.List.Sums.{sum_by-cons}
 use Rattle.box_chains.specs.Chains.{Descent, Visit, decision, handed_on, is_long, visit}
-use Rattle.box_chains.specs.Parts.{IsPart}
 use Rattle.box_chains.specs.Sums.{LiesIn, Sample}
 use Rattle.box_chains.specs.Laws.{Lawful}
 use Rattle.fixed_ops.specs.Raw.{is_inside}
@@ -32,9 +28,8 @@ use Rattle.quad_descent.specs.Pixels.{pixel_at, pixels_of, row_at, rows_from}
 use Rattle.quad_descent.specs.Raster.{raster, raster_root}
 use Rattle.quad_descent.specs.declared.node.Node.{Node}
 use Rattle.quad_descent.specs.declared.node.Node.TheVariants.{Outside, Inside, Leaf, Split}
-use Rattle.quad_descent.proofs.Drawn.{half-part, half-within}
-use Rattle.quad_descent.proofs.PaintLaws.{covered, place-of, row-below}
-use Rattle.quad_descent.proofs.Stands.{stands-below, stands-first, stands-more, stands-read, stands-within}
+use Rattle.quad_descent.proofs.PaintLaws.{place-of, row-below}
+use Rattle.quad_descent.proofs.Stands.{stands-below, stands-read, stands-within}
 
 -- what the first node of a box says of it
 pub record SaysLeaf (d : Descent) (v : Visit) (rows : List ℕ) : Type 0 where
@@ -143,66 +138,6 @@ halves-drawn laws view list at b drawn node below is halves = record {
       (stands-below (nodes_of (raster view) (raster_root view list)) (nodes_of (raster view) (visit b drawn.received)) below node at drawn.stands is);
 }
 
--- the first of some halves is drawn where they begin
-pub half-drawn : (laws : Lawful) (view : Window) (list : List Step) (at : ℕ) (b half : Indices) (rest : List Indices) (drawn : AreDrawnAt view list at b (half ∷ rest)) → IsPart 8 b half → IsDrawnAt view list at half
-half-drawn laws view list at b half rest drawn part = record {
-  received = drawn.live;
-  visit_is = record {
-    window = drawn.visit_is.window;
-    box = laws.parts.box 8 b half part;
-    within = half-within view b half part drawn.visit_is.within;
-    tape = drawn.visit_is.tape;
-  };
-  values = λ s lies. drawn.values s (laws.parts.lies 8 b half s part lies);
-  stands = stands-first (nodes_of (raster view) (raster_root view list)) (nodes_of (raster view) (visit half drawn.live)) (halves_nodes (raster view) drawn.live rest) at
-      (subst (λ l. StandsAt (nodes_of (raster view) (raster_root view list)) l at) (flat_map-cons (λ h. nodes_of (raster view) (visit h drawn.live)) half rest) drawn.stands);
-}
-
--- and the others behind it
-pub others-drawn : (view : Window) (list : List Step) (at next : ℕ) (b half : Indices) (rest : List Indices) (drawn : AreDrawnAt view list at b (half ∷ rest))
-    → next ≡ at + length (nodes_of (raster view) (visit half drawn.live)) → AreDrawnAt view list next b rest
-others-drawn view list at next b half rest drawn behind = record {
-  live = drawn.live;
-  visit_is = drawn.visit_is;
-  values = drawn.values;
-  stands = subst (λ n. StandsAt (nodes_of (raster view) (raster_root view list)) (halves_nodes (raster view) drawn.live rest) n) (sym behind)
-      (stands-more (nodes_of (raster view) (raster_root view list)) (nodes_of (raster view) (visit half drawn.live)) (halves_nodes (raster view) drawn.live rest) at
-      (subst (λ l. StandsAt (nodes_of (raster view) (raster_root view list)) l at) (flat_map-cons (λ h. nodes_of (raster view) (visit h drawn.live)) half rest) drawn.stands));
-}
-
--- one more half is covered
-pub covered-more : (w row i p : ℕ) (halves : List Indices) (half : Indices) → i < length halves → half ≡ get_or halves i half
-    → covered w row (take (i + 1) halves) p ≡ (covers w row half p || covered w row (take i halves) p)
-covered-more w row i p halves half within read =
-    let test : Indices → Bool = λ h. covers w row h p in
-    ap (list_any test) (take_more halves i half within ∙ ap (λ h. take i halves ++ h ∷ []) (sym read))
-    ∙ list_any-append test (take i halves) (half ∷ [])
-    ∙ or_comm (list_any test (take i halves)) (list_any test (half ∷ []))
-    ∙ ap (λ t. t || list_any test (take i halves)) (or-none (test half))
-  where
-    or-none : (t : Bool) → (t || false) ≡ t
-    or-none true = refl
-    or-none false = refl
-
--- some element passes where the count is not 0
-any-count : {X : Type 0} (p : X → Bool) (xs : List X) (t : Bool) → count_by p xs ≡ cond t 1 0 → list_any p xs ≡ t
-any-count p [] true e = absurd (omega (arith, e))
-any-count p [] false e = refl
-any-count p (x ∷ xs) t e = by (p x) refl t e (λ u h. any-count p xs u h)
-  where
-    by : (s : Bool) → p x ≡ s → (t : Bool) → count_by p (x ∷ xs) ≡ cond t 1 0 → ((u : Bool) → count_by p xs ≡ cond u 1 0 → list_any p xs ≡ u) → (s || list_any p xs) ≡ t
-    by true is true e others = refl
-    by true is false e others =
-        let first : cond {A = ℕ} (p x) 1 0 ≡ 1 = rw is refl in
-        absurd (omega (arith, sum_by-cons (λ z. cond (p z) 1 0) x xs, first, e))
-    by false is t e others =
-        let first : cond {A = ℕ} (p x) 1 0 ≡ 0 = rw is refl in
-        others t (omega (arith, sum_by-cons (λ z. cond (p z) 1 0) x xs, first, e))
-
--- the halves of a box cover what it covers
-pub covered-all : (laws : Lawful) (w row p leaf : ℕ) (b : Indices) → covered w row (halves_of leaf b) p ≡ covers w row b p
-covered-all laws w row p leaf b = any-count (λ h. covers w row h p) (halves_of leaf b) (covers w row b p) (laws.layers.halves leaf b (p % w) (row + p / w) 0)
-
 -- the first node of a box that is drawn
 pub head-drawn : (laws : Lawful) (view : Window) (list : List Step) (at : ℕ) (b : Indices) (drawn : IsDrawnAt view list at b) → HasHead (raster view) (visit b drawn.received)
 head-drawn laws view list at b drawn = head-of laws (raster view) (visit b drawn.received) (omega arith) drawn.visit_is.box
@@ -241,26 +176,6 @@ short-side b e =
     let rest = or_parts (nat_lt 8 (b.x1 - b.x0)) (nat_lt 8 (b.y1 - b.y0) || nat_lt 8 (b.z1 - b.z0)) e in
     let y = or_parts (nat_lt 8 (b.y1 - b.y0)) (nat_lt 8 (b.z1 - b.z0)) rest.1 in
     ltb-false 8 (b.y1 - b.y0) y.0
-
--- the next of some halves, with those behind it
-pub halves-next : (view : Window) (list : List Step) (at i : ℕ) (b half : Indices) (halves : List Indices) → i < length halves → half ≡ get_or halves i half
-    → AreDrawnAt view list at b (drop i halves) → AreDrawnAt view list at b (half ∷ drop (i + 1) halves)
-halves-next view list at i b half halves within read drawn =
-    subst (λ hs. AreDrawnAt view list at b hs) (drop_more halves i half within ∙ ap (λ h. h ∷ drop (i + 1) halves) (sym read)) drawn
-
--- the next of some halves is drawn where they begin
-pub next-drawn : (laws : Lawful) (view : Window) (list : List Step) (at i : ℕ) (b half : Indices) (halves : List Indices) → halves ≡ halves_of 8 b → i < length halves → half ≡ get_or halves i half
-    → AreDrawnAt view list at b (drop i halves) → IsDrawnAt view list at half
-next-drawn laws view list at i b half halves each within read drawn =
-    half-drawn laws view list at b half (drop (i + 1) halves) (halves-next view list at i b half halves within read drawn) (half-part laws b half halves i drawn.visit_is.box each within read)
-
--- and the others behind it, where its first node counts
-pub rest-drawn : (laws : Lawful) (view : Window) (list : List Step) (nodes : List Node) (at i count : ℕ) (b half : Indices) (halves : List Indices) (r : Node) → halves ≡ halves_of 8 b → i < length halves → half ≡ get_or halves i half
-    → (drawn : AreDrawnAt view list at b (drop i halves)) → nodes ≡ nodes_of (raster view) (raster_root view list) → r ≡ get_or nodes at r → count ≡ count_of r → AreDrawnAt view list (at + count) b (drop (i + 1) halves)
-unfolding halves-next next-drawn half-drawn
-rest-drawn laws view list nodes at i count b half halves r each within read drawn all at_read counted =
-    others-drawn view list at (at + count) b half (drop (i + 1) halves) (halves-next view list at i b half halves within read drawn)
-    (ap (λ n. at + n) (counted ∙ box-counts laws view list nodes at half (next-drawn laws view list at i b half halves each within read drawn) r all at_read))
 
 -- numbers from one on, and more behind them
 range-parts : (low m n : ℕ) → range_with_len low (m + n) ≡ range_with_len low m ++ range_with_len (low + m) n
