@@ -8,6 +8,7 @@ pub mod Held
 pub mod Work
 pub mod Rows
 pub mod TopSamples
+pub mod Waiting
 pub mod Longest
 pub mod Descents
 pub mod Pictures

@@ -113,10 +113,9 @@ or-false false = refl
 tests-none : (x j c q : ℕ) → (nat_le x c && (nat_lt c x && (nat_le j q && nat_lt q (j + 1)))) ≡ false
 tests-none x j c q = grind (arith, nat_tests)
 
-pub row-dark : (w j i : ℕ) (b : Indices) (tops : List ℕ) (g : ℕ → ℕ) (xs : List ℕ) → i ≡ b.x0 → Becomes (has_top_at w tops (left_of b j i)) g xs xs
-row-dark w j i b tops g xs start =
-    lit-none (has_top_at w tops (left_of b j i)) g xs
-    (λ p. ap (λ t. has_top_at w tops (left_of b j t) p) start ∙ ap (λ t. t && is_within b (get_or tops p 0)) (tests-none b.x0 j (p % w) (p / w)))
+pub left-none : (w j i p : ℕ) (b : Indices) (tops : List ℕ) → i ≡ b.x0 → has_top_at w tops (left_of b j i) p ≡ false
+left-none w j i p b tops start =
+    ap (λ t. has_top_at w tops (left_of b j t) p) start ∙ ap (λ t. t && is_within b (get_or tops p 0)) (tests-none b.x0 j (p % w) (p / w))
 
 -- ---- one more row
 
@@ -124,19 +123,15 @@ tests-row : (x0 x1 y0 j c q : ℕ) → y0 ≤ j
     → (nat_le x0 c && (nat_lt c x1 && (nat_le y0 q && nat_lt q (j + 1)))) ≡ ((nat_le x0 c && (nat_lt c x1 && (nat_le y0 q && nat_lt q j))) || (nat_le x0 c && (nat_lt c x1 && (nat_le j q && nat_lt q (j + 1)))))
 tests-row x0 x1 y0 j c q above = grind (arith, nat_tests)
 
-pub row-lit : (w j : ℕ) (b : Indices) (tops : List ℕ) (g : ℕ → ℕ) (xs ys zs : List ℕ) → b.y0 ≤ j → Becomes (has_top_at w tops (record b { y1 = j })) g xs ys
-    → Becomes (has_top_at w tops (record b { y0 = j; y1 = j + 1 })) g ys zs → Becomes (has_top_at w tops (record b { y1 = j + 1 })) g xs zs
-row-lit w j b tops g xs ys zs above first second =
-    lit-then (has_top_at w tops (record b { y1 = j })) (has_top_at w tops (record b { y0 = j; y1 = j + 1 })) (has_top_at w tops (record b { y1 = j + 1 })) g xs ys zs
-    (λ p.
-    ap (λ t. t && is_within b (get_or tops p 0)) (tests-row b.x0 b.x1 b.y0 j (p % w) (p / w) above)
+pub row-more : (w j p : ℕ) (b : Indices) (tops : List ℕ) → b.y0 ≤ j
+    → (has_top_at w tops (record b { y1 = j }) p || has_top_at w tops (record b { y0 = j; y1 = j + 1 }) p) ≡ has_top_at w tops (record b { y1 = j + 1 }) p
+row-more w j p b tops above =
+    sym (ap (λ t. t && is_within b (get_or tops p 0)) (tests-row b.x0 b.x1 b.y0 j (p % w) (p / w) above)
     ∙ and-or (covers w (record b { y1 = j }) p) (covers w (record b { y0 = j; y1 = j + 1 }) p) (is_within b (get_or tops p 0)))
-    first second
 
 tests-rows : (x0 x1 y c q : ℕ) → (nat_le x0 c && (nat_lt c x1 && (nat_le y q && nat_lt q y))) ≡ false
 tests-rows x0 x1 y c q = grind (arith, nat_tests)
 
-pub rows-dark : (w j : ℕ) (b : Indices) (tops : List ℕ) (g : ℕ → ℕ) (xs : List ℕ) → j ≡ b.y0 → Becomes (has_top_at w tops (record b { y1 = j })) g xs xs
-rows-dark w j b tops g xs start =
-    lit-none (has_top_at w tops (record b { y1 = j })) g xs
-    (λ p. ap (λ t. has_top_at w tops (record b { y1 = t }) p) start ∙ ap (λ t. t && is_within b (get_or tops p 0)) (tests-rows b.x0 b.x1 b.y0 (p % w) (p / w)))
+pub rows-none : (w j p : ℕ) (b : Indices) (tops : List ℕ) → j ≡ b.y0 → has_top_at w tops (record b { y1 = j }) p ≡ false
+rows-none w j p b tops start =
+    ap (λ t. has_top_at w tops (record b { y1 = t }) p) start ∙ ap (λ t. t && is_within b (get_or tops p 0)) (tests-rows b.x0 b.x1 b.y0 (p % w) (p / w))

@@ -1,5 +1,5 @@
 -- What is counted column by column and row by row, and which boxes of some are kept.
-use Rattle.std.proofs.Common.{◌≡◌, ℕ, ◌+◌, ◌-◌, ◌*◌, ◌<◌, ◌≤◌, Bool, true, false, cond, append-nil, List, [], ◌∷◌, ◌++◌, get_or, length, take, sym, ap, subst, ◌∙◌, arith}
+use Rattle.std.proofs.Common.{◌≡◌, ℕ, ◌+◌, ◌-◌, ◌*◌, ◌<◌, ◌≤◌, Bool, true, false, cond, append-nil, List, [], ◌∷◌, ◌++◌, get_or, length, take, sym, ap, ◌∙◌, arith}
 use Rattle.std.specs.Prelude.{nat_le, nat_lt}
 use Rattle.std.specs.List.{filter}
 use Rattle.std.proofs.lemmas.Bool.Decides.{nat_tests}
@@ -9,7 +9,6 @@ use Rattle.box_chains.specs.Laws.{Lawful}
 use Rattle.box_chains.specs.Sums.{sum_along}
 use Rattle.box_chains.specs.Tested.{has_some}
 use Rattle.height_map.specs.Bound.{layered}
-use Rattle.fixed_ops.specs.Counts.{Counts, RisesBy, points_of}
 use Rattle.live_clauses.specs.declared.step.Step.{Step}
 use Rattle.view_places.specs.Boxes.{Indices, IsBox}
 use Rattle.view_places.specs.Places.{point_of}
@@ -99,15 +98,6 @@ rows-unlit view list tops b j start = ap (lit_to view list tops b) start ∙ alo
 pub rows-lit : (view : Window) (list : List Step) (w : ℕ) (tops : List ℕ) (b : Indices) (j : ℕ) → w ≡ view.w → IsBox b → j ≡ b.y1
     → lit_to view list tops b j ≡ lit_in (is_marked w tops) (layered view) b list
 rows-lit view list w tops b j width is end = ap (lit_to view list tops b) end ∙ sym (lit-by_rows view list w tops b width is)
-
--- ---- evaluations after others
-
-pub rise-none : (laws : Lawful) (counts : Counts) (n : ℕ) → n ≡ 0 → RisesBy counts counts (points_of n)
-rise-none laws counts n none = subst (λ q. RisesBy counts counts (points_of q)) (sym none) (laws.tallies.none counts)
-
-pub rise-then : (laws : Lawful) (before mid after : Counts) (m n k : ℕ) → m + n ≡ k → RisesBy before mid (points_of m) → RisesBy mid after (points_of n) → RisesBy before after (points_of k)
-rise-then laws before mid after m n k same first second =
-    subst (λ q. RisesBy before after (points_of q)) same (laws.tallies.sum before mid after (points_of m) (points_of n) first second)
 
 -- ---- the boxes that pass a test
 

@@ -1,14 +1,14 @@
 -- Top samples of columns, which are lit side by side.
-use Rattle.std.specs.Prelude.{◌≡◌, ℕ, ◌+◌, ◌-◌, ◌*◌, ◌<◌, ◌==◌, Bool, List, map, get_or, slice_index_or}
-use Rattle.std.specs.List.{filter, list_any, range_with_len, sum_by}
+use Rattle.std.specs.Prelude.{◌≡◌, ℕ, ◌+◌, ◌*◌, ◌<◌, ◌==◌, Bool, true, false, List, length, get_or, slice_index_or, if◌then◌else◌}
+use Rattle.std.specs.List.{All, list_any, sum_by}
+use Rattle.fixed_ops.specs.Counts.{Counts, RisesBy, points_of}
 use Rattle.fixed_ops.specs.Points.{Point}
 use Rattle.live_clauses.specs.declared.step.Step.{Step}
-use Rattle.view_places.specs.Boxes.{Indices}
 use Rattle.view_places.specs.Places.{point_of}
 use Rattle.view_places.specs.Window.{Window}
 use Rattle.view_places.specs.declared.lattice.Lattice.TheVariants.{Height}
 use Rattle.normal_shade.specs.DualWork.{dual_points}
-use Rattle.normal_shade.specs.Marks.{is_within}
+use Rattle.normal_shade.specs.Marks.{shade_at}
 use Rattle.normal_shade.specs.declared.top_sample.TopSample.{TopSample}
 
 -- a sample of a height map that has so many columns, and where its column stands among them
@@ -39,9 +39,15 @@ point_at view sample = point_of view Height sample.i sample.j sample.k
 abbrev pub lit_samples : Window → List Step → List TopSample → ℕ
 lit_samples view list samples = sum_by (λ sample. dual_points (point_at view sample) list) samples
 
--- the top samples that lie in a box of the columns from `low` on, below `high`, of row j, where whole rows
--- have w columns
-abbrev pub samples_along : ℕ → List ℕ → Indices → ℕ → ℕ → ℕ → List TopSample
-samples_along w tops b j low high =
-    map (λ i. record { i = i; j = j; k = get_or tops (j * w + i) 0 - 1; place = j * w + i })
-    (filter (λ i. is_within b (get_or tops (j * w + i) 0)) (range_with_len low (high - low)))
+-- The columns at some places are lit, and the points that this takes are counted, but for those of the top
+-- samples that wait.
+pub record AllButWaiting (view : Window) (list : List Step) (tops : List ℕ) (columns : ℕ → Bool)
+    (points : ℕ) (waiting : List TopSample) (old new : List ℕ) (before after : Counts) : Type 0 where
+  pub same : length new ≡ length old
+  pub among : (p : ℕ) → stand_at waiting p ≡ true → columns p ≡ true
+  pub each : (p : ℕ) → p < length old → stand_at waiting p ≡ false
+      → get_or new p 0 ≡ (if columns p then shade_at view list tops p else get_or old p 0)
+  pub have : All (HasTop tops) waiting
+  pub lit : ℕ
+  pub rises : RisesBy before after (points_of lit)
+  pub all : lit + lit_samples view list waiting ≡ points

@@ -1,13 +1,15 @@
 // The light on the top samples of a box, by one list.
-ghost use Rattle.std.specs.Prelude.{◌≡◌, ◌<◌, ◌≤◌, ◌+◌, ℕ, List, length, take};
+ghost use Rattle.arrayvec.specs.ArrayVec.{array_vec_len};
+ghost use Rattle.std.specs.Prelude.{◌≡◌, ◌<◌, ◌≤◌, ◌+◌, ◌==◌, ◌||◌, ◌&&◌, ◌*◌, ℕ, Bool, List, get_or, length, take};
 ghost use Rattle.std.specs.List.{All};
 ghost use Rattle.choice_trace.specs.Lanes.{point_in};
-ghost use Rattle.fixed_ops.specs.Counts.{RisesBy, points_of};
+ghost use Rattle.fixed_ops.specs.Counts.{Counts, RisesBy, points_of};
 ghost use Rattle.height_map.specs.Bound.{layered};
-ghost use Rattle.height_map.specs.Columns.{Changes, IsAmong, IsLeafOf};
+ghost use Rattle.height_map.specs.Columns.{Changes, IsLeafOf};
+ghost use Rattle.normal_shade.specs.DualWork.{dual_points};
 ghost use Rattle.normal_shade.specs.Lit.{lit_in};
-ghost use Rattle.normal_shade.specs.Marks.{has_top_at, is_marked, lit_along, shade_at};
-ghost use Rattle.normal_shade.specs.TopSamples.{HasTop, IsSample, lit_samples, nth, point_at, samples_along, stand_at};
+ghost use Rattle.normal_shade.specs.Marks.{has_top_at, is_marked, is_within as lies_within, lit_along, shade_at};
+ghost use Rattle.normal_shade.specs.TopSamples.{AllButWaiting, HasTop, IsSample, lit_samples, nth, point_at, stand_at};
 ghost use Rattle.view_places.specs.Boxes.{Indices};
 
 use crate::dual_lanes::gradient_lanes;
@@ -17,7 +19,7 @@ use crate::tops::is_within;
 use arrayvec::ArrayVec;
 use box_chains::{Places, layers_hold};
 use choice_trace::Inputs;
-use fixed_ops::{Fx, Tally, light, tallies_add_up};
+use fixed_ops::{Fx, Tally, light};
 use live_clauses::Steps;
 use view_places::{IndexBox, Lattice};
 
@@ -43,12 +45,26 @@ pub fn light_tops(
         (points_of (lit_in (is_marked w tops.now) (layered places.now.view) b list.now)) }
 {
     layers_hold();
+    let mut waiting = ArrayVec::new();
     for j in b.y0..b.y1 {
-        light_row(places, w, b, j, list, tops, scratch, pixels, tally);
+        light_row(
+            places,
+            w,
+            b,
+            j,
+            list,
+            tops,
+            &mut waiting,
+            scratch,
+            pixels,
+            tally,
+        );
     }
+    light_samples(places, waiting.as_slice(), list, scratch, pixels, tally);
 }
 
-// Lights the top samples of a box in row j, those of eight columns at a time.
+// Lights the top samples of a box in row j. Those that are too few to be lit together wait for more.
+#[inline]
 fn light_row(
     places: &Places,
     w: u32,
@@ -56,6 +72,7 @@ fn light_row(
     j: u32,
     list: &Steps<'_>,
     tops: &[u16],
+    waiting: &mut ArrayVec<TopSample, 8>,
     scratch: &mut Scratch,
     pixels: &mut [u8],
     tally: &mut Tally,
@@ -64,49 +81,131 @@ fn light_row(
     requires low { b.y0 ≤ j }
     requires row { j < b.y1 }
     requires pixels { length pixels.old ≡ length tops.now }
+    requires few { array_vec_len waiting.old < 8 }
+    requires samples { All (IsSample places.now.view (length pixels.old)) waiting.old.items }
     requires room { length list.now ≤ scratch.old }
-    ensures pixels { Changes (has_top_at w tops.now (record b { y0 = j; y1 = j + 1 }))
-        (λ p old. shade_at places.now.view list.now tops.now p) pixels.old pixels.new }
+    ensures lit { (columns : ℕ → Bool) (points : ℕ) (old : List ℕ) (before : Counts)
+        → AllButWaiting places.now.view list.now tops.now columns points waiting.old.items
+        old pixels.old before tally.old
+        → AllButWaiting places.now.view list.now tops.now
+        (λ p. columns p || has_top_at w tops.now (record b { y0 = j; y1 = j + 1 }) p)
+        (points + lit_along places.now.view list.now tops.now b j b.x0 b.x1) waiting.new.items
+        old pixels.new before tally.new }
+    ensures few { array_vec_len waiting.new < 8 }
+    ensures samples { All (IsSample places.now.view (length pixels.new)) waiting.new.items }
     ensures room { scratch.new ≡ scratch.old }
-    ensures counted { RisesBy tally.old tally.new
-        (points_of (lit_along places.now.view list.now tops.now b j b.x0 b.x1)) }
 {
     layers_hold();
-    let mut from = b.x0;
-    while from < b.x1 {
-        let end = b.x1.min(from + 8);
-        let samples = top_samples(w, b, j, from, end, tops);
-        light_samples(places, samples.as_slice(), list, scratch, pixels, tally);
-        from = end;
+    for i in b.x0..b.x1 {
+        light_column(
+            places, w, b, i, j, list, tops, waiting, scratch, pixels, tally,
+        );
     }
 }
 
-// The top samples in a box of the columns from `from` on, before `end`, of row j, at most eight of them.
-fn top_samples(
+// Lights the top sample of column i of row j, soon, where it lies in a box.
+#[inline]
+fn light_column(
+    places: &Places,
     w: u32,
     b: IndexBox,
+    i: u32,
     j: u32,
-    from: u32,
-    end: u32,
+    list: &Steps<'_>,
     tops: &[u16],
-) -> ArrayVec<TopSample, 8>
-    requires among { IsAmong w (length tops.now) b }
+    waiting: &mut ArrayVec<TopSample, 8>,
+    scratch: &mut Scratch,
+    pixels: &mut [u8],
+    tally: &mut Tally,
+)
+    requires leaf { IsLeafOf places.now w b (length tops.now) }
+    requires left { b.x0 ≤ i }
+    requires column { i < b.x1 }
     requires row { j < b.y1 }
-    requires within { end ≤ b.x1 }
-    requires few { end ≤ from + 8 }
-    ensures { result.items ≡ samples_along w tops.now b j from end }
+    requires pixels { length pixels.old ≡ length tops.now }
+    requires few { array_vec_len waiting.old < 8 }
+    requires samples { All (IsSample places.now.view (length pixels.old)) waiting.old.items }
+    requires room { length list.now ≤ scratch.old }
+    ensures lit { (columns : ℕ → Bool) (points : ℕ) (old : List ℕ) (before : Counts)
+        → AllButWaiting places.now.view list.now tops.now columns points waiting.old.items
+        old pixels.old before tally.old
+        → AllButWaiting places.now.view list.now tops.now
+        (λ p. columns p || (p == j * w + i && lies_within b (get_or tops.now p 0)))
+        (points + lit_along places.now.view list.now tops.now b j i (i + 1)) waiting.new.items
+        old pixels.new before tally.new }
+    ensures few { array_vec_len waiting.new < 8 }
+    ensures samples { All (IsSample places.now.view (length pixels.new)) waiting.new.items }
+    ensures room { scratch.new ≡ scratch.old }
 {
-    let start = j as usize * w as usize;
-    let mut samples = ArrayVec::new();
-    for i in from..end {
-        let place = start + i as usize;
-        let top = tops[place];
-        if is_within(b, top) {
-            let k = u32::from(top) - 1;
-            samples.push(TopSample { i, j, k, place });
-        }
+    layers_hold();
+    let place = j as usize * w as usize + i as usize;
+    let top = tops[place];
+    if !is_within(b, top) {
+        return;
     }
-    samples
+    let k = u32::from(top) - 1;
+    let sample = TopSample { i, j, k, place };
+    light_soon(places, sample, list, waiting, scratch, pixels, tally);
+}
+
+// Lights a top sample with those that wait, as soon as there are eight.
+#[inline]
+fn light_soon(
+    places: &Places,
+    sample: TopSample,
+    list: &Steps<'_>,
+    waiting: &mut ArrayVec<TopSample, 8>,
+    scratch: &mut Scratch,
+    pixels: &mut [u8],
+    tally: &mut Tally,
+)
+    requires lattice { places.now.lattice ≡ Lattice.Height }
+    requires sample { IsSample places.now.view (length pixels.old) sample }
+    requires few { array_vec_len waiting.old < 8 }
+    requires samples { All (IsSample places.now.view (length pixels.old)) waiting.old.items }
+    requires room { length list.now ≤ scratch.old }
+    ensures lit { (tops : List ℕ) (columns : ℕ → Bool) (points : ℕ) (old : List ℕ) (before : Counts)
+        → HasTop tops sample
+        → AllButWaiting places.now.view list.now tops columns points waiting.old.items
+        old pixels.old before tally.old
+        → AllButWaiting places.now.view list.now tops (λ p. columns p || p == sample.place)
+        (points + dual_points (point_at places.now.view sample) list.now) waiting.new.items
+        old pixels.new before tally.new }
+    ensures few { array_vec_len waiting.new < 8 }
+    ensures samples { All (IsSample places.now.view (length pixels.new)) waiting.new.items }
+    ensures room { scratch.new ≡ scratch.old }
+{
+    waiting.push(sample);
+    light_full(places, list, waiting, scratch, pixels, tally);
+}
+
+// Lights the top samples that wait, where there are eight.
+#[inline]
+fn light_full(
+    places: &Places,
+    list: &Steps<'_>,
+    waiting: &mut ArrayVec<TopSample, 8>,
+    scratch: &mut Scratch,
+    pixels: &mut [u8],
+    tally: &mut Tally,
+)
+    requires lattice { places.now.lattice ≡ Lattice.Height }
+    requires samples { All (IsSample places.now.view (length pixels.old)) waiting.old.items }
+    requires room { length list.now ≤ scratch.old }
+    ensures lit { (tops : List ℕ) (columns : ℕ → Bool) (points : ℕ) (old : List ℕ) (before : Counts)
+        → AllButWaiting places.now.view list.now tops columns points waiting.old.items
+        old pixels.old before tally.old
+        → AllButWaiting places.now.view list.now tops columns points waiting.new.items
+        old pixels.new before tally.new }
+    ensures few { array_vec_len waiting.new < 8 }
+    ensures samples { All (IsSample places.now.view (length pixels.new)) waiting.new.items }
+    ensures room { scratch.new ≡ scratch.old }
+{
+    if waiting.len() < 8 {
+        return;
+    }
+    light_together::<8>(places, waiting.as_slice(), list, scratch, pixels, tally);
+    waiting.clear();
 }
 
 // Lights some top samples: eight side by side, four, two, or one at a time.
@@ -128,7 +227,6 @@ fn light_samples(
     ensures counted { RisesBy tally.old tally.new
         (points_of (lit_samples places.now.view list.now samples.now)) }
 {
-    tallies_add_up();
     let mut at = 0;
     while at < samples.len() {
         at += light_some(places, &samples[at..], list, scratch, pixels, tally);

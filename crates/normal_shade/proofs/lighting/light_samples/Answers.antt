@@ -3,6 +3,7 @@ use Rattle.std.specs.List.{All}
 use Rattle.std.proofs.lemmas.List.{length-drop}
 use Rattle.std.proofs.lemmas.List.Elements.{All-drop, All-take}
 use Rattle.box_chains.proofs.Lanes.{rest-is}
+use Rattle.fixed_ops.proofs.CountLaws.{tallies_add_up_is}
 use Rattle.fixed_ops.specs.Counts.{RisesBy, points_of}
 use Rattle.normal_shade.specs.Marks.{shade_at}
 use Rattle.normal_shade.specs.TopSamples.{HasTop, lit_samples, stand_at}
@@ -28,6 +29,6 @@ loop-at-preserved c =
           (subst (λ l. Becomes (stand_at (take more l)) (shade_at view list tops) c.loop-at.pixels c.light_some-at.new.pixels) rest
           (c.light_some-at.ensures.pixels tops
           (All-take (HasTop tops) more _ (subst (All (HasTop tops)) (sym rest) (All-drop (HasTop tops) at samples have)))));
-      counted = samples-counted c.tallies_add_up.ensures view list samples at more c.args.tally.now c.loop-at.tally c.light_some-at.new.tally was.counted
+      counted = samples-counted tallies_add_up_is view list samples at more c.args.tally.now c.loop-at.tally c.light_some-at.new.tally was.counted
           (subst (λ l. RisesBy c.loop-at.tally c.light_some-at.new.tally (points_of (lit_samples view list (take more l)))) rest c.light_some-at.ensures.counted);
     }
