@@ -91,7 +91,7 @@ chain-begins d v s is = by (sides v.box) (box-has_sides v.box is)
     by (suc n) h = (cond (is_split d v) (chain_within n d (next_visit d v s) s) [], refl)
 
 -- the last item of what has one does not hang on the default
-last-given : (first : Visit) (rest : List Visit) (a b : Visit)
+pub last-given : (first : Visit) (rest : List Visit) (a b : Visit)
     → unwrap_or (last_or (Some first) rest) a ≡ unwrap_or (last_or (Some first) rest) b
 last-given first [] a b = refl
 last-given first (x ∷ rest) a b = last-given x rest a b

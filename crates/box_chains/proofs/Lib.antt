@@ -2,8 +2,12 @@ pub mod BoxLaws
 pub mod ChainLaws
 pub mod Examples
 pub mod HalfLaws
+pub mod Joined
 pub mod Lanes
 pub mod LawProofs
+pub mod NewLaws
+pub mod NewPaths
+pub mod Paths
 pub mod Placed
 mod RedrawnExamples
 pub mod RedrawnLaws

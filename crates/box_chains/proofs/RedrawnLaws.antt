@@ -16,7 +16,7 @@ use Rattle.box_chains.specs.Laws.{LayersHold, RedrawnWorkAddsUp}
 use Rattle.box_chains.specs.Parts.{IsPart}
 use Rattle.box_chains.specs.Redrawn.{IsNew, half_before, is_old, new_lengths, points_after, same_box, same_visit, spans_after, ways_before}
 use Rattle.box_chains.specs.Sums.{LiesIn, Sample, size}
-use Rattle.box_chains.proofs.BoxLaws.{head-or-tail}
+use Rattle.box_chains.proofs.Paths.{head-or-tail}
 use Rattle.box_chains.proofs.ChainLaws.{box-has_sides, chain-ends, chain-goes_on, end-ends, end-goes_on, half-lies, next-is_half, split-is_long, sum-over_halves}
 use Rattle.box_chains.proofs.HalfLaws.{half_with-part, part-is_box, part-is_shorter}
 use Rattle.box_chains.proofs.SumLaws.{sum_by-equal, sum_in-const, sum_in-first, sum_in-plus, sum_in-same}
@@ -24,7 +24,7 @@ use Rattle.box_chains.proofs.TestedLaws.{sum-nothing, sum_in-below}
 
 -- tests of boxes
 
-both : (x y : Bool) → x && y ≡ true → (x ≡ true) × (y ≡ true)
+pub both : (x y : Bool) → x && y ≡ true → (x ≡ true) × (y ≡ true)
 both true y h = (refl, h)
 both false y h = absurd (false≢true h)
 
@@ -94,7 +94,7 @@ other_list apart v w differs =
     ((both (same_box v.box w.box) (same_list v.list w.list) h).1))))
 
 -- a box that stands among others is old
-stands-old : ListsAreToldApart → (visits : List Visit) (w : Visit) → Contains visits w
+pub stands-old : ListsAreToldApart → (visits : List Visit) (w : Visit) → Contains visits w
     → is_old visits w ≡ true
 stands-old apart [] w (k, h, is) = absurd (omega (arith, h))
 stands-old apart (v ∷ vs) w inside = by (head-or-tail v vs w inside) (stands-old apart vs w)
@@ -153,7 +153,7 @@ next-shorter d v s some is lies law e k x h =
     )
 
 -- the last box on a way stands on it
-last-stands : (first : Visit) (rest : List Visit) (other : Visit)
+pub last-stands : (first : Visit) (rest : List Visit) (other : Visit)
     → Contains (first ∷ rest) (unwrap_or (last_or (Some first) rest) other)
 last-stands first [] other = (zero, omega arith, refl)
 last-stands first (x ∷ rest) other =

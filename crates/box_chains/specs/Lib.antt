@@ -2,6 +2,7 @@ pub mod Chains
 pub mod Counts
 pub mod Desks
 pub mod Laws
+pub mod NewBoxes
 pub mod Opened
 pub mod Outcomes
 pub mod Parts

@@ -1,4 +1,5 @@
 // What always holds of chains of boxes and of the work that boxes take.
+ghost use Rattle.box_chains.specs.NewBoxes.{NewBoxesAreCountedOnce, OldBoxesAreASet};
 ghost use Rattle.box_chains.specs.Laws.{BoxesAreCountedOnce, ChainsGoOn, Lawful, PointsAddUp, PointsAreBounded, RedrawnWorkAddsUp, SamplesAreTold, SpansAddUp, SpansAreBounded, TestedWorkAddsUp};
 
 use choice_trace::traces_are_right;
@@ -71,5 +72,17 @@ pub fn samples_are_told()
 pub fn boxes_are_counted_once()
     ensures { BoxesAreCountedOnce }
 {
+    halves_part();
+}
+
+/// The boxes of a frame that comes after another of the same samples. Whether a box is old does not depend
+/// on the sample by whose way it is reached: it is where it was on the way to any sample in the frame
+/// before, with an equal list. Each other box is counted once: its trace, and where it is not split the
+/// evaluations of its samples.
+pub fn new_boxes_are_counted_once()
+    ensures old { OldBoxesAreASet }
+    ensures new { NewBoxesAreCountedOnce }
+{
+    lists_are_told_apart();
     halves_part();
 }

@@ -17,7 +17,7 @@ use Rattle.kuhn_cells.specs.Triangles.{GridPoint, edge_between, triangles_by, tr
 use Rattle.live_clauses.specs.Laws.{RootHasTheValue}
 use Rattle.live_clauses.specs.Live.{root_of}
 use Rattle.mesh_laws.specs.Manifold.{IsManifold}
-use Rattle.mesh_verdict.specs.Laws.{VerdictsAreExact}
+use Rattle.ply_check.specs.VerdictLaws.{VerdictsAreExact}
 use Rattle.model_frames.specs.Meshes.{grid_of, mesh_text}
 use Rattle.oct_descent.specs.GridValues.{list_grid}
 use Rattle.oct_descent.specs.Laws.{GridsAreBordered}

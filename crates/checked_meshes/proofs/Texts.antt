@@ -13,10 +13,10 @@ use Rattle.ply_check.specs.declared.ply_fault.PlyFault.{PlyFault}
 use Rattle.ply_check.specs.declared.ply_file.PlyFile.{PlyFile}
 use Rattle.ply_check.specs.declared.ply_reason.PlyReason.{PlyReason}
 use Rattle.ply_check.specs.declared.ply_reason.PlyReason.TheVariants.{NoMemory}
-use Rattle.ply_check.specs.FaceLines.{face_line as face_said}
+use Rattle.ply_check.specs.FaceLines.{said_face}
 use Rattle.ply_check.specs.Gives.{Gives}
 use Rattle.ply_check.specs.Headers.{Opens}
-use Rattle.ply_check.specs.Laws.{NoneIsReadAndRefused, OneReading}
+use Rattle.ply_check.specs.ReadingLaws.{NoneIsReadAndRefused, OneReading}
 use Rattle.ply_check.specs.PlyFiles.{PlyReads, PlyRefuses, ply_lines}
 use Rattle.ply_writer.specs.Ply.{face_line, ply_of, vertex_line}
 use Rattle.tetra_mesh.specs.declared.vertex.Vertex.{Vertex}
@@ -109,14 +109,14 @@ all_lines w vertices faces =
 
 -- ---- readings
 
-face_reads : (count : ℕ) (f : Face) → count < 2 ^ 31 → HasCornersBelow count f → face_said count (face_tokens f) ≡ Ok (corners_of f)
+face_reads : (count : ℕ) (f : Face) → count < 2 ^ 31 → HasCornersBelow count f → said_face count (face_tokens f) ≡ Ok (corners_of f)
 face_reads count f few below =
     let a = decimal_read f.a (let h = below.a in omega (arith, few, h)) in
     let b = decimal_read f.b (let h = below.b in omega (arith, few, h)) in
     let c = decimal_read f.c (let h = below.c in omega (arith, few, h)) in
     rw (a, b, c, lt-ltb f.a count below.a, lt-ltb f.b count below.b, lt-ltb f.c count below.c) refl
 
-faces_read : (count : ℕ) (faces : List Face) → count < 2 ^ 31 → All (HasCornersBelow count) faces → map (face_said count) (map face_tokens faces) ≡ map Ok (map corners_of faces)
+faces_read : (count : ℕ) (faces : List Face) → count < 2 ^ 31 → All (HasCornersBelow count) faces → map (said_face count) (map face_tokens faces) ≡ map Ok (map corners_of faces)
 faces_read count [] few below = refl
 faces_read count (f ∷ faces) few below =
     rw (face_reads count f few (All-head (HasCornersBelow count) f faces below)) (ap (λ xs. Ok (corners_of f) ∷ xs) (faces_read count faces few (All-tail (HasCornersBelow count) f faces below)))
@@ -141,7 +141,7 @@ text_reads exact w vertices faces few few_faces below =
       opens = subst (λ n. Opens (numbered 1 header) (length vertices) 3 n) (sym (length-map faces corners_of)) (header_opens (length vertices) (length faces) few few_faces);
       as_many = numbered_length 10 points ∙ length-map vertices (vertex_tokens w);
       wide = numbered_all (λ tokens. length tokens ≡ 3) 10 points (All-map (λ (tokens : List (List ℕ)). length tokens ≡ 3) (vertex_tokens w) vertices (λ k d less. refl));
-      says = numbered_map (face_said (length vertices)) (10 + length points) triangles ∙ faces_read (length vertices) faces few below;
+      says = numbered_map (said_face (length vertices)) (10 + length points) triangles ∙ faces_read (length vertices) faces few below;
     }
 
 -- what is never refused is given, or memory is wanted

@@ -2,8 +2,8 @@
 use Rattle.std.specs.Prelude.{ℕ, List, length}
 use Rattle.kuhn_cells.specs.Faces.{faces}
 use Rattle.kuhn_cells.specs.Grids.{Grid, vertices}
-use Rattle.mesh_verdict.specs.declared.finding.Finding.TheVariants.{Closed}
-use Rattle.mesh_verdict.specs.Verdicts.{Verdict}
+use Rattle.ply_check.specs.declared.finding.Finding.TheVariants.{Closed}
+use Rattle.ply_check.specs.Verdicts.{Verdict}
 use Rattle.model_frames.specs.Meshes.{grid_of, mesh_text}
 use Rattle.solid_model.specs.Clauses.{IsModel}
 use Rattle.solid_model.specs.Values.{solid_value}

@@ -5,9 +5,8 @@ ghost use Rattle.checked_meshes.specs.ModelTexts.{MeshTextsCheck};
 use clause_reader::lines_and_tokens_are_exact;
 use kuhn_cells::triangles_have_vertices;
 use live_clauses::root_has_the_value;
-use mesh_verdict::verdicts_are_exact;
 use oct_descent::grids_are_bordered;
-use ply_check::ply_reading_is_exact;
+use ply_check::{ply_reading_is_exact, verdicts_are_exact};
 use tetra_mesh::{cells_make_meshes, meshes_are_sound};
 
 /// The text of each mesh is read as its number of vertices and its very faces, as no other mesh, and

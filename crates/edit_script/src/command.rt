@@ -1,7 +1,7 @@
 // One command of a script.
 
 use solid_model::EditRef;
-use view_settings::View;
+use view_places::View;
 
 /// One command of a script, which lends its names.
 #[derive(Debug, Drop)]

@@ -1,6 +1,8 @@
 -- What always holds of what a session takes, and of what it was opened with.
 use Rattle.std.specs.Prelude.{◌≡◌, List, [], Ok}
-use Rattle.model_frames.specs.Work.{frame_work, mesh_work}
+use Rattle.fixed_ops.specs.Counts.{IsAtMost}
+use Rattle.model_frames.specs.Frames.{frame_part}
+use Rattle.model_frames.specs.Work.{Work, frame_work, mesh_work}
 use Rattle.model_frames.specs.declared.frame.Frame.TheVariants.{Render, Height, Mesh, Text}
 use Rattle.model_frames.specs.declared.frame.Frame.{Frame}
 use Rattle.solid_model.specs.declared.clause.Clause.{Clause}
@@ -47,3 +49,15 @@ pub record OpeningStands : Type 0 where
       → edited state.clauses edit ≡ Ok new → opening_of (after_edit state edit new) ≡ opening_of state
   pub undo : (before after : State) → IsUndone (model_of before) (model_of after)
       → opening_of after ≡ opening_of before
+
+-- what is counted of some work is no more than of other work, and what plain evaluation counts is the same
+pub record TakesNoMore (work alone : Work) : Type 0 where
+  pub least : IsAtMost work.least alone.least
+  pub most : IsAtMost work.most alone.most
+  pub bound : IsAtMost work.bound alone.bound
+  pub plain : work.plain ≡ alone.plain
+
+-- whatever was drawn before it, a frame of a session takes no more than alone
+abbrev pub FramesTakeNoMore : Type 0
+FramesTakeNoMore = (state : State) (frame : Frame)
+    → TakesNoMore (session_part state frame).work (frame_part frame state.clauses).work

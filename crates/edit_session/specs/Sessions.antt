@@ -5,7 +5,7 @@ use Rattle.model_frames.specs.Frames.{Part, frame_part}
 use Rattle.model_frames.specs.Images.{list_before}
 use Rattle.model_frames.specs.Work.{image_work, mesh_work_after}
 use Rattle.model_frames.specs.declared.frame.Frame.{Frame}
-use Rattle.model_frames.specs.declared.frame.Frame.TheVariants.{Render, Height, Mesh, Text}
+use Rattle.model_frames.specs.declared.frame.Frame.TheVariants.{Render, Height, Shade, Mesh, Contour, Text}
 use Rattle.oct_descent.specs.Trees.{Gridding}
 use Rattle.quad_descent.specs.Raster.{Drawing, frame_points, frame_spans}
 use Rattle.solid_model.specs.declared.clause.Clause.{Clause}
@@ -66,10 +66,12 @@ session_part state (Render view) = record {
   work = image_work state.image view state.clauses;
 }
 session_part state (Height view) = frame_part (Height view) state.clauses
+session_part state (Shade view) = frame_part (Shade view) state.clauses
 session_part state (Mesh view) = record {
   bytes = (frame_part (Mesh view) state.clauses).bytes;
   work = mesh_work_after state.mesh view state.clauses;
 }
+session_part state (Contour view) = frame_part (Contour view) state.clauses
 session_part state Text = frame_part Text state.clauses
 
 -- the cost of an image of this view that comes next
@@ -87,9 +89,11 @@ after_frame state (Render view) = record state {
   cost = image_cost state view;
 }
 after_frame state (Height view) = state
+after_frame state (Shade view) = state
 after_frame state (Mesh view) = record state {
   mesh = Some (record { view = view; list = root_of state.clauses });
 }
+after_frame state (Contour view) = state
 after_frame state Text = state
 
 -- the session after a frame that was refused: no image stands where it was one, and no mesh where it
@@ -97,5 +101,7 @@ after_frame state Text = state
 abbrev pub after_refusal : State → Frame → State
 after_refusal state (Render view) = record state { image = None }
 after_refusal state (Height view) = state
+after_refusal state (Shade view) = state
 after_refusal state (Mesh view) = record state { mesh = None }
+after_refusal state (Contour view) = state
 after_refusal state Text = state

@@ -1,6 +1,7 @@
 // What always holds of what a session takes, and of what it was opened with.
-ghost use Rattle.edit_session.specs.Laws.{OpeningStands, RefusalsBeginAnew};
+ghost use Rattle.edit_session.specs.Laws.{FramesTakeNoMore, OpeningStands, RefusalsBeginAnew};
 
+use oct_descent::meshes_after_add_up;
 use quad_descent::frame_work_is_bounded;
 use solid_model::edits_are_taken_back;
 
@@ -19,4 +20,13 @@ pub fn opening_stands()
     ensures { OpeningStands }
 {
     edits_are_taken_back();
+}
+
+/// A frame of a session takes no more than the same frame alone, whatever was drawn before it and whichever
+/// edits came since: at least, at most, and where it is refused.
+pub fn frames_take_no_more()
+    ensures { FramesTakeNoMore }
+{
+    frame_work_is_bounded();
+    meshes_after_add_up();
 }

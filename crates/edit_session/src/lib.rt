@@ -4,5 +4,5 @@
 mod laws;
 mod session;
 
-pub use laws::{opening_stands, refusals_begin_anew};
+pub use laws::{frames_take_no_more, opening_stands, refusals_begin_anew};
 pub use session::Session;

@@ -5,19 +5,21 @@ ghost use Rattle.solid_model.specs.Edited.{AreAccepted, IsUndone};
 ghost use Rattle.solid_model.specs.Edits.{edited, FirstMakesClause};
 ghost use Rattle.solid_model.specs.Refusals.{RefusesAs, WantsMemoryFor};
 ghost use Rattle.view_places.specs.Window.{FitsHeight, FitsMesh};
-ghost use Rattle.model_frames.specs.Frames.{CanDraw};
 ghost use Rattle.model_frames.specs.Heights.{heights_of, plain_depths};
 ghost use Rattle.model_frames.specs.Images.{drawn_text, image_of, plain_points};
 ghost use Rattle.model_frames.specs.Meshes.{mesh_text, meshed_text, plain_grid};
 ghost use Rattle.model_frames.specs.Work.{CountsWithin, CountsWork, PointsRiseAtMost, height_work, image_work, mesh_work_after};
+ghost use Rattle.model_frames.specs.declared.frame.Frame.TheVariants as frames;
 ghost use Rattle.quad_descent.specs.Rows.{AreRows, rows_at};
-ghost use Rattle.edit_session.specs.Sessions.{after_edit, after_frame, after_refusal, model_of, opening_of, session_part, started, with_model};
+ghost use Rattle.edit_session.specs.Sessions.{after_edit, after_frame, after_refusal, model_of, opening_of, started, with_model};
 
 use clause_reader::write_model;
 use fixed_ops::Tally;
 use grid_text::TextRoom;
 use live_clauses::RootRoom;
-use model_frames::{Frame, frames_add_up, image_text, mesh_text_in, redraw_image, redraw_mesh};
+use model_frames::{
+    frames_add_up, height_text, image_text, mesh_text_in, redraw_image, redraw_mesh,
+};
 use oct_descent::OctTree;
 use quad_descent::{QuadTree, RowSource, rows};
 use solid_model::{Edit, EditFault, EditRef, EditedModel, Model};
@@ -156,8 +158,8 @@ impl Session {
     /// stands.
     pub fn render(&mut self, view: &View, tally: &mut Tally) -> Result<Vec<u8>, AllocError>
         ensures image { IfOk result (λ image. image.items ≡ image_of view.now self.old.clauses) }
-        ensures drawn { OnOk result (self.new ≡ after_frame self.old (Frame.Render view.now)) }
-        ensures refused { OnErr result (self.new ≡ after_refusal self.old (Frame.Render view.now)) }
+        ensures drawn { OnOk result (self.new ≡ after_frame self.old (frames.Render view.now)) }
+        ensures refused { OnErr result (self.new ≡ after_refusal self.old (frames.Render view.now)) }
         ensures counted { OnOk result (CountsWork tally.old tally.new
             (image_work self.old.image view.now self.old.clauses)) }
         ensures at_most { CountsWithin tally.old tally.new
@@ -182,8 +184,8 @@ impl Session {
     pub fn draw_raster(&mut self, view: &View, tally: &mut Tally) -> Result<(), AllocError>
         ensures text { OnOk result
             (drawn_text self.new.image ≡ image_of view.now self.old.clauses) }
-        ensures drawn { OnOk result (self.new ≡ after_frame self.old (Frame.Render view.now)) }
-        ensures refused { OnErr result (self.new ≡ after_refusal self.old (Frame.Render view.now)) }
+        ensures drawn { OnOk result (self.new ≡ after_frame self.old (frames.Render view.now)) }
+        ensures refused { OnErr result (self.new ≡ after_refusal self.old (frames.Render view.now)) }
         ensures counted { OnOk result (CountsWork tally.old tally.new
             (image_work self.old.image view.now self.old.clauses)) }
         ensures at_most { CountsWithin tally.old tally.new
@@ -258,7 +260,7 @@ impl Session {
         ensures plain { PointsRiseAtMost tally.old tally.new
             (plain_depths view.now (length self.old.clauses)) }
     {
-        Frame::Height(*view).bytes(self.alloc, self.model.model(), tally)
+        height_text(self.alloc, self.model.model(), view, tally)
     }
 
     /// The mesh of the model over a view, as PLY text. It is drawn as `draw_mesh` does. AllocError:
@@ -266,8 +268,8 @@ impl Session {
     pub fn mesh(&mut self, view: &View, tally: &mut Tally) -> Result<Vec<u8>, AllocError>
         requires { FitsMesh view.now }
         ensures mesh { IfOk result (λ text. text.items ≡ mesh_text view.now self.old.clauses) }
-        ensures drawn { OnOk result (self.new ≡ after_frame self.old (Frame.Mesh view.now)) }
-        ensures refused { OnErr result (self.new ≡ after_refusal self.old (Frame.Mesh view.now)) }
+        ensures drawn { OnOk result (self.new ≡ after_frame self.old (frames.Mesh view.now)) }
+        ensures refused { OnErr result (self.new ≡ after_refusal self.old (frames.Mesh view.now)) }
         ensures counted { OnOk result (CountsWork tally.old tally.new
             (mesh_work_after self.old.mesh view.now self.old.clauses)) }
         ensures at_most { CountsWithin tally.old tally.new
@@ -292,8 +294,8 @@ impl Session {
         requires { FitsMesh view.now }
         ensures text { OnOk result
             (meshed_text self.new.mesh ≡ mesh_text view.now self.old.clauses) }
-        ensures drawn { OnOk result (self.new ≡ after_frame self.old (Frame.Mesh view.now)) }
-        ensures refused { OnErr result (self.new ≡ after_refusal self.old (Frame.Mesh view.now)) }
+        ensures drawn { OnOk result (self.new ≡ after_frame self.old (frames.Mesh view.now)) }
+        ensures refused { OnErr result (self.new ≡ after_refusal self.old (frames.Mesh view.now)) }
         ensures counted { OnOk result (CountsWork tally.old tally.new
             (mesh_work_after self.old.mesh view.now self.old.clauses)) }
         ensures at_most { CountsWithin tally.old tally.new
@@ -338,28 +340,6 @@ impl Session {
         let mut text = Vec::new(self.alloc);
         self.mesh_text_in(&mut text)?;
         Ok(text)
-    }
-
-    /// A frame of the model, as bytes, as the call of its kind gives it. AllocError: memory was
-    /// refused, after some of its work perhaps; where it was an image, no last image stands then, and
-    /// where it was a mesh, no last mesh.
-    pub fn frame(&mut self, frame: &Frame, tally: &mut Tally) -> Result<Vec<u8>, AllocError>
-        requires { CanDraw frame.now }
-        ensures bytes { IfOk result (λ bytes.
-            bytes.items ≡ (session_part self.old frame.now).bytes) }
-        ensures drawn { OnOk result (self.new ≡ after_frame self.old frame.now) }
-        ensures refused { OnErr result (self.new ≡ after_refusal self.old frame.now) }
-        ensures counted { OnOk result
-            (CountsWork tally.old tally.new (session_part self.old frame.now).work) }
-        ensures at_most { CountsWithin tally.old tally.new (session_part self.old frame.now).work }
-        ensures plain { PointsRiseAtMost tally.old tally.new
-            (session_part self.old frame.now).work.plain }
-    {
-        match frame {
-            Frame::Render(view) => self.render(view, tally),
-            Frame::Mesh(view) => self.mesh(view, tally),
-            Frame::Height(_) | Frame::Text => frame.bytes(self.alloc, self.model.model(), tally),
-        }
     }
 
     /// The text of the model: a line for each clause. AllocError: memory was refused.

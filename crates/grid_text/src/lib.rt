@@ -9,5 +9,5 @@ mod text_room;
 mod vertex_lines;
 
 pub use grid_pieces::GridPieces;
-pub use text::{grid_text, grid_text_in};
+pub use text::grid_text_in;
 pub use text_room::TextRoom;

@@ -1,25 +1,15 @@
 // The text of the mesh of a grid.
-ghost use Rattle.std.specs.Prelude.{◌≡◌, IfOk, OnOk};
+ghost use Rattle.std.specs.Prelude.{◌≡◌, OnOk};
 ghost use Rattle.grid_text.specs.Texts.{text_of};
 
 use crate::{GridPieces, TextRoom};
 use oct_descent::CellGrid;
 use std::alloc::{AllocError, Global};
 
-/// The text of the mesh of a grid: the header, a line for each vertex and a line for each face.
-/// AllocError: there is no memory for it.
-pub fn grid_text(alloc: Global, grid: &CellGrid) -> Result<Vec<u8>, AllocError>
-    ensures { IfOk result (λ text. text.items ≡ text_of grid.now.view grid.now.list) }
-{
-    let mut text = Vec::new(alloc);
-    grid_text_in(alloc, grid, &mut None, &mut text)?;
-    Ok(text)
-}
-
-/// Makes the text of the mesh of a grid in a buffer, in place of what stood there: a buffer that had
-/// room for it takes no memory of its own. `room` is memory for making it, which is made where there is
-/// none. AllocError: there is no memory for the text, what stands in the buffer is of no use, and the
-/// other memory is given up.
+/// Makes the text of the mesh of a grid, the header, a line for each vertex and a line for each face, in
+/// a buffer, in place of what stood there: a buffer that had room for it takes no memory of its own.
+/// `room` is memory for making it, which is made where there is none. AllocError: there is no memory for
+/// the text, what stands in the buffer is of no use, and the other memory is given up.
 pub fn grid_text_in(
     alloc: Global,
     grid: &CellGrid,

@@ -23,19 +23,17 @@ use Rattle.view_places.specs.Window.{Window}
 use Rattle.normal_shade.specs.DualWork.{dual_points}
 use Rattle.normal_shade.specs.Lit.{lit_where}
 use Rattle.model_frames.specs.Drawn.{drawn_bytes}
-use Rattle.model_frames.specs.Frames.{CanDraw, frame_name, frame_part, shade_part}
+use Rattle.model_frames.specs.Frames.{CanDraw, frame_name, frame_part}
 use Rattle.model_frames.specs.Heights.{heights_of, plain_depths}
 use Rattle.live_clauses.specs.declared.step.Step.{Step}
 use Rattle.model_frames.specs.Images.{image_of, list_before, plain_points}
 use Rattle.model_frames.specs.Meshes.{grid_before, grid_of, mesh_text, meshed_text, plain_grid}
-use Rattle.model_frames.specs.Pieces.{stage_of}
 use Rattle.model_frames.specs.Shades.{shaded_of}
 use Rattle.model_frames.specs.SoundTexts.{IsSoundText}
 use Rattle.fixed_ops.specs.Counts.{no_counts, points_of, spans_of}
 use Rattle.model_frames.specs.Work.{CountsWithin, CountsWork, FitsCounts, PointsRiseAtMost, Work, both, exactly, frame_work, height_work, mesh_work, mesh_work_after, no_work}
 use Rattle.model_frames.specs.declared.drawn.Drawn.TheVariants as drawings
 use Rattle.model_frames.specs.declared.frame.Frame.TheVariants as frames
-use Rattle.model_frames.specs.declared.pieces.Form.TheVariants as pieces
 
 -- the clauses of a text that is read
 abbrev solid : List ℕ → List Clause
@@ -223,8 +221,8 @@ three_above_two : PointsRiseAtMost no_counts (points_of 3) 2 → ⊥
 three_above_two rises = (grind (arith, rises.few, rises.rises))
 
 -- a frame is named by what it shows
-names_of_frames : map frame_name (frames.Render two_cells ∷ frames.Height two_cells ∷ frames.Mesh two_cells ∷ frames.Text ∷ [])
-    ≡ codes "render" ∷ codes "height" ∷ codes "mesh" ∷ codes "text" ∷ []
+names_of_frames : map frame_name (frames.Render two_cells ∷ frames.Height two_cells ∷ frames.Shade two_cells ∷ frames.Mesh two_cells ∷ frames.Contour two_cells ∷ frames.Text ∷ [])
+    ≡ codes "render" ∷ codes "height" ∷ codes "shade" ∷ codes "mesh" ∷ codes "contour" ∷ codes "text" ∷ []
 names_of_frames = refl
 
 -- any view has an image, a map has at most 1024 columns, and a mesh at most 16777216 cells
@@ -240,11 +238,17 @@ map_of_many_cells = record { w = omega arith; h = omega arith }
 wide_map : CanDraw (frames.Height (window 1025 1 1)) → ⊥
 wide_map can = absurd (omega (arith, can.w))
 
+wide_picture : CanDraw (frames.Shade (window 1025 1 1)) → ⊥
+wide_picture can = absurd (omega (arith, can.w))
+
 mesh_of_many_columns : CanDraw (frames.Mesh (window 4096 4096 1))
 mesh_of_many_columns = record { x = omega arith; y = omega arith; z = omega arith; all = omega arith }
 
 many_cells : CanDraw (frames.Mesh (record (window 1 1 1) { nx = 512; ny = 512; nz = 65 })) → ⊥
 many_cells can = absurd (omega (arith, can.all))
+
+oblong_contour : CanDraw (frames.Contour (record (window 1 1 1) { nx = 2; ny = 3 })) → ⊥
+oblong_contour can = absurd (omega (arith, can.square))
 
 -- The frames of one coordinate, each with its work. Of three columns the left one is below 0.
 part_of_an_image : frame_part (frames.Render (window 3 1 1)) (solid (codes "x var-x\n"))
@@ -279,20 +283,31 @@ saddle_picture = refl
 
 -- Three samples, and one evaluation more for the value at the top one, as a coordinate's derivatives take none; the one box is
 -- traced for both. Plain evaluation of two clauses takes 13 of each.
-part_of_a_picture : shade_part (window 1 1 3) (solid (codes "u var-x\nz var-z\n"))
+part_of_a_picture : frame_part (frames.Shade (window 1 1 3)) (solid (codes "u var-x\nz var-z\n"))
     ≡ record { bytes = codes "P5\n1 1\n255\n" ++ 255 ∷ []; work = exactly 4 2 26 }
 unfolding digits points_in spans_in points_where spans_where lit_where dual_points chain_within
 part_of_a_picture = refl
 
 -- -2 is less than z wherever it lies: for the height map nothing is evaluated, and the box is lit by the one step that it prunes
-part_of_a_deep_picture : shade_part (window 1 1 3) (solid (codes "a const -2\nz var-z\nm min a z\n"))
+part_of_a_deep_picture : frame_part (frames.Shade (window 1 1 3)) (solid (codes "a const -2\nz var-z\nm min a z\n"))
     ≡ record { bytes = codes "P5\n1 1\n255\n" ++ 255 ∷ []; work = exactly 1 6 39 }
 unfolding digits points_in spans_in points_where spans_where lit_where dual_points chain_within cut_magnitude is_unsigned_numeral nearest_raw unsigned_raw
 part_of_a_deep_picture = refl
 
--- what is drawn are the bytes that are there, or the text of a mesh, which begins with its 14 vertices
+-- What is drawn are the bytes that are there, those of the boxes of an image, those of a picture whose pixels are there, or the
+-- text of a mesh, which begins with its 14 vertices. An image of -1 is inside, whatever lies there.
 bytes_that_are_there : (bytes : Vec ℕ Global) → bytes.items ≡ codes "ab" → drawn_bytes (drawings.Bytes bytes) ≡ codes "ab"
 bytes_that_are_there bytes are = are
+
+image_that_is_drawn : drawn_bytes (drawings.Image (record { view = window 2 1 1; list = record { op = Const; a = 0; b = 0; value = negsuc 4294967295 } ∷ [] }))
+    ≡ codes "P5\n2 1\n255\n" ++ 255 ∷ 255 ∷ []
+unfolding digits
+image_that_is_drawn = refl
+
+picture_that_is_drawn : (pixels : Vec ℕ Global) → pixels.items ≡ 0 ∷ 64 ∷ []
+    → drawn_bytes (drawings.Pixels (window 2 1 3) pixels) ≡ codes "P5\n2 1\n255\n" ++ 0 ∷ 64 ∷ []
+unfolding digits
+picture_that_is_drawn pixels are = ap (λ items. codes "P5\n2 1\n255\n" ++ items) are
 
 abbrev inner_mesh : Gridding
 inner_mesh = record { view = two_cells; list = record { op = Const; a = 0; b = 0; value = negsuc 4294967295 } ∷ [] }
@@ -308,11 +323,3 @@ mesh_that_stands = refl
 
 no_mesh_stands : meshed_text None ≡ []
 no_mesh_stands = refl
-
--- of two texts the first one is the piece that stands first
-two_texts : stage_of (pieces.Texts (record { ref_ptr = (0, 0); now = codes "ab" }) (record { ref_ptr = (0, 0); now = codes "c" }))
-    ≡ record { piece = codes "ab"; rest = codes "c" }
-two_texts = refl
-
-text_of_a_mesh : stage_of (pieces.Mesh (record { piece = codes "ab"; rest = codes "c" })) ≡ record { piece = codes "ab"; rest = codes "c" }
-text_of_a_mesh = refl

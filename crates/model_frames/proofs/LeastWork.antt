@@ -1,6 +1,6 @@
 -- The least work of a mesh is no more than its most.
 use Rattle.std.proofs.Common.{◌≡◌, ℕ, ◌-◌, ◌≤◌, Bool, true, false, List, [], ◌∷◌, ◌++◌, length, max, if◌then◌else◌, arith}
-use Rattle.std.specs.Prelude.{◌&&◌, Option}
+use Rattle.std.specs.Prelude.{◌&&◌, Option, not}
 use Rattle.std.specs.List.{flat_map, range_with_len, sum_by}
 use Rattle.std.proofs.lemmas.List.Sums.{sum_by-le-sum_by}
 use Rattle.box_chains.specs.Chains.{is_long}
@@ -10,7 +10,7 @@ use Rattle.box_chains.specs.Sums.{Sample, sum_in}
 use Rattle.kuhn_cells.specs.Grids.{over_block}
 use Rattle.kuhn_cells.specs.Triangles.{GridPoint, point}
 use Rattle.live_clauses.specs.declared.step.Step.{Step}
-use Rattle.oct_descent.specs.After.{cell_spans_after, long_spans_after, mesh_before, mesh_long_spans_after, mesh_spans_after, new_long_lengths, ways_before}
+use Rattle.oct_descent.specs.After.{cell_spans_after, is_old_cell, least_at_corners, least_lengths_at, long_spans_after, mesh_before, mesh_least_after, mesh_long_spans_after, mesh_points_after, mesh_spans_after, new_length_in, new_lengths_at, new_long_lengths, ways_before}
 use Rattle.oct_descent.specs.Bound.{has_point, least, lengths_at, long_lengths, long_spans_in, mesh_least, mesh_long_spans, mesh_points, mesh_spans, points_of_grid, sample_of, cell_spans_in, working_lengths}
 use Rattle.box_chains.specs.Sums.{maximum}
 use Rattle.oct_descent.specs.Ways.{gridded, is_working, way, way_end, grid_root}
@@ -18,7 +18,7 @@ use Rattle.view_places.specs.Boxes.{Indices}
 use Rattle.view_places.specs.Window.{Window, size_of}
 
 -- sums over a box of what is nowhere more
-sum-less : (b : Indices) (f g : Sample → ℕ) → ((s : Sample) → f s ≤ g s) → sum_in b f ≤ sum_in b g
+pub sum-less : (b : Indices) (f g : Sample → ℕ) → ((s : Sample) → f s ≤ g s) → sum_in b f ≤ sum_in b g
 sum-less b f g less =
     sum_by-le-sum_by (λ k. sum_by (λ j. sum_by (λ i. f (record { i = i; j = j; k = k })) (range_with_len b.x0 (b.x1 - b.x0))) (range_with_len b.y0 (b.y1 - b.y0)))
     (λ k. sum_by (λ j. sum_by (λ i. g (record { i = i; j = j; k = k })) (range_with_len b.x0 (b.x1 - b.x0))) (range_with_len b.y0 (b.y1 - b.y0)))
@@ -30,7 +30,7 @@ sum-less b f g less =
     (λ i. less (record { i = i; j = j; k = k }))))
 
 -- the least of some numbers is no more than the greatest
-least-greatest : (ns : List ℕ) → least ns ≤ maximum ns
+pub least-greatest : (ns : List ℕ) → least ns ≤ maximum ns
 least-greatest [] = omega arith
 least-greatest (n ∷ []) = omega arith
 least-greatest (n ∷ m ∷ ns) = omega arith
@@ -46,7 +46,7 @@ greatest-flat f g less [] = omega arith
 greatest-flat f g less (x ∷ xs) =
     omega (arith, less x, greatest-flat f g less xs, greatest-append (f x) (flat_map f xs), greatest-append (g x) (flat_map g xs))
 
-greatest-block : (nx ny nz : ℕ) (f g : GridPoint → List ℕ) → ((p : GridPoint) → maximum (f p) ≤ maximum (g p))
+pub greatest-block : (nx ny nz : ℕ) (f g : GridPoint → List ℕ) → ((p : GridPoint) → maximum (f p) ≤ maximum (g p))
     → maximum (over_block nx ny nz f) ≤ maximum (over_block nx ny nz g)
 greatest-block nx ny nz f g less =
     greatest-flat (λ z. flat_map (λ y. flat_map (λ x. f (point x y z)) (range_with_len 0 nx)) (range_with_len 0 ny))
@@ -56,7 +56,7 @@ greatest-block nx ny nz f g less =
     (range_with_len 0 nz)
 
 -- a working cell that has a point as a corner is a cell that has it
-cell-less : (has works : Bool) (n : ℕ)
+pub cell-less : (has works : Bool) (n : ℕ)
     → maximum (if has && works then n ∷ [] else []) ≤ maximum (if has then (if works then n else 0) ∷ [] else [])
 cell-less true true n = omega arith
 cell-less true false n = omega arith
@@ -80,7 +80,7 @@ least-most view list =
         omega (arith, least-greatest (working_lengths view list p), few)
 
 -- a box of more than one cell is a box
-long-less : (long first : Bool) (n : ℕ) → (if long && first then n else 0) ≤ (if first then n else 0)
+pub long-less : (long first : Bool) (n : ℕ) → (if long && first then n else 0) ≤ (if first then n else 0)
 long-less true first n = omega arith
 long-less false true n = omega arith
 long-less false false n = omega arith
@@ -111,3 +111,31 @@ after-long view before list =
     (λ s. sum_by-le-sum_by (λ w. if is_old (old s) w then 0 else if is_long d.boxes.leaf w.box && is_first w.box s then length w.list else 0)
     (λ w. if is_old (old s) w then 0 else if is_first w.box s then length w.list else 0) (way d v s)
     (λ w. new-long-less (is_old (old s) w) (is_long d.boxes.leaf w.box) (is_first w.box s) (length w.list)))
+
+-- a new working cell that has a point as a corner is a cell that has it, and an old cell takes nothing
+new-cell-less : (has old works : Bool) (n : ℕ)
+    → maximum (if has then (if old then 0 ∷ [] else if works then n ∷ [] else []) else [])
+    ≤ maximum (if has then (if works && not old then n else 0) ∷ [] else [])
+new-cell-less false old works n = omega arith
+new-cell-less true true works n = omega arith
+new-cell-less true false true n = omega arith
+new-cell-less true false false n = omega arith
+
+-- so what the points take at least is no more than what they take at most
+pub after-least : (view : Window) (before : Option (List Step)) (list : List Step) → mesh_least_after view before list ≤ mesh_points_after view before list
+unfolding mesh_least_after mesh_points_after
+after-least view before list =
+    sum-less (points_of_grid (size_of view)) (λ s. least (least_lengths_at view before list (point s.i s.j s.k))) (λ s. maximum (new_lengths_at view before list (point s.i s.j s.k)))
+    (λ s. at (point s.i s.j s.k))
+  where
+    at : (p : GridPoint) → least (least_lengths_at view before list p) ≤ maximum (new_lengths_at view before list p)
+    at p =
+        let n = size_of view in
+        let d = gridded view in
+        let v = grid_root view list in
+        let was = mesh_before view before in
+        let few = greatest-block n.x n.y n.z
+        (λ cell. if has_point (d.cell (sample_of cell)) p then least_at_corners d was v (sample_of cell) else [])
+        (λ cell. if has_point (d.cell (sample_of cell)) p then new_length_in d was v cell ∷ [] else [])
+        (λ cell. new-cell-less (has_point (d.cell (sample_of cell)) p) (is_old_cell d was v (sample_of cell)) (is_working d v (sample_of cell)) (length (way_end d v (sample_of cell)).list)) in
+        omega (arith, least-greatest (least_lengths_at view before list p), few)

@@ -1,3 +1,7 @@
+mod Closed
+mod ContourExamples
+mod ContourLeast
+mod ContourWork
 mod Depths
 mod Examples
 mod Frames

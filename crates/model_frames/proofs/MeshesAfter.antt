@@ -6,7 +6,7 @@ use Rattle.fixed_ops.specs.Counts.{Counts}
 use Rattle.live_clauses.specs.Live.{root_of}
 use Rattle.live_clauses.specs.Steps.{IsTape}
 use Rattle.live_clauses.specs.declared.step.Step.{Step}
-use Rattle.oct_descent.specs.After.{mesh_long_spans_after, mesh_points_after, mesh_spans_after}
+use Rattle.oct_descent.specs.After.{mesh_least_after, mesh_long_spans_after, mesh_points_after, mesh_spans_after}
 use Rattle.oct_descent.specs.AfterLaws.{MeshesAfterAddUp}
 use Rattle.oct_descent.specs.Bound.{CountsAtLeast, CountsHullsAtLeast, mesh_least, mesh_long_spans, mesh_points, mesh_spans}
 use Rattle.oct_descent.specs.Laws.{MeshPointsAreBounded}
@@ -17,7 +17,7 @@ use Rattle.model_frames.specs.Meshes.{grid_before, plain_grid}
 use Rattle.model_frames.specs.Work.{CountsWithin, CountsWork, PointsRiseAtMost, grid_work, mesh_work_after}
 use Rattle.model_frames.proofs.Frames.{plain-within}
 use Rattle.model_frames.proofs.GridWork.{between, mesh-done, mesh-few}
-use Rattle.model_frames.proofs.LeastWork.{after-long}
+use Rattle.model_frames.proofs.LeastWork.{after-least, after-long}
 
 -- what a fresh grid counts
 pub fresh-within : (before after : Counts) (view : Window) (list : List Step) (plain : ℕ) → CountsAtMost (mesh_points view list) (mesh_spans view list) before after
@@ -40,12 +40,12 @@ old-within before after view was list plain h = record { by = h.by; within = h.f
 
 old-done : (before after : Counts) (view : Window) (was list : List Step) (plain : ℕ)
     → CountsAtMost (mesh_points_after view (Some was) list) (mesh_spans_after view (Some was) list) before after
+    → CountsAtLeast (mesh_least_after view (Some was) list) before after
     → CountsHullsAtLeast (mesh_long_spans_after view (Some was) list) before after → CountsWork before after (grid_work (Some was) view list plain)
 unfolding CountsWork
-old-done before after view was list plain h spans =
-    let some : CountsAtLeast 0 before after = record { by = h.by; many = omega arith; rises = h.rises } in
-    between before after (mesh_points_after view (Some was) list) (mesh_spans_after view (Some was) list) 0 (mesh_long_spans_after view (Some was) list) (omega arith)
-    (after-long view (Some was) list) h some spans
+old-done before after view was list plain h points spans =
+    between before after (mesh_points_after view (Some was) list) (mesh_spans_after view (Some was) list) (mesh_least_after view (Some was) list)
+    (mesh_long_spans_after view (Some was) list) (after-least view (Some was) list) (after-long view (Some was) list) h points spans
 
 -- and it is the mesh before where that had this very view
 pub same-within : (before after : Counts) (tree : Gridding) (view : Window) (list : List Step) → same_view tree.view view ≡ true → tree.view ≡ view
@@ -57,12 +57,13 @@ same-within before after tree view list test same h =
 
 pub same-counted : {T E : Type 0} (r : Result T E) (before after : Counts) (tree : Gridding) (view : Window) (list : List Step) → same_view tree.view view ≡ true → tree.view ≡ view
     → CountsAtMost (mesh_points_after tree.view (Some tree.list) list) (mesh_spans_after tree.view (Some tree.list) list) before after
+    → OnOk r (CountsAtLeast (mesh_least_after tree.view (Some tree.list) list) before after)
     → OnOk r (CountsHullsAtLeast (mesh_long_spans_after tree.view (Some tree.list) list) before after)
     → OnOk r (CountsWork before after (grid_work (grid_before (Some tree) view) view list 0))
-same-counted (Err why) before after tree view list test same h spans = spans
-same-counted (Ok made) before after tree view list test same h spans =
+same-counted (Err why) before after tree view list test same h points spans = spans
+same-counted (Ok made) before after tree view list test same h points spans =
     subst (λ b. CountsWork before after (grid_work (if b then Some tree.list else None) view list 0)) (sym test)
-    (subst (λ v. CountsWork before after (grid_work (Some tree.list) v list 0)) same (old-done before after tree.view tree.list list 0 h spans))
+    (subst (λ v. CountsWork before after (grid_work (Some tree.list) v list 0)) same (old-done before after tree.view tree.list list 0 h points spans))
 
 -- what a list counts is what its root list does, whatever all clauses would take
 within-plain : (before after : Counts) (was : Option (List Step)) (view : Window) (list : List Step) (m n : ℕ)

@@ -1,10 +1,11 @@
+pub mod ClosedTexts
+pub mod Contours
 pub mod Drawn
 pub mod Frames
 pub mod Heights
 pub mod Images
 pub mod Laws
 pub mod Meshes
-pub mod Pieces
 pub mod Shades
 pub mod SoundTexts
 pub mod Work

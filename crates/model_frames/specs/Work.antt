@@ -5,7 +5,7 @@ use Rattle.height_map.specs.Bound.{height_points, height_spans, near_spans}
 use Rattle.live_clauses.specs.Live.{root_of}
 use Rattle.live_clauses.specs.declared.step.Step.{Step}
 use Rattle.box_chains.specs.Tallied.{work_of}
-use Rattle.oct_descent.specs.After.{mesh_long_spans_after, mesh_points_after, mesh_spans_after}
+use Rattle.oct_descent.specs.After.{mesh_least_after, mesh_long_spans_after, mesh_points_after, mesh_spans_after}
 use Rattle.oct_descent.specs.Bound.{mesh_least, mesh_long_spans, mesh_points, mesh_spans}
 use Rattle.oct_descent.specs.Trees.{Gridding}
 use Rattle.normal_shade.specs.Shades.{shade_points, shade_spans}
@@ -97,7 +97,8 @@ shade_work view clauses =
 -- is at each corner of a working cell an evaluation of the shortest list at least, and of the longest at
 -- most, that a working cell there receives; and at least the steps traced over the boxes of more than
 -- one cell, at most those over all boxes. After the mesh of another list over the same view, only those
--- boxes and working cells take work that this other mesh did not have with an equal list.
+-- boxes and working cells take work that this other mesh did not have with an equal list; a corner that
+-- such a cell shares with one that is old may take none.
 abbrev pub grid_work : Option (List Step) → Window → List Step → ℕ → Work
 grid_work None view list plain =
     let spans = mesh_spans view list in
@@ -111,7 +112,7 @@ grid_work (Some before) view list plain =
     let points = mesh_points_after view (Some before) list in
     let spans = mesh_spans_after view (Some before) list in
     record {
-      least = work_of 0 (mesh_long_spans_after view (Some before) list) 0;
+      least = work_of (mesh_least_after view (Some before) list) (mesh_long_spans_after view (Some before) list) 0;
       most = work_of points spans (4 * spans);
       bound = work_of points spans (4 * spans);
       plain = plain;

@@ -1,30 +1,18 @@
 // What is drawn of a model.
 
-use crate::pieces::Pieces;
 use oct_descent::CellGrid;
-use std::alloc::{AllocError, Global};
+use quad_descent::Picture;
+use view_places::View;
 
-/// What is drawn of a model.
+/// What is drawn of a model, as far as its bytes need memory of their own.
 #[derive(Debug, Drop)]
 pub enum Drawn {
-    /// All of its bytes.
-    Bytes(Vec<u8>),
+    /// The boxes of an image, whose rows are still to be painted.
+    Image(Picture),
+    /// The pixels of a picture of this view, whose header is still to be made.
+    Pixels(View, Vec<u8>),
     /// The grid of its root list, the text of whose mesh is still to be made.
     Mesh(CellGrid),
-}
-
-impl Drawn {
-    ghost use Rattle.std.specs.Prelude.{◌≡◌, ◌++◌, IfOk};
-    ghost use Rattle.model_frames.specs.Drawn.{drawn_bytes};
-
-    /// Its bytes, piece by piece. AllocError: there is no memory to make them in; once it is taken,
-    /// the pieces take no more.
-    pub fn pieces(&self, alloc: Global) -> Result<Pieces<'_>, AllocError>
-        ensures { IfOk result (λ pieces. pieces.piece ++ pieces.rest ≡ drawn_bytes self.now) }
-    {
-        match self {
-            Drawn::Bytes(bytes) => Ok(Pieces::of(bytes, b"")),
-            Drawn::Mesh(grid) => Pieces::of_grid(alloc, grid),
-        }
-    }
+    /// All of its bytes.
+    Bytes(Vec<u8>),
 }

@@ -13,9 +13,9 @@ use solid_model::Model;
 use std::alloc::{AllocError, Global};
 use view_places::View;
 
-// The height map of a model over a view, as PGM text. The work of the samples that do not lie behind
-// a top is counted, and where memory is refused no more than that of a map.
-pub(crate) fn height(
+/// The height map of a model over a view, as PGM text. The work of the samples that do not lie behind
+/// a top is counted. AllocError: memory was refused, after some of that work perhaps.
+pub fn height_text(
     alloc: Global,
     model: &Model,
     view: &View,

@@ -1,5 +1,5 @@
-//! What can be drawn of a model over a view: its image, its height map, plain and shaded, its mesh and its
-//! text.
+//! What can be drawn of a model over a view: its image, its height map, plain and shaded, its mesh, its
+//! contour and its text.
 #![tactic(auto)]
 
 mod drawn;
@@ -7,7 +7,7 @@ mod frame;
 mod height;
 mod laws;
 mod mesh;
-mod pieces;
+mod paths;
 mod redrawn;
 mod remeshed;
 mod render;
@@ -15,9 +15,10 @@ mod shading;
 
 pub use drawn::Drawn;
 pub use frame::Frame;
-pub use laws::frames_add_up;
+pub use height::height_text;
+pub use laws::{contour_texts_are_closed, frames_add_up};
 pub use mesh::{mesh_texts_are_sound, solid_mesh};
-pub use pieces::Pieces;
+pub use paths::contour_paths;
 pub use redrawn::redraw_image;
 pub use remeshed::{mesh_text_in, redraw_mesh};
 pub use render::{draw_image, image_text};

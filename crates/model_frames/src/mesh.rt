@@ -16,7 +16,6 @@ ghost use Rattle.model_frames.specs.Work.{CountsWithin, CountsWork, PointsRiseAt
 
 use crate::render::window_holds;
 use fixed_ops::{Tally, tallies_add_up};
-use grid_text::grid_text;
 use kuhn_cells::{CellList, vertices_are_mixed_edges};
 use live_clauses::{Tape, root_tape};
 use oct_descent::{CellGrid, cell_grid, cell_list, grid_work_is_bounded};
@@ -24,25 +23,6 @@ use solid_model::Model;
 use std::alloc::{AllocError, Global};
 use tetra_mesh::{Mesh, build_from, meshes_are_sound};
 use view_places::View;
-
-// The mesh of a model over a view, as PLY text. The work of the boxes that are looked into and of
-// the corners of working cells is counted, and where memory is refused no more than that of a mesh.
-pub(crate) fn mesh(
-    alloc: Global,
-    model: &Model,
-    view: &View,
-    tally: &mut Tally,
-) -> Result<Vec<u8>, AllocError>
-    requires { FitsMesh view.now }
-    ensures ok { IfOk result (λ text. text.items ≡ mesh_text view.now model.now) }
-    ensures counted { OnOk result
-        (CountsWork tally.old tally.new (mesh_work view.now model.now)) }
-    ensures at_most { CountsWithin tally.old tally.new (mesh_work view.now model.now) }
-    ensures plain { PointsRiseAtMost tally.old tally.new (plain_grid view.now (length model.now)) }
-{
-    let grid = solid_grid(alloc, model, view, tally)?;
-    grid_text(alloc, &grid)
-}
 
 // The grid of a model's root list over a view, the text of whose mesh is the model's. The work of the
 // boxes that are looked into and of the corners of working cells is counted. AllocError: memory was

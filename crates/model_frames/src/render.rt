@@ -16,23 +16,6 @@ use solid_model::Model;
 use std::alloc::{AllocError, Global};
 use view_places::View;
 
-// The image of a model over a view, as PGM text. The work of a fresh image is counted.
-pub(crate) fn render(
-    alloc: Global,
-    model: &Model,
-    view: &View,
-    tally: &mut Tally,
-) -> Result<Vec<u8>, AllocError>
-    ensures ok { IfOk result (λ image. image.items ≡ image_of view.now model.now) }
-    ensures counted { OnOk result (CountsWork tally.old tally.new (frame_work view.now model.now)) }
-    ensures at_most { CountsWithin tally.old tally.new (frame_work view.now model.now) }
-    ensures plain { PointsRiseAtMost tally.old tally.new
-        (plain_points view.now (length model.now)) }
-{
-    let picture = draw_image(alloc, model, view, tally)?;
-    image_text(alloc, &picture)
-}
-
 /// The boxes of an image of a model over a view, without its bytes. Its rows are those of the model.
 /// The work of a fresh image is counted. AllocError: memory was refused, after some of that work perhaps.
 pub fn draw_image(

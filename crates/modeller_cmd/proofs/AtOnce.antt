@@ -1,5 +1,5 @@
 -- What work comes to whose parts are written when the last of them is made.
-use Rattle.std.proofs.Common.{◌≡◌, ◌≢◌, ℕ, ◌≤◌, List, [], ◌∷◌, length, Option, Result, Ok, Err, refl, sym, subst, rules}
+use Rattle.std.proofs.Common.{◌≡◌, ◌≢◌, ℕ, ◌≤◌, List, [], ◌∷◌, length, Option, Result, Ok, Err, refl, sym, ap, subst, ◌∙◌, rules}
 use Rattle.std.specs.Prelude.{IsErrAnd}
 use Rattle.clause_reader.specs.Reading.{text_read}
 use Rattle.clause_reader.specs.declared.text_fault.TextFault.{TextFault}
@@ -9,7 +9,7 @@ use Rattle.fixed_ops.specs.Counts.{Counts}
 use Rattle.model_frames.specs.Frames.{Part}
 use Rattle.model_frames.specs.Laws.{FramesAddUp}
 use Rattle.model_frames.specs.Work.{CountsWithin, CountsWork, PointsRiseAtMost}
-use Rattle.mesh_report.specs.Reports.{reported}
+use Rattle.ply_check.specs.Reports.{reported}
 use Rattle.ply_check.specs.declared.ply_fault.PlyFault.{PlyFault}
 use Rattle.ply_check.specs.declared.ply_reason.PlyReason.{PlyReason}
 use Rattle.ply_check.specs.declared.ply_reason.PlyReason.TheVariants as mesh
@@ -19,20 +19,23 @@ use Rattle.solid_lang.specs.declared.solid_reason.SolidReason.{SolidReason}
 use Rattle.solid_lang.specs.declared.solid_reason.SolidReason.TheVariants as forms
 use Rattle.solid_model.specs.declared.clause.Clause.{Clause}
 use Rattle.view_settings.specs.declared.job.Job.{Job}
-use Rattle.view_settings.specs.declared.job.Job.TheVariants.{Replay}
 use Rattle.modeller_cmd.specs.Endings.{Ends, IsRefusal, IsExecutionStop}
 use Rattle.modeller_cmd.specs.Output.{input_limit, made, of_forms, of_mesh, of_model, output_as}
 use Rattle.modeller_cmd.specs.Parts.{work_of_parts}
 use Rattle.modeller_cmd.specs.Execution.{Sent, Executed, ExecutedAtOnce}
 use Rattle.modeller_cmd.specs.Writing.{FailsToSend}
 use Rattle.modeller_cmd.specs.Stops.{status_at, stop_of_forms, stop_of_mesh, stop_of_text}
+use Rattle.modeller_cmd.specs.Tasks.{task_of}
 use Rattle.modeller_cmd.specs.declared.bad_text.BadText.TheVariants as bad
 use Rattle.modeller_cmd.specs.declared.refusal.Refusal.{Refusal}
 use Rattle.modeller_cmd.specs.declared.refusal.Refusal.TheVariants as refusal
 use Rattle.modeller_cmd.specs.declared.status.Status.TheVariants.{BadScript}
 use Rattle.modeller_cmd.specs.declared.stop.Stop.{Stop}
 use Rattle.modeller_cmd.specs.declared.stop.Stop.TheVariants.{Refused, ReadFault, WriteFault, NoMemory}
+use Rattle.modeller_cmd.specs.declared.task.Task.{Task}
+use Rattle.modeller_cmd.specs.declared.task.Task.TheVariants as tasks
 use Rattle.modeller_cmd.proofs.Outcomes.{forms_refused, mesh_refused, solid_refused, work_of_one}
+use Rattle.modeller_cmd.proofs.Tasks.{made-by, made_by}
 use Rattle.modeller_cmd.proofs.Writing.{part-counted, part-written, part-halted, halted-before}
 
 -- bytes that were sent, where they did not all go out
@@ -169,18 +172,20 @@ module _ {K T : Type 0} (held : K → Option (List ℕ)) (faults : K → ℕ) wh
       by (Err ReadFault) sent = absurd sent.stop
       by (Err (Refused why)) sent = absurd sent.stop
 
-  -- so a job is executed, where it is no script
-  pub executed-at-once : (before after : K) (s t : Counts) (job told : Job) (input : List ℕ) (r : Result T Stop) → job ≡ told → told ≢ Replay
-      → ExecutedAtOnce held faults before after s t (made told input) r → Executed held faults before after s t job input r
-  executed-at-once before after s t job told input r is other executed =
-      subst (λ j. Executed held faults before after s t j input r) (sym is) (record {
-        ends = executed.ends;
-        stop = executed.stop;
-        written = executed.written;
-        halted = executed.halted;
-        refused = executed.refused;
-        script = λ script. absurd (executed.script script);
-        unwritten = λ _. executed.unwritten;
-        counted = λ _. executed.counted;
-        halts = λ replays. absurd (other replays);
-      })
+  -- so a job is executed, where its task is no script
+  pub executed-at-once : (before after : K) (s t : Counts) (job : Job) (task : Task) (input : List ℕ) (r : Result T Stop) → task ≡ task_of job → task ≢ tasks.Replay
+      → ExecutedAtOnce held faults before after s t (made_by task input) r → Executed held faults before after s t job input r
+  executed-at-once before after s t job task input r is other executed =
+      let so : ExecutedAtOnce held faults before after s t (made job input) r =
+      subst (λ outcome. ExecutedAtOnce held faults before after s t outcome r) (ap (λ task. made_by task input) is ∙ sym (made-by job input)) executed in
+      record {
+        ends = so.ends;
+        stop = so.stop;
+        written = so.written;
+        halted = so.halted;
+        refused = so.refused;
+        script = λ script. absurd (so.script script);
+        unwritten = λ _. so.unwritten;
+        counted = λ _. so.counted;
+        halts = λ replays. absurd (other (is ∙ ap task_of replays));
+      }

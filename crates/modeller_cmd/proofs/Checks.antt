@@ -7,12 +7,12 @@ use Rattle.checked_meshes.specs.ModelTexts.{MeshTextsCheck}
 use Rattle.checked_meshes.specs.Readings.{corners_of}
 use Rattle.kuhn_cells.specs.Faces.{Face as Triple, faces}
 use Rattle.kuhn_cells.specs.Grids.{vertices}
-use Rattle.mesh_report.specs.Laws.{RefusalsAreReported, VerdictsAreReported}
-use Rattle.mesh_report.specs.Reports.{finding_line, reported}
-use Rattle.mesh_verdict.specs.declared.finding.Finding.TheVariants.{Closed}
-use Rattle.mesh_verdict.specs.Corners.{triples}
-use Rattle.mesh_verdict.specs.Laws.{OneFindingIsRight}
-use Rattle.mesh_verdict.specs.Verdicts.{Verdict}
+use Rattle.ply_check.specs.ReportLaws.{RefusalsAreReported, VerdictsAreReported}
+use Rattle.ply_check.specs.Reports.{finding_line, reported}
+use Rattle.ply_check.specs.declared.finding.Finding.TheVariants.{Closed}
+use Rattle.ply_check.specs.Corners.{triples}
+use Rattle.ply_check.specs.VerdictLaws.{OneFindingIsRight}
+use Rattle.ply_check.specs.Verdicts.{Verdict}
 use Rattle.model_frames.specs.Meshes.{grid_of}
 use Rattle.ply_check.specs.Answers.{fault_at}
 use Rattle.ply_check.specs.PlyFiles.{PlyReads}

@@ -10,13 +10,14 @@ mod Forging
 mod Gaining
 mod Halting
 mod Inputs
-mod NameExamples
 mod Outcomes
 mod ReplayLaws
 mod RunExamples
 mod Running
 mod ShownModels
 mod Soundness
+mod StopExamples
+mod Tasks
 mod UndoExamples
 mod Undoing
 mod Waiting

@@ -9,7 +9,7 @@ use Rattle.model_frames.specs.Laws.{FramesAddUp}
 use Rattle.fixed_ops.specs.Counts.{Counts}
 use Rattle.modeller_io.specs.Count.{RoseBy}
 use Rattle.modeller_io.specs.Took.{LosesAtMost}
-use Rattle.mesh_report.specs.Reports.{reported}
+use Rattle.ply_check.specs.Reports.{reported}
 use Rattle.ply_check.specs.declared.ply_fault.PlyFault.{PlyFault}
 use Rattle.solid_lang.specs.Translated.{translated}
 use Rattle.solid_lang.specs.declared.solid_fault.SolidFault.{SolidFault}

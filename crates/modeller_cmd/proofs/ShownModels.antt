@@ -22,7 +22,7 @@ use Rattle.modeller_cmd.specs.Asking.{asked}
 use Rattle.modeller_cmd.specs.Output.{output_as, output_of, parts_replayed}
 use Rattle.modeller_cmd.specs.Replays.{after_undo, replayed, standing, state_after}
 use Rattle.modeller_cmd.specs.ShownModels.{FramesShowModels, ModelsAreShown, UndosBringFramesBack}
-use Rattle.modeller_cmd.specs.Undoing.{FramesShowWhatStands, HasFrame, UndosLeadBack, drawn_by}
+use Rattle.modeller_cmd.specs.Undoing.{FramesShowWhatStands, HasFrame, UndosLeadBack}
 use Rattle.modeller_cmd.specs.declared.status.Status.TheVariants.{Done}
 use Rattle.modeller_cmd.proofs.Outcomes.{solid_read}
 use Rattle.modeller_cmd.proofs.Soundness.{few_of, outcome_of}
@@ -40,9 +40,9 @@ script-parts words input clauses commands asks reads says done =
     (made_of ∙ solid_read input (before_mark input) (λ solid. parts_replayed solid (script_read input)) clauses few reads ∙ ap (parts_replayed clauses) says)
 
 pub frames-show-models : FramesShowWhatStands → (words : List (List ℕ)) (input : List ℕ) → FramesShowModels words input
-frames-show-models show words input clauses before after frame asks reads says done =
+frames-show-models show words input clauses before after frame draw by asks reads says done =
     subst (HasFrame frame (standing (started clauses) before).clauses (replayed (started clauses) before))
-    (sym (script-parts words input clauses (before ++ drawn_by frame ∷ after) asks reads says done)) (show (started clauses) before after frame)
+    (sym (script-parts words input clauses (before ++ draw ∷ after) asks reads says done)) (show (started clauses) before after frame draw by)
 
 -- a model, and edits that take others back, each of which is accepted in its turn and leads to a model
 abbrev Stands : List Clause → List Edit → Type 0
@@ -81,10 +81,10 @@ module _ (taken : EditsAreTakenBack) (give : EditsGiveModels) where
 
   undos-bring-frames-back : UndosLeadBack → FramesShowWhatStands → ReadTextsAreModels → ReadScriptsAreCommands → (words : List (List ℕ)) (input : List ℕ)
       → UndosBringFramesBack words input
-  undos-bring-frames-back lead show models read words input clauses before there back after frame asks reads says taken_back done =
+  undos-bring-frames-back lead show models read words input clauses before there back after frame draw by asks reads says taken_back done =
       let opened = started clauses in
       let stood = standing opened before in
-      let left = drawn_by frame ∷ after in
+      let left = draw ∷ after in
       let all : All IsCommand (before ++ there ++ back ++ left) = subst (λ r. IfOk r (All IsCommand)) says (read input) in
       let edits_are = All-left IsCommand (before ++ there) back (All-left IsCommand (before ++ there ++ back) left all) in
       let before_are = All-left IsCommand before there edits_are in
@@ -94,7 +94,7 @@ module _ (taken : EditsAreTakenBack) (give : EditsGiveModels) where
       ap (λ commands. model_of (standing opened commands)) (append_assoc before there back) ∙ ap model_of (standing-append opened before (there ++ back))
       ∙ lead stood there back model there_are taken_back in
       subst (λ now. HasFrame frame now (replayed opened (before ++ there ++ back)) (output_of words input).parts) (ap (λ (m : Edited). m.clauses) again)
-      (frames-show-models show words input clauses (before ++ there ++ back) after frame asks reads says done)
+      (frames-show-models show words input clauses (before ++ there ++ back) after frame draw by asks reads says done)
 
   pub models-are-shown : UndosLeadBack → FramesShowWhatStands → ReadTextsAreModels → ReadScriptsAreCommands → ModelsAreShown
   models-are-shown lead show models read = record { frames = frames-show-models show; undos = undos-bring-frames-back lead show models read }

@@ -5,8 +5,8 @@ use Rattle.std.proofs.lemmas.Bool.{ltb-false}
 use Rattle.clause_reader.specs.ModelText.{model_text}
 use Rattle.clause_reader.specs.Reading.{text_read}
 use Rattle.clause_reader.specs.ReadingLaws.{ReadingIsExact, RefusingIsExact}
-use Rattle.contour_frames.specs.ClosedTexts.{ContourTextsAreClosed, IsClosedText}
-use Rattle.contour_frames.specs.Contours.{contour_part, contour_text}
+use Rattle.model_frames.specs.ClosedTexts.{ContourTextsAreClosed, IsClosedText}
+use Rattle.model_frames.specs.Contours.{contour_text}
 use Rattle.edit_script.specs.Commands.{MayBeDrawn}
 use Rattle.edit_script.specs.ScriptLaws.{DrawsMayBeDrawn}
 use Rattle.edit_script.specs.Marks.{before_mark}
@@ -77,8 +77,8 @@ run_is_closed : (words : List (List ℕ)) (input : List ℕ) (r : Result Job Ref
 run_is_closed words input r is keeps texts view clauses asks reads done =
     let job = job_kept r (Contour view) (is ∙ asks) keeps in
     let made_of = outcome_of words input (Contour view) asks in
-    let few = few_of input input (λ solid. Ok (contour_part view solid ∷ [])) (ap (λ o. (output_as o).status) (sym made_of) ∙ done) in
-    let parts = ap (λ o. (output_as o).parts) (made_of ∙ model_read input (contour_part view) clauses few reads) in
+    let few = few_of input input (λ solid. Ok (frame_part (frames.Contour view) solid ∷ [])) (ap (λ o. (output_as o).status) (sym made_of) ∙ done) in
+    let parts = ap (λ o. (output_as o).parts) (made_of ∙ model_read input (frame_part (frames.Contour view)) clauses few reads) in
     let one : contour_text view clauses ++ [] ≡ contour_text view clauses = append-nil (contour_text view clauses) in
     let bytes = ap bytes_of_parts parts ∙ one in
     subst (IsClosedText view clauses) (sym bytes) (texts view clauses job.1)

@@ -1,6 +1,6 @@
 -- What undos lead back to and what frames show, on a small script that was worked out by hand.
 use Rattle.std.proofs.Common.{◌≡◌, ℕ, pos, List, [], ◌∷◌, ◌++◌, take, map, Ok, refl, ap, ◌∙◌, arith}
-use Rattle.std.specs.Prelude.{codes, slice_index_or}
+use Rattle.std.specs.Prelude.{Some, None, codes, slice_index_or}
 use Rattle.std.specs.Fmt.{digits}
 use Rattle.edit_script.specs.Scripts.{script_read}
 use Rattle.edit_script.specs.declared.command.Command.{Command}
@@ -41,8 +41,8 @@ undos_are_counted = refl
 edits_are_counted_where_they_come : edits_among two (cut 4 (codes "f") ∷ cut 5 (codes "x") ∷ commands.Undo 6 ∷ commands.Text ∷ cut 7 (codes "f") ∷ []) ≡ 2
 edits_are_counted_where_they_come = refl
 
-each_frame_has_its_command : (view : Window) → map drawn_by (frames.Render view ∷ frames.Height view ∷ frames.Mesh view ∷ frames.Text ∷ [])
-    ≡ commands.Render view ∷ commands.Height view ∷ commands.Mesh view ∷ commands.Text ∷ []
+each_frame_has_its_command : (view : Window) → map drawn_by (frames.Render view ∷ frames.Height view ∷ frames.Shade view ∷ frames.Mesh view ∷ frames.Contour view ∷ frames.Text ∷ [])
+    ≡ Some (commands.Render view) ∷ Some (commands.Height view) ∷ None ∷ Some (commands.Mesh view) ∷ None ∷ Some commands.Text ∷ []
 each_frame_has_its_command view = refl
 
 -- an edit that is refused may stand on either way
@@ -112,9 +112,9 @@ bytes_of_it = refl
 -- the first frame is told to show the new clause, and the third to be what the first was
 first_frame : FramesShowModels (codes "replay" ∷ []) script → HasFrame frames.Text three (replayed two (add_g ∷ [])) ran.parts
 unfolding digits standing
-first_frame shown = shown (take 2 three) (add_g ∷ []) (cuts ++ commands.Undo 9 ∷ commands.Text ∷ []) frames.Text refl refl refl refl
+first_frame shown = shown (take 2 three) (add_g ∷ []) (cuts ++ commands.Undo 9 ∷ commands.Text ∷ []) frames.Text commands.Text refl refl refl refl refl
 
 third_frame : UndosBringFramesBack (codes "replay" ∷ []) script → HasFrame frames.Text three (replayed two (begun ++ cuts ++ commands.Undo 9 ∷ [])) ran.parts
 unfolding digits standing
 third_frame back =
-    back (take 2 three) begun cuts (commands.Undo 9 ∷ []) [] frames.Text refl refl refl (record { no_undo = refl; no_edit = refl; as_many = refl }) refl
+    back (take 2 three) begun cuts (commands.Undo 9 ∷ []) [] frames.Text commands.Text refl refl refl refl (record { no_undo = refl; no_edit = refl; as_many = refl }) refl

@@ -7,6 +7,7 @@ use Rattle.edit_script.specs.Commands.{IsCommand}
 use Rattle.edit_script.specs.declared.command.Command.{Command}
 use Rattle.edit_script.specs.declared.command.Command.TheVariants as commands
 use Rattle.edit_session.specs.Sessions.{State, after_edit, model_of}
+use Rattle.model_frames.specs.declared.frame.Frame.{Frame}
 use Rattle.model_frames.specs.declared.frame.Frame.TheVariants as frames
 use Rattle.solid_model.specs.Clauses.{IsModel}
 use Rattle.solid_model.specs.Edited.{Edited, after_edits, given_or}
@@ -17,7 +18,7 @@ use Rattle.solid_model.specs.declared.clause.Clause.{Clause}
 use Rattle.solid_model.specs.declared.edit.Edit.{Edit}
 use Rattle.solid_model.specs.declared.edit.EditFault.{EditFault}
 use Rattle.modeller_cmd.specs.Replays.{after_undo, framed, replayed, standing, state_after}
-use Rattle.modeller_cmd.specs.Undoing.{edits_among, edits_at, undos_among, FramesShowWhatStands, UndosLeadBack}
+use Rattle.modeller_cmd.specs.Undoing.{edits_among, edits_at, undos_among, FramesShowWhatStands, HasFrame, UndosLeadBack}
 use Rattle.modeller_cmd.proofs.ReplayLaws.{replayed-between}
 use Rattle.modeller_cmd.proofs.WorkSums.{All-between, All-right}
 
@@ -156,28 +157,45 @@ module _ (taken : EditsAreTakenBack) (give : EditsGiveModels) where
       ∙ undone-all (standing state there) back leads.edits state.undo taken_back.no_edit leads.before (taken_back.as_many ∙ sym leads.as_many)
       ∙ ap (λ (clauses : List Clause). model clauses state.undo) leads.back
 
+-- a frame that one command draws is there where another one that is the same comes
+drawn-too : (frame : Frame) (state : State) (before after : List Command) (told draw : Command) → told ≡ draw
+    → HasFrame frame (standing state before).clauses (replayed state before) (replayed state (before ++ told ∷ after))
+    → HasFrame frame (standing state before).clauses (replayed state before) (replayed state (before ++ draw ∷ after))
+drawn-too frame state before after told draw same shows =
+    subst (λ d. HasFrame frame (standing state before).clauses (replayed state before) (replayed state (before ++ d ∷ after))) same shows
+
 pub frames-show : FramesShowWhatStands
-frames-show state before after (frames.Render view) = record {
-  part = framed (frames.Render view) (standing state before);
-  bytes = refl;
-  after = replayed (state_after (standing state before) (commands.Render view)) after;
-  stands = replayed-between state before (commands.Render view) after;
-}
-frames-show state before after (frames.Height view) = record {
-  part = framed (frames.Height view) (standing state before);
-  bytes = refl;
-  after = replayed (state_after (standing state before) (commands.Height view)) after;
-  stands = replayed-between state before (commands.Height view) after;
-}
-frames-show state before after (frames.Mesh view) = record {
-  part = framed (frames.Mesh view) (standing state before);
-  bytes = refl;
-  after = replayed (state_after (standing state before) (commands.Mesh view)) after;
-  stands = replayed-between state before (commands.Mesh view) after;
-}
-frames-show state before after frames.Text = record {
-  part = framed frames.Text (standing state before);
-  bytes = refl;
-  after = replayed (state_after (standing state before) commands.Text) after;
-  stands = replayed-between state before commands.Text after;
-}
+frames-show state before after (frames.Render view) draw by =
+    let same : commands.Render view ≡ draw = cc in
+    drawn-too (frames.Render view) state before after (commands.Render view) draw same (record {
+      part = framed (frames.Render view) (standing state before);
+      bytes = refl;
+      after = replayed (state_after (standing state before) (commands.Render view)) after;
+      stands = replayed-between state before (commands.Render view) after;
+    })
+frames-show state before after (frames.Height view) draw by =
+    let same : commands.Height view ≡ draw = cc in
+    drawn-too (frames.Height view) state before after (commands.Height view) draw same (record {
+      part = framed (frames.Height view) (standing state before);
+      bytes = refl;
+      after = replayed (state_after (standing state before) (commands.Height view)) after;
+      stands = replayed-between state before (commands.Height view) after;
+    })
+frames-show state before after (frames.Shade view) draw by = absurd cc
+frames-show state before after (frames.Mesh view) draw by =
+    let same : commands.Mesh view ≡ draw = cc in
+    drawn-too (frames.Mesh view) state before after (commands.Mesh view) draw same (record {
+      part = framed (frames.Mesh view) (standing state before);
+      bytes = refl;
+      after = replayed (state_after (standing state before) (commands.Mesh view)) after;
+      stands = replayed-between state before (commands.Mesh view) after;
+    })
+frames-show state before after (frames.Contour view) draw by = absurd cc
+frames-show state before after frames.Text draw by =
+    let same : commands.Text ≡ draw = cc in
+    drawn-too frames.Text state before after commands.Text draw same (record {
+      part = framed frames.Text (standing state before);
+      bytes = refl;
+      after = replayed (state_after (standing state before) commands.Text) after;
+      stands = replayed-between state before commands.Text after;
+    })

@@ -11,7 +11,8 @@ use Rattle.solid_lang.specs.Solids.{SolidTree}
 use Rattle.solid_lang.specs.declared.solid_reason.SolidReason.{SolidReason}
 use Rattle.view_settings.specs.declared.job.Job.TheVariants.{Check, Solid}
 use Rattle.modeller_cmd.specs.Asking.{asked}
-use Rattle.modeller_cmd.specs.Notes.{fault_line, ply_reason_name, solid_reason_name}
+use Rattle.modeller_cmd.specs.Names.{ply_reason_name, solid_reason_name}
+use Rattle.modeller_cmd.specs.Notes.{fault_line}
 use Rattle.modeller_cmd.specs.Output.{Output, input_limit, output_of}
 use Rattle.modeller_cmd.specs.Parts.{bytes_of_parts}
 use Rattle.modeller_cmd.specs.declared.status.Status.TheVariants.{BadModel, Done}

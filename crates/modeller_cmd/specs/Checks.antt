@@ -2,11 +2,11 @@
 use Rattle.std.specs.Prelude.{◌≡◌, ℕ, ◌≤◌, List, Ok, length}
 use Rattle.kuhn_cells.specs.Faces.{faces}
 use Rattle.kuhn_cells.specs.Grids.{Grid, vertices}
-use Rattle.mesh_report.specs.Reports.{finding_line}
-use Rattle.mesh_verdict.specs.declared.finding.Finding.{Finding}
-use Rattle.mesh_verdict.specs.declared.finding.Finding.TheVariants.{Closed}
-use Rattle.mesh_verdict.specs.Corners.{triples}
-use Rattle.mesh_verdict.specs.Verdicts.{Verdict}
+use Rattle.ply_check.specs.Reports.{finding_line}
+use Rattle.ply_check.specs.declared.finding.Finding.{Finding}
+use Rattle.ply_check.specs.declared.finding.Finding.TheVariants.{Closed}
+use Rattle.ply_check.specs.Corners.{triples}
+use Rattle.ply_check.specs.Verdicts.{Verdict}
 use Rattle.model_frames.specs.Meshes.{grid_of, mesh_text}
 use Rattle.ply_check.specs.PlyFiles.{PlyReads}
 use Rattle.solid_model.specs.Clauses.{IsModel}

@@ -1,7 +1,7 @@
 -- The blocks that the commands of a script write: frames, and the lines of what is refused.
 use Rattle.std.specs.Prelude.{ℕ, List, ◌++◌, length, codes, decimal}
 use Rattle.solid_model.specs.declared.edit.EditFault.{EditFault}
-use Rattle.solid_model.specs.declared.edit.EditFault.TheVariants.{UnknownName, DoubleName, NotEarlier, InUse, LastClause, Full, NoMemory, NothingToUndo}
+use Rattle.modeller_cmd.specs.Names.{edit_fault_name}
 
 -- the line before the bytes of a frame: the word for its kind, and how many bytes they are
 abbrev pub frame_header : List ℕ → ℕ → List ℕ
@@ -11,19 +11,8 @@ frame_header name count = codes "@ " ++ name ++ codes " " ++ decimal count ++ co
 abbrev pub frame_of : List ℕ → List ℕ → List ℕ
 frame_of name bytes = frame_header name (length bytes) ++ bytes
 
--- the word for why an edit, or taking the last one back, is refused
-abbrev pub fault_name : EditFault → List ℕ
-fault_name UnknownName = codes "UnknownName"
-fault_name DoubleName = codes "DoubleName"
-fault_name NotEarlier = codes "NotEarlier"
-fault_name (InUse place) = codes "InUse"
-fault_name LastClause = codes "LastClause"
-fault_name Full = codes "Full"
-fault_name NoMemory = codes "NoMemory"
-fault_name NothingToUndo = codes "NothingToUndo"
-
 -- the line of an edit or an undo that is refused: the number of its own line, as lines are counted from the
 -- start of the input, and why
 abbrev pub refused_line : ℕ → EditFault → List ℕ
 refused_line line fault =
-    codes "@ refused " ++ decimal line ++ codes " " ++ fault_name fault ++ codes "\n"
+    codes "@ refused " ++ decimal line ++ codes " " ++ edit_fault_name fault ++ codes "\n"

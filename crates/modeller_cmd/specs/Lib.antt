@@ -9,6 +9,7 @@ pub mod Forging
 pub mod Frames
 pub mod Halting
 pub mod Laws
+pub mod Names
 pub mod Notes
 pub mod Output
 pub mod Parts
@@ -20,5 +21,6 @@ pub mod ShownModels
 pub mod SoundTexts
 pub mod Statuses
 pub mod Stops
+pub mod Tasks
 pub mod Undoing
 pub mod Writing

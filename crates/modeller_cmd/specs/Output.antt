@@ -2,14 +2,13 @@
 -- line.
 use Rattle.std.specs.Prelude.{ℕ, nat_lt, List, [], ◌∷◌, length, Result, Ok, Err, if◌then◌else◌}
 use Rattle.clause_reader.specs.Reading.{on_result, text_read}
-use Rattle.contour_frames.specs.Contours.{contour_part}
 use Rattle.edit_script.specs.Marks.{before_mark}
 use Rattle.edit_script.specs.Scripts.{script_read}
 use Rattle.edit_script.specs.declared.command.Command.{Command}
 use Rattle.edit_script.specs.declared.script_fault.ScriptFault.{ScriptFault}
 use Rattle.edit_session.specs.Sessions.{started}
-use Rattle.mesh_report.specs.Reports.{reported}
-use Rattle.model_frames.specs.Frames.{Part, frame_part, shade_part}
+use Rattle.ply_check.specs.Reports.{reported}
+use Rattle.model_frames.specs.Frames.{Part, frame_part}
 use Rattle.model_frames.specs.Work.{frame_work, no_work}
 use Rattle.model_frames.specs.declared.frame.Frame.TheVariants as frames
 use Rattle.solid_lang.specs.Translated.{translated}
@@ -91,8 +90,8 @@ made jobs.Text input = of_model input (frame_part frames.Text)
 made jobs.Replay input =
     of_solid input (before_mark input) (λ clauses. parts_replayed clauses (script_read input))
 made (jobs.Forge forge) input = Ok (forge_part forge ∷ [])
-made (jobs.Shade view) input = of_model input (shade_part view)
-made (jobs.Contour view) input = of_model input (contour_part view)
+made (jobs.Shade view) input = of_model input (frame_part (frames.Shade view))
+made (jobs.Contour view) input = of_model input (frame_part (frames.Contour view))
 made jobs.Solid input = of_forms input
 made jobs.Check input = of_mesh input
 

@@ -1,5 +1,5 @@
 -- What a run of a script shows: each frame the model that stands, and after undos the one before the edits.
-use Rattle.std.specs.Prelude.{◌≡◌, ℕ, List, ◌∷◌, ◌++◌, Ok}
+use Rattle.std.specs.Prelude.{◌≡◌, ℕ, List, ◌∷◌, ◌++◌, Some, Ok}
 use Rattle.clause_reader.specs.Reading.{text_read}
 use Rattle.edit_script.specs.Marks.{before_mark}
 use Rattle.edit_script.specs.Scripts.{script_read}
@@ -18,9 +18,9 @@ use Rattle.modeller_cmd.specs.declared.status.Status.TheVariants.{Done}
 -- that command, after what it writes for the commands before it, is the frame of the model then standing
 abbrev pub FramesShowModels : List (List ℕ) → List ℕ → Type 0
 FramesShowModels words input =
-    (clauses : List Clause) (before after : List Command) (frame : Frame)
-    → asked words ≡ Ok Replay → text_read (before_mark input) ≡ Ok clauses
-    → script_read input ≡ Ok (before ++ drawn_by frame ∷ after)
+    (clauses : List Clause) (before after : List Command) (frame : Frame) (draw : Command)
+    → drawn_by frame ≡ Some draw → asked words ≡ Ok Replay → text_read (before_mark input) ≡ Ok clauses
+    → script_read input ≡ Ok (before ++ draw ∷ after)
     → (output_of words input).status ≡ Done
     → HasFrame frame (standing (started clauses) before).clauses
     (replayed (started clauses) before) (output_of words input).parts
@@ -29,9 +29,9 @@ FramesShowModels words input =
 -- before these: the same bytes as a frame there
 abbrev pub UndosBringFramesBack : List (List ℕ) → List ℕ → Type 0
 UndosBringFramesBack words input =
-    (clauses : List Clause) (before there back after : List Command) (frame : Frame)
-    → asked words ≡ Ok Replay → text_read (before_mark input) ≡ Ok clauses
-    → script_read input ≡ Ok (before ++ there ++ back ++ drawn_by frame ∷ after)
+    (clauses : List Clause) (before there back after : List Command) (frame : Frame) (draw : Command)
+    → drawn_by frame ≡ Some draw → asked words ≡ Ok Replay → text_read (before_mark input) ≡ Ok clauses
+    → script_read input ≡ Ok (before ++ there ++ back ++ draw ∷ after)
     → AreTakenBack (standing (started clauses) before) there back
     → (output_of words input).status ≡ Done
     → HasFrame frame (standing (started clauses) before).clauses

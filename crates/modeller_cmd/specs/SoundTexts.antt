@@ -1,7 +1,7 @@
 -- What a run writes of a mesh is the text of a sound one, and of a contour the paths of closed loops.
 use Rattle.std.specs.Prelude.{◌≡◌, ℕ, List, ◌∷◌, ◌++◌, Ok, codes}
 use Rattle.clause_reader.specs.Reading.{text_read}
-use Rattle.contour_frames.specs.ClosedTexts.{IsClosedText}
+use Rattle.model_frames.specs.ClosedTexts.{IsClosedText}
 use Rattle.edit_script.specs.Marks.{before_mark}
 use Rattle.edit_script.specs.Scripts.{script_read}
 use Rattle.edit_script.specs.declared.command.Command.{Command}

@@ -1,5 +1,5 @@
 -- What the undos of a script lead back to, and what its frames show on the way.
-use Rattle.std.specs.Prelude.{◌≡◌, ℕ, ◌+◌, Bool, true, false, List, [], ◌∷◌, ◌++◌, length, filter, All}
+use Rattle.std.specs.Prelude.{◌≡◌, ℕ, ◌+◌, Bool, true, false, List, [], ◌∷◌, ◌++◌, length, filter, All, Option, Some, None}
 use Rattle.clause_reader.specs.Reading.{on_result}
 use Rattle.edit_script.specs.Commands.{IsCommand}
 use Rattle.edit_script.specs.declared.command.Command.{Command}
@@ -45,12 +45,14 @@ UndosLeadBack =
     (state : State) (there back : List Command) → IsModel state.clauses → All IsCommand there
     → AreTakenBack state there back → model_of (standing state (there ++ back)) ≡ model_of state
 
--- the command that draws a frame
-abbrev pub drawn_by : Frame → Command
-drawn_by (frames.Render view) = commands.Render view
-drawn_by (frames.Height view) = commands.Height view
-drawn_by (frames.Mesh view) = commands.Mesh view
-drawn_by frames.Text = commands.Text
+-- the command that draws a frame: there is none for a shaded height map, and none for a contour
+abbrev pub drawn_by : Frame → Option Command
+drawn_by (frames.Render view) = Some (commands.Render view)
+drawn_by (frames.Height view) = Some (commands.Height view)
+drawn_by (frames.Shade view) = None
+drawn_by (frames.Mesh view) = Some (commands.Mesh view)
+drawn_by (frames.Contour view) = None
+drawn_by frames.Text = Some commands.Text
 
 -- Behind some parts stands the frame of some clauses, as it is of a session that begins with these.
 pub record HasFrame (frame : Frame) (clauses : List Clause) (before parts : List Part) : Type 0 where
@@ -63,6 +65,7 @@ pub record HasFrame (frame : Frame) (clauses : List Clause) (before parts : List
 -- or drawn before
 abbrev pub FramesShowWhatStands : Type 0
 FramesShowWhatStands =
-    (state : State) (before after : List Command) (frame : Frame)
+    (state : State) (before after : List Command) (frame : Frame) (draw : Command)
+    → drawn_by frame ≡ Some draw
     → HasFrame frame (standing state before).clauses (replayed state before)
-    (replayed state (before ++ drawn_by frame ∷ after))
+    (replayed state (before ++ draw ∷ after))

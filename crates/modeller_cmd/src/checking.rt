@@ -6,9 +6,9 @@ ghost use Rattle.modeller_cmd.specs.Output.{input_limit, of_mesh};
 
 use crate::send::send_text;
 use crate::stop::Stop;
-use mesh_report::report;
 use model_frames::frames_add_up;
 use modeller_io::Sink;
+use ply_check::report;
 use std::alloc::Global;
 
 /// Writes the line that says what is found of the mesh in an input. No work is counted.

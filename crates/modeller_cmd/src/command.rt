@@ -16,21 +16,19 @@ ghost use Rattle.modeller_cmd.specs.Runs.{run_of};
 use crate::Status;
 use crate::asking::read_job;
 use crate::checking::check;
-use crate::contouring::contour;
 use crate::count::count;
-use crate::drawing::{draw, render};
+use crate::drawing::draw;
 use crate::forge::forge;
 use crate::laws::{checks_are_exact, undos_lead_back};
 use crate::note::note_of;
 use crate::replay::replay;
-use crate::shading::shade;
 use crate::solid::solid;
 use crate::stop::Stop;
+use crate::task::Task;
 use clause_reader::reading_is_exact;
-use contour_frames::contour_texts_are_closed;
 use edit_script::draws_may_be_drawn;
 use fixed_ops::Tally;
-use model_frames::{Frame, frames_add_up, mesh_texts_are_sound};
+use model_frames::{contour_texts_are_closed, frames_add_up, mesh_texts_are_sound};
 use modeller_io::{ReadEnd, Sink, Source, read_all, write_all};
 use solid_lang::translation_is_exact;
 use std::alloc::Global;
@@ -172,7 +170,7 @@ fn read_input<S: Source>(alloc: Global, job: &Job, source: &mut S) -> Result<Vec
     }
 }
 
-// Executes a job on an input, and writes what it makes: the table of the jobs. All memory is taken
+// Executes a job on an input, and writes what it makes: the table of the tasks. All memory is taken
 // before the first byte is written, but by a script, of which each part is written as soon as it is
 // made.
 fn execute<K: Sink>(
@@ -187,17 +185,12 @@ fn execute<K: Sink>(
     ensures { Executed K.held K.faults out.old out.new tally.old tally.new job.now input.now
         result }
 {
-    match job {
-        Job::Render(view) => render(alloc, view, input, out, tally),
-        Job::Height(view) => draw(alloc, &Frame::Height(*view), input, out, tally),
-        Job::Mesh(view) => draw(alloc, &Frame::Mesh(*view), input, out, tally),
-        Job::Text => draw(alloc, &Frame::Text, input, out, tally),
-        Job::Count(view) => count(alloc, view, input, out, tally),
-        Job::Forge(wanted) => forge(alloc, wanted, out, tally),
-        Job::Replay => replay(alloc, input, out, tally),
-        Job::Shade(view) => shade(alloc, view, input, out, tally),
-        Job::Contour(view) => contour(alloc, view, input, out, tally),
-        Job::Solid => solid(alloc, input, out),
-        Job::Check => check(alloc, input, out),
+    match Task::of(job) {
+        Task::Draw(frame) => draw(alloc, &frame, input, out, tally),
+        Task::Count(view) => count(alloc, &view, input, out, tally),
+        Task::Forge(wanted) => forge(alloc, &wanted, out, tally),
+        Task::Replay => replay(alloc, input, out, tally),
+        Task::Solid => solid(alloc, input, out),
+        Task::Check => check(alloc, input, out),
     }
 }

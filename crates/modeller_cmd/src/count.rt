@@ -14,7 +14,7 @@ use model_frames::{Drawn, draw_image, frames_add_up};
 use modeller_io::Sink;
 use solid_model::Model;
 use std::alloc::{AllocError, Global};
-use view_settings::View;
+use view_places::View;
 
 /// Writes the work that a fresh image of the model that an input holds takes.
 pub fn count<K: Sink>(

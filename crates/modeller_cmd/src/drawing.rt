@@ -4,15 +4,13 @@ ghost use Rattle.model_frames.specs.Frames.{CanDraw, frame_part};
 ghost use Rattle.modeller_cmd.specs.Output.{input_limit, of_model};
 ghost use Rattle.modeller_cmd.specs.Execution.{ExecutedAtOnce};
 
-use crate::image::send_image;
 use crate::send::send;
 use crate::stop::Stop;
 use clause_reader::read_model;
 use fixed_ops::Tally;
-use model_frames::{Frame, draw_image, frames_add_up};
+use model_frames::{Frame, frames_add_up};
 use modeller_io::Sink;
 use std::alloc::Global;
-use view_settings::View;
 
 /// Draws a frame of the model that an input holds, and writes its bytes.
 pub fn draw<K: Sink>(
@@ -31,22 +29,4 @@ pub fn draw<K: Sink>(
     let model = read_model(alloc, input)?;
     let drawn = frame.draw(alloc, &model, tally)?;
     send(alloc, &drawn, out)
-}
-
-/// Draws the image of the model that an input holds, and writes its bytes.
-pub fn render<K: Sink>(
-    alloc: Global,
-    view: &View,
-    input: &[u8],
-    out: &mut K,
-    tally: &mut Tally,
-) -> Result<(), Stop>
-    requires { length input.now ≤ input_limit }
-    ensures { ExecutedAtOnce K.held K.faults out.old out.new tally.old tally.new
-        (of_model input.now (frame_part (Frame.Render view.now))) result }
-{
-    frames_add_up();
-    let model = read_model(alloc, input)?;
-    let image = draw_image(alloc, &model, view, tally)?;
-    send_image(alloc, &image, view, out)
 }

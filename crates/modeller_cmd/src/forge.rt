@@ -21,7 +21,8 @@ use modeller_io::Sink;
 use quad_descent::Picture;
 use solid_model::Model;
 use std::alloc::{AllocError, Global};
-use view_settings::{Forge, View};
+use view_places::View;
+use view_settings::Forge;
 
 /// Makes a model from a seed, and writes the five lines that tell of it and of its image.
 pub fn forge<K: Sink>(

@@ -6,19 +6,20 @@ ghost use Rattle.modeller_io.specs.Held.{Gains, GainsProperPrefix};
 ghost use Rattle.quad_descent.specs.Rows.{IsOver};
 ghost use Rattle.modeller_cmd.specs.Bands.{HasRoom};
 ghost use Rattle.modeller_cmd.specs.CountTexts.{cost_text};
-ghost use Rattle.modeller_cmd.specs.Frames.{fault_name, frame_header, frame_of, refused_line};
+ghost use Rattle.modeller_cmd.specs.Frames.{frame_header, frame_of, refused_line};
 
 use crate::image::write_image;
 use crate::line::Line;
+use crate::names::edit_fault_name;
 use crate::send::write_texts;
 use modeller_io::{Failed, Sink};
 use quad_descent::RowSource;
 use raster_pgm::raster_length;
 use solid_model::EditFault;
-use view_settings::View;
+use view_places::View;
 
 /// Writes a frame: a line with the word for its kind and how many bytes it has, and then these
-/// bytes. After `Failed` some of all this was taken, from its front.
+/// bytes. After `Failed` a proper prefix of all this was taken.
 pub fn write_frame<K: Sink>(out: &mut K, name: &[u8], bytes: &[u8]) -> Result<(), Failed>
     requires { length name.now ≤ 6 }
     ensures ok { OnOk result (Gains K.held out.old out.new (frame_of name.now bytes.now)) }
@@ -30,8 +31,8 @@ pub fn write_frame<K: Sink>(out: &mut K, name: &[u8], bytes: &[u8]) -> Result<()
     write_texts(out, line.bytes(), bytes)
 }
 
-/// Writes the frame of an image over a view, from a buffer. After `Failed` some of it was taken, from
-/// its front.
+/// Writes the frame of an image over a view, from a buffer. After `Failed` a proper prefix of it was
+/// taken.
 pub fn write_image_frame<K: Sink, R: RowSource>(
     out: &mut K,
     image: &R,
@@ -85,24 +86,7 @@ pub fn refused_line(number: u32, fault: EditFault) -> Line
     line.push(b"@ refused ");
     line.push_number(u64::from(number));
     line.push(b" ");
-    line.push(fault_name(fault));
+    line.push(edit_fault_name(fault));
     line.push(b"\n");
     line
-}
-
-// The name of a fault.
-fn fault_name(fault: EditFault) -> &'static [u8]
-    ensures name { result.now ≡ fault_name fault }
-    ensures short { length result.now ≤ 13 }
-{
-    match fault {
-        EditFault::UnknownName => b"UnknownName",
-        EditFault::DoubleName => b"DoubleName",
-        EditFault::NotEarlier => b"NotEarlier",
-        EditFault::InUse(_) => b"InUse",
-        EditFault::LastClause => b"LastClause",
-        EditFault::Full => b"Full",
-        EditFault::NoMemory => b"NoMemory",
-        EditFault::NothingToUndo => b"NothingToUndo",
-    }
 }

@@ -15,7 +15,7 @@ use modeller_io::{Failed, Sink, write_all};
 use quad_descent::RowSource;
 use raster_pgm::pgm_head;
 use std::alloc::{AllocError, Global};
-use view_settings::View;
+use view_places::View;
 
 /// The most rows of an image that are written at once. So few fit the cache of a processor, and a leaf,
 /// which has at most eight, lies in at most two such pieces.
@@ -55,8 +55,8 @@ pub fn make_room(view: &View, buffer: &mut Vec<u8>) -> Result<(), AllocError>
 }
 
 /// Writes a line, and an image over a view after it: the line, the header and the first rows in one
-/// piece, and then the rows below, some at a time. After `Failed` some of all this was taken, from its
-/// front.
+/// piece, and then the rows below, some at a time. After `Failed` a proper prefix of all this was
+/// taken.
 pub fn write_image<K: Sink, R: RowSource>(
     out: &mut K,
     image: &R,

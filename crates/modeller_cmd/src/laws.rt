@@ -6,8 +6,7 @@ ghost use Rattle.modeller_cmd.specs.Undoing.{FramesShowWhatStands, UndosLeadBack
 use checked_meshes::mesh_texts_check;
 use clause_reader::read_texts_are_models;
 use edit_script::read_scripts_are_commands;
-use mesh_report::reports_are_exact;
-use mesh_verdict::verdicts_are_exact;
+use ply_check::{reports_are_exact, verdicts_are_exact};
 use solid_model::{edits_are_taken_back, edits_give_models};
 
 /// Edits that a script makes, and then as many undos, lead back to the clauses before them, and each frame

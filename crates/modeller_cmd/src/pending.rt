@@ -55,8 +55,8 @@ impl PendingLines {
         self.bytes.try_extend_from_slice(line.bytes()).unwrap();
     }
 
-    /// Writes them all, and keeps none. `Failed` comes only where there are some. Some of their bytes were
-    /// taken then, from their front.
+    /// Writes them all, and keeps none. `Failed` comes only where there are some. A proper prefix of their
+    /// bytes was taken then.
     pub fn write<K: Sink>(&mut self, out: &mut K) -> Result<(), Failed>
         ensures sent { OnOk result (Gains K.held out.old out.new self.old) }
         ensures no_fault { OnOk result (Stands K.faults out.old out.new) }

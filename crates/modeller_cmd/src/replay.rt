@@ -15,12 +15,12 @@ ghost use Rattle.modeller_cmd.specs.Parts.{bytes_of_parts, work_of_parts};
 ghost use Rattle.modeller_cmd.specs.Pending.{Draws, HaltsPlay, IsPlayed, WaitsOrSent};
 ghost use Rattle.modeller_cmd.specs.declared.line.TheConstants.{LINE_LIMIT};
 ghost use Rattle.modeller_cmd.specs.declared.pending.TheConstants.{PENDING_LIMIT};
-ghost use Rattle.model_frames.specs.Frames.{CanDraw};
 ghost use Rattle.model_frames.specs.Work.{CountsWork};
+ghost use Rattle.model_frames.specs.declared.frame.Frame.TheVariants as frames;
 ghost use Rattle.modeller_io.specs.Count.{Stands};
 ghost use Rattle.modeller_io.specs.Held.{Gains};
 ghost use Rattle.solid_model.specs.Edits.{edited, FirstMakesClause};
-ghost use Rattle.view_places.specs.Window.{FitsMesh};
+ghost use Rattle.view_places.specs.Window.{FitsHeight, FitsMesh};
 
 use crate::frame::{cost_line, header, refused_line, write_frame, write_image_frame};
 use crate::image::make_room;
@@ -30,11 +30,12 @@ use clause_reader::read_model;
 use edit_script::{Command, Commands, split_input};
 use edit_session::Session;
 use fixed_ops::Tally;
-use model_frames::{Frame, frames_add_up};
+use model_frames::frames_add_up;
 use modeller_io::{Failed, Sink};
 use solid_model::{EditFault, EditRef};
 use std::alloc::Global;
-use view_settings::{Job, View};
+use view_places::View;
+use view_settings::Job;
 
 /// Replays the script of an input on the model before its mark. A frame is written as soon as it is
 /// made, and the lines before it are written before it is drawn. Nothing is written before the whole
@@ -200,9 +201,9 @@ fn play<K: Sink>(
         Command::Stray(line) => refuse(*line, EditFault::UnknownName, lines, out),
         Command::Undo(line) => take_back(session, *line, lines, out),
         Command::Render(view) => show_image(session, view, buffer, out, tally),
-        Command::Height(view) => show(session, &Frame::Height(*view), out, tally),
+        Command::Height(view) => show_height(session, view, out, tally),
         Command::Mesh(view) => show_mesh(session, view, buffer, out, tally),
-        Command::Text => show(session, &Frame::Text, out, tally),
+        Command::Text => show_text(session, out),
         Command::Cost => {
             tell_cost(session, lines);
             Ok(())
@@ -210,26 +211,45 @@ fn play<K: Sink>(
     }
 }
 
-// Draws a frame and writes it. It is drawn whole before its first byte is written.
-fn show<K: Sink>(
+// Draws a height map and writes it. It is drawn whole before its first byte is written.
+fn show_height<K: Sink>(
     session: &mut Session,
-    frame: &Frame,
+    view: &View,
     out: &mut K,
     tally: &mut Tally,
 ) -> Result<(), Stop>
-    requires { CanDraw frame.now }
+    requires { FitsHeight view.now }
     ensures stop { IfErr result IsHalt }
-    ensures stands { OnOk result (session.new ≡ after_frame session.old frame.now) }
+    ensures stands { OnOk result
+        (session.new ≡ after_frame session.old (frames.Height view.now)) }
     ensures written { OnOk result (Written K.held K.faults out.old out.new tally.old tally.new
-        (framed frame.now session.old ∷ [])) }
+        (framed (frames.Height view.now) session.old ∷ [])) }
     ensures halted { IfErr result (Halted K.held K.faults out.old out.new tally.old tally.new
-        (framed frame.now session.old ∷ [])) }
+        (framed (frames.Height view.now) session.old ∷ [])) }
     ensures unwritten { result ≡ Err Stop.NoMemory → out.new ≡ out.old }
-    ensures counted { result ≡ Err Stop.WriteFault
-        → CountsWork tally.old tally.new (work_of_parts (framed frame.now session.old ∷ [])) }
+    ensures counted { result ≡ Err Stop.WriteFault → CountsWork tally.old tally.new
+        (work_of_parts (framed (frames.Height view.now) session.old ∷ [])) }
 {
-    let bytes = session.frame(frame, tally)?;
-    Ok(write_frame(out, frame.name(), &bytes)?)
+    let bytes = session.height(view, tally)?;
+    Ok(write_frame(out, b"height", &bytes)?)
+}
+
+// Writes the text of the model. It is made whole before its first byte is written, and takes no work.
+fn show_text<K: Sink>(session: &Session, out: &mut K) -> Result<(), Stop>
+    ensures stop { IfErr result IsHalt }
+    ensures written { (counts : Counts) → OnOk result
+        (Written K.held K.faults out.old out.new counts counts
+        (framed frames.Text session.now ∷ [])) }
+    ensures halted { (counts : Counts) → IfErr result
+        (Halted K.held K.faults out.old out.new counts counts
+        (framed frames.Text session.now ∷ [])) }
+    ensures unwritten { result ≡ Err Stop.NoMemory → out.new ≡ out.old }
+    ensures counted { (counts : Counts) → CountsWork counts counts
+        (work_of_parts (framed frames.Text session.now ∷ [])) }
+{
+    frames_add_up();
+    let bytes = session.text()?;
+    Ok(write_frame(out, b"text", &bytes)?)
 }
 
 // Draws an image and writes it. It is drawn whole, and all memory is taken, before its first byte is
@@ -243,14 +263,14 @@ fn show_image<K: Sink>(
 ) -> Result<(), Stop>
     ensures stop { IfErr result IsHalt }
     ensures stands { OnOk result
-        (session.new ≡ after_frame session.old (Frame.Render view.now)) }
+        (session.new ≡ after_frame session.old (frames.Render view.now)) }
     ensures written { OnOk result (Written K.held K.faults out.old out.new tally.old tally.new
-        (framed (Frame.Render view.now) session.old ∷ [])) }
+        (framed (frames.Render view.now) session.old ∷ [])) }
     ensures halted { IfErr result (Halted K.held K.faults out.old out.new tally.old tally.new
-        (framed (Frame.Render view.now) session.old ∷ [])) }
+        (framed (frames.Render view.now) session.old ∷ [])) }
     ensures unwritten { result ≡ Err Stop.NoMemory → out.new ≡ out.old }
     ensures counted { result ≡ Err Stop.WriteFault → CountsWork tally.old tally.new
-        (work_of_parts (framed (Frame.Render view.now) session.old ∷ [])) }
+        (work_of_parts (framed (frames.Render view.now) session.old ∷ [])) }
 {
     session.draw_raster(view, tally)?;
     make_room(view, buffer)?;
@@ -267,14 +287,14 @@ fn show_mesh<K: Sink>(
 ) -> Result<(), Stop>
     requires { FitsMesh view.now }
     ensures stop { IfErr result IsHalt }
-    ensures stands { OnOk result (session.new ≡ after_frame session.old (Frame.Mesh view.now)) }
+    ensures stands { OnOk result (session.new ≡ after_frame session.old (frames.Mesh view.now)) }
     ensures written { OnOk result (Written K.held K.faults out.old out.new tally.old tally.new
-        (framed (Frame.Mesh view.now) session.old ∷ [])) }
+        (framed (frames.Mesh view.now) session.old ∷ [])) }
     ensures halted { IfErr result (Halted K.held K.faults out.old out.new tally.old tally.new
-        (framed (Frame.Mesh view.now) session.old ∷ [])) }
+        (framed (frames.Mesh view.now) session.old ∷ [])) }
     ensures unwritten { result ≡ Err Stop.NoMemory → out.new ≡ out.old }
     ensures counted { result ≡ Err Stop.WriteFault → CountsWork tally.old tally.new
-        (work_of_parts (framed (Frame.Mesh view.now) session.old ∷ [])) }
+        (work_of_parts (framed (frames.Mesh view.now) session.old ∷ [])) }
 {
     session.draw_mesh(view, tally)?;
     session.mesh_text_in(buffer)?;

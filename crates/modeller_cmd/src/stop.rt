@@ -40,6 +40,16 @@ impl Stop {
     }
 }
 
+// A fault of this reason stops a run: for want of memory, or as this refusal.
+macro_rules! stop_for {
+    ($reason:expr, $kind:ident, $refusal:expr) => {
+        match $reason {
+            $kind::NoMemory => Stop::NoMemory,
+            _ => Stop::Refused($refusal),
+        }
+    };
+}
+
 impl From<Refusal> for Stop {
     ghost use Rattle.std.specs.Prelude.{◌≡◌};
     ghost use Rattle.modeller_cmd.specs.declared.stop.Stop.TheVariants.{Refused};
@@ -73,10 +83,11 @@ impl From<TextFault> for Stop {
     ghost from_gives = { λ fault stop. stop ≡ stop_of_text fault };
 
     fn from(fault: TextFault) -> Stop {
-        match fault.reason {
-            TextReason::NoMemory => Stop::NoMemory,
-            _ => Stop::Refused(Refusal::Text(BadText::Model(fault))),
-        }
+        stop_for!(
+            fault.reason,
+            TextReason,
+            Refusal::Text(BadText::Model(fault))
+        )
     }
 }
 
@@ -87,10 +98,11 @@ impl From<SolidFault> for Stop {
     ghost from_gives = { λ fault stop. stop ≡ stop_of_forms fault };
 
     fn from(fault: SolidFault) -> Stop {
-        match fault.reason {
-            SolidReason::NoMemory => Stop::NoMemory,
-            _ => Stop::Refused(Refusal::Text(BadText::Solid(fault))),
-        }
+        stop_for!(
+            fault.reason,
+            SolidReason,
+            Refusal::Text(BadText::Solid(fault))
+        )
     }
 }
 
@@ -101,10 +113,7 @@ impl From<PlyFault> for Stop {
     ghost from_gives = { λ fault stop. stop ≡ stop_of_mesh fault };
 
     fn from(fault: PlyFault) -> Stop {
-        match fault.reason {
-            PlyReason::NoMemory => Stop::NoMemory,
-            _ => Stop::Refused(Refusal::Text(BadText::Mesh(fault))),
-        }
+        stop_for!(fault.reason, PlyReason, Refusal::Text(BadText::Mesh(fault)))
     }
 }
 
@@ -115,10 +124,7 @@ impl From<ScriptFault> for Stop {
     ghost from_gives = { λ fault stop. stop ≡ stop_of_script fault };
 
     fn from(fault: ScriptFault) -> Stop {
-        match fault.reason {
-            ScriptReason::NoMemory => Stop::NoMemory,
-            _ => Stop::Refused(Refusal::Script(fault)),
-        }
+        stop_for!(fault.reason, ScriptReason, Refusal::Script(fault))
     }
 }
 

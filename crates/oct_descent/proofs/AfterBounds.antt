@@ -24,6 +24,7 @@ use Rattle.oct_descent.specs.Known.{left}
 use Rattle.oct_descent.specs.Tables.{PointValues, known_at}
 use Rattle.oct_descent.specs.Ways.{CellDescent, cell_box, grid_root, gridded, is_working, way, way_end}
 use Rattle.oct_descent.proofs.AfterOld.{end-stands, stands-old}
+use Rattle.oct_descent.proofs.AfterPaid.{least-fresh, least-less}
 use Rattle.oct_descent.proofs.AfterWork.{long-fresh, spans-fresh, spans-most, spans-old, sum_in-below, sum_in-nothing}
 use Rattle.oct_descent.proofs.Blocks.{greatest-block, greatest-block_most}
 use Rattle.oct_descent.proofs.Bounds.{covers-has}
@@ -120,7 +121,7 @@ points-fresh laws view list = omega (arith, points-most laws view None list, lea
         (length (way_end d v (sample_of cell)).list)))
 
 -- the box of all cells is a box
-whole-box : (view : Window) (list : List Step) → IsWindow view → IsBox (grid_root view list).box
+pub whole-box : (view : Window) (list : List Step) → IsWindow view → IsBox (grid_root view list).box
 whole-box view list window = record { x = window.nx.some; y = window.ny.some; z = window.nz.some }
 
 points-same : (laws : Lawful) (view : Window) (list : List Step) → IsWindow view
@@ -165,9 +166,11 @@ meshes_after_add_up_is laws = record {
   same_points = points-same laws;
   same_spans = λ view list window. spans-old laws (gridded view) (grid_root view list);
   fresh_points = points-fresh laws;
+  fresh_least = least-fresh;
   fresh_spans = λ view list. spans-fresh (gridded view) (grid_root view list);
   fresh_long = λ view list. long-fresh (gridded view) (grid_root view list);
   most_points = points-most laws;
+  most_least = least-less laws;
   most_spans =
       λ view before list. spans-most laws (gridded view) (mesh_before view before) (grid_root view list);
 }

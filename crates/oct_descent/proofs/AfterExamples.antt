@@ -3,7 +3,7 @@ use Rattle.std.proofs.Common.{◌≡◌, ℤ, pos, negsuc, [], ◌∷◌, List, 
 use Rattle.std.specs.Prelude.{Some, None}
 use Rattle.fixed_ops.specs.declared.operation.Op.TheVariants.{X, Add, Const, Min, Sub}
 use Rattle.live_clauses.specs.declared.step.Step.{Step}
-use Rattle.oct_descent.specs.After.{cell_spans_after, long_spans_after, mesh_long_spans_after, mesh_points_after, mesh_spans_after}
+use Rattle.oct_descent.specs.After.{cell_spans_after, long_spans_after, mesh_least_after, mesh_long_spans_after, mesh_points_after, mesh_spans_after}
 use Rattle.oct_descent.specs.Ways.{way_within}
 use Rattle.oct_descent.proofs.Examples.{empty, full, step, window}
 
@@ -34,6 +34,10 @@ eight_points : mesh_points_after (window 3) (Some nine) eight ≡ 0
 unfolding mesh_points_after way_within
 eight_points = refl
 
+eight_least : mesh_least_after (window 3) (Some nine) eight ≡ 0
+unfolding mesh_least_after way_within
+eight_least = refl
+
 eight_spans : mesh_spans_after (window 3) (Some nine) eight ≡ 4
 unfolding cell_spans_after way_within
 eight_spans = refl
@@ -46,6 +50,10 @@ eight_long = refl
 one_cell_points : mesh_points_after (window 1) (Some nine) eight ≡ 32
 unfolding mesh_points_after way_within
 one_cell_points = refl
+
+one_cell_least : mesh_least_after (window 1) (Some nine) eight ≡ 32
+unfolding mesh_least_after way_within
+one_cell_least = refl
 
 one_cell_spans : mesh_spans_after (window 1) (Some nine) eight ≡ 4
 unfolding cell_spans_after way_within
@@ -75,6 +83,10 @@ emptied_spans = refl
 filled_points : mesh_points_after (window 2) (Some empty) full ≡ 27
 unfolding mesh_points_after way_within
 filled_points = refl
+
+filled_least : mesh_least_after (window 2) (Some empty) full ≡ 27
+unfolding mesh_least_after way_within
+filled_least = refl
 
 filled_spans : mesh_spans_after (window 2) (Some empty) full ≡ 9
 unfolding cell_spans_after way_within
@@ -159,6 +171,11 @@ opened_first = refl
 opened_points : mesh_points_after (window 3) (Some shut) opened ≡ 160
 unfolding mesh_points_after way_within
 opened_points = refl
+
+-- of the 32 corners of new working cells half are corners of old cells too, and may be known from before
+opened_least : mesh_least_after (window 3) (Some shut) opened ≡ 80
+unfolding mesh_least_after way_within
+opened_least = refl
 
 opened_spans : mesh_spans_after (window 3) (Some shut) opened ≡ 85
 unfolding cell_spans_after way_within

@@ -13,7 +13,7 @@ use Rattle.box_chains.specs.Laws.{Lawful}
 use Rattle.box_chains.specs.Parts.{IsPart}
 use Rattle.box_chains.specs.Redrawn.{IsNew, is_old}
 use Rattle.box_chains.specs.Sums.{LiesIn, Sample, sum_in}
-use Rattle.oct_descent.specs.After.{cell_spans_after, handed_before, is_new_working, long_spans_after, received_half, ways_before}
+use Rattle.oct_descent.specs.After.{cell_spans_after, handed_before, is_new_working, is_old_cell, long_spans_after, received_half, ways_before}
 use Rattle.oct_descent.specs.AfterDesks.{IsEnoughAfter, IsEnoughHalvesAfter, halves_long_spans_after, halves_spans_after}
 use Rattle.oct_descent.specs.AfterLaws.{BoxesAfterAddUp}
 use Rattle.oct_descent.specs.Bound.{cell_spans_in, long_spans_in}
@@ -232,17 +232,16 @@ long-most laws d before v = total-most (own_long d) laws d before v
 
 -- ---- what is enough
 
--- a working cell that is new in a half is new in the box
-new-below : (laws : Lawful) (d : CellDescent) (before : Option Visit) (v : Visit) (half : Indices)
+-- a cell that is old from a half on is old from the box on
+pub old-below : (laws : Lawful) (d : CellDescent) (before : Option Visit) (v : Visit) (half : Indices)
     (s : Sample) → 0 < d.boxes.leaf → IsBox v.box → IsNew before v → is_cut d v ≡ true
     → Contains (halves_of d.boxes.leaf v.box) half → LiesIn half s
-    → is_new_working d before v s
-    ≡ is_new_working d (received_half (handed_before d before) half) (visit half (handed_on d.boxes v)) s
-new-below laws d before v half s some is new e among lies =
-    ap (λ w. is_open d w && not (is_long d.boxes.leaf w.box) && not (is_old (ways_before d before s) w)) end
-    ∙ ap (λ t. is_working d next s && not t) (below-same laws d before v last s some is inside new less)
-    ∙ ap (λ b. is_working d next s && not
-    (is_old (ways_before d (received_half (handed_before d before) b) s) last)) only
+    → is_old_cell d before v s
+    ≡ is_old_cell d (received_half (handed_before d before) half) (visit half (handed_on d.boxes v)) s
+old-below laws d before v half s some is new e among lies =
+    ap (is_old (ways_before d before s)) (end-of_half laws d v half s some is e among lies)
+    ∙ below-same laws d before v last s some is inside new less
+    ∙ ap (λ b. is_old (ways_before d (received_half (handed_before d before) b) s) last) only
   where
     next : Visit
     next = visit half (handed_on d.boxes v)
@@ -256,9 +255,6 @@ new-below laws d before v half s some is new e among lies =
     only : half_with d.boxes.leaf v.box s ≡ half
     only = laws.parts.only d.boxes.leaf v.box half s among lies
 
-    end : way_end d v s ≡ last
-    end = end-of_half laws d v half s some is e among lies
-
     box : IsBox half
     box =
         laws.parts.box d.boxes.leaf v.box half
@@ -270,6 +266,18 @@ new-below laws d before v half s some is new e among lies =
         (subst (λ b. All (λ w. sides w.box < sides v.box) (way d (visit b (handed_on d.boxes v)) s)) only
         (next-shorter laws d v s some is inside e))
         (end-stands d next s box)
+
+-- and a working cell that is new from a half on is new from the box on
+pub new-below : (laws : Lawful) (d : CellDescent) (before : Option Visit) (v : Visit) (half : Indices)
+    (s : Sample) → 0 < d.boxes.leaf → IsBox v.box → IsNew before v → is_cut d v ≡ true
+    → Contains (halves_of d.boxes.leaf v.box) half → LiesIn half s
+    → is_new_working d before v s
+    ≡ is_new_working d (received_half (handed_before d before) half) (visit half (handed_on d.boxes v)) s
+new-below laws d before v half s some is new e among lies =
+    ap (λ w. is_open d w && not (is_long d.boxes.leaf w.box) && not (is_old_cell d before v s))
+    (end-of_half laws d v half s some is e among lies)
+    ∙ ap (λ t. is_working d (visit half (handed_on d.boxes v)) s && not t)
+    (old-below laws d before v half s some is new e among lies)
 
 -- what is enough for a box is enough for its halves
 pub halves-enough_after : (laws : Lawful) (f : GridPoint → ℕ) (d : CellDescent) (before : Option Visit)

@@ -25,7 +25,7 @@ use Rattle.oct_descent.proofs.WayLaws.{end-below, spans-below}
 use Rattle.view_places.specs.declared.lattice.Lattice.TheVariants as lattices
 
 -- a box covers a point where it has it
-has-covers : (b : Indices) (p : GridPoint) → has_point b p ≡ true → Covers b p
+pub has-covers : (b : Indices) (p : GridPoint) → has_point b p ≡ true → Covers b p
 has-covers b p e =
     let a = and_parts _ _ e in
     let c = and_parts _ _ a.1 in
@@ -124,7 +124,7 @@ spans_bounded laws view list window tape =
 -- ---- what is due
 
 -- the least number is at most each
-least-of : (ns : List ℕ) (n : ℕ) → Contains ns n → least ns ≤ n
+pub least-of : (ns : List ℕ) (n : ℕ) → Contains ns n → least ns ≤ n
 least-of [] n h = absurd (not_in_none n h)
 least-of (k ∷ []) n h = by (head_or_tail k [] n h)
   where

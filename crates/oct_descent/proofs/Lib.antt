@@ -3,6 +3,7 @@ pub mod AfterBounds
 mod AfterExamples
 pub mod AfterLooks
 pub mod AfterOld
+pub mod AfterPaid
 pub mod AfterWork
 pub mod Before
 pub mod Blocks
@@ -15,11 +16,11 @@ mod Examples
 pub mod GapLaws
 pub mod GridLaws
 pub mod Halves
-pub mod Joined
 pub mod Kept
 pub mod Listed
 pub mod Looks
 pub mod Members
+pub mod NewCells
 pub mod Reached
 pub mod Sizes
 pub mod TableLaws

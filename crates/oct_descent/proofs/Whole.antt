@@ -14,7 +14,7 @@ use Rattle.view_places.specs.Boxes.{Indices}
 use Rattle.view_places.specs.Spans.{root_box_of}
 use Rattle.view_places.specs.Window.{Window, size_of}
 use Rattle.oct_descent.proofs.Sizes.{size-from, size-is, size-then}
-use Rattle.oct_descent.specs.Bound.{CountsAtLeast, mesh_least, points_of_grid}
+use Rattle.oct_descent.specs.Bound.{CountsAtLeast}
 use Rattle.oct_descent.specs.GridValues.{list_grid_value}
 use Rattle.oct_descent.specs.Kinds.{GridKind, descent_of, known_of, least_at, least_points, mesh, most_at, most_points, most_spans, root_of, value_in}
 use Rattle.oct_descent.specs.Known.{AreSettled, AreWorked, ChargesBox, Grows, IsNew, Known, PaysBox, left}
@@ -91,10 +91,3 @@ whole-told view other list b before after same root n few none grows settled =
       right = whole-right mesh view other list b (known_of before) (known_of after) same none grows;
       settled = whole-settled mesh view other list b (known_of after) same root settled;
     }
-
--- and pays what is due
-pub mesh-paid : (laws : Lawful) (view other : Window) (list : List Step) (b : Indices) (before after : PointValues) (told now : Counts) → other ≡ view → b ≡ root_box_of view lattices.Grid → before.n ≡ size_of view
-    → ((p : GridPoint) → known_at before p ≡ None) → AreWorked (gridded other) (visit b list) (known_of after) → PaysBox (gridded other) (visit b list) (known_of before) (known_of after) told now → CountsAtLeast (mesh_least view list) told now
-unfolding mesh_least
-mesh-paid laws view other list b before after told now same root n none worked pays =
-    whole-paid laws mesh view other list b (known_of before) (known_of after) told now same root (ap points_of_grid n) none worked pays

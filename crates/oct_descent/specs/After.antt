@@ -13,7 +13,7 @@ use Rattle.kuhn_cells.specs.declared.grid_size.GridSize.{GridSize}
 use Rattle.live_clauses.specs.declared.step.Step.{Step}
 use Rattle.view_places.specs.Boxes.{Indices}
 use Rattle.view_places.specs.Window.{Window, size_of}
-use Rattle.oct_descent.specs.Bound.{has_point, points_of_grid, sample_of}
+use Rattle.oct_descent.specs.Bound.{has_point, least, points_of_grid, sample_of}
 use Rattle.oct_descent.specs.Ways.{CellDescent, grid_root, gridded, is_cut, is_working, way, way_end}
 
 -- the boxes on the ways to the cells in the mesh before, from a box that it reached; there are none
@@ -70,10 +70,13 @@ abbrev pub mesh_long_spans_after : Window → Option (List Step) → List Step �
 mesh_long_spans_after view before list =
     long_spans_after (gridded view) (mesh_before view before) (grid_root view list)
 
--- a working cell is new where the last box on the way to it, which is the cell alone, is not old
+-- a cell is old where the last box on the way to it is old
+abbrev pub is_old_cell : CellDescent → Option Visit → Visit → Sample → Bool
+is_old_cell d before v s = is_old (ways_before d before s) (way_end d v s)
+
+-- a working cell is new where it is not old
 abbrev pub is_new_working : CellDescent → Option Visit → Visit → Sample → Bool
-is_new_working d before v s =
-    is_working d v s && not (is_old (ways_before d before s) (way_end d v s))
+is_new_working d before v s = is_working d v s && not (is_old_cell d before v s)
 
 -- the length of the list that a working cell receives that is new, and 0 for another cell
 abbrev pub new_length_in : CellDescent → Option Visit → Visit → GridPoint → ℕ
@@ -97,3 +100,28 @@ unfoldable pub mesh_points_after : Window → Option (List Step) → List Step �
 mesh_points_after view before list =
     sum_in (points_of_grid (size_of view))
     (λ s. maximum (new_lengths_at view before list (point s.i s.j s.k)))
+
+-- What a cell takes at least at each of its corners: an old cell nothing, since the value may be known
+-- from before, and a working cell that is new the length of the list that it receives. Another cell has
+-- no say.
+abbrev pub least_at_corners : CellDescent → Option Visit → Visit → Sample → List ℕ
+least_at_corners d before v s =
+    if is_old_cell d before v s then 0 ∷ []
+    else if is_working d v s then length (way_end d v s).list ∷ []
+    else []
+
+-- what those cells of the grid of a mesh take that have a point as a corner
+abbrev pub least_lengths_at : Window → Option (List Step) → List Step → GridPoint → List ℕ
+least_lengths_at view before list p =
+    let n = size_of view in
+    over_block n.x n.y n.z (λ cell.
+    if has_point ((gridded view).cell (sample_of cell)) p
+    then least_at_corners (gridded view) (mesh_before view before) (grid_root view list) (sample_of cell)
+    else [])
+
+-- What the points of a grid take at least, after a mesh over the same view of another list, or after
+-- none: each corner of a new working cell the length of the shortest list that such a cell receives that
+-- has it as a corner, and a corner of an old cell nothing.
+unfoldable pub mesh_least_after : Window → Option (List Step) → List Step → ℕ
+mesh_least_after view before list =
+    sum_in (points_of_grid (size_of view)) (λ s. least (least_lengths_at view before list (point s.i s.j s.k)))

@@ -7,9 +7,9 @@ use Rattle.kuhn_cells.specs.Triangles.{GridPoint}
 use Rattle.live_clauses.specs.declared.step.Step.{Step}
 use Rattle.view_places.specs.Boxes.{IsBox, halves_of}
 use Rattle.view_places.specs.Window.{IsWindow, Window}
-use Rattle.oct_descent.specs.After.{cell_spans_after, handed_before, long_spans_after, mesh_long_spans_after, mesh_points_after, mesh_spans_after}
+use Rattle.oct_descent.specs.After.{cell_spans_after, handed_before, long_spans_after, mesh_least_after, mesh_long_spans_after, mesh_points_after, mesh_spans_after}
 use Rattle.oct_descent.specs.AfterDesks.{IsEnoughAfter, IsEnoughHalvesAfter, halves_long_spans_after, halves_spans_after}
-use Rattle.oct_descent.specs.Bound.{cell_spans_in, long_spans_in, mesh_long_spans, mesh_points, mesh_spans}
+use Rattle.oct_descent.specs.Bound.{cell_spans_in, long_spans_in, mesh_least, mesh_long_spans, mesh_points, mesh_spans}
 use Rattle.oct_descent.specs.Tables.{IsEnough}
 use Rattle.oct_descent.specs.Ways.{CellDescent, Covers, is_cut, is_open}
 
@@ -64,11 +64,15 @@ pub record MeshesAfterAddUp : Type 0 where
       → mesh_spans_after view (Some list) list ≡ 0
   pub fresh_points : (view : Window) (list : List Step)
       → mesh_points_after view None list ≡ mesh_points view list
+  pub fresh_least : (view : Window) (list : List Step)
+      → mesh_least_after view None list ≡ mesh_least view list
   pub fresh_spans : (view : Window) (list : List Step)
       → mesh_spans_after view None list ≡ mesh_spans view list
   pub fresh_long : (view : Window) (list : List Step)
       → mesh_long_spans_after view None list ≡ mesh_long_spans view list
   pub most_points : (view : Window) (before : Option (List Step)) (list : List Step)
       → mesh_points_after view before list ≤ mesh_points view list
+  pub most_least : (view : Window) (before : Option (List Step)) (list : List Step)
+      → mesh_least_after view before list ≤ mesh_least view list
   pub most_spans : (view : Window) (before : Option (List Step)) (list : List Step)
       → mesh_spans_after view before list ≤ mesh_spans view list

@@ -14,6 +14,7 @@ pub mod KeptBoxes
 pub mod Kinds
 pub mod Known
 pub mod Laws
+pub mod NewBoxes
 pub mod OldBoxes
 pub mod Rows
 pub mod Tables

@@ -6,8 +6,8 @@ ghost use Rattle.box_chains.specs.Visits.{IsVisit};
 ghost use Rattle.kuhn_cells.specs.Sizes.{IsBounded};
 ghost use Rattle.view_places.specs.Spans.{root_box_of};
 ghost use Rattle.view_places.specs.Window.{FitsMesh, size_of};
-ghost use Rattle.oct_descent.specs.After.{mesh_long_spans_after, mesh_points_after, mesh_spans_after};
-ghost use Rattle.oct_descent.specs.Bound.{CountsAtLeast, CountsHullsAtLeast, mesh_least};
+ghost use Rattle.oct_descent.specs.After.{mesh_least_after, mesh_long_spans_after, mesh_points_after, mesh_spans_after};
+ghost use Rattle.oct_descent.specs.Bound.{CountsAtLeast, CountsHullsAtLeast};
 ghost use Rattle.oct_descent.specs.KeptBoxes.{places_of};
 ghost use Rattle.oct_descent.specs.OldBoxes.{IsOldBox, received_by, visit_before};
 ghost use Rattle.oct_descent.specs.Trees.{IsTold};
@@ -54,8 +54,8 @@ pub fn look_into_all(
     ensures lattice { desk.new.lattice ≡ Lattice.Grid }
     ensures at_most { CountsAtMost (mesh_points_after view.now (received_by before.entry) list.now)
         (mesh_spans_after view.now (received_by before.entry) list.now) tally.old tally.new }
-    ensures at_least { before.entry ≡ None → OnOk result
-        (CountsAtLeast (mesh_least view.now list.now) tally.old tally.new) }
+    ensures at_least { OnOk result
+        (CountsAtLeast (mesh_least_after view.now (received_by before.entry) list.now) tally.old tally.new) }
     ensures traced { OnOk result
         (CountsHullsAtLeast
         (mesh_long_spans_after view.now (received_by before.entry) list.now) tally.old tally.new) }

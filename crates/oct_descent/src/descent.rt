@@ -13,12 +13,12 @@ ghost use Rattle.view_places.specs.Boxes.{IsBox, halves_of};
 ghost use Rattle.view_places.specs.Spans.{IsInRoot};
 ghost use Rattle.box_chains.specs.Redrawn.{IsNew};
 ghost use Rattle.oct_descent.specs.Adding.{Adds};
-ghost use Rattle.oct_descent.specs.After.{long_spans_after};
-ghost use Rattle.oct_descent.specs.AfterDesks.{ChargesBelowAfter, ChargesBoxAfter, ChargesHalvesAfter, halves_long_spans_after, long_spans_below_after};
+ghost use Rattle.oct_descent.specs.After.{long_spans_after, received_half};
+ghost use Rattle.oct_descent.specs.AfterDesks.{AreWorkedAfter, ChargesBelowAfter, ChargesBoxAfter, ChargesHalvesAfter, PaysBoxAfter, PaysHalvesAfter, halves_long_spans_after, long_spans_below_after};
 ghost use Rattle.oct_descent.specs.Bound.{CountsHullsAtLeast, CountsNoHull};
 ghost use Rattle.oct_descent.specs.Corners.{IsSeen, IsShown};
 ghost use Rattle.oct_descent.specs.Asked.{IsToldAt, asked_of, longer};
-ghost use Rattle.oct_descent.specs.Halves.{AreTurned, MayLook, PaysHalves};
+ghost use Rattle.oct_descent.specs.Halves.{AreTurned, MayLook};
 ghost use Rattle.oct_descent.specs.Kinds.{known_of, mesh};
 ghost use Rattle.oct_descent.specs.Known.{AreSettled, AreWorked, ChargesBox, Grows, PaysBox};
 ghost use Rattle.oct_descent.specs.GridValues.{list_grid_value};
@@ -69,13 +69,14 @@ pub fn look_into(
     ensures settled { OnOk result
         (AreSettled (gridded desk.old.view) (list_grid_value desk.old.view (list_of desk.old received)) b
         (known_of values.new)) }
-    ensures worked { before.entry ≡ None → OnOk result
-        (AreWorked (gridded desk.old.view) (visit b (list_of desk.old received)) (known_of values.new)) }
+    ensures worked { OnOk result
+        (AreWorkedAfter (gridded desk.old.view) (visit_before before.entry b)
+        (visit b (list_of desk.old received)) (known_of values.new)) }
     ensures grows { Grows (list_grid_value desk.old.view (list_of desk.old received)) b (known_of values.old)
         (known_of values.new) }
     ensures counted { ChargesBoxAfter (gridded desk.old.view) (visit_before before.entry b)
         (visit b (list_of desk.old received)) (known_of values.old) (known_of values.new) tally.old tally.new }
-    ensures paid { before.entry ≡ None → PaysBox (gridded desk.old.view)
+    ensures paid { PaysBoxAfter (gridded desk.old.view) (visit_before before.entry b)
         (visit b (list_of desk.old received)) (known_of values.old) (known_of values.new) tally.old tally.new }
     ensures traced { OnOk result
         (CountsHullsAtLeast
@@ -118,13 +119,14 @@ fn look_into_told(
     ensures settled { OnOk result
         (AreSettled (gridded desk.old.view) (list_grid_value desk.old.view (list_of desk.old received)) b
         (known_of values.new)) }
-    ensures worked { before.entry ≡ None → OnOk result
-        (AreWorked (gridded desk.old.view) (visit b (list_of desk.old received)) (known_of values.new)) }
+    ensures worked { OnOk result
+        (AreWorkedAfter (gridded desk.old.view) (visit_before before.entry b)
+        (visit b (list_of desk.old received)) (known_of values.new)) }
     ensures grows { Grows (list_grid_value desk.old.view (list_of desk.old received)) b (known_of values.old)
         (known_of values.new) }
     ensures counted { ChargesBelowAfter (gridded desk.old.view) (visit_before before.entry b)
         (visit b (list_of desk.old received)) (known_of values.old) (known_of values.new) tally.old tally.new }
-    ensures paid { before.entry ≡ None → PaysBox (gridded desk.old.view)
+    ensures paid { PaysBoxAfter (gridded desk.old.view) (visit_before before.entry b)
         (visit b (list_of desk.old received)) (known_of values.old) (known_of values.new) tally.old tally.new }
     ensures traced { OnOk result
         (CountsHullsAtLeast
@@ -165,16 +167,17 @@ fn look_into_split(
     ensures settled { OnOk result
         (AreSettled (gridded desk.old.view) (list_grid_value desk.old.view (list_of desk.old live)) b
         (known_of values.new)) }
-    ensures worked { before.entry ≡ None → OnOk result
-        (All (λ half. AreWorked (gridded desk.old.view) (visit half (list_of desk.old live))
-        (known_of values.new)) (halves_of 1 b)) }
+    ensures worked { OnOk result
+        (All (λ half. AreWorkedAfter (gridded desk.old.view) (received_half (handed_by before.entry boxes.old.before) half)
+        (visit half (list_of desk.old live)) (known_of values.new)) (halves_of 1 b)) }
     ensures grows { Grows (list_grid_value desk.old.view (list_of desk.old live)) b (known_of values.old)
         (known_of values.new) }
     ensures counted { ChargesHalvesAfter (gridded desk.old.view)
         (handed_by before.entry boxes.old.before) (list_of desk.old live) (halves_of 1 b) (known_of values.old)
         (known_of values.new) tally.old tally.new }
-    ensures paid { before.entry ≡ None → PaysHalves (gridded desk.old.view) (list_of desk.old live)
-        (halves_of 1 b) (known_of values.old) (known_of values.new) tally.old tally.new }
+    ensures paid { PaysHalvesAfter (gridded desk.old.view) (handed_by before.entry boxes.old.before)
+        (list_of desk.old live) (halves_of 1 b) (known_of values.old) (known_of values.new) tally.old
+        tally.new }
     ensures traced { OnOk result
         (CountsHullsAtLeast (halves_long_spans_after (gridded desk.old.view)
         (handed_by before.entry boxes.old.before) (list_of desk.old live) (halves_of 1 b)) tally.old
@@ -252,16 +255,17 @@ fn look_into_anew(
     ensures settled { OnOk result
         (AreSettled (gridded desk.old.view) (list_grid_value desk.old.view (list_of desk.old live)) b
         (known_of values.new)) }
-    ensures worked { before.entry ≡ None → OnOk result
-        (All (λ half. AreWorked (gridded desk.old.view) (visit half (list_of desk.old live))
-        (known_of values.new)) (halves_of 1 b)) }
+    ensures worked { OnOk result
+        (All (λ half. AreWorkedAfter (gridded desk.old.view) (received_half (handed_by before.entry boxes.old.before) half)
+        (visit half (list_of desk.old live)) (known_of values.new)) (halves_of 1 b)) }
     ensures grows { Grows (list_grid_value desk.old.view (list_of desk.old live)) b (known_of values.old)
         (known_of values.new) }
     ensures counted { ChargesHalvesAfter (gridded desk.old.view)
         (handed_by before.entry boxes.old.before) (list_of desk.old live) (halves_of 1 b) (known_of values.old)
         (known_of values.new) tally.old tally.new }
-    ensures paid { before.entry ≡ None → PaysHalves (gridded desk.old.view) (list_of desk.old live)
-        (halves_of 1 b) (known_of values.old) (known_of values.new) tally.old tally.new }
+    ensures paid { PaysHalvesAfter (gridded desk.old.view) (handed_by before.entry boxes.old.before)
+        (list_of desk.old live) (halves_of 1 b) (known_of values.old) (known_of values.new) tally.old
+        tally.new }
     ensures traced { OnOk result
         (CountsHullsAtLeast (halves_long_spans_after (gridded desk.old.view)
         (handed_by before.entry boxes.old.before) (list_of desk.old live) (halves_of 1 b)) tally.old
@@ -327,15 +331,16 @@ fn look_into_halves(
     ensures settled { OnOk result
         (AreSettled (gridded desk.old.view) (list_grid_value desk.old.view (list_of desk.old live)) b
         (known_of values.new)) }
-    ensures worked { half.entry ≡ None → OnOk result
-        (All (λ half. AreWorked (gridded desk.old.view) (visit half (list_of desk.old live))
-        (known_of values.new)) (halves_of 1 b)) }
+    ensures worked { OnOk result
+        (All (λ part. AreWorkedAfter (gridded desk.old.view) (received_half (received_by half.entry) part)
+        (visit part (list_of desk.old live)) (known_of values.new)) (halves_of 1 b)) }
     ensures grows { Grows (list_grid_value desk.old.view (list_of desk.old live)) b (known_of values.old)
         (known_of values.new) }
     ensures counted { ChargesHalvesAfter (gridded desk.old.view) (received_by half.entry)
         (list_of desk.old live) (halves_of 1 b) (known_of values.old) (known_of values.new) tally.old tally.new }
-    ensures paid { half.entry ≡ None → PaysHalves (gridded desk.old.view) (list_of desk.old live)
-        (halves_of 1 b) (known_of values.old) (known_of values.new) tally.old tally.new }
+    ensures paid { PaysHalvesAfter (gridded desk.old.view) (received_by half.entry)
+        (list_of desk.old live) (halves_of 1 b) (known_of values.old) (known_of values.new) tally.old
+        tally.new }
     ensures traced { OnOk result
         (CountsHullsAtLeast (halves_long_spans_after (gridded desk.old.view)
         (received_by half.entry) (list_of desk.old live) (halves_of 1 b)) tally.old tally.new) }
@@ -371,15 +376,16 @@ fn look_into_each_half(
     ensures settled { OnOk result
         (AreSettled (gridded desk.old.view) (list_grid_value desk.old.view (list_of desk.old live)) b
         (known_of values.new)) }
-    ensures worked { before.entry ≡ None → OnOk result
-        (All (λ half. AreWorked (gridded desk.old.view) (visit half (list_of desk.old live))
-        (known_of values.new)) (halves_of 1 b)) }
+    ensures worked { OnOk result
+        (All (λ half. AreWorkedAfter (gridded desk.old.view) (received_half (received_by before.entry) half)
+        (visit half (list_of desk.old live)) (known_of values.new)) (halves_of 1 b)) }
     ensures grows { Grows (list_grid_value desk.old.view (list_of desk.old live)) b (known_of values.old)
         (known_of values.new) }
     ensures counted { ChargesHalvesAfter (gridded desk.old.view) (received_by before.entry)
         (list_of desk.old live) (halves_of 1 b) (known_of values.old) (known_of values.new) tally.old tally.new }
-    ensures paid { before.entry ≡ None → PaysHalves (gridded desk.old.view) (list_of desk.old live)
-        (halves_of 1 b) (known_of values.old) (known_of values.new) tally.old tally.new }
+    ensures paid { PaysHalvesAfter (gridded desk.old.view) (received_by before.entry)
+        (list_of desk.old live) (halves_of 1 b) (known_of values.old) (known_of values.new) tally.old
+        tally.new }
     ensures traced { OnOk result
         (CountsHullsAtLeast (halves_long_spans_after (gridded desk.old.view)
         (received_by before.entry) (list_of desk.old live) (halves_of 1 b)) tally.old tally.new) }

@@ -1,6 +1,7 @@
 // What always holds of grids of lists and of the work that their cells take.
 ghost use Rattle.oct_descent.specs.AfterLaws.{BoxesAfterAddUp, MeshesAfterAddUp};
 ghost use Rattle.oct_descent.specs.GridLaws.{GridsHold};
+ghost use Rattle.oct_descent.specs.NewBoxes.{MeshBoxesAreCountedOnce, NewBoxesAreCountedOnce, OldBoxesAreASet};
 ghost use Rattle.oct_descent.specs.Laws.{GridsAreBordered, LayersHaveTheCells, LongMeshSpansAddUp, MeshPointsAreBounded, MeshSpansAddUp, MeshSpansAreBounded, ReachedBoxesAreCountedOnce, WaysGoOn};
 
 use box_chains::layers_hold;
@@ -66,6 +67,18 @@ pub fn layers_have_the_cells()
 pub fn meshes_after_add_up()
     ensures boxes { BoxesAfterAddUp }
     ensures meshes { MeshesAfterAddUp }
+{
+    layers_hold();
+}
+
+/// The boxes of a mesh that comes after another of the same cells. Whether a box is old does not depend on
+/// the cell by whose way it is reached: it is where it was on the way to any cell in the mesh before, with
+/// an equal list. Each other box is traced once at most, and once where it has more than one cell, and no
+/// other working cell takes evaluations.
+pub fn new_boxes_are_counted_once()
+    ensures old { OldBoxesAreASet }
+    ensures new { NewBoxesAreCountedOnce }
+    ensures meshes { MeshBoxesAreCountedOnce }
 {
     layers_hold();
 }

@@ -24,7 +24,7 @@ mod taking;
 pub use grids::{CellGrid, cell_grid};
 pub use laws::{
     grid_work_is_bounded, grids_are_bordered, grids_hold, layers_have_the_cells, mesh_spans_add_up,
-    meshes_after_add_up, reached_boxes_are_counted_once, ways_go_on,
+    meshes_after_add_up, new_boxes_are_counted_once, reached_boxes_are_counted_once, ways_go_on,
 };
 pub use listing::cell_list;
 pub use oct_tree::{OctTree, cells, recells};

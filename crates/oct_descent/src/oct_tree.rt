@@ -2,7 +2,7 @@
 ghost use Rattle.std.specs.Prelude.{◌≡◌, ◌≢◌, IfOk, IsTrue, OnOk, Some};
 ghost use Rattle.view_places.specs.Window.{FitsMesh};
 ghost use Rattle.box_chains.specs.Tallied.{CountsAtMost};
-ghost use Rattle.oct_descent.specs.After.{mesh_long_spans_after, mesh_points_after, mesh_spans_after};
+ghost use Rattle.oct_descent.specs.After.{mesh_least_after, mesh_long_spans_after, mesh_points_after, mesh_spans_after};
 ghost use Rattle.oct_descent.specs.Bound.{CountsAtLeast, CountsHullsAtLeast, mesh_least, mesh_long_spans, mesh_points, mesh_spans};
 ghost use Rattle.oct_descent.specs.KeptBoxes.{places_of};
 ghost use Rattle.oct_descent.specs.Trees.{IsTold};
@@ -107,12 +107,15 @@ pub fn cells(
 /// Looks into the boxes of a grid anew, for another list of steps. What is counted is the work of those
 /// boxes alone that the grid did not have with an equal list, and of the working cells among them: no
 /// more evaluations than one of a list at each corner of such a cell, the longest that one of them
-/// receives. Each box of more than one cell among them is traced. AllocError: there is no memory for the
-/// new tree, and the old one is given up.
+/// receives, and no fewer than one of the shortest at each that is no corner of a cell that the grid had
+/// with an equal list. Each box of more than one cell among them is traced. AllocError: there is no
+/// memory for the new tree, and the old one is given up.
 pub fn recells(old: OctTree, list: &Tape, tally: &mut Tally) -> Result<OctTree, AllocError>
     ensures tree { IfOk result (λ tree. tree ≡ record { view = old.view; list = list.now }) }
     ensures at_most { CountsAtMost (mesh_points_after old.view (Some old.list) list.now)
         (mesh_spans_after old.view (Some old.list) list.now) tally.old tally.new }
+    ensures at_least { OnOk result (CountsAtLeast
+        (mesh_least_after old.view (Some old.list) list.now) tally.old tally.new) }
     ensures traced { OnOk result (CountsHullsAtLeast
         (mesh_long_spans_after old.view (Some old.list) list.now) tally.old tally.new) }
 {
@@ -131,6 +134,8 @@ fn look_into_after(old: OctTree, list: &Tape, tally: &mut Tally) -> Result<OctTr
     ensures tree { IfOk result (λ tree. tree ≡ record { view = old.view; list = list.now }) }
     ensures at_most { CountsAtMost (mesh_points_after old.view (Some old.list) list.now)
         (mesh_spans_after old.view (Some old.list) list.now) tally.old tally.new }
+    ensures at_least { OnOk result (CountsAtLeast
+        (mesh_least_after old.view (Some old.list) list.now) tally.old tally.new) }
     ensures traced { OnOk result (CountsHullsAtLeast
         (mesh_long_spans_after old.view (Some old.list) list.now) tally.old tally.new) }
 {

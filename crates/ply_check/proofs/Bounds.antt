@@ -9,10 +9,10 @@ use Rattle.ply_check.specs.declared.header_line.HeaderLine.{HeaderLine}
 use Rattle.ply_check.specs.declared.header_line.HeaderLine.TheVariants.{Comment, End, FaceList, Faces, Format, Other, Property, Vertices}
 use Rattle.ply_check.specs.declared.ply_reason.PlyReason.{PlyReason}
 use Rattle.ply_check.specs.declared.ply_reason.PlyReason.TheVariants.{BadFace, BadIndex}
-use Rattle.ply_check.specs.FaceLines.{face_line, face_of}
+use Rattle.ply_check.specs.FaceLines.{said_face, face_of}
 use Rattle.ply_check.specs.HeaderLines.{element_line, element_said, end_line, format_line, header_line, if_small, list_line, property_line}
 use Rattle.ply_check.specs.Headers.{header_of, is_comment, said}
-use Rattle.ply_check.specs.Laws.{FilesAreSmall}
+use Rattle.ply_check.specs.ReadingLaws.{FilesAreSmall}
 use Rattle.ply_check.specs.PlyFiles.{SayFaces}
 
 -- ---- the vertices of a face
@@ -40,7 +40,7 @@ corners_small count None b c face is = (cc)
 corners_small count (Some a) None c face is = (cc)
 corners_small count (Some a) (Some b) None face is = (cc)
 
-line_small : (count : ℕ) (tokens : List (List ℕ)) (face : List ℕ) → face_line count tokens ≡ Ok face → All (λ v. v < count) face
+line_small : (count : ℕ) (tokens : List (List ℕ)) (face : List ℕ) → said_face count tokens ≡ Ok face → All (λ v. v < count) face
 line_small count (size ∷ a ∷ b ∷ c ∷ []) face is = by (cases_Bool (bytes_eq size (codes "3")))
   where
     under : Bool → Result (List ℕ) PlyReason
@@ -60,7 +60,7 @@ faces_small count [] [] says = All-nil (All (λ v. v < count))
 faces_small count [] (face ∷ faces) says = (cc)
 faces_small count (line ∷ lines) [] says = (cc)
 faces_small count (line ∷ lines) (face ∷ faces) says =
-    let here : face_line count line.1 ≡ Ok face = cc in
+    let here : said_face count line.1 ≡ Ok face = cc in
     let later : SayFaces count lines faces = cc in
     All-cons (All (λ v. v < count)) face faces (line_small count line.1 face here) (faces_small count lines faces later)
 

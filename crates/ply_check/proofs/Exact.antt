@@ -1,6 +1,6 @@
 -- A file is read as one mesh alone, or is refused on one line for one reason.
 use Rattle.std.proofs.Common.{ap, sym, ◌∙◌, inl, inr}
-use Rattle.ply_check.specs.Laws.{EachFileIsAnswered, NoneIsReadAndRefused, OneReading, OneRefusal}
+use Rattle.ply_check.specs.ReadingLaws.{EachFileIsAnswered, NoneIsReadAndRefused, OneReading, OneRefusal}
 use Rattle.ply_check.specs.PlyFiles.{ply_lines}
 use Rattle.ply_check.proofs.Answered.{reads_answered, refuses_answered}
 use Rattle.ply_check.proofs.PlyCases.{ply_cases, count_in, faces_in, line_in, reason_in}

@@ -8,7 +8,7 @@ use Rattle.ply_check.specs.declared.ply_reason.PlyReason.{PlyReason}
 use Rattle.ply_check.specs.declared.ply_reason.PlyReason.TheVariants.{BadFace, BadHeader, BadVertex, NoMemory, TooShort}
 use Rattle.ply_check.specs.declared.stage.Stage.TheVariants.{Opened}
 use Rattle.ply_check.specs.Answers.{faces_answer, fault_at, ply_answer, too_short}
-use Rattle.ply_check.specs.FaceLines.{face_line}
+use Rattle.ply_check.specs.FaceLines.{said_face}
 use Rattle.ply_check.specs.Gives.{Gives, MayWantMemory}
 use Rattle.ply_check.specs.Passes.{GoesOn, WantsFace}
 use Rattle.ply_check.specs.PlyFiles.{ply_lines, EndsInFaces, EndsInHeader, EndsInVertices}
@@ -69,10 +69,10 @@ parts_with front line after ends =
 
 -- a line behind them that is not refused says a face of as many vertices as the header tells
 says_face : (front : Lines) (number : ℕ) (tokens : List (List ℕ)) (ends : EndsInFaces front) → GoesOn (ply_answer (front ++ (number, tokens) ∷ []))
-    → IsOk (face_line ends.count tokens)
-says_face front number tokens ends on = by (face_line ends.count tokens) refl
+    → IsOk (said_face ends.count tokens)
+says_face front number tokens ends on = by (said_face ends.count tokens) refl
   where
-    by : (said : Result (List ℕ) PlyReason) → face_line ends.count tokens ≡ said → IsOk (face_line ends.count tokens)
+    by : (said : Result (List ℕ) PlyReason) → said_face ends.count tokens ≡ said → IsOk (said_face ends.count tokens)
     by (Ok face) is = rw is refl
     by (Err reason) is =
         let refused = face_refused (front ++ (number, tokens) ∷ []) number reason (record {

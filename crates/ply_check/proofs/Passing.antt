@@ -16,7 +16,7 @@ use Rattle.ply_check.specs.declared.stage.Stage.{Stage}
 use Rattle.ply_check.specs.declared.stage.Stage.TheVariants.{Opened, Formatted, Counted, Measured, Listed, Described}
 use Rattle.ply_check.specs.declared.stage.Step.TheVariants.{On, Out}
 use Rattle.ply_check.specs.Answers.{Answer, faces_answer, fault_at, header_answer, ply_answer, step_after, too_short, vertices_answer, width_at}
-use Rattle.ply_check.specs.FaceLines.{face_line}
+use Rattle.ply_check.specs.FaceLines.{said_face}
 use Rattle.ply_check.specs.HeaderLines.{header_line, is_ply}
 use Rattle.ply_check.specs.Passes.{GoesOn, Passes, WantsFace}
 use Rattle.ply_check.proofs.HeaderRuns.{Lines}
@@ -87,12 +87,12 @@ faces_end count zero read some = absurd (omega arith)
 faces_end count (suc left) read some = refl
 
 pub faces_bad : (count left : ℕ) (read : List (List ℕ)) (line : ℕ × List (List ℕ)) (lines : Lines) (reason : PlyReason) → 0 < left
-    → face_line count line.1 ≡ Err reason → faces_answer count left read (line ∷ lines) ≡ Err (fault_at line.0 reason)
+    → said_face count line.1 ≡ Err reason → faces_answer count left read (line ∷ lines) ≡ Err (fault_at line.0 reason)
 faces_bad count zero read line lines reason some none = absurd (omega arith)
 faces_bad count (suc left) read line lines reason some none = rw none refl
 
 pub faces_next : (count left : ℕ) (read : List (List ℕ)) (line : ℕ × List (List ℕ)) (face : List ℕ) → 0 < left
-    → face_line count line.1 ≡ Ok face → (more : Lines) → faces_answer count left read (line ∷ more) ≡ faces_answer count (left - 1) (read ++ face ∷ []) more
+    → said_face count line.1 ≡ Ok face → (more : Lines) → faces_answer count left read (line ∷ more) ≡ faces_answer count (left - 1) (read ++ face ∷ []) more
 faces_next count zero read line face some is more = absurd (omega arith)
 faces_next count (suc left) read line face some is more = let one : suc left - 1 ≡ left = omega arith in rw (is, one) refl
 
@@ -102,7 +102,7 @@ faces_go_on count (suc left) read = refl
 
 -- a face that may want memory
 pub wants_face : (all : Lines → Answer) (count left : ℕ) (read : List (List ℕ)) (old lines new : Lines) (line : ℕ × List (List ℕ)) (face : List ℕ)
-    → Passes all (faces_answer count left read) old lines → lines ≡ line ∷ new → 0 < left → face_line count line.1 ≡ Ok face → WantsFace all old line.0
+    → Passes all (faces_answer count left read) old lines → lines ≡ line ∷ new → 0 < left → said_face count line.1 ≡ Ok face → WantsFace all old line.0
 wants_face all count left read old lines new line face passed is some says = record {
   front = passed.front;
   tokens = line.1;

@@ -10,7 +10,7 @@ use Rattle.ply_check.specs.declared.ply_reason.PlyReason.{PlyReason}
 use Rattle.ply_check.specs.declared.ply_reason.PlyReason.TheVariants.{NotPly, BadHeader, BadVertex, BadFace, BadIndex, TooShort, TooLong}
 use Rattle.ply_check.specs.declared.stage.Stage.TheVariants.{Opened}
 use Rattle.ply_check.specs.Answers.{Answer, end_answer, faces_answer, fault_at, ply_answer, vertices_answer}
-use Rattle.ply_check.specs.FaceLines.{face_line, face_of}
+use Rattle.ply_check.specs.FaceLines.{said_face, face_of}
 use Rattle.ply_check.specs.HeaderLines.{header_line, is_ply}
 use Rattle.ply_check.specs.Headers.{header_of, said, Opens}
 use Rattle.ply_check.specs.PlyFiles.{HasWidth, SayFaces, IsFile, HasBadFace, Refuses}
@@ -62,7 +62,7 @@ face_of-reasons count (Some a) (Some b) None reason e = inl (cc)
 face_of-reasons count (Some a) None c reason e = inl (cc)
 face_of-reasons count None b c reason e = inl (cc)
 
-pub face-reasons : (count : ℕ) (tokens : List (List ℕ)) (reason : PlyReason) → face_line count tokens ≡ Err reason → (reason ≡ BadFace) ⊎ (reason ≡ BadIndex)
+pub face-reasons : (count : ℕ) (tokens : List (List ℕ)) (reason : PlyReason) → said_face count tokens ≡ Err reason → (reason ≡ BadFace) ⊎ (reason ≡ BadIndex)
 face-reasons count (size ∷ a ∷ b ∷ c ∷ []) reason e = by (bytes_eq size (codes "3")) e
   where
     by : (t : Bool) → cond t (face_of count (digits_read 10 a) (digits_read 10 b) (digits_read 10 c)) (Err BadFace) ≡ Err reason → (reason ≡ BadFace) ⊎ (reason ≡ BadIndex)

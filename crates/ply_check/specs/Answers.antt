@@ -11,7 +11,7 @@ use Rattle.ply_check.specs.declared.stage.Stage.{Stage}
 use Rattle.ply_check.specs.declared.stage.Stage.TheVariants.{Opened, Formatted, Counted, Measured, Listed, Described}
 use Rattle.ply_check.specs.declared.stage.Step.{Step}
 use Rattle.ply_check.specs.declared.stage.Step.TheVariants.{On, Out}
-use Rattle.ply_check.specs.FaceLines.{face_line}
+use Rattle.ply_check.specs.FaceLines.{said_face}
 use Rattle.ply_check.specs.HeaderLines.{header_line, is_ply}
 
 -- a mesh as a file says it: how many vertices there are, and the faces
@@ -34,7 +34,7 @@ abbrev pub faces_answer : ℕ → ℕ → List (List ℕ) → List (ℕ × List 
 faces_answer count zero faces lines = end_answer count faces lines
 faces_answer count (suc left) faces [] = Err too_short
 faces_answer count (suc left) faces (line ∷ lines) =
-    on_result (face_line count line.1) (λ face. faces_answer count left (faces ++ face ∷ []) lines)
+    on_result (said_face count line.1) (λ face. faces_answer count left (faces ++ face ∷ []) lines)
     (λ reason. Err (fault_at line.0 reason))
 
 -- where so many vertices are left

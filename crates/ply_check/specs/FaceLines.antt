@@ -14,8 +14,8 @@ face_of count a b c = Err BadFace
 -- The face that a line says: `3` and three whole numbers of 1 to 10 digits, each of which is that
 -- of a vertex. Where it has not this form, it is a bad face; and where it has, but a number is too
 -- great, a bad index.
-abbrev pub face_line : ℕ → List (List ℕ) → Result (List ℕ) PlyReason
-face_line count (size ∷ a ∷ b ∷ c ∷ []) =
+abbrev pub said_face : ℕ → List (List ℕ) → Result (List ℕ) PlyReason
+said_face count (size ∷ a ∷ b ∷ c ∷ []) =
     if bytes_eq size (codes "3") then face_of count (digits_read 10 a) (digits_read 10 b) (digits_read 10 c)
     else Err BadFace
-face_line count tokens = Err BadFace
+said_face count tokens = Err BadFace

@@ -3,7 +3,7 @@ use Rattle.std.specs.Prelude.{◌≡◌, ◌≢◌, ℕ, ◌<◌, List, ◌∷�
 use Rattle.ply_check.specs.declared.ply_fault.PlyFault.{PlyFault}
 use Rattle.ply_check.specs.declared.ply_file.PlyFile.{PlyFile}
 use Rattle.ply_check.specs.declared.ply_reason.PlyReason.TheVariants.{NoMemory}
-use Rattle.ply_check.specs.FaceLines.{face_line}
+use Rattle.ply_check.specs.FaceLines.{said_face}
 use Rattle.ply_check.specs.Headers.{Opens}
 use Rattle.ply_check.specs.PlyFiles.{ply_lines, HasWidth, PlyReads, PlyRefuses, SayFaces}
 
@@ -24,7 +24,7 @@ pub record MayWantMemory (bytes : List ℕ) (line : ℕ) : Type 0 where
   pub wide : All (HasWidth width) points
   pub says : SayFaces count before corners
   pub few : length before < faces
-  pub good : IsOk (face_line count tokens)
+  pub good : IsOk (said_face count tokens)
 
 -- what the file says, or the very line and reason for which it is refused, or want of memory
 abbrev pub Gives : List ℕ → Result PlyFile PlyFault → Type 0

@@ -1,7 +1,7 @@
 -- What is passed of lines, and what is answered of those that are left.
 use Rattle.std.specs.Prelude.{◌≡◌, ℕ, ◌<◌, List, [], ◌∷◌, ◌++◌, Ok, Err, IsOk}
 use Rattle.ply_check.specs.Answers.{Answer, faces_answer, too_short}
-use Rattle.ply_check.specs.FaceLines.{face_line}
+use Rattle.ply_check.specs.FaceLines.{said_face}
 
 -- Some lines were passed: whatever follows them, what is answered of all is what is answered of
 -- the lines that follow.
@@ -27,7 +27,7 @@ pub record WantsFace (answer : List (ℕ × List (List ℕ)) → Answer)
   pub left : ℕ
   pub read : List (List ℕ)
   pub parts : lines ≡ front ++ (number, tokens) ∷ after
-  pub says : IsOk (face_line count tokens)
+  pub says : IsOk (said_face count tokens)
   pub some : 0 < left
   pub same : (more : List (ℕ × List (List ℕ)))
       → answer (front ++ more) ≡ faces_answer count left read more

@@ -5,7 +5,7 @@ use Rattle.clause_reader.specs.NumberedLines.{given_lines}
 use Rattle.ply_check.specs.declared.header_line.HeaderLine.{HeaderLine}
 use Rattle.ply_check.specs.declared.ply_reason.PlyReason.{PlyReason}
 use Rattle.ply_check.specs.declared.ply_reason.PlyReason.TheVariants.{NotPly, BadHeader, BadVertex, BadFace, BadIndex, TooShort, TooLong, NoMemory}
-use Rattle.ply_check.specs.FaceLines.{face_line}
+use Rattle.ply_check.specs.FaceLines.{said_face}
 use Rattle.ply_check.specs.HeaderLines.{is_ply}
 use Rattle.ply_check.specs.Headers.{Begins, Opens}
 
@@ -20,7 +20,7 @@ HasWidth width line = length line.1 ≡ width
 
 -- lines say these faces of so many vertices, one each
 abbrev pub SayFaces : ℕ → List (ℕ × List (List ℕ)) → List (List ℕ) → Type 0
-SayFaces count lines faces = map (λ line. face_line count line.1) lines ≡ map Ok faces
+SayFaces count lines faces = map (λ line. said_face count line.1) lines ≡ map Ok faces
 
 -- Lines are a whole file: a line `ply` and a header, a line for each vertex, of as many tokens as
 -- the header has properties, and a line for each face.
@@ -88,7 +88,7 @@ pub record HasBadFace (lines : List (ℕ × List (List ℕ))) (line : ℕ) (reas
   pub wide : All (HasWidth width) points
   pub says : SayFaces count before corners
   pub few : length before < faces
-  pub bad : face_line count tokens ≡ Err reason
+  pub bad : said_face count tokens ≡ Err reason
 
 -- the lines end within the header
 pub record EndsInHeader (lines : List (ℕ × List (List ℕ))) : Type 0 where

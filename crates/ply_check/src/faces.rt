@@ -1,7 +1,7 @@
 // The lines of the faces.
 ghost use Rattle.std.specs.Prelude.{◌≡◌, ◌≢◌, ◌^◌, ◌<◌, [], ◌∷◌, ◌++◌, Some, Err, IfErr, IfOk, OnOk};
 ghost use Rattle.ply_check.specs.Answers.{end_answer, faces_answer};
-ghost use Rattle.ply_check.specs.FaceLines.{face_line, face_of};
+ghost use Rattle.ply_check.specs.FaceLines.{said_face, face_of};
 ghost use Rattle.ply_check.specs.Passes.{Passes, WantsFace};
 
 use crate::fault::{fault, too_short};
@@ -67,7 +67,7 @@ fn push_face(
 
 // The face that a line says, of so many vertices.
 fn read_face(line: Line<'_>, count: u32) -> Result<[u32; 3], PlyReason>
-    ensures { result ≡ face_line count (line.entry.first.now ∷ line.entry.others) }
+    ensures { result ≡ said_face count (line.entry.first.now ∷ line.entry.others) }
 {
     let mut others = line.others;
     let Some(a) = others.next() else {

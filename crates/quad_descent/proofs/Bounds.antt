@@ -1,5 +1,8 @@
 -- The work of a fresh image is bounded by that of its box of all samples.
-use Rattle.std.proofs.Common.{◌≡◌, ◌+◌, ◌-◌, ◌*◌, ◌≤◌, List, length, subst, arith}
+use Rattle.std.proofs.Common.{◌≡◌, ◌+◌, ◌-◌, ◌*◌, ◌≤◌, List, length, ap, subst, sym, arith}
+use Rattle.std.specs.Prelude.{None, Option, Some}
+use Rattle.box_chains.specs.Chains.{Visit}
+use Rattle.box_chains.specs.NewBoxes.{HasTheBox, NewBoxesAreCountedOnce as BoxesAreNewOnce}
 use Rattle.box_chains.specs.Laws.{PointsAreBounded, RedrawnWorkAddsUp, SpansAreBounded}
 use Rattle.box_chains.specs.Redrawn.{frame_before}
 use Rattle.box_chains.specs.Sums.{size}
@@ -10,7 +13,7 @@ use Rattle.view_places.specs.Spans.{root_box_of}
 use Rattle.view_places.specs.Window.{Window, IsWindow}
 use Rattle.view_places.specs.declared.lattice.Lattice.TheVariants.{Raster}
 use Rattle.view_places.specs.Boxes.{IsBox}
-use Rattle.quad_descent.specs.Laws.{FrameWorkIsBounded, FreshPointsAreBounded, FreshSpansAreBounded}
+use Rattle.quad_descent.specs.Laws.{FrameWorkIsBounded, FreshPointsAreBounded, FreshSpansAreBounded, NewBoxesAreCountedOnce}
 use Rattle.quad_descent.specs.Raster.{fresh_points, fresh_spans, raster, raster_root}
 
 whole-visit : (view : Window) (list : List Step) → IsWindow view → IsTape list → IsVisit (raster view) (raster_root view list)
@@ -46,3 +49,15 @@ frame_work_is laws = record {
   same_points = λ view list window. laws.old_points (raster view) (raster_root view list) (omega arith) (whole-box view window);
   same_spans = λ view list window. laws.old_spans (raster view) (raster_root view list) (omega arith) (whole-box view window);
 }
+
+-- the image before has the same samples
+same-box : (view : Window) (before : Option (List Step)) (list : List Step) → HasTheBox (frame_before (raster view) before) (raster_root view list)
+same-box view None list old is = let none : None ≡ Some old = is in (cc)
+same-box view (Some other) list old is =
+    let same : Some (raster_root view other) ≡ Some old = is in
+    let root : raster_root view other ≡ old = (cc) in
+    sym (ap (λ (v : Visit). v.box) root)
+
+pub new_boxes_are : BoxesAreNewOnce → NewBoxesAreCountedOnce
+new_boxes_are law view before list window =
+    law (raster view) (frame_before (raster view) before) (raster_root view list) (omega arith) (whole-box view window) (same-box view before list)

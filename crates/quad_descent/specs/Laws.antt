@@ -1,9 +1,11 @@
--- How much work a fresh image takes, and one that is drawn after another.
+-- How much work a fresh image takes, and one that is drawn after another, and which boxes it is for.
 use Rattle.std.specs.Prelude.{◌≡◌, ◌+◌, ◌*◌, ◌≤◌, List, Option, Some, None, length}
 use Rattle.live_clauses.specs.Steps.{IsTape}
 use Rattle.live_clauses.specs.declared.step.Step.{Step}
 use Rattle.view_places.specs.Window.{Window, IsWindow}
-use Rattle.quad_descent.specs.Raster.{frame_points, frame_spans, fresh_points, fresh_spans}
+use Rattle.box_chains.specs.NewBoxes.{CountsNewBoxesOnce}
+use Rattle.box_chains.specs.Redrawn.{frame_before}
+use Rattle.quad_descent.specs.Raster.{frame_points, frame_spans, fresh_points, fresh_spans, raster, raster_root}
 
 -- no more evaluations than plain evaluation of the list at each sample
 abbrev pub FreshPointsAreBounded : Type 0
@@ -30,3 +32,10 @@ pub record FrameWorkIsBounded : Type 0 where
       → frame_points view (Some list) list ≡ 0
   pub same_spans : (view : Window) (list : List Step) → IsWindow view
       → frame_spans view (Some list) list ≡ 0
+
+-- There is a list of exactly the boxes of an image that the image before did not have with an equal list,
+-- none of them twice, and the work that is counted is theirs.
+abbrev pub NewBoxesAreCountedOnce : Type 0
+NewBoxesAreCountedOnce = (view : Window) (before : Option (List Step)) (list : List Step)
+    → IsWindow view
+    → CountsNewBoxesOnce (raster view) (frame_before (raster view) before) (raster_root view list)

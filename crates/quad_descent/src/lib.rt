@@ -20,7 +20,7 @@ mod row_source;
 mod scan;
 
 pub use images::{draw, draw_picture, redraw};
-pub use laws::{frame_work_is_bounded, fresh_work_is_bounded};
+pub use laws::{frame_boxes_are_counted_once, frame_work_is_bounded, fresh_work_is_bounded};
 pub use painting::rows;
 pub use picture::Picture;
 pub use pixels::image;

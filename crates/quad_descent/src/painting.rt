@@ -10,7 +10,7 @@ use crate::band::Band;
 use crate::node::Node;
 use crate::{Picture, QuadTree};
 use box_chains::{LEAF, layers_hold};
-use view_places::{IndexBox, Lattice, root};
+use view_places::{IndexBox, Lattice, View, root};
 
 /// Paints the rows of an image from `row` on, as many as there are places for. They are the bytes of
 /// the pixels that evaluating the whole list at each sample gives.
@@ -24,6 +24,14 @@ pub fn rows(tree: &QuadTree, row: u32, pixels: &mut [u8])
 }
 
 impl Picture {
+    /// The view that it was drawn over.
+    #[inline]
+    pub fn view(&self) -> &View
+        ensures { result.now ≡ self.now.view }
+    {
+        &self.view
+    }
+
     /// Paints the rows of the image from `row` on, as many as there are places for. They are the bytes
     /// of the pixels that evaluating the whole list at each sample gives.
     pub fn rows(&self, row: u32, pixels: &mut [u8])

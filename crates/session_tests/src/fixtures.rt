@@ -180,6 +180,8 @@ fn can_draw(frame: &Frame) -> bool
         Frame::Height(view) => view.fits_height(),
         Frame::Mesh(view) => view.fits_mesh(),
         Frame::Render(_) | Frame::Text => true,
+        // A session draws none of these.
+        Frame::Shade(_) | Frame::Contour(_) => false,
     }
 }
 
@@ -187,7 +189,13 @@ fn can_draw(frame: &Frame) -> bool
 fn bytes_of(session: &mut Session, frame: &Frame, tally: &mut Tally) -> Option<Vec<u8>>
     requires { CanDraw frame.now }
 {
-    session.frame(frame, tally).ok()
+    match frame {
+        Frame::Render(view) => session.render(view, tally).ok(),
+        Frame::Height(view) => session.height(view, tally).ok(),
+        Frame::Mesh(view) => session.mesh(view, tally).ok(),
+        Frame::Text => session.text().ok(),
+        Frame::Shade(_) | Frame::Contour(_) => None,
+    }
 }
 
 // Draws a frame. None: memory was refused, or it can not be drawn.

@@ -1,11 +1,15 @@
-// Frames of a ball, worked out by hand, as bytes and piece by piece.
-ghost use Rattle.view_places.specs.Window.{FitsHeight, FitsMesh};
+// Frames of a ball, worked out by hand.
+ghost use Rattle.view_places.specs.Window.{FitsContour, FitsHeight, FitsMesh};
 ghost use Rattle.model_frames.specs.Frames.{CanDraw};
 
+use arrayvec::ArrayVec;
 use clause_reader::read_model;
 use fixed_ops::Tally;
-use model_frames::{Drawn, Frame, Pieces, solid_mesh};
+use grid_text::GridPieces;
+use model_frames::{Drawn, Frame, image_text, solid_mesh};
+use oct_descent::CellGrid;
 use ply_writer::ply_text;
+use raster_pgm::pgm_head;
 use solid_model::Model;
 use std::alloc::Global;
 use std::process::Abort;
@@ -28,6 +32,17 @@ const MIDDLE: &[u8] = b"P5\n3 3\n255\n\x00\x00\x00\x00\xff\x00\x00\x00\x00";
 
 const MIDDLE_TOP: &[u8] = b"P5\n3 3\n3\n\x00\x00\x00\x00\x02\x00\x00\x00\x00";
 
+// The light in the middle row of nine columns, of which three are inside at 0.25 along z and higher up none:
+// there the middle one slopes along z alone, and each of the others as much along x.
+const MIDDLE_LIGHT: &[u8] =
+    b"P5\n9 3\n255\n\x00\x00\x00\x00\x00\x00\x00\x00\x00\x00\x00\x00\x80\xff\x80\x00\x00\x00\
+    \x00\x00\x00\x00\x00\x00\x00\x00\x00";
+
+// The contour round the middle one of nine points.
+const MIDDLE_PATH: &[u8] = b"M -0.1250000000 -0.1250000000 L 0.0000000000 -0.2500000000 \
+    L 0.2500000000 0.0000000000 L 0.1250000000 0.1250000000 L 0.0000000000 0.2500000000 \
+    L -0.2500000000 0.0000000000 Z\n";
+
 // The mesh round the middle one of 27 points.
 const MIDDLE_MESH: &[u8] =
     b"ply\nformat ascii 1.0\nelement vertex 14\nproperty double x\nproperty double y\n\
@@ -47,6 +62,7 @@ const MIDDLE_MESH: &[u8] =
 fn view() -> View
     ensures height { FitsHeight result }
     ensures mesh { FitsMesh result }
+    ensures contour { FitsContour result }
 {
     View {
         x0: -1 << 32,
@@ -65,28 +81,41 @@ fn view() -> View
     }
 }
 
-// Whether the whole of a frame has these bytes.
-fn is_whole(alloc: Global, model: &Model, frame: &Frame, bytes: &[u8]) -> Result<bool, Fail>
-    requires { CanDraw frame.now }
+// Nine of them along x and z.
+fn fine_view() -> View
+    ensures { FitsHeight result }
 {
-    let whole = frame.bytes(alloc, model, &mut Tally::new())?;
-    Ok(whole.as_slice() == bytes)
+    View {
+        w: 9,
+        d: 9,
+        ..view()
+    }
 }
 
-// Whether these are the bytes of its pieces, one after the other.
-fn is_in_pieces(alloc: Global, model: &Model, frame: &Frame, bytes: &[u8]) -> Result<bool, Fail>
-    requires { CanDraw frame.now }
-{
-    let drawn = frame.draw(alloc, model, &mut Tally::new())?;
-    are_pieces_of(alloc, &drawn, bytes)
+// Whether what is drawn has these bytes.
+fn has_bytes(alloc: Global, drawn: &Drawn, bytes: &[u8]) -> Result<bool, Fail> {
+    match drawn {
+        Drawn::Image(picture) => Ok(image_text(alloc, picture)?.as_slice() == bytes),
+        Drawn::Pixels(view, pixels) => Ok(are_after_head(view, pixels, bytes)),
+        Drawn::Mesh(grid) => are_pieces_of(alloc, grid, bytes),
+        Drawn::Bytes(text) => Ok(text.as_slice() == bytes),
+    }
 }
 
-fn are_pieces_of(alloc: Global, drawn: &Drawn, bytes: &[u8]) -> Result<bool, Fail> {
-    let mut pieces = drawn.pieces(alloc)?;
+// Whether these are the bytes of a picture of this view that has these pixels.
+fn are_after_head(view: &View, pixels: &[u8], bytes: &[u8]) -> bool {
+    let mut head = ArrayVec::new();
+    pgm_head(view.w, view.h, 255, &mut head);
+    bytes.strip_prefix(head.as_slice()) == Some(pixels)
+}
+
+// Whether these are the bytes of the text of the mesh of a grid, piece by piece.
+fn are_pieces_of(alloc: Global, grid: &CellGrid, bytes: &[u8]) -> Result<bool, Fail> {
+    let mut pieces = GridPieces::new(alloc, grid)?;
     Ok(give(&mut pieces, bytes))
 }
 
-fn give(pieces: &mut Pieces<'_>, bytes: &[u8]) -> bool {
+fn give(pieces: &mut GridPieces<'_>, bytes: &[u8]) -> bool {
     let mut rest = bytes;
     // None of these has as many pieces.
     for _ in 0..100 {
@@ -101,32 +130,30 @@ fn give(pieces: &mut Pieces<'_>, bytes: &[u8]) -> bool {
     rest.is_empty()
 }
 
-// Draws a frame, and compares its bytes, whole and piece by piece, and its name.
+// Draws a frame, and compares its bytes.
 fn expect(
     rt: &impl Abort,
     alloc: Global,
     model: &Model,
     frame: Frame,
     bytes: &[u8],
-    name: &[u8],
 ) -> Result<(), Fail>
     requires { CanDraw frame }
 {
-    let is_whole = is_whole(alloc, model, &frame, bytes)?;
-    let is_in_pieces = is_in_pieces(alloc, model, &frame, bytes)?;
-    assert!(rt;
-        is_whole && is_in_pieces && frame.name() == name,
-        "{name:?}"
-    );
+    let drawn = frame.draw(alloc, model, &mut Tally::new())?;
+    let has_bytes = has_bytes(alloc, &drawn, bytes)?;
+    assert!(rt; has_bytes, "{frame:?}");
     Ok(())
 }
 
 fn expect_each(rt: &impl Abort, alloc: Global, model: &Model) -> Result<(), Fail> {
     let view = view();
-    expect(rt, alloc, model, Frame::Render(view), MIDDLE, b"render")?;
-    expect(rt, alloc, model, Frame::Height(view), MIDDLE_TOP, b"height")?;
-    expect(rt, alloc, model, Frame::Mesh(view), MIDDLE_MESH, b"mesh")?;
-    expect(rt, alloc, model, Frame::Text, BALL_TEXT, b"text")
+    expect(rt, alloc, model, Frame::Render(view), MIDDLE)?;
+    expect(rt, alloc, model, Frame::Height(view), MIDDLE_TOP)?;
+    expect(rt, alloc, model, Frame::Shade(fine_view()), MIDDLE_LIGHT)?;
+    expect(rt, alloc, model, Frame::Mesh(view), MIDDLE_MESH)?;
+    expect(rt, alloc, model, Frame::Contour(view), MIDDLE_PATH)?;
+    expect(rt, alloc, model, Frame::Text, BALL_TEXT)
 }
 
 #[test]

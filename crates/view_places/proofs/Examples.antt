@@ -10,7 +10,7 @@ use Rattle.view_places.specs.Boxes.{Indices, IsBox, middle, one_sample}
 use Rattle.view_places.specs.Places.{sample_place, point_of, raster_point, steps_of}
 use Rattle.view_places.specs.Samples.{place_by}
 use Rattle.view_places.specs.Spans.{IsInRoot, IsPlaceAmong, region_of, root_box_of}
-use Rattle.view_places.specs.Window.{AreEnds, FitsHeight, IsCount, IsWindow, Window, fits_contour, fits_mesh, has_room, same_view, size_of}
+use Rattle.view_places.specs.Window.{AreEnds, FitsContour, FitsHeight, IsCount, IsWindow, Window, fits_mesh, has_room, plane_cells_have_room, same_view, size_of}
 
 -- from -1 to 1, with this count along each axis
 abbrev counted : ℕ → Window
@@ -61,33 +61,28 @@ cells_along_each_axis : size_of (record (counted 4) { nx = 2; ny = 3; nz = 5 }) 
 cells_along_each_axis = refl
 
 -- a contour needs room along x and along y, but none along z
-contour_needs_no_depth : fits_contour (record (counted 4) { z0 = pos 5; z1 = pos 5 }) ≡ true
+contour_needs_no_depth : plane_cells_have_room (record (counted 4) { z0 = pos 5; z1 = pos 5 }) ≡ true
 unfolding has_room
 contour_needs_no_depth = refl
 
-contour_without_room_along_x : fits_contour (record (counted 4) { x0 = pos 5; x1 = pos 262148 }) ≡ false
+contour_without_room_along_x : plane_cells_have_room (record (counted 4) { x0 = pos 5; x1 = pos 262148 }) ≡ false
 unfolding has_room
 contour_without_room_along_x = refl
 
-contour_without_room_along_y : fits_contour (record (counted 4) { y0 = pos 5; y1 = pos 262148 }) ≡ false
+contour_without_room_along_y : plane_cells_have_room (record (counted 4) { y0 = pos 5; y1 = pos 262148 }) ≡ false
 unfolding has_room
 contour_without_room_along_y = refl
 
-just_room_for_a_contour : fits_contour (record (counted 4) { x0 = pos 5; x1 = pos 262149; y0 = pos 7; y1 = pos 262151 }) ≡ true
+just_room_for_a_contour : plane_cells_have_room (record (counted 4) { x0 = pos 5; x1 = pos 262149; y0 = pos 7; y1 = pos 262151 }) ≡ true
 unfolding has_room
 just_room_for_a_contour = refl
 
-contour_of_oblong_grid : fits_contour (record (counted 4) { ny = 5 }) ≡ false
-unfolding has_room
-contour_of_oblong_grid = refl
+-- and as many cells along x as along y, at most 256
+contour_of_oblong_grid : FitsContour (record (counted 4) { ny = 5 }) → ⊥
+contour_of_oblong_grid fits = absurd (omega (arith, fits.square))
 
-most_cells_of_a_contour : fits_contour (counted 256) ≡ true
-unfolding has_room
-most_cells_of_a_contour = refl
-
-too_many_cells_of_a_contour : fits_contour (counted 257) ≡ false
-unfolding has_room
-too_many_cells_of_a_contour = refl
+too_many_cells_of_a_contour : FitsContour (counted 257) → ⊥
+too_many_cells_of_a_contour fits = absurd (omega (arith, fits.few))
 
 -- a mesh needs room along each axis
 room_everywhere : fits_mesh (counted 4) ≡ true

@@ -3,7 +3,7 @@ use Rattle.std.specs.Prelude.{◌≡◌, ◌==◌, ◌↔◌, ◌*◌, ◌≤◌
 use Rattle.std.specs.Int.Signed.{le_z_yes}
 use Rattle.std.proofs.Common.{refl, arith}
 use Rattle.std.proofs.lemmas.Bool.Decides.{nat_tests}
-use Rattle.view_places.specs.Window.{Window, FitsContour, FitsMesh, cells_are_few, cells_have_room, fits_contour, fits_mesh, has_room}
+use Rattle.view_places.specs.Window.{Window, FitsMesh, cells_are_few, cells_have_room, fits_mesh, has_room}
 
 to_true : (b : Bool) → T b → b ≡ true
 to_true true t = refl
@@ -62,42 +62,3 @@ fits_mesh_is v = (
 
 pub tested : (v : Window) (b : Bool) → b ≡ fits_mesh v → IsTrue b ↔ FitsMesh v
 tested v b e = rw e (fits_mesh_is v)
-
-four_true : (a b c d : Bool) → ((a && b) && (c && d)) ≡ true → (a ≡ true) × (b ≡ true) × (c ≡ true) × (d ≡ true)
-four_true true true true true e = (refl, refl, refl, refl)
-four_true true true true false e = absurd cc
-four_true true true false d e = absurd cc
-four_true true false c d e = absurd cc
-four_true false b c d e = absurd cc
-
-square_yes : (x y : ℕ) → (x == y) ≡ true → x ≡ y
-square_yes x y e = grind (arith, nat_tests, e)
-
-yes_square : (x y : ℕ) → x ≡ y → (x == y) ≡ true
-yes_square x y e = grind (arith, nat_tests, e)
-
-cells_yes : (cells : ℕ) → nat_le cells 256 ≡ true → cells ≤ 256
-cells_yes cells e = grind (arith, nat_tests, e)
-
-yes_cells : (cells : ℕ) → cells ≤ 256 → nat_le cells 256 ≡ true
-yes_cells cells h = grind (arith, nat_tests, h)
-
-pub fits_contour_is : (v : Window) → IsTrue (fits_contour v) ↔ FitsContour v
-fits_contour_is v = (
-  λ h. let each = four_true (has_room v.x0 v.x1 v.nx) (has_room v.y0 v.y1 v.ny) (v.nx == v.ny) (nat_le v.nx 256) h in
-      record {
-        square = square_yes v.nx v.ny each.2;
-        few = cells_yes v.nx each.3;
-        x = room_yes v.x0 v.x1 v.nx each.0;
-        y = room_yes v.y0 v.y1 v.ny each.1;
-      },
-  λ f. rw (
-    yes_room v.x0 v.x1 v.nx f.x,
-    yes_room v.y0 v.y1 v.ny f.y,
-    yes_square v.nx v.ny f.square,
-    yes_cells v.nx f.few,
-  ) refl,
-)
-
-pub contour_tested : (v : Window) (b : Bool) → b ≡ fits_contour v → IsTrue b ↔ FitsContour v
-contour_tested v b e = rw e (fits_contour_is v)

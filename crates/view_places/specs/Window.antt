@@ -98,7 +98,3 @@ fits_mesh v = cells_have_room v && cells_are_few v
 -- the cells of a plane grid have that room along x and along y
 abbrev pub plane_cells_have_room : Window → Bool
 plane_cells_have_room v = has_room v.x0 v.x1 v.nx && has_room v.y0 v.y1 v.ny
-
--- the test of whether a contour may be drawn
-abbrev pub fits_contour : Window → Bool
-fits_contour v = plane_cells_have_room v && (v.nx == v.ny && nat_le v.nx 256)

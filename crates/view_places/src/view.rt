@@ -94,8 +94,8 @@ impl Model for View {
 
 impl View {
     ghost use Rattle.kuhn_cells.specs.Sizes.{IsBounded};
-    ghost use Rattle.view_places.specs.Window.{FitsContour, FitsHeight, FitsMesh, IsWindow};
-    ghost use Rattle.view_places.specs.Window.{cells_are_few, cells_have_room, fits_contour, fits_mesh};
+    ghost use Rattle.view_places.specs.Window.{FitsHeight, FitsMesh, IsWindow};
+    ghost use Rattle.view_places.specs.Window.{cells_are_few, cells_have_room, fits_mesh};
     ghost use Rattle.view_places.specs.Window.{plane_cells_have_room, size_of};
 
     /// Whether a height map may be drawn of it: w and h are at most 1024.
@@ -147,17 +147,6 @@ impl View {
         ensures { result ≡ cells_are_few self.now }
     {
         self.nx * (self.ny * self.nz) <= 16_777_216
-    }
-
-    /// Whether a contour may be drawn of it: the cells of its plane grid are as many along x as along
-    /// y, at most 256, and have room along both.
-    #[inline]
-    pub fn fits_contour(&self) -> bool
-        ensures value { result ≡ fits_contour self.now }
-        ensures fits { IsTrue result ↔ FitsContour self.now }
-        ensures window { IsWindow self.now }
-    {
-        self.plane_cells_have_room() && (self.nx == self.ny && self.nx <= 256)
     }
 
     /// Whether along neither x nor y the ends are nearer than 65536 raw units a cell of a plane grid.

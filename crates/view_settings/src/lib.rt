@@ -1,5 +1,4 @@
-//! The words that ask for work: a verb and its settings, and the job that they make. Views and
-//! their samples are those of `view_places`, handed on from here.
+//! The words that ask for work: a verb and its settings, and the job that they make.
 #![tactic(auto)]
 
 mod forge;
@@ -21,9 +20,5 @@ pub use laws::{jobs_hold, word_reasons_are_lowest, words_are_exact};
 pub use reads::Reads;
 pub use settings::Settings;
 pub use verb::Verb;
-pub use view_places::{
-    Axis, AxisSamples, Course, IndexBox, Lattice, View, halves_part, ranges_hold, raw_place, root,
-    sample, samples_along, span_of, split,
-};
 pub use word_fault::{WordFault, WordReason};
 pub use words::read_words;

@@ -1,7 +1,8 @@
 // Words with jobs worked out by hand.
 use std::alloc::Global;
 use std::test::Fail;
-use view_settings::{Forge, Job, Settings, Verb, View, WordFault, WordReason, read_words};
+use view_places::View;
+use view_settings::{Forge, Job, Settings, Verb, WordFault, WordReason, read_words};
 
 const ONE: i64 = 1 << 32;
 

@@ -2,7 +2,7 @@
 -- led.
 use Rattle.std.proofs.Common.{◌≡◌, List, [], ◌∷◌, Ok, ap, refl, sym, ◌∙◌}
 use Rattle.model_frames.specs.declared.frame.Frame.{Frame}
-use Rattle.model_frames.specs.declared.frame.Frame.TheVariants.{Render, Height, Mesh, Text}
+use Rattle.model_frames.specs.declared.frame.Frame.TheVariants.{Render, Height, Shade, Mesh, Contour, Text}
 use Rattle.solid_model.specs.declared.clause.Clause.{Clause}
 use Rattle.solid_model.specs.declared.edit.Edit.{Edit}
 use Rattle.solid_model.specs.Edited.{after_edits, given_or, IsUndone}
@@ -14,13 +14,17 @@ use Rattle.edit_session.proofs.laws.opening_stands.Goals as goal
 framed : (state : State) (frame : Frame) → opening_of (after_frame state frame) ≡ opening_of state
 framed state (Render view) = refl
 framed state (Height view) = refl
+framed state (Shade view) = refl
 framed state (Mesh view) = refl
+framed state (Contour view) = refl
 framed state Text = refl
 
 refused : (state : State) (frame : Frame) → opening_of (after_refusal state frame) ≡ opening_of state
 refused state (Render view) = refl
 refused state (Height view) = refl
+refused state (Shade view) = refl
 refused state (Mesh view) = refl
+refused state (Contour view) = refl
 refused state Text = refl
 
 -- an edit that is accepted, before others, leads to where these lead from what it gives

@@ -15,7 +15,7 @@ returns-then-is_same-clause-counted c =
     let test = subst (λ v. same_view v view ≡ true) c.view.ensures (sym c.is_same.ensures.test ∙ c.if-is_same.true) in
     subst (λ b. OnOk c.recells.result (CountsWork c.args.tally.now c.recells.new.tally (grid_work (grid_before b view) view list 0))) (sym c.in-Some.is)
     (same-counted c.recells.result c.args.tally.now c.recells.new.tally tree view list test (sym c.view.ensures ∙ c.is_same.ensures.same c.if-is_same.true) c.recells.ensures.at_most
-    c.recells.ensures.traced)
+    c.recells.ensures.at_least c.recells.ensures.traced)
 
 pub returns-then-is_same-clause-at_most : goal.returns-then-is_same-clause-at_most
 returns-then-is_same-clause-at_most c =

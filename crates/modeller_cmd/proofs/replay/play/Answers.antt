@@ -92,19 +92,19 @@ returns-in-Render-clause-halted g c =
 
 pub returns-in-Height-clause-played : goal.returns-in-Height-clause-played
 returns-in-Height-clause-played g c =
-    at-command (λ command. OnOk c.show.result (IsPlayed g.K.Sink.held g.K.Sink.faults c.args.out.now c.show.new.out c.args.tally.now c.show.new.tally c.args.lines.now c.args.lines.now (parts_at c.args.session.now command)))
+    at-command (λ command. OnOk c.show_height.result (IsPlayed g.K.Sink.held g.K.Sink.faults c.args.out.now c.show_height.new.out c.args.tally.now c.show_height.new.tally c.args.lines.now c.args.lines.now (parts_at c.args.session.now command)))
     c.args.command.now (Command.Height c.in-Height.view) c.in-Height.is
-    (frame-played g.K.Sink.held g.K.Sink.faults c.args.out.now c.show.new.out c.args.tally.now c.show.new.tally c.args.lines.now c.show.result
+    (frame-played g.K.Sink.held g.K.Sink.faults c.args.out.now c.show_height.new.out c.args.tally.now c.show_height.new.tally c.args.lines.now c.show_height.result
     (c.requires.way (at-command Draws c.args.command.now (Command.Height c.in-Height.view) c.in-Height.is tt))
-    (parts_at c.args.session.now (Command.Height c.in-Height.view)) c.show.ensures.written)
+    (parts_at c.args.session.now (Command.Height c.in-Height.view)) c.show_height.ensures.written)
 
 pub returns-in-Height-clause-halted : goal.returns-in-Height-clause-halted
 returns-in-Height-clause-halted g c =
-    at-command (λ command. IfErr c.show.result (HaltsPlay g.K.Sink.held g.K.Sink.faults c.args.out.now c.show.new.out c.args.tally.now c.show.new.tally c.args.lines.now c.args.session.now command))
+    at-command (λ command. IfErr c.show_height.result (HaltsPlay g.K.Sink.held g.K.Sink.faults c.args.out.now c.show_height.new.out c.args.tally.now c.show_height.new.tally c.args.lines.now c.args.session.now command))
     c.args.command.now (Command.Height c.in-Height.view) c.in-Height.is
-    (frame-halts g.K.Sink.held g.K.Sink.faults c.args.out.now c.show.new.out c.args.tally.now c.show.new.tally c.args.lines.now c.show.result
+    (frame-halts g.K.Sink.held g.K.Sink.faults c.args.out.now c.show_height.new.out c.args.tally.now c.show_height.new.tally c.args.lines.now c.show_height.result
     (c.requires.way (at-command Draws c.args.command.now (Command.Height c.in-Height.view) c.in-Height.is tt))
-    c.args.session.now (Command.Height c.in-Height.view) tt c.show.ensures.stop c.show.ensures.halted c.show.ensures.unwritten c.show.ensures.counted)
+    c.args.session.now (Command.Height c.in-Height.view) tt c.show_height.ensures.stop c.show_height.ensures.halted c.show_height.ensures.unwritten c.show_height.ensures.counted)
 
 pub returns-in-Mesh-clause-played : goal.returns-in-Mesh-clause-played
 returns-in-Mesh-clause-played g c =
@@ -124,16 +124,16 @@ returns-in-Mesh-clause-halted g c =
 
 pub returns-in-Text-clause-played : goal.returns-in-Text-clause-played
 returns-in-Text-clause-played g c =
-    at-command (λ command. OnOk c.show-in-Text.result (IsPlayed g.K.Sink.held g.K.Sink.faults c.args.out.now c.show-in-Text.new.out c.args.tally.now c.show-in-Text.new.tally c.args.lines.now c.args.lines.now (parts_at c.args.session.now command)))
+    at-command (λ command. OnOk c.show_text.result (IsPlayed g.K.Sink.held g.K.Sink.faults c.args.out.now c.show_text.new.out c.args.tally.now c.args.tally.now c.args.lines.now c.args.lines.now (parts_at c.args.session.now command)))
     c.args.command.now Command.Text c.in-Text.is
-    (frame-played g.K.Sink.held g.K.Sink.faults c.args.out.now c.show-in-Text.new.out c.args.tally.now c.show-in-Text.new.tally c.args.lines.now c.show-in-Text.result
+    (frame-played g.K.Sink.held g.K.Sink.faults c.args.out.now c.show_text.new.out c.args.tally.now c.args.tally.now c.args.lines.now c.show_text.result
     (c.requires.way (at-command Draws c.args.command.now Command.Text c.in-Text.is tt))
-    (parts_at c.args.session.now Command.Text) c.show-in-Text.ensures.written)
+    (parts_at c.args.session.now Command.Text) (c.show_text.ensures.written c.args.tally.now))
 
 pub returns-in-Text-clause-halted : goal.returns-in-Text-clause-halted
 returns-in-Text-clause-halted g c =
-    at-command (λ command. IfErr c.show-in-Text.result (HaltsPlay g.K.Sink.held g.K.Sink.faults c.args.out.now c.show-in-Text.new.out c.args.tally.now c.show-in-Text.new.tally c.args.lines.now c.args.session.now command))
+    at-command (λ command. IfErr c.show_text.result (HaltsPlay g.K.Sink.held g.K.Sink.faults c.args.out.now c.show_text.new.out c.args.tally.now c.args.tally.now c.args.lines.now c.args.session.now command))
     c.args.command.now Command.Text c.in-Text.is
-    (frame-halts g.K.Sink.held g.K.Sink.faults c.args.out.now c.show-in-Text.new.out c.args.tally.now c.show-in-Text.new.tally c.args.lines.now c.show-in-Text.result
+    (frame-halts g.K.Sink.held g.K.Sink.faults c.args.out.now c.show_text.new.out c.args.tally.now c.args.tally.now c.args.lines.now c.show_text.result
     (c.requires.way (at-command Draws c.args.command.now Command.Text c.in-Text.is tt))
-    c.args.session.now Command.Text tt c.show-in-Text.ensures.stop c.show-in-Text.ensures.halted c.show-in-Text.ensures.unwritten c.show-in-Text.ensures.counted)
+    c.args.session.now Command.Text tt c.show_text.ensures.stop (c.show_text.ensures.halted c.args.tally.now) c.show_text.ensures.unwritten (λ _. c.show_text.ensures.counted c.args.tally.now))

@@ -7,7 +7,7 @@ use Rattle.modeller_cmd.proofs.send.write_pieces.Goals as goal
 pub loop-out-init : goal.loop-out-init
 loop-out-init g c = record {
   front = c.args.text.piece;
-  gained = subst (Gains g.K.Sink.held c.args.out.now c.write_all.new.sink) c.piece.ensures c.in_ok-write_all.ensures.ok;
+  gained = subst (Gains g.K.Sink.held c.args.out.now c.write_all.new.sink) c.piece.ensures.piece c.in_ok-write_all.ensures.ok;
   whole = refl;
   no_fault = c.in_ok-write_all.ensures.no_fault;
 }
@@ -21,7 +21,7 @@ loop-out-preserved g c =
     record {
       front = so_far.front ++ c.advance.new.self.piece;
       gained = Gains-then g.K.Sink.held c.args.out.now c.loop-out.out c.write_all-in-loop-out.new.sink so_far.front c.advance.new.self.piece so_far.gained
-          (subst (Gains g.K.Sink.held c.loop-out.out c.write_all-in-loop-out.new.sink) c.piece-in-loop-out.ensures c.in_ok-write_all-2.ensures.ok);
+          (subst (Gains g.K.Sink.held c.loop-out.out c.write_all-in-loop-out.new.sink) c.piece-in-loop-out.ensures.piece c.in_ok-write_all-2.ensures.ok);
       whole = append_assoc so_far.front c.advance.new.self.piece c.advance.new.self.rest ∙ ap (λ rest. so_far.front ++ rest) (sym (c.loop-out-test.ensures.more refl)) ∙ so_far.whole;
       no_fault = c.in_ok-write_all-2.ensures.no_fault ∙ so_far.no_fault;
     }
@@ -33,7 +33,7 @@ returns-in_err-write_all-2-clause-err g c =
     (subst (GainsProperPrefix g.K.Sink.held c.args.out.now c.write_all-in-loop-out.new.sink)
     (ap (λ rest. so_far.front ++ rest) (sym (c.loop-out-test.ensures.more refl)) ∙ so_far.whole)
     (GainsProperPrefix-after g.K.Sink.held c.args.out.now c.loop-out.out c.write_all-in-loop-out.new.sink so_far.front c.advance.new.self.piece c.advance.new.self.rest so_far.gained
-    (subst (GainsProperPrefix g.K.Sink.held c.loop-out.out c.write_all-in-loop-out.new.sink) c.piece-in-loop-out.ensures c.in_err-write_all-2.ensures.err)))
+    (subst (GainsProperPrefix g.K.Sink.held c.loop-out.out c.write_all-in-loop-out.new.sink) c.piece-in-loop-out.ensures.piece c.in_err-write_all-2.ensures.err)))
 
 pub returns-in_err-write_all-2-clause-cause : goal.returns-in_err-write_all-2-clause-cause
 returns-in_err-write_all-2-clause-cause g c =

@@ -6,17 +6,18 @@ use Rattle.box_chains.specs.Visits.{IsVisit}
 use Rattle.live_clauses.specs.declared.step.Step.{Step}
 use Rattle.view_places.specs.Spans.{root_box_of}
 use Rattle.view_places.specs.declared.lattice.Lattice.TheVariants.{Grid}
-use Rattle.oct_descent.specs.AfterDesks.{ChargesBoxAfter}
+use Rattle.oct_descent.specs.AfterDesks.{AreWorkedAfter, ChargesBoxAfter, PaysBoxAfter}
 use Rattle.oct_descent.specs.GridValues.{list_grid_value}
 use Rattle.oct_descent.specs.OldBoxes.{received_by, visit_before}
 use Rattle.view_places.specs.Window.{size_of}
 use Rattle.oct_descent.specs.Tables.{is_known}
 use Rattle.oct_descent.specs.Ways.{gridded}
 use Rattle.oct_descent.proofs.AfterBounds.{whole-counted_after}
+use Rattle.oct_descent.proofs.AfterPaid.{whole-paid_after}
 use Rattle.oct_descent.proofs.Before.{root-was}
 use Rattle.oct_descent.proofs.Sizes.{size-from}
-use Rattle.oct_descent.proofs.Whole.{mesh-paid, whole-told}
-use Rattle.oct_descent.specs.Known.{AreSettled, AreWorked, Grows, PaysBox}
+use Rattle.oct_descent.proofs.Whole.{whole-told}
+use Rattle.oct_descent.specs.Known.{AreSettled, Grows}
 use Rattle.oct_descent.specs.Kinds.{known_of}
 use Rattle.oct_descent.proofs.all_boxes.look_into_all.Goals as goal
 
@@ -73,7 +74,11 @@ returns-clause-at_least c =
     let view = ap (λ (d : Tracing). d.view) c.requires.desk in
     let is = ap (λ (d : Tracing). list_of d 0) c.requires.desk in
     let root = subst (λ (d : Tracing). c.root-root.result ≡ root_box_of d.view d.lattice) c.requires.desk c.root-root.ensures in
-    λ none. mesh-paid c.layers_hold.ensures c.args.view.now c.args.desk.now.view c.args.list.now c.root-root.result c.in_ok-values.values c.look_into.new.values c.args.tally.now c.look_into.new.tally view root
+    let d = gridded c.args.desk.now.view in
+    let was = ap (visit_before c.args.before) root ∙ root-was c.args.view.now c.args.before in
+    whole-paid_after c.layers_hold.ensures c.args.view.now c.args.desk.now.view (received_by c.args.before) c.args.list.now c.root-root.result c.in_ok-values.values c.look_into.new.values c.args.tally.now c.look_into.new.tally view root
     (c.in_ok-values.ensures.n ∙ c.grid.ensures.size) c.in_ok-values.ensures.none
-    (subst (λ (l : List Step). AreWorked (gridded c.args.desk.now.view) (visit c.root-root.result l) (known_of c.look_into.new.values)) is (c.in_ok-look_into.ensures.worked none))
-    (subst (λ (l : List Step). PaysBox (gridded c.args.desk.now.view) (visit c.root-root.result l) (known_of c.in_ok-values.values) (known_of c.look_into.new.values) c.args.tally.now c.look_into.new.tally) is (c.in_ok-look_into.ensures.paid none))
+    (subst (λ r. AreWorkedAfter d r (visit c.root-root.result c.args.list.now) (known_of c.look_into.new.values)) was
+    (subst (λ (l : List Step). AreWorkedAfter d (visit_before c.args.before c.root-root.result) (visit c.root-root.result l) (known_of c.look_into.new.values)) is c.in_ok-look_into.ensures.worked))
+    (subst (λ r. PaysBoxAfter d r (visit c.root-root.result c.args.list.now) (known_of c.in_ok-values.values) (known_of c.look_into.new.values) c.args.tally.now c.look_into.new.tally) was
+    (subst (λ (l : List Step). PaysBoxAfter d (visit_before c.args.before c.root-root.result) (visit c.root-root.result l) (known_of c.in_ok-values.values) (known_of c.look_into.new.values) c.args.tally.now c.look_into.new.tally) is c.in_ok-look_into.ensures.paid))

@@ -3,7 +3,6 @@ use Rattle.std.specs.Prelude.{IfNone, IfSome, IsTrue, None, Some}
 use Rattle.std.specs.List.{All}
 use Rattle.std.proofs.lemmas.List.{take_all}
 use Rattle.std.proofs.lemmas.List.Elements.{All-nil}
-use Rattle.std.proofs.lemmas.Option.{none-some}
 use Rattle.box_chains.specs.Desks.{HasMore, Tracing, list_of, samples}
 use Rattle.box_chains.specs.Chains.{visit}
 use Rattle.box_chains.specs.Outcomes.{HandsOn, all_seen, asked_outcomes}
@@ -17,7 +16,7 @@ use Rattle.view_places.specs.Boxes.{halves_of}
 use Rattle.oct_descent.proofs.Sizes.{size-from, size-is, size-then}
 use Rattle.oct_descent.specs.Adding.{Adds}
 use Rattle.oct_descent.specs.After.{received_half}
-use Rattle.oct_descent.specs.AfterDesks.{ChargesBelowAfter, ChargesHalvesAfter, halves_long_spans_after, long_spans_below_after}
+use Rattle.oct_descent.specs.AfterDesks.{ChargesBelowAfter, ChargesHalvesAfter, halves_long_spans_after, long_spans_below_after, AreWorkedAfter, PaysBoxAfter, PaysHalvesAfter}
 use Rattle.oct_descent.specs.Bound.{CountsHullsAtLeast, points_of_grid}
 use Rattle.oct_descent.specs.GridValues.{list_grid_value}
 use Rattle.oct_descent.specs.KeptBoxes.{halves_places, places_of, split_places}
@@ -26,20 +25,21 @@ use Rattle.view_places.specs.Window.{size_of}
 use Rattle.oct_descent.specs.Ways.{gridded}
 use Rattle.oct_descent.proofs.Added.{adds-more, adds-none, adds-same, adds-split, begun-within}
 use Rattle.oct_descent.proofs.AfterLooks.{all-traced_after, begun-charged_after, cell-below_after, cell-traced_after, cell-traced_below_after, closed-traced_after, first-charged_after, first-traced_after, half-is_new, halves-charged_after, halves-traced_after, halves-untraced, next-charged_after, next-traced_after, some-charged_after, taken-charged}
-use Rattle.oct_descent.proofs.Before.{cell-after, first-halves, found-old, half-old, half-was, handed-looked, handed-some, handed-was, left-all, left-anew, left-cell, left-more, left-shut, next-halves, none-halves, none-handed, old-count, old-many, old-places, old-there, other-list}
+use Rattle.oct_descent.proofs.Before.{cell-after, first-halves, found-old, half-old, half-was, handed-looked, handed-some, handed-was, left-all, left-anew, left-cell, left-more, left-shut, next-halves, none-handed, old-count, old-many, old-places, old-there, other-list}
 use Rattle.oct_descent.proofs.Kept.{places-cell, places-shut, places-split}
-use Rattle.oct_descent.proofs.Looks.{closed-settled, closed-worked, halves-paid, halves-worked, handed-grows, handed-right, handed-settled, handed-tape, on_ok, on_ok-then}
+use Rattle.oct_descent.proofs.Looks.{closed-settled, closed-worked, handed-grows, handed-right, handed-settled, handed-tape, on_ok, on_ok-then}
 use Rattle.oct_descent.proofs.TableLaws.{charges-none, grows-none, grows-then, pays-none, right-grows}
 use Rattle.oct_descent.proofs.Takes.{taken-known, takes-grows, takes-settled}
 use Rattle.oct_descent.proofs.Together.{among-stays, byte-is, byte-most, closed-told, list-stays, more-samples, opened-told, step-told}
-use Rattle.oct_descent.specs.Known.{AreRight, AreSettled, AreWorked, Grows, PaysBox}
+use Rattle.oct_descent.specs.Known.{AreRight, AreSettled, Grows}
 use Rattle.oct_descent.specs.Asked.{IsToldAt, longer}
 use Rattle.oct_descent.specs.Halves.{AreTurned}
-use Rattle.oct_descent.proofs.Halves.{begun-paid, half-grows, half-shorter, half-visit, next-paid, next-settled, next-worked, part-covers, turned-boxes, turned-in_root, turned-paid, turned-part, turned-settled}
+use Rattle.oct_descent.proofs.Halves.{half-grows, half-shorter, half-visit, next-settled, part-covers, turned-boxes, turned-in_root, turned-part, turned-settled, halves-boxes}
 use Rattle.oct_descent.specs.Kinds.{known_of, mesh}
 use Rattle.oct_descent.proofs.Covered.{mesh_holds}
 use Rattle.std.proofs.lemmas.List.Sorted.{All-permutation, IsPermutation-sym}
 use Rattle.oct_descent.proofs.Turns.{turned-behind, turned-charged_after, turned-old, turned-places, turned-traced_after}
+use Rattle.oct_descent.proofs.AfterPaid.{begun-paid_after, cell-paid_after, halves-paid_after, halves-worked_after, next-paid_after, next-worked_after, taken-paid, taken-worked, turned-paid_after, worked-after}
 use Rattle.oct_descent.proofs.descent.+looking.Goals as goal
 
 pub look_into_told-returns-then-not-is_long-clause-counted : goal.look_into_told-returns-then-not-is_long-clause-counted
@@ -102,7 +102,10 @@ look_into_told-returns-in-Open-clause-worked t c =
     let live = list_of c.args.desk.now at in
     let long = sym c.is_long.ensures ∙ c.if-not-is_long.false in
     let opened = opened-told mesh (samples c.args.desk.now) (list_of c.args.desk.now c.args.received) c.args.b c.args.desk.now.lists c.args.outcomes.now c.args.at at Inside c.requires.may.lattice (c.requires.told long) c.in-Open.is in
-    λ none. on_ok-then c.look_into_split.result _ _ (halves-worked c.layers_hold.ensures mesh view v live (known_of c.look_into_split.new.values) c.requires.may.visit_is opened.open' long opened.same) (c.look_into_split.ensures.worked none)
+    on_ok-then c.look_into_split.result _ _
+    (halves-worked_after c.layers_hold.ensures view was (handed_by c.args.before left) v live (known_of c.look_into_split.new.values) c.requires.may.visit_is c.requires.new opened.open' long
+    (handed-was c.layers_hold.ensures view c.args.b left c.args.before c.requires.may.visit_is.box long c.requires.old) opened.same)
+    c.look_into_split.ensures.worked
 
 pub look_into_told-returns-in-Open-clause-grows : goal.look_into_told-returns-in-Open-clause-grows
 look_into_told-returns-in-Open-clause-grows t c =
@@ -137,7 +140,9 @@ look_into_told-returns-in-Open-clause-paid t c =
     let live = list_of c.args.desk.now at in
     let long = sym c.is_long.ensures ∙ c.if-not-is_long.false in
     let opened = opened-told mesh (samples c.args.desk.now) (list_of c.args.desk.now c.args.received) c.args.b c.args.desk.now.lists c.args.outcomes.now c.args.at at Inside c.requires.may.lattice (c.requires.told long) c.in-Open.is in
-    λ none. halves-paid c.layers_hold.ensures mesh view v live (known_of c.args.values.now) (known_of c.look_into_split.new.values) c.args.tally.now c.look_into_split.new.tally c.requires.may.visit_is opened.open' long opened.same (c.look_into_split.ensures.paid none)
+    halves-paid_after c.layers_hold.ensures view was (handed_by c.args.before left) v live (known_of c.args.values.now) (known_of c.look_into_split.new.values) c.args.tally.now c.look_into_split.new.tally c.requires.may.visit_is c.requires.new opened.open' long
+    (handed-was c.layers_hold.ensures view c.args.b left c.args.before c.requires.may.visit_is.box long c.requires.old) opened.same
+    c.look_into_split.ensures.paid
 
 pub look_into_told-returns-in-Open-clause-traced : goal.look_into_told-returns-in-Open-clause-traced
 look_into_told-returns-in-Open-clause-traced t c =
@@ -169,10 +174,9 @@ look_into_told-returns-in-Inside-clause-worked t c =
     let view = c.args.desk.now.view in
     let v = visit c.args.b (list_of c.args.desk.now c.args.received) in
     let was = visit_before c.args.before c.args.b in
-    let left = c.args.boxes.now.before in
     let long = sym c.is_long.ensures ∙ c.if-not-is_long.false in
     let closed = closed-told mesh (samples c.args.desk.now) (list_of c.args.desk.now c.args.received) c.args.b c.args.desk.now.lists c.args.outcomes.now c.args.at Inside c.requires.may.lattice (c.requires.told long) c.in-Inside.is in
-    λ none. on_ok c.push_shut.result _ (closed-worked mesh view v (known_of c.args.values.now) c.requires.may.visit_is closed)
+    on_ok c.push_shut.result _ (worked-after (gridded view) was v (known_of c.args.values.now) (closed-worked mesh view v (known_of c.args.values.now) c.requires.may.visit_is closed))
 
 pub look_into_told-returns-in-Inside-clause-counted : goal.look_into_told-returns-in-Inside-clause-counted
 look_into_told-returns-in-Inside-clause-counted t c =
@@ -180,7 +184,7 @@ look_into_told-returns-in-Inside-clause-counted t c =
 
 pub look_into_told-returns-in-Inside-clause-paid : goal.look_into_told-returns-in-Inside-clause-paid
 look_into_told-returns-in-Inside-clause-paid t c =
-    λ none f due. pays-none c.layers_hold.ensures f (known_of c.args.values.now) c.args.tally.now
+    λ f due. pays-none c.layers_hold.ensures f (known_of c.args.values.now) c.args.tally.now
 
 pub look_into_told-returns-in-Inside-clause-traced : goal.look_into_told-returns-in-Inside-clause-traced
 look_into_told-returns-in-Inside-clause-traced t c =
@@ -211,7 +215,7 @@ look_into_each_half-returns-in_err-outcomes-clause-counted t c =
 
 pub look_into_each_half-returns-in_err-outcomes-clause-paid : goal.look_into_each_half-returns-in_err-outcomes-clause-paid
 look_into_each_half-returns-in_err-outcomes-clause-paid t c =
-    λ none. begun-paid (gridded c.args.desk.now.view) (list_of c.args.desk.now c.args.live) _ _ (known_of c.args.values.now) c.args.tally.now c.trace_longer.new.tally c.in_err-outcomes.ensures.at_most
+    begun-paid_after (gridded c.args.desk.now.view) (received_by c.args.before) (list_of c.args.desk.now c.args.live) (halves_of 1 c.args.b) _ (known_of c.args.values.now) c.args.tally.now c.trace_longer.new.tally c.in_err-outcomes.ensures.at_most
 
 pub look_into_each_half-loop-half-init : goal.look_into_each_half-loop-half-init
 look_into_each_half-loop-half-init t c =
@@ -234,8 +238,8 @@ look_into_each_half-loop-half-init t c =
       settled = All-nil (λ h. AreSettled (gridded view) (list_grid_value view live) h (known_of c.args.values.now));
       grows = grows-none (list_grid_value view live) c.args.b (known_of c.args.values.now);
       counted = first-charged_after c.layers_hold.ensures (gridded view) was live halves c.n.result (known_of c.args.values.now) c.args.tally.now c.trace_longer.new.tally hulls;
-      worked = λ none. All-nil (λ h. AreWorked (gridded view) (visit h live) (known_of c.args.values.now));
-      paid = λ none. begun-paid (gridded view) live halves _ (known_of c.args.values.now) c.args.tally.now c.trace_longer.new.tally (c.layers_hold.ensures.bounds.hulls c.args.tally.now c.trace_longer.new.tally _ hulls);
+      worked = All-nil (λ h. AreWorkedAfter (gridded view) (received_half was h) (visit h live) (known_of c.args.values.now));
+      paid = begun-paid_after (gridded view) was live halves _ (known_of c.args.values.now) c.args.tally.now c.trace_longer.new.tally (c.layers_hold.ensures.bounds.hulls c.args.tally.now c.trace_longer.new.tally _ hulls);
       traced = first-traced_after (gridded view) was live halves c.n.result c.args.tally.now c.trace_longer.new.tally hulls;
     }
 
@@ -310,13 +314,16 @@ look_into_each_half-returns-in_err-look_into_told-clause-counted t c =
 pub look_into_each_half-returns-in_err-look_into_told-clause-paid : goal.look_into_each_half-returns-in_err-look_into_told-clause-paid
 look_into_each_half-returns-in_err-look_into_told-clause-paid t c =
     let view = c.args.desk.now.view in
+    let live = list_of c.args.desk.now c.args.live in
+    let was = received_by c.args.before in
     let turned = subst (AreTurned c.args.b) (sym c.as_slice-half-items.ensures.value) (c.in_turn-halves.ensures c.requires.may.visit_is.box) in
     let halves = c.as_slice-half-items.result.now in
     let half = c.half-item.result in
-    let same = c.loop-half.invariant.more.view in
-    λ none. turned-paid (gridded view) (list_of c.args.desk.now c.args.live) (halves_of 1 c.args.b) c.as_slice-half-items.result.now (known_of c.args.values.now) (known_of c.look_into_told.new.values) c.args.tally.now c.look_into_told.new.tally turned.among
-    (next-paid c.layers_hold.ensures mesh view c.loop-half.desk.view (list_of c.args.desk.now c.args.live) half halves c.loop-half.half-index (known_of c.args.values.now) (known_of c.loop-half.values) (known_of c.look_into_told.new.values) c.args.tally.now c.loop-half.tally c.look_into_told.new.tally
-    same c.loop-half-test.true c.half-item.is (c.loop-half.invariant.paid none) (subst (λ l. PaysBox (gridded c.loop-half.desk.view) (visit c.half-item.result l) (known_of c.loop-half.values) (known_of c.look_into_told.new.values) c.loop-half.tally c.look_into_told.new.tally) (list-stays c.args.desk.now c.loop-half.desk c.args.live c.loop-half.invariant.more c.requires.may.among) (c.in_err-look_into_told.ensures.paid none)))
+    turned-paid_after (gridded view) was live (halves_of 1 c.args.b) halves (known_of c.args.values.now) (known_of c.look_into_told.new.values) c.args.tally.now c.look_into_told.new.tally turned.among
+    (next-paid_after c.layers_hold.ensures view c.loop-half.desk.view was live half halves c.loop-half.half-index (known_of c.args.values.now) (known_of c.loop-half.values) (known_of c.look_into_told.new.values) c.args.tally.now c.loop-half.tally c.look_into_told.new.tally
+    c.loop-half.invariant.more.view c.loop-half-test.true c.half-item.is c.loop-half.invariant.paid
+    (subst (λ r. PaysBoxAfter (gridded c.loop-half.desk.view) r (visit half live) (known_of c.loop-half.values) (known_of c.look_into_told.new.values) c.loop-half.tally c.look_into_told.new.tally) (half-was half c.args.before)
+    (subst (λ l. PaysBoxAfter (gridded c.loop-half.desk.view) (visit_before c.args.before half) (visit half l) (known_of c.loop-half.values) (known_of c.look_into_told.new.values) c.loop-half.tally c.look_into_told.new.tally) (list-stays c.args.desk.now c.loop-half.desk c.args.live c.loop-half.invariant.more c.requires.may.among) c.in_err-look_into_told.ensures.paid)))
 
 pub look_into_each_half-loop-half-preserved : goal.look_into_each_half-loop-half-preserved
 look_into_each_half-loop-half-preserved t c =
@@ -354,9 +361,13 @@ look_into_each_half-loop-half-preserved t c =
           same c.loop-half-test.true c.half-item.is before.counted
           (subst (λ r. ChargesBelowAfter (gridded c.loop-half.desk.view) r (visit half live) (known_of c.loop-half.values) (known_of c.look_into_told.new.values) c.loop-half.tally c.look_into_told.new.tally) (half-was half c.args.before)
           (subst (λ l. ChargesBelowAfter (gridded c.loop-half.desk.view) (visit_before c.args.before half) (visit half l) (known_of c.loop-half.values) (known_of c.look_into_told.new.values) c.loop-half.tally c.look_into_told.new.tally) (list-stays c.args.desk.now c.loop-half.desk c.args.live c.loop-half.invariant.more c.requires.may.among) c.in_ok-look_into_told.ensures.counted));
-      worked = λ none. next-worked mesh view c.loop-half.desk.view live c.args.b half halves c.loop-half.half-index (known_of c.loop-half.values) (known_of c.look_into_told.new.values) same c.loop-half-test.true c.half-item.is grown (subst (λ l. AreWorked (gridded c.loop-half.desk.view) (visit c.half-item.result l) (known_of c.look_into_told.new.values)) (list-stays c.args.desk.now c.loop-half.desk c.args.live c.loop-half.invariant.more c.requires.may.among) (c.in_ok-look_into_told.ensures.worked none)) (before.worked none);
-      paid = λ none. next-paid c.layers_hold.ensures mesh view c.loop-half.desk.view live half halves c.loop-half.half-index (known_of c.args.values.now) (known_of c.loop-half.values) (known_of c.look_into_told.new.values) c.args.tally.now c.loop-half.tally c.look_into_told.new.tally
-          same c.loop-half-test.true c.half-item.is (before.paid none) (subst (λ l. PaysBox (gridded c.loop-half.desk.view) (visit c.half-item.result l) (known_of c.loop-half.values) (known_of c.look_into_told.new.values) c.loop-half.tally c.look_into_told.new.tally) (list-stays c.args.desk.now c.loop-half.desk c.args.live c.loop-half.invariant.more c.requires.may.among) (c.in_ok-look_into_told.ensures.paid none));
+      worked = next-worked_after view c.loop-half.desk.view was live c.args.b half halves c.loop-half.half-index (known_of c.loop-half.values) (known_of c.look_into_told.new.values) same c.loop-half-test.true c.half-item.is grown
+          (subst (λ r. AreWorkedAfter (gridded c.loop-half.desk.view) r (visit half live) (known_of c.look_into_told.new.values)) (half-was half c.args.before)
+          (subst (λ l. AreWorkedAfter (gridded c.loop-half.desk.view) (visit_before c.args.before half) (visit half l) (known_of c.look_into_told.new.values)) (list-stays c.args.desk.now c.loop-half.desk c.args.live c.loop-half.invariant.more c.requires.may.among) after.worked)) before.worked;
+      paid = next-paid_after c.layers_hold.ensures view c.loop-half.desk.view was live half halves c.loop-half.half-index (known_of c.args.values.now) (known_of c.loop-half.values) (known_of c.look_into_told.new.values) c.args.tally.now c.loop-half.tally c.look_into_told.new.tally
+          same c.loop-half-test.true c.half-item.is before.paid
+          (subst (λ r. PaysBoxAfter (gridded c.loop-half.desk.view) r (visit half live) (known_of c.loop-half.values) (known_of c.look_into_told.new.values) c.loop-half.tally c.look_into_told.new.tally) (half-was half c.args.before)
+          (subst (λ l. PaysBoxAfter (gridded c.loop-half.desk.view) (visit_before c.args.before half) (visit half l) (known_of c.loop-half.values) (known_of c.look_into_told.new.values) c.loop-half.tally c.look_into_told.new.tally) (list-stays c.args.desk.now c.loop-half.desk c.args.live c.loop-half.invariant.more c.requires.may.among) after.paid));
       traced = next-traced_after c.layers_hold.ensures view c.loop-half.desk.view was live half halves c.loop-half.half-index _ c.args.tally.now c.loop-half.tally c.look_into_told.new.tally same c.loop-half-test.true c.half-item.is before.traced
           (subst (λ r. CountsHullsAtLeast (long_spans_below_after (gridded c.loop-half.desk.view) r (visit half live)) c.loop-half.tally c.look_into_told.new.tally) (half-was half c.args.before)
           (subst (λ l. CountsHullsAtLeast (long_spans_below_after (gridded c.loop-half.desk.view) (visit_before c.args.before half) (visit half l)) c.loop-half.tally c.look_into_told.new.tally) (list-stays c.args.desk.now c.loop-half.desk c.args.live c.loop-half.invariant.more c.requires.may.among) after.traced));
@@ -373,10 +384,12 @@ look_into_each_half-returns-clause-settled t c =
 
 pub look_into_each_half-returns-clause-worked : goal.look_into_each_half-returns-clause-worked
 look_into_each_half-returns-clause-worked t c =
+    let live = list_of c.args.desk.now c.args.live in
+    let was = received_by c.args.before in
     let turned = subst (AreTurned c.args.b) (sym c.as_slice-half-items.ensures.value) (c.in_turn-halves.ensures c.requires.may.visit_is.box) in
     let halves = c.as_slice-half-items.result.now in
-    λ none. All-permutation (λ h. AreWorked (gridded c.args.desk.now.view) (visit h (list_of c.args.desk.now c.args.live)) (known_of c.loop-half.values)) halves (halves_of 1 c.args.b) (IsPermutation-sym (halves_of 1 c.args.b) halves turned.among)
-    (subst (λ hs. All (λ h. AreWorked (gridded c.args.desk.now.view) (visit h (list_of c.args.desk.now c.args.live)) (known_of c.loop-half.values)) hs) (take_all c.loop-half.half-index halves (omega (arith, c.loop-half-test.false))) (c.loop-half.invariant.worked none))
+    All-permutation (λ h. AreWorkedAfter (gridded c.args.desk.now.view) (received_half was h) (visit h live) (known_of c.loop-half.values)) halves (halves_of 1 c.args.b) (IsPermutation-sym (halves_of 1 c.args.b) halves turned.among)
+    (subst (λ hs. All (λ h. AreWorkedAfter (gridded c.args.desk.now.view) (received_half was h) (visit h live) (known_of c.loop-half.values)) hs) (take_all c.loop-half.half-index halves (omega (arith, c.loop-half-test.false))) c.loop-half.invariant.worked)
 
 pub look_into_each_half-returns-clause-counted : goal.look_into_each_half-returns-clause-counted
 look_into_each_half-returns-clause-counted t c =
@@ -391,9 +404,9 @@ look_into_each_half-returns-clause-counted t c =
 
 pub look_into_each_half-returns-clause-paid : goal.look_into_each_half-returns-clause-paid
 look_into_each_half-returns-clause-paid t c =
-    let view = c.args.desk.now.view in
     let turned = subst (AreTurned c.args.b) (sym c.as_slice-half-items.ensures.value) (c.in_turn-halves.ensures c.requires.may.visit_is.box) in
-    λ none. turned-paid (gridded view) (list_of c.args.desk.now c.args.live) (halves_of 1 c.args.b) c.as_slice-half-items.result.now (known_of c.args.values.now) (known_of c.loop-half.values) c.args.tally.now c.loop-half.tally turned.among (c.loop-half.invariant.paid none)
+    turned-paid_after (gridded c.args.desk.now.view) (received_by c.args.before) (list_of c.args.desk.now c.args.live) (halves_of 1 c.args.b) c.as_slice-half-items.result.now (known_of c.args.values.now) (known_of c.loop-half.values) c.args.tally.now c.loop-half.tally turned.among
+    c.loop-half.invariant.paid
 
 pub look_into_each_half-returns-clause-traced : goal.look_into_each_half-returns-clause-traced
 look_into_each_half-returns-clause-traced t c =
@@ -422,11 +435,18 @@ look_into_told-returns-then-not-is_long-clause-left t c =
 
 pub look_into_told-returns-then-not-is_long-clause-worked : goal.look_into_told-returns-then-not-is_long-clause-worked
 look_into_told-returns-then-not-is_long-clause-worked t c =
-    λ none. c.look_into_cell.ensures.worked
+    let view = c.args.desk.now.view in
+    let v = visit c.args.b (list_of c.args.desk.now c.args.received) in
+    let was = visit_before c.args.before c.args.b in
+    on_ok-then c.look_into_cell.result _ _ (worked-after (gridded view) was v (known_of c.look_into_cell.new.values)) c.look_into_cell.ensures.worked
 
 pub look_into_told-returns-then-not-is_long-clause-paid : goal.look_into_told-returns-then-not-is_long-clause-paid
 look_into_told-returns-then-not-is_long-clause-paid t c =
-    λ none. c.look_into_cell.ensures.paid
+    let view = c.args.desk.now.view in
+    let v = visit c.args.b (list_of c.args.desk.now c.args.received) in
+    let was = visit_before c.args.before c.args.b in
+    cell-paid_after c.layers_hold.ensures (gridded view) was v (known_of c.args.values.now) (known_of c.look_into_cell.new.values) c.args.tally.now c.look_into_cell.new.tally (omega arith) c.requires.may.visit_is.box c.requires.new
+    (sym c.is_long.ensures ∙ c.if-not-is_long.true) c.look_into_cell.ensures.paid
 
 pub look_into_told-returns-in-Open-clause-adds : goal.look_into_told-returns-in-Open-clause-adds
 look_into_told-returns-in-Open-clause-adds t c =
@@ -546,11 +566,30 @@ look_into_split-returns-in-Some-clause-grows t c =
 
 pub look_into_split-returns-in-Some-clause-worked : goal.look_into_split-returns-in-Some-clause-worked
 look_into_split-returns-in-Some-clause-worked t c =
-    λ none. absurd (none-some c.in-Some.old (sym none ∙ c.in-Some.ensures.one))
+    let view = c.args.desk.now.view in
+    let b = c.args.b in
+    let left = c.args.boxes.now.before in
+    let old = c.in-Some.old in
+    let live = list_of c.args.desk.now c.args.live in
+    let handed : first_list left ≡ Some live = c.in-Some.ensures.same ∙ ap Some (c.list.ensures.list ∙ ap (λ (d : Tracing). list_of d c.args.live) c.desk.view_is) in
+    let boxes = halves-boxes c.layers_hold.ensures b (halves_of 1 b) c.requires.may.visit_is.box refl in
+    on_ok c.take_old.result _
+    (subst (λ h. All (λ half. AreWorkedAfter (gridded view) (received_half h half) (visit half live) (known_of c.take_old.new.values)) (halves_of 1 b)) (sym (ap (λ o. handed_by o left) c.in-Some.ensures.one ∙ handed))
+    (taken-worked c.layers_hold.ensures (gridded view) live (halves_of 1 b) (known_of c.take_old.new.values) boxes))
 
 pub look_into_split-returns-in-Some-clause-paid : goal.look_into_split-returns-in-Some-clause-paid
 look_into_split-returns-in-Some-clause-paid t c =
-    λ none. absurd (none-some c.in-Some.old (sym none ∙ c.in-Some.ensures.one))
+    let view = c.args.desk.now.view in
+    let b = c.args.b in
+    let left = c.args.boxes.now.before in
+    let old = c.in-Some.old in
+    let live = list_of c.args.desk.now c.args.live in
+    let handed : first_list left ≡ Some live = c.in-Some.ensures.same ∙ ap Some (c.list.ensures.list ∙ ap (λ (d : Tracing). list_of d c.args.live) c.desk.view_is) in
+    let boxes = halves-boxes c.layers_hold.ensures b (halves_of 1 b) c.requires.may.visit_is.box refl in
+    let values = c.take_old.new.values in
+    subst (λ h. PaysHalvesAfter (gridded view) h live (halves_of 1 b) (known_of c.args.values.now) (known_of values) c.args.tally.now c.args.tally.now) (sym (ap (λ o. handed_by o left) c.in-Some.ensures.one ∙ handed))
+    (taken-paid c.layers_hold.ensures view live b old.values.now c.args.values.now values c.args.tally.now c.requires.may.visit_is.box boxes
+    (ap points_of_grid (size-is values.n c.args.values.now.n c.take_old.ensures.part.n)) c.take_old.ensures.part)
 
 pub look_into_split-returns-in-Some-clause-counted : goal.look_into_split-returns-in-Some-clause-counted
 look_into_split-returns-in-Some-clause-counted t c =
@@ -614,7 +653,7 @@ look_into_anew-returns-in_err-begun-clause-counted t c =
 
 pub look_into_anew-returns-in_err-begun-clause-paid : goal.look_into_anew-returns-in_err-begun-clause-paid
 look_into_anew-returns-in_err-begun-clause-paid t c =
-    λ none f due. pays-none c.layers_hold.ensures f (known_of c.args.values.now) c.args.tally.now
+    λ f due. pays-none c.layers_hold.ensures f (known_of c.args.values.now) c.args.tally.now
 
 pub look_into_anew-returns-in_err-look_into_halves-clause-counted : goal.look_into_anew-returns-in_err-look_into_halves-clause-counted
 look_into_anew-returns-in_err-look_into_halves-clause-counted t c =
@@ -632,7 +671,7 @@ look_into_anew-returns-in_err-look_into_halves-clause-paid t c =
     let left = c.args.boxes.now.before in
     let live = list_of c.args.desk.now c.args.live in
     let gave = c.half_before-half.ensures.received ∙ c.take_handed-handed.ensures.list in
-    λ none. c.in_err-look_into_halves.ensures.paid (none-halves c.args.before c.half_before-half.result left gave none)
+    subst (λ h. PaysHalvesAfter (gridded view) h live (halves_of 1 b) (known_of c.args.values.now) (known_of c.look_into_halves.new.values) c.args.tally.now c.look_into_halves.new.tally) gave c.in_err-look_into_halves.ensures.paid
 
 pub look_into_anew-returns-clause-counted : goal.look_into_anew-returns-clause-counted
 look_into_anew-returns-clause-counted t c =
@@ -650,7 +689,7 @@ look_into_anew-returns-clause-paid t c =
     let left = c.args.boxes.now.before in
     let live = list_of c.args.desk.now c.args.live in
     let gave = c.half_before-half.ensures.received ∙ c.take_handed-handed.ensures.list in
-    λ none. c.in_ok-look_into_halves.ensures.paid (none-halves c.args.before c.half_before-half.result left gave none)
+    subst (λ h. PaysHalvesAfter (gridded view) h live (halves_of 1 b) (known_of c.args.values.now) (known_of c.look_into_halves.new.values) c.args.tally.now c.look_into_halves.new.tally) gave c.in_ok-look_into_halves.ensures.paid
 
 pub look_into_anew-returns-clause-worked : goal.look_into_anew-returns-clause-worked
 look_into_anew-returns-clause-worked t c =
@@ -659,7 +698,7 @@ look_into_anew-returns-clause-worked t c =
     let left = c.args.boxes.now.before in
     let live = list_of c.args.desk.now c.args.live in
     let gave = c.half_before-half.ensures.received ∙ c.take_handed-handed.ensures.list in
-    λ none. c.in_ok-look_into_halves.ensures.worked (none-halves c.args.before c.half_before-half.result left gave none)
+    subst (λ h. All (λ half. AreWorkedAfter (gridded view) (received_half h half) (visit half live) (known_of c.look_into_halves.new.values)) (halves_of 1 b)) gave c.in_ok-look_into_halves.ensures.worked
 
 pub look_into_anew-returns-clause-traced : goal.look_into_anew-returns-clause-traced
 look_into_anew-returns-clause-traced t c =

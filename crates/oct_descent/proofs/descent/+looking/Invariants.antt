@@ -1,5 +1,5 @@
 use Rattle.std.proofs.Common.{◌≡◌, ◌≤◌, ◌+◌, ◌*◌, ℕ, drop, length, take}
-use Rattle.std.specs.Prelude.{IfSome, None}
+use Rattle.std.specs.Prelude.{IfSome}
 use Rattle.std.specs.List.{All}
 use Rattle.box_chains.specs.Desks.{HasMore, list_of, samples}
 use Rattle.box_chains.specs.Chains.{sides, visit}
@@ -7,15 +7,16 @@ use Rattle.box_chains.specs.Outcomes.{HandsOn, all_seen, asked_outcomes}
 use Rattle.kuhn_cells.specs.Triangles.{GridPoint}
 use Rattle.oct_descent.specs.Adding.{Adds}
 use Rattle.oct_descent.specs.Bound.{CountsHullsAtLeast}
-use Rattle.oct_descent.specs.AfterDesks.{IsEnoughHalvesAfter}
+use Rattle.oct_descent.specs.After.{received_half}
+use Rattle.oct_descent.specs.AfterDesks.{AreWorkedAfter, IsEnoughHalvesAfter, PaysHalvesAfter}
 use Rattle.oct_descent.specs.GridValues.{list_grid_value}
 use Rattle.oct_descent.specs.KeptBoxes.{halves_places}
 use Rattle.oct_descent.specs.OldBoxes.{AreOldHalves, behind_halves, received_by}
 use Rattle.view_places.specs.Window.{size_of}
 use Rattle.oct_descent.specs.Ways.{gridded}
 use Rattle.oct_descent.proofs.AfterLooks.{halves_below_after, halves_long_below_after}
-use Rattle.oct_descent.specs.Known.{AreSettled, AreWorked, Charges, Grows}
-use Rattle.oct_descent.specs.Halves.{PaysHalves, owned}
+use Rattle.oct_descent.specs.Known.{AreSettled, Charges, Grows}
+use Rattle.oct_descent.specs.Halves.{owned}
 use Rattle.oct_descent.specs.Asked.{longer}
 use Rattle.oct_descent.specs.Kinds.{known_of, mesh}
 use Rattle.oct_descent.proofs.descent.+looking.Given as goal
@@ -49,7 +50,7 @@ invariant-look_into_each_half-loop-half l = let list = list_of l.fn.desk l.live 
   grows : Grows (list_grid_value l.fn.desk.view list) l.fn.b (known_of l.fn.values) (known_of l.values);
   counted : (f : GridPoint → ℕ) → IsEnoughHalvesAfter f d was list l.half-items
       → Charges f (owned list l.half-items + halves_below_after d was list (take l.half-index l.half-items)) (known_of l.fn.values) (known_of l.values) l.fn.tally l.tally;
-  worked : l.fn.before ≡ None → All (λ h. AreWorked d (visit h list) (known_of l.values)) (take l.half-index l.half-items);
-  paid : l.fn.before ≡ None → PaysHalves d list l.half-items (known_of l.fn.values) (known_of l.values) l.fn.tally l.tally;
+  worked : All (λ h. AreWorkedAfter d (received_half was h) (visit h list) (known_of l.values)) (take l.half-index l.half-items);
+  paid : PaysHalvesAfter d was list l.half-items (known_of l.fn.values) (known_of l.values) l.fn.tally l.tally;
   traced : CountsHullsAtLeast (owned list l.half-items + halves_long_below_after d was list (take l.half-index l.half-items)) l.fn.tally l.tally;
 }

@@ -5,7 +5,7 @@ use Rattle.box_chains.specs.Desks.{list_of}
 use Rattle.box_chains.specs.Visits.{IsVisit}
 use Rattle.kuhn_cells.specs.Sizes.{SameSize}
 use Rattle.oct_descent.specs.Adding.{Adds}
-use Rattle.oct_descent.specs.AfterDesks.{ChargesBelowAfter, long_spans_below_after}
+use Rattle.oct_descent.specs.AfterDesks.{AreWorkedAfter, ChargesBelowAfter, PaysBoxAfter, long_spans_below_after}
 use Rattle.oct_descent.specs.Bound.{CountsHullsAtLeast}
 use Rattle.oct_descent.specs.GridValues.{list_grid_value}
 use Rattle.oct_descent.specs.KeptBoxes.{places_of}
@@ -14,11 +14,12 @@ use Rattle.view_places.specs.Window.{size_of}
 use Rattle.oct_descent.specs.Ways.{gridded}
 use Rattle.oct_descent.proofs.Added.{adds-none, adds-same}
 use Rattle.oct_descent.proofs.AfterLooks.{below-charged_after, below-traced_after, cell-traced_after, trace-charged_after}
+use Rattle.oct_descent.proofs.AfterPaid.{below-paid_after, cell-paid_after, look-paid_after, worked-after}
 use Rattle.oct_descent.proofs.Before.{cell-after, left-cell}
 use Rattle.oct_descent.proofs.Kept.{places-cell}
-use Rattle.oct_descent.proofs.Looks.{below-paid, look-paid, on_ok, on_ok-then}
+use Rattle.oct_descent.proofs.Looks.{on_ok, on_ok-then}
 use Rattle.oct_descent.proofs.Together.{among-stays, list-stays}
-use Rattle.oct_descent.specs.Known.{AreRight, AreSettled, AreWorked, Grows, PaysBox}
+use Rattle.oct_descent.specs.Known.{AreRight, AreSettled, Grows}
 use Rattle.oct_descent.specs.Kinds.{known_of}
 use Rattle.oct_descent.proofs.descent.look_into.Goals as goal
 
@@ -61,7 +62,7 @@ returns-in_err-told-clause-paid c =
     let view = c.args.desk.now.view in
     let v = visit c.args.b (list_of c.args.desk.now c.args.received) in
     let was = visit_before c.args.before c.args.b in
-    λ none. look-paid (gridded view) v (known_of c.args.values.now) c.args.tally.now c.trace_asked_box.new.tally
+    look-paid_after (gridded view) was v (known_of c.args.values.now) c.args.tally.now c.trace_asked_box.new.tally
     (c.layers_hold.ensures.bounds.hulls c.args.tally.now c.trace_asked_box.new.tally (length (list_of c.args.desk.now c.args.received)) c.trace_asked_box.ensures.counted)
 
 pub returns-clause-counted : goal.returns-clause-counted
@@ -78,9 +79,9 @@ returns-clause-paid c =
     let view = c.args.desk.now.view in
     let v = visit c.args.b (list_of c.args.desk.now c.args.received) in
     let was = visit_before c.args.before c.args.b in
-    λ none. below-paid c.layers_hold.ensures (gridded view) v (known_of c.args.values.now) (known_of c.look_into_told.new.values) c.args.tally.now c.trace_asked_box.new.tally c.look_into_told.new.tally
+    below-paid_after c.layers_hold.ensures (gridded view) was v (known_of c.args.values.now) (known_of c.look_into_told.new.values) c.args.tally.now c.trace_asked_box.new.tally c.look_into_told.new.tally
     c.trace_asked_box.ensures.counted
-    (subst (λ w. PaysBox (gridded w) (visit c.args.b (list_of c.args.desk.now c.args.received)) (known_of c.args.values.now) (known_of c.look_into_told.new.values) c.trace_asked_box.new.tally c.look_into_told.new.tally) c.in_ok-told.ensures.more.view (subst (λ l. PaysBox (gridded c.trace_asked_box.new.self.view) (visit c.args.b l) (known_of c.args.values.now) (known_of c.look_into_told.new.values) c.trace_asked_box.new.tally c.look_into_told.new.tally) (list-stays c.args.desk.now c.trace_asked_box.new.self c.args.received c.in_ok-told.ensures.more c.requires.may.among) (c.look_into_told.ensures.paid none)))
+    (subst (λ w. PaysBoxAfter (gridded w) (visit_before c.args.before c.args.b) (visit c.args.b (list_of c.args.desk.now c.args.received)) (known_of c.args.values.now) (known_of c.look_into_told.new.values) c.trace_asked_box.new.tally c.look_into_told.new.tally) c.in_ok-told.ensures.more.view (subst (λ l. PaysBoxAfter (gridded c.trace_asked_box.new.self.view) (visit_before c.args.before c.args.b) (visit c.args.b l) (known_of c.args.values.now) (known_of c.look_into_told.new.values) c.trace_asked_box.new.tally c.look_into_told.new.tally) (list-stays c.args.desk.now c.trace_asked_box.new.self c.args.received c.in_ok-told.ensures.more c.requires.may.among) c.look_into_told.ensures.paid))
 
 pub returns-clause-traced : goal.returns-clause-traced
 returns-clause-traced c =
@@ -97,7 +98,7 @@ returns-clause-settled c =
 
 pub returns-clause-worked : goal.returns-clause-worked
 returns-clause-worked c =
-    λ none. (subst (λ w. OnOk c.look_into_told.result (AreWorked (gridded w) (visit c.args.b (list_of c.args.desk.now c.args.received)) (known_of c.look_into_told.new.values))) c.in_ok-told.ensures.more.view (subst (λ l. OnOk c.look_into_told.result (AreWorked (gridded c.trace_asked_box.new.self.view) (visit c.args.b l) (known_of c.look_into_told.new.values))) (list-stays c.args.desk.now c.trace_asked_box.new.self c.args.received c.in_ok-told.ensures.more c.requires.may.among) (c.look_into_told.ensures.worked none)))
+    (subst (λ w. OnOk c.look_into_told.result (AreWorkedAfter (gridded w) (visit_before c.args.before c.args.b) (visit c.args.b (list_of c.args.desk.now c.args.received)) (known_of c.look_into_told.new.values))) c.in_ok-told.ensures.more.view (subst (λ l. OnOk c.look_into_told.result (AreWorkedAfter (gridded c.trace_asked_box.new.self.view) (visit_before c.args.before c.args.b) (visit c.args.b l) (known_of c.look_into_told.new.values))) (list-stays c.args.desk.now c.trace_asked_box.new.self c.args.received c.in_ok-told.ensures.more c.requires.may.among) c.look_into_told.ensures.worked))
 
 pub returns-clause-grows : goal.returns-clause-grows
 returns-clause-grows c =
@@ -120,3 +121,18 @@ look_into_told-requires-clause-may c =
       room = omega (arith, c.in_ok-told.ensures.more.room, may.room, ap length same);
       right = subst (λ l. AreRight (list_grid_value c.trace_asked_box.new.self.view l) c.args.b (known_of c.args.values.now)) (sym same) (subst (λ w. AreRight (list_grid_value w (list_of c.args.desk.now c.args.received)) c.args.b (known_of c.args.values.now)) (sym view) may.right);
     }
+
+pub returns-then-not-is_long-clause-worked : goal.returns-then-not-is_long-clause-worked
+returns-then-not-is_long-clause-worked c =
+    let view = c.args.desk.now.view in
+    let v = visit c.args.b (list_of c.args.desk.now c.args.received) in
+    let was = visit_before c.args.before c.args.b in
+    on_ok-then c.look_into_cell.result _ _ (worked-after (gridded view) was v (known_of c.look_into_cell.new.values)) c.look_into_cell.ensures.worked
+
+pub returns-then-not-is_long-clause-paid : goal.returns-then-not-is_long-clause-paid
+returns-then-not-is_long-clause-paid c =
+    let view = c.args.desk.now.view in
+    let v = visit c.args.b (list_of c.args.desk.now c.args.received) in
+    let was = visit_before c.args.before c.args.b in
+    cell-paid_after c.layers_hold.ensures (gridded view) was v (known_of c.args.values.now) (known_of c.look_into_cell.new.values) c.args.tally.now c.look_into_cell.new.tally (omega arith) c.requires.may.visit_is.box c.requires.new
+    (sym c.is_long.ensures ∙ c.if-not-is_long.true) c.look_into_cell.ensures.paid

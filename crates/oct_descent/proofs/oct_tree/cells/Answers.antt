@@ -2,7 +2,7 @@ use Rattle.std.proofs.Common.{subst}
 use Rattle.std.specs.Prelude.{None}
 use Rattle.box_chains.specs.Tallied.{CountsAtMost}
 use Rattle.oct_descent.specs.After.{mesh_points_after}
-use Rattle.oct_descent.specs.Bound.{CountsHullsAtLeast, mesh_spans}
+use Rattle.oct_descent.specs.Bound.{CountsAtLeast, CountsHullsAtLeast, mesh_spans}
 use Rattle.oct_descent.proofs.AfterBounds.{meshes_after_add_up_is}
 use Rattle.oct_descent.proofs.Looks.{on_ok}
 use Rattle.oct_descent.proofs.oct_tree.cells.Goals as goal
@@ -28,3 +28,9 @@ returns-clause-traced c =
     let sums = meshes_after_add_up_is c.layers_hold.ensures in
     on_ok c.tree_of.result _
     (subst (λ n. CountsHullsAtLeast n c.args.tally.now c.look_into_all.new.tally) (sums.fresh_long c.args.view.now c.args.list.now) c.in_ok-values.ensures.traced)
+
+pub returns-clause-at_least : goal.returns-clause-at_least
+returns-clause-at_least c =
+    let sums = meshes_after_add_up_is c.layers_hold.ensures in
+    on_ok c.tree_of.result _
+    (subst (λ n. CountsAtLeast n c.args.tally.now c.look_into_all.new.tally) (sums.fresh_least c.args.view.now c.args.list.now) c.in_ok-values.ensures.at_least)

@@ -1,7 +1,6 @@
 -- The laws are lemmas.
 use Rattle.ply_check.proofs.Exact.{each_answered, never_both, one_reading, one_refusal}
-use Rattle.ply_check.specs.PlyFiles.{ply_lines}
-use Rattle.ply_check.proofs.Answered.{reads_answered, refuses_answered}
+use Rattle.ply_check.proofs.Theorems.{reading_is_worked_out, refusal_is_worked_out}
 use Rattle.ply_check.proofs.laws.ply_reading_is_exact.Goals as goal
 
 pub returns-clause-answered : goal.returns-clause-answered
@@ -17,7 +16,7 @@ pub returns-clause-one_refusal : goal.returns-clause-one_refusal
 returns-clause-one_refusal c = one_refusal
 
 pub returns-clause-reading_worked_out : goal.returns-clause-reading_worked_out
-returns-clause-reading_worked_out c = λ bytes count faces is. reads_answered (ply_lines bytes) count faces is
+returns-clause-reading_worked_out c = reading_is_worked_out
 
 pub returns-clause-refusal_worked_out : goal.returns-clause-refusal_worked_out
-returns-clause-refusal_worked_out c = λ bytes line reason is. refuses_answered (ply_lines bytes) line reason is
+returns-clause-refusal_worked_out c = refusal_is_worked_out

@@ -1,4 +1,0 @@
-mod Closed
-mod ContourWork
-mod Examples
-mod LeastWork

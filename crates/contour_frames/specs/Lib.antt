@@ -1,2 +1,0 @@
-pub mod ClosedTexts
-pub mod Contours

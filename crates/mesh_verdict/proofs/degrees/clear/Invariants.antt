@@ -1,7 +1,0 @@
-use Rattle.std.proofs.Common.{drop, length}
-use Rattle.mesh_verdict.specs.Arcs.{pairs}
-use Rattle.mesh_verdict.specs.Degrees.{AreDegrees}
-use Rattle.mesh_verdict.proofs.degrees.clear.Given as goal
-
-abbrev pub invariant-loop-arc : goal.invariant-loop-arc
-invariant-loop-arc l = AreDegrees (length l.initial.to) (pairs (drop l.arc-index l.arcs)) l.to l.back

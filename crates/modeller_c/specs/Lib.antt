@@ -1,0 +1,4 @@
+pub mod Calls
+pub mod Gathering
+pub mod Rooms
+pub mod Words

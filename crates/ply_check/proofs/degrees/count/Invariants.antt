@@ -1,0 +1,7 @@
+use Rattle.std.proofs.Common.{length, take}
+use Rattle.ply_check.specs.Arcs.{pairs}
+use Rattle.ply_check.specs.Degrees.{AreDegrees}
+use Rattle.ply_check.proofs.degrees.count.Given as goal
+
+abbrev pub invariant-loop-arc : goal.invariant-loop-arc
+invariant-loop-arc l = AreDegrees (length l.initial.to) (pairs (take l.arc-index l.arcs)) l.to l.back
