@@ -3,6 +3,7 @@ from __future__ import annotations
 
 import importlib.util
 import pathlib
+import re
 import shutil
 import subprocess
 import sys
@@ -11,6 +12,7 @@ import unittest
 import venv
 import zipfile
 
+from modeller.program import find_program
 from modeller.version import version
 from tests.support import PYTHON, ROOT
 
@@ -23,8 +25,34 @@ class Version(unittest.TestCase):
         number = (ROOT / "VERSION").read_text()
         self.assertRegex(number, r"\A\d+\.\d+\.\d+\n\Z")
         self.assertEqual(version() + "\n", number)
-        self.assertIn(f'"modeller {version()}"', (ROOT / "docs" / "modeller.1").read_text().splitlines()[0])
+        manual = (ROOT / "docs" / "modeller.1").read_text()
+        self.assertIn(f'"modeller {version()}"', manual.splitlines()[0])
+        self.assertEqual(set(re.findall(r"\d+\.\d+\.\d+", manual)), {version()})
+        self.assertIn(f".SH VERSION\nmodeller {version()}\n", manual)
         self.assertNotIn("version =", (PYTHON / "pyproject.toml").read_text())
+
+
+class Manual(unittest.TestCase):
+    """The manual page has each verb, form and command that docs/VERBS.md has."""
+
+    def words(self, text: str, first: str) -> list[str]:
+        """The names in backquotes of the first cells of a table, whose head begins with a word."""
+        rows = text.split(f"| {first} |")[1].split("\n\n")[0].splitlines()[2:]
+        return [name for row in rows for name in re.findall(r"`(\w+)", row.split(" | ")[0])]
+
+    def test_it_lists_what_the_pages_list(self) -> None:
+        pages = (ROOT / "docs" / "VERBS.md").read_text()
+        manual = (ROOT / "docs" / "modeller.1").read_text()
+        for section, names in (
+            ("VERBS", re.findall(r"(?m)^## (\w+)$", pages)),
+            ("SOLIDS", self.words(pages, "Form")),
+            ("SCRIPTS", self.words(pages, "Command")),
+        ):
+            text = manual.split(f".SH {section}\n")[1].split(".SH ")[0]
+            self.assertGreater(len(names), 7)
+            for name in names:
+                with self.subTest(section, name=name):
+                    self.assertRegex(text, rf"(?m)^\.BI? .*\b{name}\b|^\.BR .*\b{name}\b")
 
 
 class Backend(unittest.TestCase):
@@ -73,14 +101,13 @@ class Package(unittest.TestCase):
         script = (ROOT / "checks" / "package").read_text()
         with tempfile.TemporaryDirectory() as room:
             top = pathlib.Path(room) / "top"
-            for it in ("docs", "examples", "python", "checks"):
+            for it in ("c", "checks", "docs", "examples", "python", "web"):
                 shutil.copytree(ROOT / it, top / it)
             for it in ("clauses", "paint", "README.md", "VERSION"):
                 shutil.copy(ROOT / it, top / it)
             program = top / "crates" / "modeller" / "out" / "modeller"
             program.parent.mkdir(parents=True)
-            program.write_bytes(b"\x7fELF")
-            program.chmod(0o755)
+            shutil.copy(find_program(), program)
             (top / "python" / "modeller" / "__pycache__").mkdir(exist_ok=True)
             self.assertTrue(script.startswith("#!"))
             subprocess.run([top / "checks" / "package", room], check=True, capture_output=True)

@@ -1,0 +1,1 @@
+"""Puts the page together: one HTML file, with the module, the examples and the reasons inside."""
