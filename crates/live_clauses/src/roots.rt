@@ -36,28 +36,26 @@ pub struct RootRoom {
     // The steps that the clauses of a model are, and the numbers of the constants among them.
     steps: Vec<PackedStep>,
     constants: Vec<Fx>,
-    // Which of them are needed, and the new numbers of these.
+    // Which of them are needed, the new numbers of these, and those that are live.
     marks: Vec<u8>,
     numbers: Vec<u16>,
-    // Those that are live, and whether they were made of these steps.
     live: Vec<PackedStep>,
-    known: bool,
+    // The root list of these steps, once it was made.
+    last: Option<Tape>,
 }
 
 impl std::marker::Model for RootRoom {
-    ghost use Rattle.std.specs.Prelude.{◌≡◌, List, Option, Some, None, map, true, if◌then◌else◌};
+    ghost use Rattle.std.specs.Prelude.{◌≡◌, List, Option, Some, map};
     ghost use Rattle.live_clauses.specs.Packed.{unpacked};
     ghost use Rattle.live_clauses.specs.Live.{IsLiveOf};
     ghost use Rattle.live_clauses.specs.declared.step.Step.{Step};
 
     ghost Value = { Option (List Step) };
 
-    ghost view = { λ r.
-        if r.known then Some (map (unpacked r.constants.items) r.live.items) else None };
+    ghost view = { λ r. r.last };
 
-    ghost invariant = { λ r. r.known ≡ true
-        → IsLiveOf (map (unpacked r.constants.items) r.live.items)
-        (map (unpacked r.constants.items) r.steps.items) };
+    ghost invariant = { λ r. (root : List Step) → r.last ≡ Some root
+        → IsLiveOf root (map (unpacked r.constants.items) r.steps.items) };
 }
 
 impl RootRoom {
@@ -69,34 +67,32 @@ impl RootRoom {
             marks: Vec::new(alloc),
             numbers: Vec::new(alloc),
             live: Vec::new(alloc),
-            known: false,
+            last: None,
         }
     }
 
-    /// The root list of a solid, as `root_tape` gives it. Where it equals the list that was there
-    /// before, that very list is shared on. AllocError: there is no memory for it.
+    /// The root list of a solid, as `root_tape` gives it. Where the model has the clauses of the last one,
+    /// or the list equals the one that was there before, that very list is shared on. AllocError: there
+    /// is no memory for it.
     pub fn root(&mut self, model: &Model, before: Option<&Tape>) -> Result<Tape, AllocError>
         ensures live { IfOk result (λ tape. tape ≡ root_of model.now) }
         ensures value { IfOk result (λ tape. (p : Point)
             → tape_value p tape ≡ solid_value p model.now) }
     {
-        self.make(model)?;
-        let root = Steps::from_packed(&self.live, &self.constants);
-        match before {
-            Some(tape) if tape.steps().same(&root) => tape.share(),
-            _ => keep(*self.live.allocator(), &root),
+        let (steps, constants) = (self.steps.as_slice(), self.constants.as_slice());
+        match &self.last {
+            Some(last) if are_steps(steps, constants, model) => last.share(),
+            _ => self.make(model, before),
         }
     }
 
-    // Makes the root list of a model, unless it was made last.
-    fn make(&mut self, model: &Model) -> Result<(), AllocError>
-        ensures live { OnOk result (self.new ≡ Some (root_of model.now)) }
-        ensures model { IsModel model.now }
+    // Makes the root list of a model, and keeps it as the last one.
+    fn make(&mut self, model: &Model, before: Option<&Tape>) -> Result<Tape, AllocError>
+        ensures live { IfOk result (λ tape. tape ≡ root_of model.now) }
+        ensures value { IfOk result (λ tape. (p : Point)
+            → tape_value p tape ≡ solid_value p model.now) }
     {
-        if self.known && are_steps(&self.steps, &self.constants, model) {
-            return Ok(());
-        }
-        self.known = false;
+        self.last = None;
         pack_clauses(model, &mut self.steps, &mut self.constants)?;
         shorten(
             &self.steps,
@@ -108,8 +104,25 @@ impl RootRoom {
             &mut self.numbers,
             &mut self.live,
         )?;
-        self.known = true;
-        Ok(())
+        let root = Steps::from_packed(&self.live, &self.constants);
+        let tape = share_or_keep(*self.live.allocator(), &root, before)?;
+        self.last = Some(tape.share()?);
+        Ok(tape)
+    }
+}
+
+// These steps as a list: the one that was there before, where that has them, or else one in memory of
+// its own.
+fn share_or_keep(
+    alloc: Global,
+    steps: &Steps<'_>,
+    before: Option<&Tape>,
+) -> Result<Tape, AllocError>
+    ensures { IfOk result (λ tape. tape ≡ steps.now) }
+{
+    match before {
+        Some(tape) if tape.steps().same(steps) => tape.share(),
+        _ => keep(alloc, steps),
     }
 }
 
@@ -137,7 +150,10 @@ fn are_steps(steps: &[PackedStep], constants: &[Fx], model: &Model) -> bool
 fn is_step(clause: &ClauseRef<'_>, step: Step) -> bool
     ensures { IsTrue result → step_of (clause_seen clause.now) ≡ step }
 {
-    clause.op == step.op && clause.a == step.a && clause.b == step.b && clause.value == step.value
+    (clause.op == step.op)
+        & (clause.a == step.a)
+        & (clause.b == step.b)
+        & (clause.value == step.value)
 }
 
 // Keeps the steps that the clauses are, with the numbers of the constants among them.

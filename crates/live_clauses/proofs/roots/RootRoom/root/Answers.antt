@@ -1,50 +1,30 @@
--- The list that was made is the root list of the model.
-use Rattle.std.proofs.Common.{◌≡◌, Bool, true, false, cond, ℤ, List, Some, None, map, ap, sym, subst, ◌∙◌}
-use Rattle.std.specs.Prelude.{IfOk}
-use Rattle.std.proofs.lemmas.Option.{same_Some}
+-- The list that was made last is the root list of a model whose clauses are its steps.
+use Rattle.std.proofs.Common.{◌≡◌, length, map, replicate, refl, ap, sym, ◌∙◌}
+use Rattle.std.proofs.lemmas.List.{length-map}
 use Rattle.std.proofs.lemmas.Result.{IfOk-weaker}
 use Rattle.fixed_ops.specs.Points.{Point}
-use Rattle.solid_model.specs.declared.clause.Clause.{Clause}
+use Rattle.interval_ops.specs.declared.choice.Choice.TheVariants.{Both}
 use Rattle.solid_model.specs.Values.{solid_value}
-use Rattle.live_clauses.specs.declared.packed_step.PackedStep.{PackedStep}
-use Rattle.live_clauses.specs.declared.step.Step.{Step}
-use Rattle.live_clauses.specs.Live.{root_of}
+use Rattle.live_clauses.specs.Live.{live_of, root_of}
 use Rattle.live_clauses.specs.Packed.{unpacked}
-use Rattle.live_clauses.specs.Steps.{IsTape, tape_value}
-use Rattle.live_clauses.proofs.RootLaws.{root_of-tape, root_of-value}
+use Rattle.live_clauses.specs.Steps.{step_of, steps_of, tape_value}
+use Rattle.live_clauses.proofs.RootLaws.{root_of-value}
 use Rattle.live_clauses.proofs.roots.RootRoom.root.Goals as goal
-use Rattle.live_clauses.proofs.roots.RootRoom.root.Goals.{in-Some, in_default}
+use Rattle.live_clauses.proofs.roots.RootRoom.root.Goals.{After-share}
 
--- a list that is told where it is known
-told : (known : Bool) (list root : List Step) → cond known (Some list) None ≡ Some root → list ≡ root
-told true list root is = same_Some _ _ is
-told false list root is = (cc)
-
--- as it is read
-read : (table from : List ℤ) (kept live : List PackedStep) (clauses : List Clause) → from ≡ table → kept ≡ live
-    → map (unpacked table) live ≡ root_of clauses → map (unpacked from) kept ≡ root_of clauses
-read table from kept live clauses table_is live_is root = ap (λ t. map (unpacked t) kept) table_is ∙ ap (map (unpacked table)) live_is ∙ root
-
-pub from_packed-root-requires : goal.from_packed-root-requires
-from_packed-root-requires c =
-    let inside = c.self.inside in
-    let root = told inside.known (map (unpacked inside.constants.items) inside.live.items) (root_of c.args.model.now) (c.self.view_is ∙ c.in_ok-make.ensures.live) in
-    subst IsTape (sym (read inside.constants.items c.deref-2.result.now c.deref.result.now inside.live.items c.args.model.now c.deref-2.ensures.value c.deref.ensures.value root))
-    (root_of-tape c.args.model.now c.in_ok-make.ensures.model)
-
-pub returns-clause-value : goal.returns-clause-value
-returns-clause-value c =
-    let inside = c.self.inside in
+is_root : (c : After-share) → c.in-Some.last ≡ root_of c.args.model.now
+is_root c =
     let clauses = c.args.model.now in
-    let root = told inside.known (map (unpacked inside.constants.items) inside.live.items) (root_of clauses) (c.self.view_is ∙ c.in_ok-make.ensures.live) in
-    let list : c.from_packed-root.result ≡ root_of clauses = c.from_packed-root.ensures ∙ read inside.constants.items c.deref-2.result.now c.deref.result.now inside.live.items clauses c.deref-2.ensures.value c.deref.ensures.value root in
-    let valued : (tape : List Step) → tape ≡ root_of clauses → (p : Point) → tape_value p tape ≡ solid_value p clauses =
-    λ tape is p. ap (tape_value p) is ∙ root_of-value p clauses c.in_ok-make.ensures.model in
-    elim c.match-before.branch [
-      | in-Some w ↦ subst (λ r. IfOk r (λ tape. (p : Point) → tape_value p tape ≡ solid_value p clauses)) (sym w.result-is)
-          (IfOk-weaker w.share.result (λ tape. tape ≡ w.in-Some.tape.now) (λ tape. (p : Point) → tape_value p tape ≡ solid_value p clauses)
-          (λ tape same. valued tape (same ∙ sym w.steps.ensures.steps ∙ w.same.ensures.0 w.if-same.true ∙ list)) w.share.ensures)
-      | in_default w ↦ subst (λ r. IfOk r (λ tape. (p : Point) → tape_value p tape ≡ solid_value p clauses)) (sym w.result-is)
-          (IfOk-weaker w.keep.result (λ tape. tape ≡ c.from_packed-root.result) (λ tape. (p : Point) → tape_value p tape ≡ solid_value p clauses)
-          (λ tape same. valued tape (same ∙ list)) w.keep.ensures)
-    ]
+    let steps : map (unpacked c.self.inside.constants.items) c.self.inside.steps.items ≡ steps_of clauses =
+    ap (λ t. map (unpacked t) c.self.inside.steps.items) (sym c.as_slice-constants.ensures.value)
+    ∙ ap (map (unpacked c.as_slice-constants.result.now)) (sym c.as_slice-steps.ensures.value) ∙ c.if-are_steps.ensures.same refl in
+    (c.self.invariant c.in-Some.last c.in-Some.is).live ∙ ap (λ s. live_of s (replicate (length s) Both)) steps
+    ∙ ap (λ n. live_of (steps_of clauses) (replicate n Both)) (length-map clauses step_of)
+
+pub returns-in-Some-clause-live : goal.returns-in-Some-clause-live
+returns-in-Some-clause-live c = IfOk-weaker c.share.result _ _ (λ tape same. same ∙ is_root c) c.share.ensures
+
+pub returns-in-Some-clause-value : goal.returns-in-Some-clause-value
+returns-in-Some-clause-value c =
+    IfOk-weaker c.share.result (λ tape. tape ≡ c.in-Some.last) (λ tape. (p : Point) → tape_value p tape ≡ solid_value p c.args.model.now)
+    (λ tape same p. ap (tape_value p) (same ∙ is_root c) ∙ root_of-value p c.args.model.now c.if-are_steps.ensures.model) c.share.ensures
