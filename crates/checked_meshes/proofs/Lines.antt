@@ -7,10 +7,11 @@ use Rattle.std.proofs.lemmas.List.Elements.{All-nil, All-cons, All-head, All-tai
 use Rattle.solid_model.specs.Names.{is_blank, is_token_byte}
 use Rattle.clause_reader.specs.declared.comments.Comments.TheVariants.{Kept}
 use Rattle.clause_reader.specs.Lines.{is_feed, lines_of, onto_first, tokens_of}
-use Rattle.clause_reader.specs.LineLaws.{EndsToken, HasNoBlank, HasNoFeed, Spaced, TokensAreExact}
+use Rattle.clause_reader.specs.LineLaws.{EndsToken, HasNoBlank, HasNoFeed, Spaced}
 use Rattle.clause_reader.specs.ModelText.{spaced}
 use Rattle.clause_reader.specs.NumberedLines.{given_from, given_lines}
 use Rattle.checked_meshes.proofs.Numbers.{IsToken}
+use Rattle.clause_reader.proofs.TokenLemmas.{tokens_exactly}
 
 -- the tokens of a line, with a space between them
 abbrev pub joined : List (List ℕ) → List ℕ
@@ -112,16 +113,16 @@ lines_written (tokens ∷ lines) all =
     first_line (joined tokens) (written lines) (joined_no_feed tokens (All-head IsLine tokens lines all).tokens_are)
     ∙ ap (λ ls. joined tokens ∷ ls) (lines_written lines (All-tail IsLine tokens lines all))
 
-given : TokensAreExact → (number : ℕ) (lines : List (List (List ℕ))) → All IsLine lines → given_from Kept number (map joined lines) ≡ numbered number lines
-given exact number [] all = refl
-given exact number (tokens ∷ lines) all =
+given : (number : ℕ) (lines : List (List (List ℕ))) → All IsLine lines → given_from Kept number (map joined lines) ≡ numbered number lines
+given number [] all = refl
+given number (tokens ∷ lines) all =
     let line = All-head IsLine tokens lines all in
-    let here : tokens_of (joined tokens) ≡ tokens = sym ((exact (joined tokens) tokens).1 (joined_tokens tokens line.tokens_are)) in
+    let here : tokens_of (joined tokens) ≡ tokens = sym ((tokens_exactly (joined tokens) tokens).1 (joined_tokens tokens line.tokens_are)) in
     let some : nat_lt 0 (length tokens) ≡ true = lt-ltb 0 (length tokens) line.some in
-    rw (here, some) (ap (λ ls. (number, tokens) ∷ ls) (given exact (number + 1) lines (All-tail IsLine tokens lines all)))
+    rw (here, some) (ap (λ ls. (number, tokens) ∷ ls) (given (number + 1) lines (All-tail IsLine tokens lines all)))
 
-pub given_written : TokensAreExact → (lines : List (List (List ℕ))) → All IsLine lines → given_lines Kept (written lines) ≡ numbered 1 lines
-given_written exact lines all = ap (given_from Kept 1) (lines_written lines all) ∙ given exact 1 lines all
+pub given_written : (lines : List (List (List ℕ))) → All IsLine lines → given_lines Kept (written lines) ≡ numbered 1 lines
+given_written lines all = ap (given_from Kept 1) (lines_written lines all) ∙ given 1 lines all
 
 -- ---- numbers of lines
 

@@ -11,29 +11,29 @@ use Rattle.kuhn_cells.specs.Arrangement.{arrangement, differ, inside_count, patt
 use Rattle.kuhn_cells.specs.Cells.{IsBordered, directions_of, edges_of, has_inside, lowest_corner, mixed_cells, triangles_of_cell}
 use Rattle.kuhn_cells.specs.Faces.{all_triangles, face_among, faces}
 use Rattle.kuhn_cells.specs.Grids.{Grid, grid_size, vertices}
-use Rattle.kuhn_cells.specs.Laws.{NumbersArePlaces, TrianglesHaveVertices}
 use Rattle.kuhn_cells.specs.Sizes.{IsBounded}
 use Rattle.kuhn_cells.specs.Triangles.{GridPoint, edge_between, triangles_by, triangles_in}
-use Rattle.live_clauses.specs.Laws.{RootHasTheValue}
 use Rattle.live_clauses.specs.Live.{root_of}
 use Rattle.mesh_laws.specs.Manifold.{IsManifold}
-use Rattle.ply_check.specs.VerdictLaws.{VerdictsAreExact}
 use Rattle.model_frames.specs.Meshes.{grid_of, mesh_text}
 use Rattle.oct_descent.specs.GridValues.{list_grid}
-use Rattle.oct_descent.specs.Laws.{GridsAreBordered}
 use Rattle.ply_writer.specs.Ply.{ply_of}
 use Rattle.solid_model.specs.Clauses.{IsModel}
 use Rattle.solid_model.specs.Values.{solid_value}
 use Rattle.solid_model.specs.declared.clause.Clause.{Clause}
-use Rattle.tetra_mesh.specs.CellLaws.{CellsMakeMeshes, MixedCellsAreCells}
 use Rattle.tetra_mesh.specs.Cuts.{mesh_of, vertex_of}
 use Rattle.tetra_mesh.specs.Meshes.{Triangulation}
 use Rattle.tetra_mesh.specs.Numbering.{all_faces, vertex_on, vertices_on}
-use Rattle.tetra_mesh.specs.SoundLaws.{GridMeshesAreSound}
 use Rattle.view_places.specs.Window.{FitsMesh, IsWindow, Window}
-use Rattle.checked_meshes.specs.Laws.{WrittenMeshesAreRead}
 use Rattle.checked_meshes.specs.ModelTexts.{MeshTextsCheck}
 use Rattle.checked_meshes.specs.Readings.{HasCornersBelow, SaysMesh}
+use Rattle.kuhn_cells.proofs.FaceLaws.{numbers_are_places, triangles_have_vertices}
+use Rattle.live_clauses.proofs.RootLaws.{root_of-value}
+use Rattle.oct_descent.proofs.Blocks.{grids_are_bordered_is}
+use Rattle.ply_check.proofs.VerdictLaws.{verdicts_are_exact}
+use Rattle.tetra_mesh.proofs.GridLaws.{cells_of_grid, mesh_of_cells}
+use Rattle.tetra_mesh.proofs.SoundLaws.{grid_meshes_are_sound}
+use Rattle.checked_meshes.proofs.Texts.{written_read}
 
 -- ---- how many vertices and faces there are
 
@@ -98,44 +98,43 @@ small cells few =
 
 -- ---- the mesh of the grid of a model
 
-solid_bordered : GridsAreBordered → RootHasTheValue → (view : Window) (clauses : List Clause) → IsModel clauses → IsBordered (grid_of view (λ p. solid_value p clauses))
+solid_bordered : (view : Window) (clauses : List Clause) → IsModel clauses → IsBordered (grid_of view (λ p. solid_value p clauses))
 unfolding list_grid grid_of
-solid_bordered bordered root view clauses model =
-    subst IsBordered (λ k. grid_of view (λ p. root p clauses model k)) (bordered view (root_of clauses))
+solid_bordered view clauses model =
+    subst IsBordered (λ k. grid_of view (λ p. root_of-value p clauses model k)) (grids_are_bordered_is view (root_of clauses))
 
-grid_small : CellsMakeMeshes → MixedCellsAreCells → (g : Grid) → IsBounded (grid_size g) → IsBordered g → IsSmall (mesh_of g)
-grid_small make are g bounded border = subst IsSmall (sym (make g border)) (small (mixed_cells g) (are g bounded border).few)
+grid_small : (g : Grid) → IsBounded (grid_size g) → IsBordered g → IsSmall (mesh_of g)
+grid_small g bounded border = subst IsSmall (sym (mesh_of_cells g border)) (small (mixed_cells g) (cells_of_grid g bounded border).few)
 
 solid_bounded : (view : Window) (value : Point → ℤ) → IsWindow view → FitsMesh view → IsBounded (grid_size (grid_of view value))
 unfolding grid_of
 solid_bounded view value window fits = record { x = window.nx.few; y = window.ny.few; z = window.nz.few; all = fits.all }
 
-corners_below : TrianglesHaveVertices → NumbersArePlaces → (g : Grid) → All (HasCornersBelow (length (vertices g))) (faces g)
+corners_below : (g : Grid) → All (HasCornersBelow (length (vertices g))) (faces g)
 unfolding faces
-corners_below have places g =
+corners_below g =
     All-map (HasCornersBelow (length (vertices g))) (face_among (vertices g)) (all_triangles g) (λ k d less.
     let triangle = get_or (all_triangles g) k d in
-    let edges = have g k d less in
+    let edges = triangles_have_vertices g k d less in
     record {
-      a = (places g triangle.a triangle.a edges.a).0;
-      b = (places g triangle.b triangle.b edges.b).0;
-      c = (places g triangle.c triangle.c edges.c).0;
+      a = (numbers_are_places g triangle.a triangle.a edges.a).0;
+      b = (numbers_are_places g triangle.b triangle.b edges.b).0;
+      c = (numbers_are_places g triangle.c triangle.c edges.c).0;
     })
 
-pub texts_check : WrittenMeshesAreRead → TrianglesHaveVertices → NumbersArePlaces → RootHasTheValue → GridsAreBordered
-    → CellsMakeMeshes → MixedCellsAreCells → GridMeshesAreSound → VerdictsAreExact → MeshTextsCheck
+pub texts_check : MeshTextsCheck
 unfolding mesh_text
-texts_check written have places root bordered make are sound exact view clauses model window fits =
+texts_check view clauses model window fits =
     let value : Point → ℤ = λ p. solid_value p clauses in
     let g = grid_of view value in
     let mesh = mesh_of g in
-    let border = solid_bordered bordered root view clauses model in
-    let few = grid_small make are g (solid_bounded view value window fits) border in
+    let border = solid_bordered view clauses model in
+    let few = grid_small g (solid_bounded view value window fits) border in
     let as_many = length-map (vertices g) (vertex_of g) in
-    let is_sound = sound g border in
-    let below = corners_below have places g in
+    let is_sound = grid_meshes_are_sound g border in
+    let below = corners_below g in
     record {
       says = subst (λ n. SaysMesh (ply_of view mesh.vertices mesh.faces) n (faces g)) as_many
-          (written view mesh.vertices mesh.faces few.vertices few.faces (subst (λ n. All (HasCornersBelow n) (faces g)) (sym as_many) below));
-      closed = (exact (length (vertices g)) (faces g)).1 (is_sound.closed, subst (λ n. IsManifold n (faces g)) as_many is_sound.manifold);
+          (written_read view mesh.vertices mesh.faces few.vertices few.faces (subst (λ n. All (HasCornersBelow n) (faces g)) (sym as_many) below));
+      closed = (verdicts_are_exact (length (vertices g)) (faces g)).1 (is_sound.closed, subst (λ n. IsManifold n (faces g)) as_many is_sound.manifold);
     }

@@ -6,7 +6,6 @@ use Rattle.std.proofs.lemmas.Bool.{lt-ltb}
 use Rattle.std.proofs.lemmas.Grind.{flat_map-append}
 use Rattle.std.proofs.lemmas.List.{length-map}
 use Rattle.std.proofs.lemmas.List.Elements.{All-append, All-cons, All-head, All-map, All-nil, All-tail}
-use Rattle.clause_reader.specs.LineLaws.{TokensAreExact}
 use Rattle.fixed_ops.specs.NumberTexts.{number_text}
 use Rattle.kuhn_cells.specs.Faces.{Face}
 use Rattle.ply_check.specs.declared.ply_fault.PlyFault.{PlyFault}
@@ -16,7 +15,6 @@ use Rattle.ply_check.specs.declared.ply_reason.PlyReason.TheVariants.{NoMemory}
 use Rattle.ply_check.specs.FaceLines.{said_face}
 use Rattle.ply_check.specs.Gives.{Gives}
 use Rattle.ply_check.specs.Headers.{Opens}
-use Rattle.ply_check.specs.ReadingLaws.{NoneIsReadAndRefused, OneReading}
 use Rattle.ply_check.specs.PlyFiles.{PlyReads, PlyRefuses, ply_lines}
 use Rattle.ply_writer.specs.Ply.{face_line, ply_of, vertex_line}
 use Rattle.tetra_mesh.specs.declared.vertex.Vertex.{Vertex}
@@ -28,6 +26,7 @@ use Rattle.checked_meshes.specs.Readings.{HasCornersBelow, IsGivenMesh, corners_
 use Rattle.checked_meshes.proofs.Headers.{header_is_lines, header_lines, header_opens, header_written}
 use Rattle.checked_meshes.proofs.Lines.{IsLine, given_written, joined, numbered, numbered_all, numbered_append, numbered_length, numbered_map, written}
 use Rattle.checked_meshes.proofs.Numbers.{IsToken, decimal_is_token, decimal_read, number_is_token}
+use Rattle.ply_check.proofs.Exact.{never_both, one_reading}
 
 -- ---- the lines of vertices and of faces
 
@@ -121,15 +120,15 @@ faces_read count [] few below = refl
 faces_read count (f ∷ faces) few below =
     rw (face_reads count f few (All-head (HasCornersBelow count) f faces below)) (ap (λ xs. Ok (corners_of f) ∷ xs) (faces_read count faces few (All-tail (HasCornersBelow count) f faces below)))
 
-text_reads : TokensAreExact → (w : Window) (vertices : List Vertex) (faces : List Face) → length vertices < 2 ^ 31 → length faces < 2 ^ 31
+text_reads : (w : Window) (vertices : List Vertex) (faces : List Face) → length vertices < 2 ^ 31 → length faces < 2 ^ 31
     → All (HasCornersBelow (length vertices)) faces → PlyReads (ply_of w vertices faces) (length vertices) (map corners_of faces)
-text_reads exact w vertices faces few few_faces below =
+text_reads w vertices faces few few_faces below =
     let header = header_lines (length vertices) (length faces) in
     let points = map (vertex_tokens w) vertices in
     let triangles = map face_tokens faces in
     let lines : ply_lines (ply_of w vertices faces) ≡ numbered 1 header ++ (numbered 10 points ++ numbered (10 + length points) triangles) =
     ap ply_lines (text_written w vertices faces)
-    ∙ given_written exact (text_lines w vertices faces) (all_lines w vertices faces)
+    ∙ given_written (text_lines w vertices faces) (all_lines w vertices faces)
     ∙ numbered_append 1 header (points ++ triangles)
     ∙ ap (λ ls. numbered 1 header ++ ls) (numbered_append 10 points triangles) in
     record {
@@ -156,10 +155,10 @@ mesh_given bytes count faces only accepted (Err fault) gives = by fault.reason g
     by NoMemory refused = refl
     by reason refused = absurd (accepted fault.line reason (refused (λ same. (cc))))
 
-pub written_read : TokensAreExact → OneReading → NoneIsReadAndRefused → WrittenMeshesAreRead
-written_read exact one never w vertices faces few few_faces below =
+pub written_read : WrittenMeshesAreRead
+written_read w vertices faces few few_faces below =
     let text = ply_of w vertices faces in
-    let reads = text_reads exact w vertices faces few few_faces below in
-    let only = λ (other : ℕ) (others : List (List ℕ)) (also : PlyReads text other others). one text other others (length vertices) (map corners_of faces) also reads in
-    let accepted = λ (line : ℕ) (reason : PlyReason). never text (length vertices) (map corners_of faces) line reason reads in
+    let reads = text_reads w vertices faces few few_faces below in
+    let only = λ (other : ℕ) (others : List (List ℕ)) (also : PlyReads text other others). one_reading text other others (length vertices) (map corners_of faces) also reads in
+    let accepted = λ (line : ℕ) (reason : PlyReason). never_both text (length vertices) (map corners_of faces) line reason reads in
     record { reads = reads; only = only; accepted = accepted; given = mesh_given text (length vertices) faces only accepted }

@@ -14,7 +14,7 @@ use Rattle.choice_trace.specs.Halves.{flag_in, region_in, region_of}
 use Rattle.choice_trace.specs.Hulls.{choices_over, tape_hull}
 use Rattle.choice_trace.specs.Lanes.{in_lane, lane_value, number_at, point_in}
 use Rattle.choice_trace.specs.Meaning.{StandForPoint, StandsForResults}
-use Rattle.choice_trace.specs.Work.{HullsAreExact}
+use Rattle.choice_trace.proofs.WorkLaws.{hulls_are_exact}
 
 -- x from one number to another, y from 2 to 3, and z from 5 to 7
 abbrev region : ℤ → ℤ → Region
@@ -144,6 +144,6 @@ rise_of_three h =
     omega (arith, h.within.points, points)
 
 -- two hulls of four corners each are as many hulls as any two
-hulls_of_four_corners : HullsAreExact → (after : Counts)
+hulls_of_four_corners : (after : Counts)
     → RisesWithin no_counts after (times 2 (spans_of 1)) (times 2 (hulls_of 1 4)) → CountsHulls 2 no_counts after
-hulls_of_four_corners exact after rise = exact no_counts after 2 rise
+hulls_of_four_corners after rise = hulls_are_exact no_counts after 2 rise

@@ -1,5 +1,5 @@
 -- Rows that are written lane by lane, and what is so of the lanes of a list's rows then.
-use Rattle.std.proofs.Common.{◌≡◌, ℕ, ◌+◌, ◌-◌, ◌<◌, ◌≤◌, ◌||◌, ◌↔◌, Bool, true, false, List, [], ◌++◌, Some, slice_get, ap, refl, below_more, get_or, get_or-set_other, get_or-set_same, length, length-set, set, subst, sym, take, ◌∙◌, arith}
+use Rattle.std.proofs.Common.{◌≡◌, ℕ, ◌+◌, ◌-◌, ◌<◌, ◌≤◌, ◌||◌, ◌↔◌, Bool, true, false, List, [], ◌++◌, Some, slice_get, ap, refl, below_more, get_or, get_or-set_other, get_or-set_same, length, length-set, set, sym, take, ◌∙◌, arith}
 use Rattle.std.proofs.lemmas.List.{ext_get_or, get_or-map, get_or-take, get_or_default, get_or_read, length-map, length-take-le, set-append_right}
 use Rattle.interval_ops.specs.Choices.{choice_of}
 use Rattle.interval_ops.specs.Spans.{Interval, all_numbers}
@@ -14,14 +14,6 @@ use Rattle.choice_trace.specs.Halves.{is_made, row_in}
 use Rattle.choice_trace.specs.Hulls.{choices_over, hull_at, hull_in, step_hull}
 use Rattle.choice_trace.proofs.HullLists.{choice_of-same, hull_at-step, step_hull-same}
 use Rattle.choice_trace.proofs.Traces.{choice_there}
-
--- what holds of each lane below one holds of one lane more, once that one is written
-pub lane_more : {A : Type 0} (P : ℕ → A → Type 0) (row : List A) (at : ℕ) (new d : A) → at < length row
-    → ((k : ℕ) → k < at → P k (get_or row k d)) → P at new → (k : ℕ) → k < at + 1 → P k (get_or (set row at new) k d)
-lane_more P row at new d room below here =
-    below_more (λ k. P k (get_or (set row at new) k d)) at
-    (λ k h. subst (P k) (sym (get_or-set_other row at k new d (λ e. omega (arith, e, h)))) (below k h))
-    (subst (P at) (sym (get_or-set_same row at new d room)) here)
 
 -- a lane of two rows is read
 pub lane_read : {B : Type 0} (f : Interval → Interval → B) (a b : List Interval) (l : ℕ) (x y : Interval) → l < length a → l < length b

@@ -4,6 +4,6 @@ mod Examples
 mod HalfRows
 mod HullLists
 mod Rows
-mod StepHulls
-mod Traces
-mod WorkLaws
+pub mod StepHulls
+pub mod Traces
+pub mod WorkLaws

@@ -17,11 +17,14 @@ use Rattle.interval_ops.specs.declared.choice.Choice.{Choice}
 use Rattle.interval_ops.specs.declared.choice.Choice.TheVariants.{Left, Right, Both}
 use Rattle.interval_ops.specs.declared.region.Region.{Region}
 use Rattle.live_clauses.specs.Choices.{AreChoices, AreRight, choice_at}
-use Rattle.live_clauses.specs.Steps.{AreSteps, IsTape, tape_value, value_at}
+use Rattle.live_clauses.specs.Steps.{AreSteps, value_at}
 use Rattle.live_clauses.specs.declared.step.Step.{Step}
-use Rattle.choice_trace.specs.Hulls.{AreOperands, IsIn, choice_over, choices_over, hull_after, hull_at, hulls, step_hull, tape_hull}
+use Rattle.choice_trace.specs.Hulls.{AreOperands, IsIn, choice_over, choices_over, hull_after, hull_at, hulls, step_hull}
 use Rattle.choice_trace.specs.Laws.{AreRanges}
-use Rattle.choice_trace.specs.Layers.{Lawful}
+use Rattle.choice_trace.specs.PointLaws.{ChoicesAreOfSteps, ChoicesAreRight, ChosenOperandsWin, EachValueIsHeld, ValuesAreHeld}
+use Rattle.interval_ops.proofs.HullLaws.{IsSpan-hull, hull_of_is_hull}
+use Rattle.interval_laws.proofs.LawProofs.{choice_keeps, chosen_wins, included}
+use Rattle.choice_trace.proofs.Elements.{values_are_of_operands}
 use Rattle.choice_trace.proofs.HullLists.{choice_of-same, hull_after-same, hull_at-step}
 
 -- lists with one front agree there
@@ -92,104 +95,114 @@ pub all_chosen : (region : Region) (steps : List Step) (choices : List Choice) (
 all_chosen region steps choices n e same =
     ap (λ k. take k choices) (sym e) ∙ same ∙ take_all n (choices_over region steps) (omega (arith, e, length-choices region steps))
 
-module _ (laws : Lawful) where
-  -- a hull holds the result on what its spans hold
-  applied : (op : Op) (a b : Interval) (u v : ℤ) → SpansOver a u → SpansOver b v → SpansOver (hull_of op a b) (op_result op u v)
-  applied op a b u v h k =
-      let hull = laws.hulls op a b h.0 k.0 in
-      (laws.spans op a b (hull_of op a b) h.0 k.0 hull, laws.inclusion op a b u v h.0 k.0 (hull_of op a b) hull h.1 k.1)
+-- a hull holds the result on what its spans hold
+applied : (op : Op) (a b : Interval) (u v : ℤ) → SpansOver a u → SpansOver b v → SpansOver (hull_of op a b) (op_result op u v)
+applied op a b u v h k =
+    let hull = hull_of_is_hull op a b h.0 k.0 in
+    (IsSpan-hull op a b (hull_of op a b) h.0 k.0 hull, included op a b u v h.0 k.0 (hull_of op a b) hull h.1 k.1)
 
-  -- the hull of a step holds its value
-  step_over : (op : Op) (region : Region) (p : Point) (value : ℤ) (a b : Interval) (u v : ℤ) → AreRanges region → IsIn region p → IsRaw value
-      → (0 < arity_of op → SpansOver a u) → (1 < arity_of op → SpansOver b v) → SpansOver (step_hull op region value a b) (step_value op p value u v)
-  step_over X region p value a b u v ranges inside raw first second = (ranges.x, inside.x)
-  step_over Y region p value a b u v ranges inside raw first second = (ranges.y, inside.y)
-  step_over Z region p value a b u v ranges inside raw first second = (ranges.z, inside.z)
-  step_over Const region p value a b u v ranges inside raw first second =
-      (record { lo = raw; hi = raw; order = omega (arith, ints) }, (omega (arith, ints), omega (arith, ints)))
-  step_over Add region p value a b u v ranges inside raw first second = applied Add a b u v (first (omega arith)) (second (omega arith))
-  step_over Sub region p value a b u v ranges inside raw first second = applied Sub a b u v (first (omega arith)) (second (omega arith))
-  step_over Mul region p value a b u v ranges inside raw first second = applied Mul a b u v (first (omega arith)) (second (omega arith))
-  step_over Div region p value a b u v ranges inside raw first second = applied Div a b u v (first (omega arith)) (second (omega arith))
-  step_over Min region p value a b u v ranges inside raw first second = applied Min a b u v (first (omega arith)) (second (omega arith))
-  step_over Max region p value a b u v ranges inside raw first second = applied Max a b u v (first (omega arith)) (second (omega arith))
-  step_over op region p value a b u v ranges inside raw first second = applied op a a u u (first (omega arith)) (first (omega arith))
+-- the hull of a step holds its value
+step_over : (op : Op) (region : Region) (p : Point) (value : ℤ) (a b : Interval) (u v : ℤ) → AreRanges region → IsIn region p → IsRaw value
+    → (0 < arity_of op → SpansOver a u) → (1 < arity_of op → SpansOver b v) → SpansOver (step_hull op region value a b) (step_value op p value u v)
+step_over X region p value a b u v ranges inside raw first second = (ranges.x, inside.x)
+step_over Y region p value a b u v ranges inside raw first second = (ranges.y, inside.y)
+step_over Z region p value a b u v ranges inside raw first second = (ranges.z, inside.z)
+step_over Const region p value a b u v ranges inside raw first second =
+    (record { lo = raw; hi = raw; order = omega (arith, ints) }, (omega (arith, ints), omega (arith, ints)))
+step_over Add region p value a b u v ranges inside raw first second = applied Add a b u v (first (omega arith)) (second (omega arith))
+step_over Sub region p value a b u v ranges inside raw first second = applied Sub a b u v (first (omega arith)) (second (omega arith))
+step_over Mul region p value a b u v ranges inside raw first second = applied Mul a b u v (first (omega arith)) (second (omega arith))
+step_over Div region p value a b u v ranges inside raw first second = applied Div a b u v (first (omega arith)) (second (omega arith))
+step_over Min region p value a b u v ranges inside raw first second = applied Min a b u v (first (omega arith)) (second (omega arith))
+step_over Max region p value a b u v ranges inside raw first second = applied Max a b u v (first (omega arith)) (second (omega arith))
+step_over op region p value a b u v ranges inside raw first second = applied op a a u u (first (omega arith)) (first (omega arith))
 
-  -- each hull of a list holds the value of its step at each point of the region
-  pub held : (region : Region) (p : Point) (steps : List Step) → AreRanges region → IsIn region p → AreSteps steps
-      → (n place : ℕ) → place < n → (step : Step) → slice_get steps place ≡ Some step → SpansOver (hull_at region steps place) (value_at p steps place)
-  held region p steps ranges inside stand zero place h step is = absurd (omega (arith, h))
-  held region p steps ranges inside stand (suc n) place h step is =
-      let stands = stand place step is in
-      let within = slice_get_within steps place step is in
-      let operand : (k : ℕ) → k < place → SpansOver (hull_at region steps k) (value_at p steps k) =
-      λ k lt. held region p steps ranges inside stand n k (omega (arith, lt, h)) (get_or steps k step) (slice_get-get_or steps k step (omega (arith, lt, within))) in
-      subst (λ (s : Interval). SpansOver s (value_at p steps place)) (sym (hull_at-step region steps place step stand is))
-      (subst (λ (v : ℤ). SpansOver (hull_after region (hulls region steps) step) v) (sym (laws.values p steps stand place step is))
-      (step_over step.op region p step.value (hull_at region steps step.a) (hull_at region steps step.b) (value_at p steps step.a) (value_at p steps step.b) ranges inside stands.raw
-      (λ e. operand step.a (stands.fits.first e)) (λ e. operand step.b (stands.fits.second e))))
+-- each hull of a list holds the value of its step at each point of the region
+pub held : (region : Region) (p : Point) (steps : List Step) → AreRanges region → IsIn region p → AreSteps steps
+    → (n place : ℕ) → place < n → (step : Step) → slice_get steps place ≡ Some step → SpansOver (hull_at region steps place) (value_at p steps place)
+held region p steps ranges inside stand zero place h step is = absurd (omega (arith, h))
+held region p steps ranges inside stand (suc n) place h step is =
+    let stands = stand place step is in
+    let within = slice_get_within steps place step is in
+    let operand : (k : ℕ) → k < place → SpansOver (hull_at region steps k) (value_at p steps k) =
+    λ k lt. held region p steps ranges inside stand n k (omega (arith, lt, h)) (get_or steps k step) (slice_get-get_or steps k step (omega (arith, lt, within))) in
+    subst (λ (s : Interval). SpansOver s (value_at p steps place)) (sym (hull_at-step region steps place step stand is))
+    (subst (λ (v : ℤ). SpansOver (hull_after region (hulls region steps) step) v) (sym (values_are_of_operands p steps stand place step is))
+    (step_over step.op region p step.value (hull_at region steps step.a) (hull_at region steps step.b) (value_at p steps step.a) (value_at p steps step.b) ranges inside stands.raw
+    (λ e. operand step.a (stands.fits.first e)) (λ e. operand step.b (stands.fits.second e))))
 
-  -- and so does the list's
-  pub last_held : (region : Region) (p : Point) (steps : List Step) → AreRanges region → IsIn region p → IsTape steps
-      → Holds (tape_hull region steps) (tape_value p steps)
-  last_held region p steps ranges inside tape =
-      let last = length steps - 1 in
-      let default : Step = record { op = X; a = 0; b = 0; value = pos 0 } in
-      (held region p steps ranges inside tape.each (last + 1) last (omega arith) (get_or steps last default) (slice_get-get_or steps last default (omega (arith, tape.some)))).1
+-- and so does the list's
+pub last_held : ValuesAreHeld
+last_held region p steps ranges inside tape =
+    let last = length steps - 1 in
+    let default : Step = record { op = X; a = 0; b = 0; value = pos 0 } in
+    (held region p steps ranges inside tape.each (last + 1) last (omega arith) (get_or steps last default) (slice_get-get_or steps last default (omega (arith, tape.some)))).1
 
-  -- the hull of each step holds its value
-  pub each_held : (region : Region) (p : Point) (steps : List Step) → AreRanges region → IsIn region p → AreSteps steps
-      → (place : ℕ) → place < length steps → Holds (hull_at region steps place) (value_at p steps place)
-  each_held region p steps ranges inside stand place within =
-      let default : Step = record { op = X; a = 0; b = 0; value = pos 0 } in
-      (held region p steps ranges inside stand (suc place) place (omega arith) (get_or steps place default) (slice_get-get_or steps place default within)).1
+-- the hull of each step holds its value
+pub each_held : EachValueIsHeld
+each_held region p steps ranges inside stand place within =
+    let default : Step = record { op = X; a = 0; b = 0; value = pos 0 } in
+    (held region p steps ranges inside stand (suc place) place (omega arith) (get_or steps place default) (slice_get-get_or steps place default within)).1
 
-  -- the operand that an operation chooses wins, where each operand that it has lies in its span
-  operand_wins : (op : Op) (a b : Interval) (u v : ℤ) → (0 < arity_of op → Holds a u) → (1 < arity_of op → Holds b v) → Wins op (choice_of op a b) u v
-  operand_wins Min a b u v first second = laws.wins Min a b u v (first (omega arith)) (second (omega arith))
-  operand_wins Max a b u v first second = laws.wins Max a b u v (first (omega arith)) (second (omega arith))
-  operand_wins op a b u v first second = tt
+-- the operand that an operation chooses wins, where each operand that it has lies in its span
+operand_wins : (op : Op) (a b : Interval) (u v : ℤ) → (0 < arity_of op → Holds a u) → (1 < arity_of op → Holds b v) → Wins op (choice_of op a b) u v
+operand_wins Min a b u v first second = chosen_wins Min a b u v (first (omega arith)) (second (omega arith))
+operand_wins Max a b u v first second = chosen_wins Max a b u v (first (omega arith)) (second (omega arith))
+operand_wins op a b u v first second = tt
 
-  pub operands_win : (region : Region) (p : Point) (steps : List Step) → AreRanges region → IsIn region p → AreSteps steps
-      → (place : ℕ) (step : Step) → slice_get steps place ≡ Some step → Wins step.op (choice_over region steps step) (value_at p steps step.a) (value_at p steps step.b)
-  operands_win region p steps ranges inside stand place step is =
-      let fits = (stand place step is).fits in
-      let within = slice_get_within steps place step is in
-      operand_wins step.op (hull_at region steps step.a) (hull_at region steps step.b) (value_at p steps step.a) (value_at p steps step.b)
-      (λ has. let before = fits.first has in each_held region p steps ranges inside stand step.a (omega (arith, before, within)))
-      (λ has. let before = fits.second has in each_held region p steps ranges inside stand step.b (omega (arith, before, within)))
+-- each operand that a step has lies in its hull
+operands_held : (region : Region) (p : Point) (steps : List Step) → AreRanges region → IsIn region p → AreSteps steps
+    → (place : ℕ) (step : Step) → slice_get steps place ≡ Some step
+    → (0 < arity_of step.op → Holds (hull_at region steps step.a) (value_at p steps step.a)) × (1 < arity_of step.op → Holds (hull_at region steps step.b) (value_at p steps step.b))
+operands_held region p steps ranges inside stand place step is =
+    let fits = (stand place step is).fits in
+    let within = slice_get_within steps place step is in (
+      λ has. let before = fits.first has in each_held region p steps ranges inside stand step.a (omega (arith, before, within)),
+      λ has. let before = fits.second has in each_held region p steps ranges inside stand step.b (omega (arith, before, within)),
+    )
 
-  -- where an operation chooses its left operand, it has that operand's value
-  chosen_left : (op : Op) (p : Point) (value : ℤ) (a b : Interval) (u v : ℤ) → choice_of op a b ≡ Left → (0 < arity_of op → Holds a u) → (1 < arity_of op → Holds b v)
-      → step_value op p value u v ≡ u
-  chosen_left Min p value a b u v e first second = (laws.kept Min a b u v).left e (first (omega arith)) (second (omega arith))
-  chosen_left Max p value a b u v e first second = (laws.kept Max a b u v).left e (first (omega arith)) (second (omega arith))
-  chosen_left op p value a b u v e first second = (cc)
+pub operands_win : ChosenOperandsWin
+operands_win region p steps ranges inside stand place step is =
+    let held = operands_held region p steps ranges inside stand place step is in
+    operand_wins step.op (hull_at region steps step.a) (hull_at region steps step.b) (value_at p steps step.a) (value_at p steps step.b) held.0 held.1
 
-  -- and where it chooses its right one, that one's
-  chosen_right : (op : Op) (p : Point) (value : ℤ) (a b : Interval) (u v : ℤ) → choice_of op a b ≡ Right → (0 < arity_of op → Holds a u) → (1 < arity_of op → Holds b v)
-      → step_value op p value u v ≡ v
-  chosen_right Min p value a b u v e first second = (laws.kept Min a b u v).right e (first (omega arith)) (second (omega arith))
-  chosen_right Max p value a b u v e first second = (laws.kept Max a b u v).right e (first (omega arith)) (second (omega arith))
-  chosen_right op p value a b u v e first second = (cc)
+-- where an operation chooses its left operand, it has that operand's value
+chosen_left : (op : Op) (p : Point) (value : ℤ) (a b : Interval) (u v : ℤ) → choice_of op a b ≡ Left → (0 < arity_of op → Holds a u) → (1 < arity_of op → Holds b v)
+    → step_value op p value u v ≡ u
+chosen_left Min p value a b u v e first second = (choice_keeps Min a b u v).left e (first (omega arith)) (second (omega arith))
+chosen_left Max p value a b u v e first second = (choice_keeps Max a b u v).left e (first (omega arith)) (second (omega arith))
+chosen_left op p value a b u v e first second = (cc)
 
-  -- the choices that were written are right at each point of the region
-  pub are_right : (region : Region) (steps : List Step) (choices : List Choice) (p : Point) → AreRanges region → AreSteps steps
-      → take (length steps) choices ≡ choices_over region steps → IsIn region p → AreRight p steps choices
-  are_right region steps choices p ranges stand same inside = record {
-    left = λ place step is e.
-        laws.values p steps stand place step is
-        ∙ chosen_left step.op p step.value (hull_at region steps step.a) (hull_at region steps step.b) (value_at p steps step.a) (value_at p steps step.b)
-        (sym (choice_read region steps choices place step same is) ∙ e)
-        (λ h. (operand place step is step.a ((stand place step is).fits.first h)).1) (λ h. (operand place step is step.b ((stand place step is).fits.second h)).1);
-    right = λ place step is e.
-        laws.values p steps stand place step is
-        ∙ chosen_right step.op p step.value (hull_at region steps step.a) (hull_at region steps step.b) (value_at p steps step.a) (value_at p steps step.b)
-        (sym (choice_read region steps choices place step same is) ∙ e)
-        (λ h. (operand place step is step.a ((stand place step is).fits.first h)).1) (λ h. (operand place step is step.b ((stand place step is).fits.second h)).1);
-  }
-    where
-      operand : (place : ℕ) (step : Step) → slice_get steps place ≡ Some step → (k : ℕ) → k < place → SpansOver (hull_at region steps k) (value_at p steps k)
-      operand place step is k lt =
-          held region p steps ranges inside stand (suc k) k (omega arith) (get_or steps k step)
-          (slice_get-get_or steps k step (omega (arith, lt, slice_get_within steps place step is)))
+-- and where it chooses its right one, that one's
+chosen_right : (op : Op) (p : Point) (value : ℤ) (a b : Interval) (u v : ℤ) → choice_of op a b ≡ Right → (0 < arity_of op → Holds a u) → (1 < arity_of op → Holds b v)
+    → step_value op p value u v ≡ v
+chosen_right Min p value a b u v e first second = (choice_keeps Min a b u v).right e (first (omega arith)) (second (omega arith))
+chosen_right Max p value a b u v e first second = (choice_keeps Max a b u v).right e (first (omega arith)) (second (omega arith))
+chosen_right op p value a b u v e first second = (cc)
+
+-- the choices that were written are right at each point of the region
+pub are_right : (region : Region) (steps : List Step) (choices : List Choice) (p : Point) → AreRanges region → AreSteps steps
+    → take (length steps) choices ≡ choices_over region steps → IsIn region p → AreRight p steps choices
+are_right region steps choices p ranges stand same inside = record {
+  left = λ place step is e.
+      let held = operands_held region p steps ranges inside stand place step is in
+      values_are_of_operands p steps stand place step is
+      ∙ chosen_left step.op p step.value (hull_at region steps step.a) (hull_at region steps step.b) (value_at p steps step.a) (value_at p steps step.b)
+      (sym (choice_read region steps choices place step same is) ∙ e) held.0 held.1;
+  right = λ place step is e.
+      let held = operands_held region p steps ranges inside stand place step is in
+      values_are_of_operands p steps stand place step is
+      ∙ chosen_right step.op p step.value (hull_at region steps step.a) (hull_at region steps step.b) (value_at p steps step.a) (value_at p steps step.b)
+      (sym (choice_read region steps choices place step same is) ∙ e) held.0 held.1;
+}
+
+-- so the choices of a list over a region are those of its steps, and right
+all_choices : (region : Region) (steps : List Step) → take (length steps) (choices_over region steps) ≡ choices_over region steps
+all_choices region steps = take_all (length steps) (choices_over region steps) (omega (arith, length-choices region steps))
+
+pub choices_are_of_steps : ChoicesAreOfSteps
+choices_are_of_steps region steps = are_choices region steps (choices_over region steps) (all_choices region steps)
+
+pub choices_are_right : ChoicesAreRight
+choices_are_right region p steps ranges inside tape =
+    are_right region steps (choices_over region steps) p ranges tape.each (all_choices region steps) inside

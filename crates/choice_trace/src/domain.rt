@@ -7,7 +7,6 @@ ghost use Rattle.interval_ops.specs.Hulls.{IsHull, between};
 ghost use Rattle.interval_ops.specs.Spans.{Holds};
 
 use fixed_ops::{Fx, Op, Tally};
-use interval_laws::laws_of_spans;
 use interval_ops::{Span, span_apply};
 
 /// A domain of elements that stand for numbers, with what the operations make of them.
@@ -75,8 +74,6 @@ impl Domain for Span {
         ensures hull { IsHull op a b result }
         ensures counted { RisesWithin tally.old tally.new (spans_of 1) (hulls_of 1 4) }
     {
-        // What holds of every hull.
-        laws_of_spans();
         // The ends of a range are in order.
         let _ends = (a.lo(), b.lo());
         span_apply(op, a, b, tally)

@@ -7,8 +7,8 @@ ghost use Rattle.choice_trace.specs.Meaning.{StandForPoint};
 
 use crate::operands::operands;
 use crate::{Domain, Inputs};
-use fixed_ops::{Tally, tallies_add_up};
-use live_clauses::{Tape, values_are_of_operands};
+use fixed_ops::Tally;
+use live_clauses::Tape;
 
 /// An element that stands for the list's value at every point that the inputs stand for. Each step
 /// is applied once, in order. `regs` has room for one element a step.
@@ -21,8 +21,6 @@ pub fn evaluate<D: Domain>(tape: &Tape, inputs: Inputs<D>, regs: &mut [D], tally
     ensures counted { RisesWithin tally.old tally.new
         (times (length tape.now) D.least) (times (length tape.now) D.most) }
 {
-    tallies_add_up();
-    values_are_of_operands();
     let steps = tape.steps();
     let len = steps.len();
     // Counts that no other call sees stay in registers.

@@ -11,9 +11,8 @@ ghost use Rattle.choice_trace.specs.Hulls.{IsIn, choices_over, hull_in, step_hul
 ghost use Rattle.choice_trace.specs.Laws.{AreRanges};
 
 use crate::Inputs;
-use crate::laws::layers_hold;
 use fixed_ops::{Fx, Op, Tally};
-use interval_ops::{Choice, Region, Span, choose, hull_counts, span_apply};
+use interval_ops::{Choice, Region, Span, choose, span_apply};
 use live_clauses::{ChoiceRow, Step, Steps};
 
 /// What a list is over some regions, one lane for each.
@@ -54,8 +53,6 @@ pub fn trace_halves<const L: usize>(
         ≡ drop (length list.now) choices.old }
     ensures counted { CountsHulls (L * length list.now) tally.old tally.new }
 {
-    layers_hold();
-    hull_counts();
     in_order(regions);
     let inputs = ranges(regions);
     let steps = list.again();
@@ -193,7 +190,6 @@ fn hull_row<const L: usize>(
         → hull_in hulls.new l ≡ hull_of op (hull_in a.now l) (hull_in b.now l) }
     ensures counted { CountsHulls L work.old work.new }
 {
-    hull_counts();
     for l in 0..L {
         hulls[l] = span_apply(op, a[l], b[l], work);
     }
@@ -219,7 +215,6 @@ fn chosen_row<const L: usize>(
         ≡ (flag_in chosen.old l || is_made (choice_of op (hull_in a.now l) (hull_in b.now l))) }
     ensures counted { CountsHulls L work.old work.new }
 {
-    hull_counts();
     let mut row = ChoiceRow::both();
     for l in 0..L {
         let (left, right) = (a[l], b[l]);

@@ -6,8 +6,8 @@ ghost use Rattle.live_clauses.specs.Steps.{IsStepAt, tape_value, value_at};
 ghost use Rattle.choice_trace.specs.Lanes.{in_lane, lane_value, number_at, point_in};
 
 use crate::Inputs;
-use fixed_ops::{Fx, Op, Tally, apply, count_points, steps_read_their_operands};
-use live_clauses::{Step, Steps, values_are_of_operands};
+use fixed_ops::{Fx, Op, Tally, apply, count_points};
+use live_clauses::{Step, Steps};
 
 /// The values of a list at the points of the first L lanes of the inputs, each in its lane. The
 /// other lanes of the answer mean nothing. Each step is applied once a lane, in order. `regs` has
@@ -28,8 +28,6 @@ pub fn evaluate_lanes<const L: usize>(
     ensures rest { drop (length list.now) regs.new ≡ drop (length list.now) regs.old }
     ensures counted { RisesBy tally.old tally.new (points_of (L * length list.now)) }
 {
-    steps_read_their_operands();
-    values_are_of_operands();
     let steps = list.again();
     let len = steps.len();
     for at in 0..len {

@@ -4,19 +4,11 @@ ghost use Rattle.choice_trace.specs.PointLaws.{ChoicesAreOfSteps, ChoicesAreRigh
 ghost use Rattle.choice_trace.specs.Layers.{Lawful};
 ghost use Rattle.choice_trace.specs.Work.{HullsAreExact, PointsAreExact};
 
-use interval_laws::laws_of_spans;
-use interval_ops::hulls;
-use live_clauses::values_are_of_operands;
-
 // What the layers below promise of spans and of values, in one place.
 #[inline]
 pub(crate) fn layers_hold()
     ensures { Lawful }
-{
-    hulls();
-    laws_of_spans();
-    values_are_of_operands();
-}
+{}
 
 /// The hull of each step of a list over a region is the hull of all results on the values of its
 /// operands' hulls, or the range of a coordinate, or the constant alone. No other list of hulls is
@@ -24,9 +16,7 @@ pub(crate) fn layers_hold()
 pub fn hulls_of_steps()
     ensures hold { HullsHold }
     ensures only { OnlyHullsHold }
-{
-    layers_hold();
-}
+{}
 
 /// What an evaluation counts, where each step counts one evaluation at a point: exactly the length of
 /// the list in points, and nothing else. Where each step counts one hull of at most four corners:
@@ -47,6 +37,4 @@ pub fn traces_are_right()
     ensures choices { ChoicesAreOfSteps }
     ensures right { ChoicesAreRight }
     ensures wins { ChosenOperandsWin }
-{
-    layers_hold();
-}
+{}

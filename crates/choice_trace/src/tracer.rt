@@ -8,10 +8,9 @@ ghost use Rattle.live_clauses.specs.Steps.{tape_value};
 ghost use Rattle.choice_trace.specs.Hulls.{IsIn, choices_over, tape_hull};
 
 use crate::Inputs;
-use crate::laws::layers_hold;
 use crate::operands::operands;
 use fixed_ops::Tally;
-use interval_ops::{Choice, Region, Span, choose, hull_counts, span_apply};
+use interval_ops::{Choice, Region, Span, choose, span_apply};
 use live_clauses::{Steps, Tape};
 
 /// The hull of a list over a region, with the choice of each step, which is right at every point of
@@ -60,9 +59,6 @@ pub fn trace_steps(
         ≡ drop (length list.now) choices.old }
     ensures counted { CountsHulls (length list.now) tally.old tally.new }
 {
-    // The laws that the hulls, the choices and their counts rest on.
-    layers_hold();
-    hull_counts();
     // The ends of a range are in order.
     let _ends = (region.x.lo(), region.y.lo(), region.z.lo());
     let ranges = Inputs {

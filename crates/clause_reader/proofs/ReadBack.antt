@@ -12,7 +12,6 @@ use Rattle.std.proofs.lemmas.Option.{slice_get-get_or, slice_get_within, slice_g
 use Rattle.fixed_ops.specs.declared.operation.Op.{Op}
 use Rattle.fixed_ops.specs.declared.operation.Op.TheVariants.{Const}
 use Rattle.fixed_ops.specs.Arity.{arity_of}
-use Rattle.fixed_ops.specs.Laws.{NumberTextsAreRead}
 use Rattle.fixed_ops.specs.NumberTexts.{number_text}
 use Rattle.fixed_ops.specs.OpNames.{name_of}
 use Rattle.solid_model.specs.declared.clause.Clause.{Clause}
@@ -24,9 +23,12 @@ use Rattle.clause_reader.specs.LineLaws.{HasNoFeed}
 use Rattle.clause_reader.specs.Lines.{begins_comment}
 use Rattle.clause_reader.specs.ModelText.{arguments, arguments_with, model_text, spaced}
 use Rattle.clause_reader.specs.Reading.{clauses_with, line_read, lines_read, place_or_zero, text_read, unless_empty}
+use Rattle.clause_reader.specs.WritingLaws.{WrittenModelsAreSaid}
 use Rattle.clause_reader.proofs.OpLemmas.{operation_of-name}
+use Rattle.clause_reader.proofs.Said.{reads_exactly}
 use Rattle.clause_reader.proofs.WriterLemmas.{name_at_place}
 use Rattle.clause_reader.proofs.WrittenTokens.{IsToken, lines_of-written, name_is_token, no_feed, number_is_token, op_is_token, tokens_of-spaced}
+use Rattle.fixed_ops.proofs.TextLaws.{number_text_reads}
 
 -- the test of a name on clauses
 abbrev has : List ℕ → Clause → Bool
@@ -129,7 +131,7 @@ name_no_comment (byte ∷ bytes) is = by (eqb byte 35) refl is
     by false e h = e
 
 -- the clauses of a model, of which one stands after some and before others
-module _ (all : List Clause) (are : AreClauses all) (reads : NumberTextsAreRead) (before : List Clause) (c : Clause) (after : List Clause) (parts : before ++ c ∷ after ≡ all) where
+module _ (all : List Clause) (are : AreClauses all) (before : List Clause) (c : Clause) (after : List Clause) (parts : before ++ c ∷ after ≡ all) where
   place : ℕ
   place = length before
 
@@ -182,7 +184,7 @@ module _ (all : List Clause) (are : AreClauses all) (reads : NumberTextsAreRead)
   is_said : clauses_with before (c.name ∷ name_of c.op ∷ arguments all c) ≡ Ok (before ++ c ∷ [])
   is_said = elim (kinds c.op) [
     | inl constant ↦
-        let read = reads c.value stands.raw in
+        let read = number_text_reads c.value stands.raw in
         let no_first = stands.fits.no_first (rw constant refl) in
         let no_second = stands.fits.no_second (rw constant (omega arith)) in
         rw (operation_of-name c.op, constant, read, is_new, has_room, no_first, no_second) refl
@@ -203,31 +205,35 @@ abbrev line_of_clause : List Clause → Clause → List ℕ
 line_of_clause all c = c.name ++ spaced (name_of c.op ∷ arguments all c)
 
 -- the lines of the clauses that follow say them
-lines_are_read : (all : List Clause) → AreClauses all → NumberTextsAreRead → (before after : List Clause) (number : ℕ) → before ++ after ≡ all
+lines_are_read : (all : List Clause) → AreClauses all → (before after : List Clause) (number : ℕ) → before ++ after ≡ all
     → lines_read before number (map (line_of_clause all) after) ≡ Ok all
-lines_are_read all are reads before [] number parts = ap (λ (xs : List Clause). Ok xs) (sym (append-nil before) ∙ parts)
-lines_are_read all are reads before (c ∷ after) number parts =
-    rw (line_is_read all are reads before c after parts)
-    (lines_are_read all are reads (before ++ c ∷ []) after (number + 1) (append_assoc before (c ∷ []) after ∙ parts))
+lines_are_read all are before [] number parts = ap (λ (xs : List Clause). Ok xs) (sym (append-nil before) ∙ parts)
+lines_are_read all are before (c ∷ after) number parts =
+    rw (line_is_read all are before c after parts)
+    (lines_are_read all are (before ++ c ∷ []) after (number + 1) (append_assoc before (c ∷ []) after ∙ parts))
 
 -- and hold no line feed
-lines_have_no_feed : (all : List Clause) → AreClauses all → NumberTextsAreRead → (before after : List Clause) → before ++ after ≡ all
+lines_have_no_feed : (all : List Clause) → AreClauses all → (before after : List Clause) → before ++ after ≡ all
     → All HasNoFeed (map (line_of_clause all) after)
-lines_have_no_feed all are reads before [] parts = All-nil HasNoFeed
-lines_have_no_feed all are reads before (c ∷ after) parts =
-    let name = name_is_token c.name (stands all are reads before c after parts).name in
+lines_have_no_feed all are before [] parts = All-nil HasNoFeed
+lines_have_no_feed all are before (c ∷ after) parts =
+    let name = name_is_token c.name (stands all are before c after parts).name in
     All-cons HasNoFeed (line_of_clause all c) (map (line_of_clause all) after)
-    (no_feed c.name (name_of c.op ∷ arguments all c) name (tokens all are reads before c after parts))
-    (lines_have_no_feed all are reads (before ++ c ∷ []) after (append_assoc before (c ∷ []) after ∙ parts))
+    (no_feed c.name (name_of c.op ∷ arguments all c) name (tokens all are before c after parts))
+    (lines_have_no_feed all are (before ++ c ∷ []) after (append_assoc before (c ∷ []) after ∙ parts))
 
 some_are_read : (all : List Clause) → 0 < length all → unless_empty (Ok all) ≡ Ok all
 some_are_read [] some = absurd (omega arith)
 some_are_read (c ∷ all) some = refl
 
 -- the text of a model is read as the model
-pub model_text_is_read : NumberTextsAreRead → (all : List Clause) → IsModel all → text_read (model_text all) ≡ Ok all
-model_text_is_read reads all is =
+pub model_text_is_read : (all : List Clause) → IsModel all → text_read (model_text all) ≡ Ok all
+model_text_is_read all is =
     let are = is.clauses_are in
-    let lines = lines_of-written (line_of_clause all) all (lines_have_no_feed all are reads [] all refl) in
-    let read = lines_are_read all are reads [] all 1 refl in
+    let lines = lines_of-written (line_of_clause all) all (lines_have_no_feed all are [] all refl) in
+    let read = lines_are_read all are [] all 1 refl in
     ap (λ ls. unless_empty (lines_read [] 1 ls)) lines ∙ ap unless_empty read ∙ some_are_read all is.some
+
+-- so it says the model
+pub written_models_are_said : WrittenModelsAreSaid
+written_models_are_said clauses is = (reads_exactly (model_text clauses) clauses).0 (model_text_is_read clauses is)

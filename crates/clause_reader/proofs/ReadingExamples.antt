@@ -14,12 +14,13 @@ use Rattle.clause_reader.specs.declared.text_fault.TextFault.{TextFault}
 use Rattle.clause_reader.specs.declared.text_reason.TextReason.TheVariants.{NoOperation, UnknownOperation, WrongArity, BadNumeral, UnknownName, DoubleName, TooMany, Empty, NoMemory}
 use Rattle.clause_reader.specs.Forms.{form_read, GivesForm, operation_of, operations, takes}
 use Rattle.clause_reader.specs.Lines.{begins_comment, lines_of, tokens_of, line_of}
-use Rattle.clause_reader.specs.ReadModels.{MayName, ReadTextsAreModels, SaidFormsAreForms, TokensMayName}
+use Rattle.clause_reader.specs.ReadModels.{MayName}
 use Rattle.clause_reader.specs.Reading.{clauses_with, clause_of, text_read, GivesModel, MayWantMemory}
 use Rattle.clause_reader.specs.Reasons.{holds}
 use Rattle.clause_reader.specs.Says.{clause_lines}
 use Rattle.clause_reader.specs.Scan.{after_line, line_tokens}
 use Rattle.clause_reader.specs.Tokens.{IsTokenAt}
+use Rattle.clause_reader.proofs.ReadModels.{read-texts-are-models, said-forms-are-forms, tokens-may-name}
 
 -- blank lines and comments say nothing, names become places, and the last line may lack its line feed
 three_clauses : text_read (codes "# c\n\nx var-x\n r\tconst -1 \nd sub r x")
@@ -255,15 +256,15 @@ rest_after_the_first_line : map after_line (codes "a b\nc\nd" ∷ codes "a" ∷ 
 rest_after_the_first_line = refl
 
 -- what is read is a model, of names and forms
-model_that_is_read : ReadTextsAreModels → IsModel (record { name = codes "x"; op = X; a = 0; b = 0; value = pos 0 }
+model_that_is_read : IsModel (record { name = codes "x"; op = X; a = 0; b = 0; value = pos 0 }
     ∷ record { name = codes "f"; op = Neg; a = 0; b = 0; value = pos 0 } ∷ [])
-model_that_is_read models = models (codes "x var-x\n# c\nf neg x\n") _ refl
+model_that_is_read = read-texts-are-models (codes "x var-x\n# c\nf neg x\n") _ refl
 
-form_that_is_said : SaidFormsAreForms → IsForm (record { op = Neg; args = codes "x#" ∷ []; value = pos 0 })
-form_that_is_said forms = forms (codes "neg" ∷ codes "x#" ∷ []) _ refl
+form_that_is_said : IsForm (record { op = Neg; args = codes "x#" ∷ []; value = pos 0 })
+form_that_is_said = said-forms-are-forms (codes "neg" ∷ codes "x#" ∷ []) _ refl
 
-names_of_two_lines : TokensMayName → All (All MayName) ((codes "x" ∷ codes "var-x" ∷ []) ∷ (codes "#" ∷ codes "c" ∷ []) ∷ [])
-names_of_two_lines names = names (codes "x var-x\n# c\n")
+names_of_two_lines : All (All MayName) ((codes "x" ∷ codes "var-x" ∷ []) ∷ (codes "#" ∷ codes "c" ∷ []) ∷ [])
+names_of_two_lines = tokens-may-name (codes "x var-x\n# c\n")
 
 name_with_a_mark : MayName (codes "x#")
 name_with_a_mark other = refl

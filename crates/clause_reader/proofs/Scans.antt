@@ -3,7 +3,7 @@ use Rattle.std.proofs.Common.{◌≡◌, ℕ, zero, suc, zero-add, ◌+◌, ◌-
 use Rattle.std.specs.Prelude.{slice_range}
 use Rattle.std.specs.List.{list_all, position_or_len}
 use Rattle.std.proofs.lemmas.Bool.{eqb-true}
-use Rattle.std.proofs.lemmas.List.{take-append-drop, length-append, length-drop}
+use Rattle.std.proofs.lemmas.List.{take-append-drop, drop-drop, length-append, length-drop}
 use Rattle.std.proofs.lemmas.List.Elements.{All-weaker}
 use Rattle.std.proofs.lemmas.List.Sums.{AllPass-from_list_all, list_all-from_AllPass}
 use Rattle.std.proofs.Math.Seq.{take-append_seam, drop-append_seam, drop-append-add}
@@ -133,15 +133,6 @@ first-token text gap token rest parts blanks all ends some =
     ap tokens_of (line_of-parts text gap token rest parts blanks all).0 ∙ tokens_of-blanks gap (token ++ line_of rest) blanks
     ∙ tokens_of-token token (line_of rest) some no_blank (EndsToken-run rest ends)
 
-drop-none : (b : ℕ) → drop {A = ℕ} b [] ≡ []
-drop-none zero = refl
-drop-none (suc b) = refl
-
-drop-drop : (a b : ℕ) (xs : List ℕ) → drop (a + b) xs ≡ drop b (drop a xs)
-drop-drop zero b xs = rw zero-add refl
-drop-drop (suc a) b [] = let more : suc a + b ≡ suc (a + b) = omega arith in rw more (sym (drop-none b))
-drop-drop (suc a) b (x ∷ xs) = let more : suc a + b ≡ suc (a + b) = omega arith in rw more (drop-drop a b xs)
-
 -- an empty run ends at once
 pub empty-run : (bytes run rest : List ℕ) → SplitsRun bytes run rest → length run ≡ 0 → EndsRun bytes
 empty-run bytes [] rest split none = subst EndsRun (sym split.parts) split.longest
@@ -158,9 +149,9 @@ token-places bytes from gap token rest within parts blanks all ends some =
     let end : length bytes - length rest ≡ from + (length gap + length token) = omega arith in
     let start : length bytes - length rest - length token ≡ from + length gap = omega arith in
     let at_start : drop (length bytes - length rest - length token) bytes ≡ token ++ rest =
-    rw start (drop-drop from (length gap) bytes ∙ ap (drop (length gap)) parts ∙ drop-append_seam gap (token ++ rest)) in
+    rw start (sym (drop-drop (length gap) from bytes) ∙ ap (drop (length gap)) parts ∙ drop-append_seam gap (token ++ rest)) in
     let at_end : drop (length bytes - length rest) bytes ≡ rest =
-    rw end (drop-drop from (length gap + length token) bytes ∙ ap (drop (length gap + length token)) parts ∙ drop-append-add gap (token ++ rest) (length token) ∙ drop-append_seam token rest) in
+    rw end (sym (drop-drop (length gap + length token) from bytes) ∙ ap (drop (length gap + length token)) parts ∙ drop-append-add gap (token ++ rest) (length token) ∙ drop-append_seam token rest) in
     let long : length bytes - length rest - (length bytes - length rest - length token) ≡ length token = omega arith in
     let is : slice_range bytes (length bytes - length rest - length token) (length bytes - length rest) ≡ token =
     rw (long, at_start) (take-append_seam token rest) in

@@ -11,10 +11,9 @@ use Rattle.solid_model.specs.declared.edit.Edit.TheVariants as edits
 use Rattle.clause_reader.specs.Forms.{form_said}
 use Rattle.clause_reader.specs.Lines.{begins_comment, is_clause, lines_of, tokens_of}
 use Rattle.clause_reader.specs.NumberedLines.{numbered_lines}
-use Rattle.clause_reader.specs.ReadModels.{MayName, SaidFormsAreForms, TokensMayName}
+use Rattle.clause_reader.specs.ReadModels.{MayName}
 use Rattle.clause_reader.specs.Reading.{on_result}
 use Rattle.clause_reader.specs.declared.form_defect.FormDefect.{FormDefect}
-use Rattle.view_settings.specs.Grammar.{JobsHold}
 use Rattle.view_settings.specs.Verbs.{IsJob}
 use Rattle.view_settings.specs.declared.job.Job.{Job}
 use Rattle.view_settings.specs.declared.job.Job.TheVariants as jobs
@@ -33,6 +32,8 @@ use Rattle.edit_script.specs.Keywords.{keyword_named}
 use Rattle.edit_script.specs.Marks.{mark_place}
 use Rattle.edit_script.specs.Scripts.{all_or_first, command_at, command_lines, script_read}
 use Rattle.edit_script.specs.ScriptLaws.{DrawsMayBeDrawn, ReadScriptsAreCommands}
+use Rattle.view_settings.proofs.JobLaws.{jobs-hold}
+use Rattle.clause_reader.proofs.ReadModels.{said-forms-are-forms, tokens-may-name}
 
 -- where a result is read, its command keeps what commands keep
 abbrev Holds : Result Command ScriptReason → Type 0
@@ -51,10 +52,10 @@ edit-holds line None is = tt
 edit-holds line (Some edit) is = is
 
 -- a form that is read makes an edit with a name that is one
-form-holds : SaidFormsAreForms → (line : ℕ) (edit : List ℕ → Parts → Edit) (name : Option (List ℕ)) (tokens : List (List ℕ))
+form-holds : (line : ℕ) (edit : List ℕ → Parts → Edit) (name : Option (List ℕ)) (tokens : List (List ℕ))
     → ((given : List ℕ) (form : Parts) → name ≡ Some given → IsForm form → IsEdit (edit given form))
     → Holds (on_result (form_found (form_said tokens)) (λ found. Ok (edit_or_stray line (edit_with edit name found))) (λ reason. Err reason))
-form-holds forms line edit name tokens makes = by (form_said tokens) refl
+form-holds line edit name tokens makes = by (form_said tokens) refl
   where
     with : (given : Option (List ℕ)) → name ≡ given → (found : Option Parts) → ((form : Parts) → found ≡ Some form → IsForm form)
         → IfSome (edit_with edit given found) IsEdit
@@ -65,7 +66,7 @@ form-holds forms line edit name tokens makes = by (form_said tokens) refl
     by : (r : Result (Option Parts) FormDefect) → form_said tokens ≡ r
         → Holds (on_result (form_found r) (λ found. Ok (edit_or_stray line (edit_with edit name found))) (λ reason. Err reason))
     by (Err defect) said = tt
-    by (Ok found) said = edit-holds line (edit_with edit name found) (with name refl found (λ form is. forms tokens form (rw is at said)))
+    by (Ok found) said = edit-holds line (edit_with edit name found) (with name refl found (λ form is. said-forms-are-forms tokens form (rw is at said)))
 
 under-holds : (name : List ℕ) (form : List (List ℕ)) (said : Result Command ScriptReason) → (begins_comment name ≡ false → Holds said)
     → Holds (under_name name form said)
@@ -90,58 +91,57 @@ job-holds (jobs.Height view) is = is
 job-holds (jobs.Mesh view) is = is
 job-holds other is = tt
 
-draw-holds : JobsHold → (verb : Verb) (tokens : List (List ℕ)) (read : Result Job WordFault) → job_after tokens verb ≡ read
+draw-holds : (verb : Verb) (tokens : List (List ℕ)) (read : Result Job WordFault) → job_after tokens verb ≡ read
     → Holds (on_result (job_or_bad read) draw_of (λ reason. Err reason))
-draw-holds law verb tokens (Ok job) is = job-holds job (law verb tokens job is)
-draw-holds law verb tokens (Err fault) is = tt
+draw-holds verb tokens (Ok job) is = job-holds job (jobs-hold verb tokens job is)
+draw-holds verb tokens (Err fault) is = tt
 
-module _ (draws : JobsHold) (forms : SaidFormsAreForms) where
-  keyword-holds : (line : ℕ) (keyword : Keyword) (tokens : List (List ℕ)) → All MayName tokens → Holds (after_keyword line keyword tokens)
-  keyword-holds line keywords.Set [] may = tt
-  keyword-holds line keywords.Set (name ∷ form) may =
-      form-holds forms line edits.Set (name_found name) form (λ given said is are. (found-name name given (All-head MayName name form may) is, are))
-  keyword-holds line keywords.Add [] may = tt
-  keyword-holds line keywords.Add (name ∷ form) may = under-holds name form _
-      (λ other. form-holds forms line edits.Add (name_found name) form (λ given said is are. (found-name name given (All-head MayName name form may) is, are)))
-  keyword-holds line keywords.Put [] may = tt
-  keyword-holds line keywords.Put (before ∷ []) may = tt
-  keyword-holds line keywords.Put (before ∷ name ∷ form) may = under-holds name form _
-      (λ other. form-holds forms line (λ next said. edits.Put next name said) (name_found before) form
-      (λ given said is are. (All-head MayName name form (All-tail MayName before (name ∷ form) may) other, are)))
-  keyword-holds line keywords.Cut [] may = tt
-  keyword-holds line keywords.Cut (name ∷ []) may = cut-holds line name (All-head MayName name [] may)
-  keyword-holds line keywords.Cut (name ∷ next ∷ others) may = tt
-  keyword-holds line keywords.Undo [] may = tt
-  keyword-holds line keywords.Undo (next ∷ others) may = tt
-  keyword-holds line keywords.Render tokens may = draw-holds draws verbs.Render tokens (job_after tokens verbs.Render) refl
-  keyword-holds line keywords.Height tokens may = draw-holds draws verbs.Height tokens (job_after tokens verbs.Height) refl
-  keyword-holds line keywords.Mesh tokens may = draw-holds draws verbs.Mesh tokens (job_after tokens verbs.Mesh) refl
-  keyword-holds line keywords.Text [] may = tt
-  keyword-holds line keywords.Text (next ∷ others) may = tt
-  keyword-holds line keywords.Cost [] may = tt
-  keyword-holds line keywords.Cost (next ∷ others) may = tt
+keyword-holds : (line : ℕ) (keyword : Keyword) (tokens : List (List ℕ)) → All MayName tokens → Holds (after_keyword line keyword tokens)
+keyword-holds line keywords.Set [] may = tt
+keyword-holds line keywords.Set (name ∷ form) may =
+    form-holds line edits.Set (name_found name) form (λ given said is are. (found-name name given (All-head MayName name form may) is, are))
+keyword-holds line keywords.Add [] may = tt
+keyword-holds line keywords.Add (name ∷ form) may = under-holds name form _
+    (λ other. form-holds line edits.Add (name_found name) form (λ given said is are. (found-name name given (All-head MayName name form may) is, are)))
+keyword-holds line keywords.Put [] may = tt
+keyword-holds line keywords.Put (before ∷ []) may = tt
+keyword-holds line keywords.Put (before ∷ name ∷ form) may = under-holds name form _
+    (λ other. form-holds line (λ next said. edits.Put next name said) (name_found before) form
+    (λ given said is are. (All-head MayName name form (All-tail MayName before (name ∷ form) may) other, are)))
+keyword-holds line keywords.Cut [] may = tt
+keyword-holds line keywords.Cut (name ∷ []) may = cut-holds line name (All-head MayName name [] may)
+keyword-holds line keywords.Cut (name ∷ next ∷ others) may = tt
+keyword-holds line keywords.Undo [] may = tt
+keyword-holds line keywords.Undo (next ∷ others) may = tt
+keyword-holds line keywords.Render tokens may = draw-holds verbs.Render tokens (job_after tokens verbs.Render) refl
+keyword-holds line keywords.Height tokens may = draw-holds verbs.Height tokens (job_after tokens verbs.Height) refl
+keyword-holds line keywords.Mesh tokens may = draw-holds verbs.Mesh tokens (job_after tokens verbs.Mesh) refl
+keyword-holds line keywords.Text [] may = tt
+keyword-holds line keywords.Text (next ∷ others) may = tt
+keyword-holds line keywords.Cost [] may = tt
+keyword-holds line keywords.Cost (next ∷ others) may = tt
 
-  command-holds : (line : ℕ) (tokens : List (List ℕ)) → All MayName tokens → Holds (command_read line tokens)
-  command-holds line [] may = tt
-  command-holds line (word ∷ tokens) may = by (keyword_named word) refl (λ keyword. keyword-holds line keyword tokens (All-tail MayName word tokens may))
-    where
-      by : (o : Option Keyword) → keyword_named word ≡ o → ((keyword : Keyword) → Holds (after_keyword line keyword tokens))
-          → Holds (command_read line (word ∷ tokens))
-      by None k holds = rw k tt
-      by (Some keyword) k holds = rw k (holds keyword)
+command-holds : (line : ℕ) (tokens : List (List ℕ)) → All MayName tokens → Holds (command_read line tokens)
+command-holds line [] may = tt
+command-holds line (word ∷ tokens) may = by (keyword_named word) refl (λ keyword. keyword-holds line keyword tokens (All-tail MayName word tokens may))
+  where
+    by : (o : Option Keyword) → keyword_named word ≡ o → ((keyword : Keyword) → Holds (after_keyword line keyword tokens))
+        → Holds (command_read line (word ∷ tokens))
+    by None k holds = rw k tt
+    by (Some keyword) k holds = rw k (holds keyword)
 
-  -- and so do those of all lines
-  all-hold : (lines : List (ℕ × List (List ℕ))) → All (λ line. All MayName line.1) lines → IfOk (all_or_first (map command_at lines)) (All IsCommand)
-  all-hold [] may = All-nil IsCommand
-  all-hold (line ∷ lines) may =
-      by (command_read line.0 line.1) refl (command-holds line.0 line.1 (All-head (λ l. All MayName l.1) line lines may))
-      (all_or_first (map command_at lines)) refl (all-hold lines (All-tail (λ l. All MayName l.1) line lines may))
-    where
-      by : (r : Result Command ScriptReason) → command_read line.0 line.1 ≡ r → Holds r → (rest : Result (List Command) ScriptFault)
-          → all_or_first (map command_at lines) ≡ rest → IfOk rest (All IsCommand) → IfOk (all_or_first (map command_at (line ∷ lines))) (All IsCommand)
-      by (Err reason) is holds rest others all = rw is tt
-      by (Ok command) is holds (Err fault) others all = rw (is, others) tt
-      by (Ok command) is holds (Ok values) others all = rw (is, others) (All-cons IsCommand command values holds all)
+-- and so do those of all lines
+all-hold : (lines : List (ℕ × List (List ℕ))) → All (λ line. All MayName line.1) lines → IfOk (all_or_first (map command_at lines)) (All IsCommand)
+all-hold [] may = All-nil IsCommand
+all-hold (line ∷ lines) may =
+    by (command_read line.0 line.1) refl (command-holds line.0 line.1 (All-head (λ l. All MayName l.1) line lines may))
+    (all_or_first (map command_at lines)) refl (all-hold lines (All-tail (λ l. All MayName l.1) line lines may))
+  where
+    by : (r : Result Command ScriptReason) → command_read line.0 line.1 ≡ r → Holds r → (rest : Result (List Command) ScriptFault)
+        → all_or_first (map command_at lines) ≡ rest → IfOk rest (All IsCommand) → IfOk (all_or_first (map command_at (line ∷ lines))) (All IsCommand)
+    by (Err reason) is holds rest others all = rw is tt
+    by (Ok command) is holds (Err fault) others all = rw (is, others) tt
+    by (Ok command) is holds (Ok values) others all = rw (is, others) (All-cons IsCommand command values holds all)
 
 -- what numbers are put to keeps what it kept
 numbered : (numbers : List ℕ) (lines : List (List (List ℕ))) → All (All MayName) lines → All (λ line. All MayName line.1) (zip numbers lines)
@@ -151,17 +151,17 @@ numbered (number ∷ numbers) (line ∷ lines) all =
     All-cons (λ l. All MayName l.1) (number, line) (zip numbers lines) (All-head (All MayName) line lines all)
     (numbered numbers lines (All-tail (All MayName) line lines all))
 
-pub read-scripts-are-commands : JobsHold → SaidFormsAreForms → TokensMayName → ReadScriptsAreCommands
-read-scripts-are-commands draws forms names input = by (mark_place input) refl
+pub read-scripts-are-commands : ReadScriptsAreCommands
+read-scripts-are-commands input = by (mark_place input) refl
   where
     may : (mark : ℕ) → All (λ line. All MayName line.1) (command_lines input mark)
     may mark = All-filter (λ line. is_clause line.1) (λ line. All MayName line.1) (drop (mark + 1) (numbered_lines input))
         (All-drop (λ line. All MayName line.1) (mark + 1) (numbered_lines input)
-        (numbered (range_with_len 1 (length (lines_of input))) (map tokens_of (lines_of input)) (names input)))
+        (numbered (range_with_len 1 (length (lines_of input))) (map tokens_of (lines_of input)) (tokens-may-name input)))
 
     by : (o : Option ℕ) → mark_place input ≡ o → IfOk (script_read input) (All IsCommand)
     by None m = rw m tt
-    by (Some mark) m = rw m (all-hold draws forms (command_lines input mark) (may mark))
+    by (Some mark) m = rw m (all-hold (command_lines input mark) (may mark))
 
 -- so what they draw may be drawn
 drawn : (command : Command) → IsCommand command → MayBeDrawn command
@@ -170,8 +170,8 @@ drawn (commands.Height view) is = is
 drawn (commands.Mesh view) is = is
 drawn other is = tt
 
-pub draws-may-be-drawn : ReadScriptsAreCommands → DrawsMayBeDrawn
-draws-may-be-drawn read input = by (script_read input) (read input)
+pub draws-may-be-drawn : DrawsMayBeDrawn
+draws-may-be-drawn input = by (script_read input) (read-scripts-are-commands input)
   where
     by : (r : Result (List Command) ScriptFault) → IfOk r (All IsCommand) → IfOk r (All MayBeDrawn)
     by (Ok commands) all = λ k d less. drawn _ (all k d less)

@@ -19,8 +19,8 @@ use Rattle.edit_script.specs.declared.script_fault.ScriptFault.{ScriptFault}
 use Rattle.edit_script.specs.declared.script_reason.ScriptReason.{ScriptReason}
 use Rattle.edit_script.specs.declared.script_reason.ScriptReason.TheVariants.{UnknownCommand, TooShort, BadName, UnknownOperation, WrongArity, BadNumeral, BadSetting, NoMemory}
 use Rattle.edit_script.specs.Reasons.{holds, reason_in}
-use Rattle.edit_script.specs.ScriptLaws.{ReadScriptsAreCommands}
 use Rattle.edit_script.specs.Scripts.{pushed, script_read, IsCommandLine, RefusesScript}
+use Rattle.edit_script.proofs.CommandLaws.{read-scripts-are-commands}
 
 -- the mark is line 2, line 3 is a comment, and lines 4 and 5 are commands
 abbrev script : List ℕ
@@ -158,9 +158,9 @@ small_cells : IsCommand (Mesh (record window { x1 = negsuc 4290772992 })) → �
 small_cells is = absurd (omega (arith, ints, is.1.x))
 
 -- so do all commands of a script
-commands_keep : ReadScriptsAreCommands → All IsCommand (Edit 2 (edits.Cut (codes "x")) ∷ Height (record window { w = 3 }) ∷ [])
+commands_keep : All IsCommand (Edit 2 (edits.Cut (codes "x")) ∷ Height (record window { w = 3 }) ∷ [])
 unfolding setting_of has_room
-commands_keep read = read (codes "%%\ncut x\nheight w=3\n")
+commands_keep = read-scripts-are-commands (codes "%%\ncut x\nheight w=3\n")
 
 each_keyword_is_read : map keyword_named
     (codes "set" ∷ codes "add" ∷ codes "put" ∷ codes "cut" ∷ codes "undo" ∷ codes "render" ∷ codes "height"

@@ -7,11 +7,11 @@ use Rattle.std.proofs.lemmas.List.Sums.{position_or_len_is}
 use Rattle.std.proofs.lemmas.Bool.Decides.{nat_tests}
 use Rattle.std.specs.Prelude.{◌==◌}
 use Rattle.solid_model.specs.Names.{is_blank}
-use Rattle.clause_reader.specs.FirstLines.{TextsBeginWithLines}
 use Rattle.clause_reader.specs.Lines.{is_feed, line_of, lines_of, onto_first, tokens_of}
 use Rattle.clause_reader.specs.Scan.{after_line, line_tokens}
 use Rattle.edit_script.specs.Marks.{begins_other, is_mark, mark_place}
 use Rattle.edit_script.proofs.LineStarts.{from_line, from_line-next, from_line-zero}
+use Rattle.clause_reader.proofs.LineSplits.{texts-begin-with-lines}
 
 abbrev marks : List ℕ → Bool
 marks line = is_mark (tokens_of line)
@@ -27,14 +27,14 @@ pub passed-none : (input : List ℕ) → Passed input 0 input
 passed-none input = record { from = sym (from_line-zero input); place = omega arith; total = omega arith; few = omega arith }
 
 -- one line more, which is no mark
-pub passed-more : (input : List ℕ) (n : ℕ) (rest : List ℕ) → TextsBeginWithLines → Passed input n rest → 0 < length rest → is_mark (line_tokens rest) ≡ false
+pub passed-more : (input : List ℕ) (n : ℕ) (rest : List ℕ) → Passed input n rest → 0 < length rest → is_mark (line_tokens rest) ≡ false
     → Passed input (n + 1) (after_line rest)
-passed-more input n rest begin passed some other =
-    let first = begin rest some in
+passed-more input n rest passed some other =
+    let first = texts-begin-with-lines rest some in
     let here : position_or_len marks (lines_of rest) ≡ 1 + position_or_len marks (lines_of (after_line rest)) =
     ap (position_or_len marks) first.lines ∙ rw other refl in
     record {
-      from = ap after_line passed.from ∙ sym (from_line-next begin input n);
+      from = ap after_line passed.from ∙ sym (from_line-next input n);
       place = omega (arith, passed.place, here);
       total = omega (arith, passed.total, ap length first.lines);
       few = omega (arith, passed.few, first.shorter);
@@ -47,9 +47,9 @@ place_none : (p total : ℕ) → total ≤ p → cond (nat_lt p total) (Some p) 
 place_none p total more = grind (arith, nat_tests)
 
 -- the mark line
-pub passed-mark : (input : List ℕ) (n : ℕ) (rest : List ℕ) → TextsBeginWithLines → Passed input n rest → 0 < length rest → is_mark (line_tokens rest) ≡ true → Some n ≡ mark_place input
-passed-mark input n rest begin passed some mark =
-    let split = (begin rest some).lines in
+pub passed-mark : (input : List ℕ) (n : ℕ) (rest : List ℕ) → Passed input n rest → 0 < length rest → is_mark (line_tokens rest) ≡ true → Some n ≡ mark_place input
+passed-mark input n rest passed some mark =
+    let split = (texts-begin-with-lines rest some).lines in
     let here : position_or_len marks (lines_of rest) ≡ 0 = ap (position_or_len marks) split ∙ rw mark refl in
     let place : position_or_len marks (lines_of input) ≡ n = omega (arith, passed.place, here) in
     let within : position_or_len marks (lines_of input) < length (lines_of input) = omega (arith, passed.total, place, ap length split) in

@@ -1,7 +1,6 @@
 -- Reading answers what the lines say one by one.
 use Rattle.std.proofs.Common.{◌≡◌, ℕ, ◌+◌, take, drop, List, [], ◌∷◌, ◌++◌, map, ◌⊎◌, inl, inr, Option, Some, None, Result, Ok, Err, refl, ap, sym, ◌∙◌}
 use Rattle.std.specs.Option.{option_map, option_map_or}
-use Rattle.clause_reader.specs.FirstLines.{TextsBeginWithLines}
 use Rattle.clause_reader.specs.Lines.{lines_of}
 use Rattle.clause_reader.specs.Reading.{on_result}
 use Rattle.edit_script.specs.declared.command.Command.{Command}
@@ -74,8 +73,8 @@ refusals-exact input fault = (λ e. to (mark_place input) refl e, from)
     from (inl none) = ap (commands_after input) none.none ∙ ap (λ (f : ScriptFault). Err f) (sym none.told)
     from (inr bad) = ap (commands_after input) bad.marked ∙ ap all_or_first bad.first ∙ fault-first bad.before fault bad.after
 
-pub inputs-split : TextsBeginWithLines → InputsAreSplit
-inputs-split begin input start end e = by (mark_place input) refl e
+pub inputs-split : InputsAreSplit
+inputs-split input start end e = by (mark_place input) refl e
   where
     by : (m : Option ℕ) → mark_place input ≡ m → option_map {U = ℕ × ℕ} (λ place. (line_start input place, line_start input (place + 1))) m ≡ Some (start, end) → Splits input start end
     by None is ends = (cc)
@@ -85,6 +84,6 @@ inputs-split begin input start end e = by (mark_place input) refl e
         record {
           mark = mark;
           marked = is;
-          before = ap (λ n. lines_of (take n input)) (sym from) ∙ lines_of-before begin input mark;
-          after = ap (λ n. lines_of (drop n input)) (sym to) ∙ lines_of-from_line begin input (mark + 1);
+          before = ap (λ n. lines_of (take n input)) (sym from) ∙ lines_of-before input mark;
+          after = ap (λ n. lines_of (drop n input)) (sym to) ∙ lines_of-from_line input (mark + 1);
         }

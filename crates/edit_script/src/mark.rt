@@ -5,7 +5,7 @@ ghost use Rattle.clause_reader.specs.Scan.{after_line, line_tokens};
 ghost use Rattle.solid_model.specs.Names.{is_token_byte};
 ghost use Rattle.edit_script.specs.Marks.{begins_other, is_mark, is_sign, line_start, mark_ends, mark_place};
 
-use clause_reader::{Tokens, texts_begin_with_lines};
+use clause_reader::Tokens;
 use memchr::memchr;
 
 /// A mark line.
@@ -37,7 +37,6 @@ pub(crate) fn find_mark(input: &[u8]) -> Option<Mark>
     ensures after { IfSome result (λ mark. mark.place + 1 ≤ mark.end) }
     ensures within { IfSome result (λ mark. mark.end ≤ length input.now) }
 {
-    texts_begin_with_lines();
     let mut place = 0;
     let mut rest = input;
     while !rest.is_empty() {

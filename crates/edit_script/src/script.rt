@@ -7,7 +7,7 @@ ghost use Rattle.edit_script.specs.Scripts.{pushed, script_read, IsCommandLine, 
 use crate::line::read_line;
 use crate::mark::find_mark;
 use crate::{Command, ScriptFault, ScriptReason};
-use clause_reader::{Comments, Line, Lines, ReadError, given_lines_stand, texts_begin_with_lines};
+use clause_reader::{Comments, Line, Lines, ReadError};
 use std::alloc::Global;
 
 /// The commands of an input: those of the lines after its mark, the first line whose only token is
@@ -26,8 +26,6 @@ pub fn read_script(alloc: Global, input: &[u8]) -> Result<Vec<Command<'_>>, Scri
     let Some(mark) = find_mark(input) else {
         return Err(fault(0, ScriptReason::NoMark));
     };
-    texts_begin_with_lines();
-    given_lines_stand();
     let mut commands = Vec::new(alloc);
     let passed = mark.place as u32 + 1;
     let mut lines = Lines::after(passed, &input[mark.end..], Comments::Skipped);

@@ -3,7 +3,6 @@ ghost use Rattle.edit_session.specs.Laws.{FramesTakeNoMore, OpeningStands, Refus
 
 use oct_descent::meshes_after_add_up;
 use quad_descent::frame_work_is_bounded;
-use solid_model::edits_are_taken_back;
 
 /// After an image or a mesh that was refused, the next one of its kind takes exactly what a fresh one does,
 /// and the next one of the other kind what it would have taken without it. A height map or a text that was
@@ -18,9 +17,7 @@ pub fn refusals_begin_anew()
 /// to be taken back, that is its model.
 pub fn opening_stands()
     ensures { OpeningStands }
-{
-    edits_are_taken_back();
-}
+{}
 
 /// A frame of a session takes no more than the same frame alone, whatever was drawn before it and whichever
 /// edits came since: at least, at most, and where it is refused.

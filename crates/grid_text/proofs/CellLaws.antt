@@ -13,23 +13,23 @@ use Rattle.kuhn_cells.specs.Arrangement.{differ}
 use Rattle.kuhn_cells.specs.Cells.{IsCellOf, cell_at, directions_of, has_inside, is_mixed_cell}
 use Rattle.kuhn_cells.specs.declared.grid_size.GridSize.{GridSize}
 use Rattle.kuhn_cells.specs.Grids.{grid_size}
-use Rattle.kuhn_cells.specs.Laws.{CellsAreOfTheGrid}
 use Rattle.kuhn_cells.specs.Sizes.{IsBounded}
 use Rattle.kuhn_cells.specs.Triangles.{point}
 use Rattle.live_clauses.specs.declared.step.Step.{Step}
 use Rattle.mesh_laws.specs.Places.{way_up}
 use Rattle.oct_descent.specs.GridValues.{list_grid}
-use Rattle.oct_descent.specs.Laws.{GridsAreBordered}
 use Rattle.ply_writer.specs.Ply.{face_line, ply_header, ply_of, vertex_line}
 use Rattle.tetra_mesh.specs.declared.sided_cell.SidedCell.{SidedCell}
 use Rattle.tetra_mesh.specs.declared.vertex.Vertex.{Vertex}
-use Rattle.tetra_mesh.specs.CellLaws.{CellsMakeMeshes, MixedCellsAreCells}
 use Rattle.tetra_mesh.specs.Meshes.{Triangulation}
 use Rattle.tetra_mesh.specs.Numbering.{all_faces, vertex_on, vertices_on}
 use Rattle.tetra_mesh.specs.Places.{IsPlaced}
 use Rattle.tetra_mesh.specs.Sides.{AreSidesOf, sided_of}
 use Rattle.view_places.specs.Window.{Window, size_of}
 use Rattle.grid_text.specs.Texts.{AreCellsOf, cells_of, lines_left, text_of}
+use Rattle.kuhn_cells.proofs.CellLaws.{cells_are_of_the_grid}
+use Rattle.tetra_mesh.proofs.GridLaws.{cells_of_grid, mesh_of_cells}
+use Rattle.oct_descent.proofs.Blocks.{grids_are_bordered_is}
 
 -- ---- one cell
 
@@ -256,26 +256,26 @@ size_is : (view : Window) (list : List Step) → grid_size (list_grid view list)
 unfolding list_grid
 size_is view list = refl
 
-pub own_cells : CellsAreOfTheGrid → (view : Window) (list : List Step) (sided : List SidedCell) → sided ≡ map sided_of (cells_of view list) → AreCellsOf view list (cells_of view list) sided
-own_cells law view list sided same = record { sides = same; each = law (list_grid view list) }
+pub own_cells : (view : Window) (list : List Step) (sided : List SidedCell) → sided ≡ map sided_of (cells_of view list) → AreCellsOf view list (cells_of view list) sided
+own_cells view list sided same = record { sides = same; each = cells_are_of_the_grid (list_grid view list) }
 
-pub own_sides : MixedCellsAreCells → GridsAreBordered → (view : Window) (list : List Step) (n : GridSize) (sided : List SidedCell) → n ≡ size_of view → IsBounded n → sided ≡ map sided_of (cells_of view list)
+pub own_sides : (view : Window) (list : List Step) (n : GridSize) (sided : List SidedCell) → n ≡ size_of view → IsBounded n → sided ≡ map sided_of (cells_of view list)
     → AreSidesOf n (cells_of view list) sided
-own_sides law bordered view list n sided size bounded same =
+own_sides view list n sided size bounded same =
     let whole : grid_size (list_grid view list) ≡ n = size_is view list ∙ sym size in
     subst (λ m. AreSidesOf m (cells_of view list) sided) whole
-    (record { mixed = law (list_grid view list) (subst IsBounded (sym whole) bounded) (bordered view list); sides = same })
+    (record { mixed = cells_of_grid (list_grid view list) (subst IsBounded (sym whole) bounded) (grids_are_bordered_is view list); sides = same })
 
 -- the header, and what comes after it, is the whole text
-pub text_is : CellsMakeMeshes → GridsAreBordered → (view : Window) (list : List Step) (vertices faces made : ℕ) (bytes none : List ℕ) → vertices ≡ length (flat_map vertices_on (cells_of view list))
+pub text_is : (view : Window) (list : List Step) (vertices faces made : ℕ) (bytes none : List ℕ) → vertices ≡ length (flat_map vertices_on (cells_of view list))
     → faces ≡ length (all_faces (cells_of view list) (cells_of view list)) → made ≡ 0 → none ≡ [] → bytes ≡ ply_header vertices faces ++ none → bytes ++ lines_left view list 0 made ≡ text_of view list
-text_is law bordered view list vertices faces made bytes none vs fs start empty is =
+text_is view list vertices faces made bytes none vs fs start empty is =
     let cells = cells_of view list in
     let header = ply_header (length (flat_map vertices_on cells)) (length (all_faces cells cells)) in
     let head : bytes ≡ header = is ∙ ap (λ l. ply_header vertices faces ++ l) empty ∙ append-nil (ply_header vertices faces) ∙ ap (λ n. ply_header n faces) vs ∙ ap (ply_header (length (flat_map vertices_on cells))) fs in
     let vertices = flat_map vertices_on cells in
     let faces = all_faces cells cells in
-    let whole : text_of view list ≡ ply_of view vertices faces = ap (λ (mesh : Triangulation). ply_of view mesh.vertices mesh.faces) (law (list_grid view list) (bordered view list)) in
+    let whole : text_of view list ≡ ply_of view vertices faces = ap (λ (mesh : Triangulation). ply_of view mesh.vertices mesh.faces) (mesh_of_cells (list_grid view list) (grids_are_bordered_is view list)) in
     let lines : header ++ lines_left view list 0 0 ≡ ply_of view vertices faces = sym (append_assoc header (flat_map (vertex_line view) vertices) (flat_map face_line faces)) in
     ap (λ l. l ++ lines_left view list 0 made) head ∙ ap (λ k. header ++ lines_left view list 0 k) start ∙ lines ∙ sym whole
 

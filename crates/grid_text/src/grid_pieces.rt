@@ -7,12 +7,11 @@ use crate::sided_cells::sided_cells;
 use crate::text_room::TextRoom;
 use crate::vertex_lines::put_vertices;
 use arrayvec::ArrayVec;
-use kuhn_cells::mixed_cells_suffice;
-use oct_descent::{CellGrid, grids_are_bordered};
+use oct_descent::CellGrid;
 use ply_writer::{PlyBlock, room_for};
 use std::alloc::{AllocError, Global};
 use std::marker::Model;
-use tetra_mesh::{FACES, Face, FaceWalk, cells_make_meshes};
+use tetra_mesh::{FACES, Face, FaceWalk};
 
 /// The text of the mesh of a grid, made piece by piece in one block. Of a cell its place and sides
 /// stand in memory, and no list of vertices or faces. Contracts see the piece that was made last and
@@ -61,9 +60,6 @@ impl<'a> GridPieces<'a> {
     ) -> Result<GridPieces<'a>, AllocError>
         ensures { IfOk result (λ p. p.piece ++ p.rest ≡ text_of grid.now.view grid.now.list) }
     {
-        grids_are_bordered();
-        mixed_cells_suffice();
-        cells_make_meshes();
         let sided = sided_cells(alloc, grid)?;
         let TextRoom {
             shapes,

@@ -2,45 +2,34 @@
 use Rattle.std.proofs.Common.{◌≡◌, ◌∙◌, ℤ, pos, refl, sym, arith, Bool, true, false, cond, subst, ap}
 use Rattle.std.specs.Prelude.{◌<ℤ◌, ◌≤ℤ◌, int_le, int_lt}
 use Rattle.std.proofs.lemmas.Int.{ints, clamps, by_lt_z}
-use Rattle.fixed_ops.specs.Laws.{ResultsAreRaw}
 use Rattle.fixed_ops.specs.Operations.{op_result}
-use Rattle.fixed_ops.specs.Raw.{IsRaw}
 use Rattle.fixed_ops.specs.declared.operation.Op.{Op}
 use Rattle.fixed_ops.specs.declared.operation.Op.TheVariants.{X, Y, Z, Const, Div, Min, Max}
 use Rattle.interval_ops.specs.Hulls.{IsHull, IsQuotientHull, IsResult}
 use Rattle.interval_ops.specs.Spans.{Interval, IsSpan, Holds, IsWithin, all_numbers}
 use Rattle.interval_ops.specs.declared.choice.Choice.TheVariants.{Left, Right, Both}
 use Rattle.interval_laws.specs.Laws.{InclusionHolds, HullsShrink, Attains, KeepsChoice, Wins, ChosenWins}
-
--- a span holds its ends
-holds_lo : (s : Interval) → IsSpan s → Holds s s.lo
-holds_lo s h = (omega (arith, ints), h.order)
-
-holds_hi : (s : Interval) → IsSpan s → Holds s s.hi
-holds_hi s h = (h.order, omega (arith, ints))
-
--- the values of a span are raw numbers
-IsRaw-held : (s : Interval) (v : ℤ) → IsSpan s → Holds s v → IsRaw v
-IsRaw-held s v h k = (omega (arith, ints, h.lo.0, k.0), omega (arith, ints, h.hi.1, k.1))
+use Rattle.fixed_ops.proofs.ResultLaws.{IsRaw-op_result}
+use Rattle.interval_ops.proofs.HullLaws.{holds_lo, holds_hi, IsRaw-held}
 
 -- the results of a division lie in its hull
-quotient_included : ResultsAreRaw → (a b h : Interval) (u v : ℤ) → IsSpan a → IsSpan b
+quotient_included : (a b h : Interval) (u v : ℤ) → IsSpan a → IsSpan b
     → IsQuotientHull a b h → Holds a u → Holds b v → Holds h (op_result Div u v)
-quotient_included are_raw a b h u v i j hull k l =
+quotient_included a b h u v i j hull k l =
     by_lt_z b.hi (pos 0)
     (λ lt. (hull.free (λ z. omega (arith, ints, lt, z.1))).all u v k l)
     (λ high. by_lt_z (pos 0) b.lo
     (λ lt. (hull.free (λ z. omega (arith, ints, lt, z.0))).all u v k l)
     (λ low. subst (λ (s : Interval). Holds s (op_result Div u v)) (sym (hull.by_zero (low, high)))
-    (are_raw Div u v (IsRaw-held a u i k) (IsRaw-held b v j l))))
+    (IsRaw-op_result Div u v (IsRaw-held a u i k) (IsRaw-held b v j l))))
 
-pub included : ResultsAreRaw → InclusionHolds
-included are_raw X a b u v i j h e k l = subst (λ (s : Interval). Holds s u) (sym e) k
-included are_raw Y a b u v i j h e k l = subst (λ (s : Interval). Holds s u) (sym e) k
-included are_raw Z a b u v i j h e k l = subst (λ (s : Interval). Holds s u) (sym e) k
-included are_raw Const a b u v i j h e k l = subst (λ (s : Interval). Holds s u) (sym e) k
-included are_raw Div a b u v i j h hull k l = quotient_included are_raw a b h u v i j hull k l
-included are_raw op a b u v i j h hull k l = hull.all u v k l
+pub included : InclusionHolds
+included X a b u v i j h e k l = subst (λ (s : Interval). Holds s u) (sym e) k
+included Y a b u v i j h e k l = subst (λ (s : Interval). Holds s u) (sym e) k
+included Z a b u v i j h e k l = subst (λ (s : Interval). Holds s u) (sym e) k
+included Const a b u v i j h e k l = subst (λ (s : Interval). Holds s u) (sym e) k
+included Div a b u v i j h hull k l = quotient_included a b h u v i j hull k l
+included op a b u v i j h hull k l = hull.all u v k l
 
 -- the ends of a span that is handed on
 handed_on : (op : Op) (a b h : Interval) → ((u v : ℤ) → op_result op u v ≡ u) → IsSpan a → IsSpan b
@@ -76,19 +65,19 @@ Holds-wider : (part whole : Interval) (v : ℤ) → IsWithin part whole → Hold
 Holds-wider part whole v w h = (omega (arith, ints, w.0, h.0), omega (arith, ints, w.1, h.1))
 
 -- a result on values of narrower spans lies in the hull
-result_included : ResultsAreRaw → (op : Op) (a b c d h : Interval) (r : ℤ) → IsSpan a → IsSpan b
+result_included : (op : Op) (a b c d h : Interval) (r : ℤ) → IsSpan a → IsSpan b
     → IsHull op a b h → IsWithin c a → IsWithin d b → IsResult op c d r → Holds h r
-result_included are_raw op a b c d h r i j hull p q result =
+result_included op a b c d h r i j hull p q result =
     subst (λ (x : ℤ). Holds h x) (sym result.is)
-    (included are_raw op a b result.left result.right i j h hull
+    (included op a b result.left result.right i j h hull
     (Holds-wider c a result.left p result.in_a) (Holds-wider d b result.right q result.in_b))
 
 -- so the hull holds both of them
-ends_included : ResultsAreRaw → (op : Op) (a b c d h k : Interval) → IsSpan a → IsSpan b
+ends_included : (op : Op) (a b c d h k : Interval) → IsSpan a → IsSpan b
     → IsHull op a b h → IsWithin c a → IsWithin d b → IsResult op c d k.lo × IsResult op c d k.hi → IsWithin k h
-ends_included are_raw op a b c d h k i j hull p q ends = (
-  (result_included are_raw op a b c d h k.lo i j hull p q ends.0).0,
-  (result_included are_raw op a b c d h k.hi i j hull p q ends.1).1,
+ends_included op a b c d h k i j hull p q ends = (
+  (result_included op a b c d h k.lo i j hull p q ends.0).0,
+  (result_included op a b c d h k.hi i j hull p q ends.1).1,
 )
 
 -- a division by spans that both hold 0
@@ -99,29 +88,29 @@ zero_shrinks a b c d h k hull inner q z =
     (subst (λ (s : Interval). IsWithin s all_numbers) (sym (inner.by_zero z))
     (omega (arith, ints), omega (arith, ints)))
 
-quotient_shrinks : ResultsAreRaw → (a b c d h k : Interval) → IsSpan a → IsSpan b → IsSpan c
+quotient_shrinks : (a b c d h k : Interval) → IsSpan a → IsSpan b → IsSpan c
     → IsSpan d → IsQuotientHull a b h → IsQuotientHull c d k → IsWithin c a → IsWithin d b → IsWithin k h
-quotient_shrinks are_raw a b c d h k i j m n hull inner p q =
+quotient_shrinks a b c d h k i j m n hull inner p q =
     by_lt_z d.hi (pos 0)
-    (λ lt. ends_included are_raw Div a b c d h k i j hull p q
+    (λ lt. ends_included Div a b c d h k i j hull p q
     (ends_attained Div c d m n k inner (λ z. omega (arith, ints, lt, z.1.1))))
     (λ high. by_lt_z (pos 0) d.lo
-    (λ lt. ends_included are_raw Div a b c d h k i j hull p q
+    (λ lt. ends_included Div a b c d h k i j hull p q
     (ends_attained Div c d m n k inner (λ z. omega (arith, ints, lt, z.1.0))))
     (λ low. zero_shrinks a b c d h k hull inner q (low, high)))
 
-pub shrinks : ResultsAreRaw → HullsShrink
-shrinks are_raw Div a b c d i j m n h k hull inner p q = quotient_shrinks are_raw a b c d h k i j m n hull inner p q
-shrinks are_raw X a b c d i j m n h k hull inner p q =
-    ends_included are_raw X a b c d h k i j hull p q (ends_attained X c d m n k inner (λ z. cc))
-shrinks are_raw Y a b c d i j m n h k hull inner p q =
-    ends_included are_raw Y a b c d h k i j hull p q (ends_attained Y c d m n k inner (λ z. cc))
-shrinks are_raw Z a b c d i j m n h k hull inner p q =
-    ends_included are_raw Z a b c d h k i j hull p q (ends_attained Z c d m n k inner (λ z. cc))
-shrinks are_raw Const a b c d i j m n h k hull inner p q =
-    ends_included are_raw Const a b c d h k i j hull p q (ends_attained Const c d m n k inner (λ z. cc))
-shrinks are_raw op a b c d i j m n h k hull inner p q =
-    ends_included are_raw op a b c d h k i j hull p q (inner.least, inner.greatest)
+pub shrinks : HullsShrink
+shrinks Div a b c d i j m n h k hull inner p q = quotient_shrinks a b c d h k i j m n hull inner p q
+shrinks X a b c d i j m n h k hull inner p q =
+    ends_included X a b c d h k i j hull p q (ends_attained X c d m n k inner (λ z. cc))
+shrinks Y a b c d i j m n h k hull inner p q =
+    ends_included Y a b c d h k i j hull p q (ends_attained Y c d m n k inner (λ z. cc))
+shrinks Z a b c d i j m n h k hull inner p q =
+    ends_included Z a b c d h k i j hull p q (ends_attained Z c d m n k inner (λ z. cc))
+shrinks Const a b c d i j m n h k hull inner p q =
+    ends_included Const a b c d h k i j hull p q (ends_attained Const c d m n k inner (λ z. cc))
+shrinks op a b c d i j m n h k hull inner p q =
+    ends_included op a b c d h k i j hull p q (inner.least, inner.greatest)
 
 -- what a choice between two tests answers
 left_by : (s t : Bool) → cond s Left (cond t Right Both) ≡ Left → s ≡ true

@@ -2,7 +2,7 @@
 // is the law. Each reads an end of its spans, which says that the ends are raw numbers in order.
 ghost use Rattle.interval_laws.specs.Laws.{Attains, ChoicesAreKept, ChosenOnesWin, ChosenWins, EndsAreAttained, HullsShrink, Includes, InclusionHolds, KeepsChoice, Shrinks};
 
-use fixed_ops::{Fx, Op, raw_results};
+use fixed_ops::{Fx, Op};
 use interval_ops::Span;
 
 /// Where `u` lies in `a` and `v` in `b`, the result on them lies in the hull of `a` and `b`.
@@ -10,7 +10,6 @@ use interval_ops::Span;
 pub fn inclusion(op: Op, a: Span, b: Span, u: Fx, v: Fx)
     ensures { Includes op a b u v }
 {
-    raw_results();
     let _ends = (a.lo(), b.lo());
 }
 
@@ -28,7 +27,6 @@ pub fn attained(op: Op, a: Span, b: Span)
 pub fn shrinking(op: Op, a: Span, b: Span, c: Span, d: Span)
     ensures { Shrinks op a b c d }
 {
-    raw_results();
     let _ends = (a.lo(), b.lo(), c.lo(), d.lo());
 }
 
@@ -51,6 +49,4 @@ pub fn laws_of_spans()
     ensures shrinking { HullsShrink }
     ensures kept { ChoicesAreKept }
     ensures wins { ChosenOnesWin }
-{
-    raw_results();
-}
+{}

@@ -3,38 +3,38 @@ use Rattle.std.specs.Prelude.{◌≡◌, ℕ, ◌+◌, ◌<ℤ◌, int_le, ◌&&
 use Rattle.std.proofs.Common.{Bool, true, false, cond, pos, refl, ap, ◌∙◌, subst, zero-add, arith}
 use Rattle.std.proofs.lemmas.Int.{ints}
 use Rattle.fixed_ops.specs.Counts.{Counts, joined, corners_of, spans_of, plus, RisesBy, IsAtMost, RisesAtMost}
-use Rattle.fixed_ops.specs.Laws.{TalliesAddUp}
 use Rattle.interval_ops.specs.HullCounts.{CountsHulls, hulls_of}
 use Rattle.interval_ops.specs.Spans.{Interval}
+use Rattle.fixed_ops.proofs.CountLaws.{tallies_add_up_is}
 
 -- a corner after another
-pub two_corners : TalliesAddUp → (before mid after : Counts) → mid ≡ joined before (corners_of 1) → after ≡ joined mid (corners_of 1) → after ≡ joined before (corners_of 2)
-two_corners tallies before mid after p q = tallies.sum before mid after (corners_of 1) (corners_of 1) p q
+pub two_corners : (before mid after : Counts) → mid ≡ joined before (corners_of 1) → after ≡ joined mid (corners_of 1) → after ≡ joined before (corners_of 2)
+two_corners before mid after p q = tallies_add_up_is.sum before mid after (corners_of 1) (corners_of 1) p q
 
 -- four corners, one after another
-pub four_corners : TalliesAddUp → (t u v w x : Counts) → u ≡ joined t (corners_of 1) → v ≡ joined u (corners_of 1) → w ≡ joined v (corners_of 1) → x ≡ joined w (corners_of 1) → x ≡ joined t (corners_of 4)
-four_corners tallies t u v w x p q r s =
-    tallies.sum t v x (corners_of 2) (corners_of 2) (two_corners tallies t u v p q) (two_corners tallies v w x r s)
+pub four_corners : (t u v w x : Counts) → u ≡ joined t (corners_of 1) → v ≡ joined u (corners_of 1) → w ≡ joined v (corners_of 1) → x ≡ joined w (corners_of 1) → x ≡ joined t (corners_of 4)
+four_corners t u v w x p q r s =
+    tallies_add_up_is.sum t v x (corners_of 2) (corners_of 2) (two_corners t u v p q) (two_corners v w x r s)
 
 -- where nothing is counted, no corner is
-pub no_corners : TalliesAddUp → (counts : Counts) → counts ≡ joined counts (corners_of 0)
-no_corners tallies counts = tallies.none counts
+pub no_corners : (counts : Counts) → counts ≡ joined counts (corners_of 0)
+no_corners counts = tallies_add_up_is.none counts
 
 -- none, two or four corners are at most four
-pub none_few : TalliesAddUp → (counts : Counts) → RisesAtMost counts counts (corners_of 4)
-none_few tallies counts = tallies.most_none counts (corners_of 4)
+pub none_few : (counts : Counts) → RisesAtMost counts counts (corners_of 4)
+none_few counts = tallies_add_up_is.most_none counts (corners_of 4)
 
 pub two_few : (before after : Counts) → after ≡ joined before (corners_of 2) → RisesAtMost before after (corners_of 4)
 two_few before after p =
     record { by = corners_of 2; within = record { points = omega arith; spans = omega arith; corners = omega arith }; rises = p }
 
-pub four_few : TalliesAddUp → (before after : Counts) → after ≡ joined before (corners_of 4) → RisesAtMost before after (corners_of 4)
-four_few tallies before after p = tallies.exact before after (corners_of 4) p
+pub four_few : (before after : Counts) → after ≡ joined before (corners_of 4) → RisesAtMost before after (corners_of 4)
+four_few before after p = tallies_add_up_is.exact before after (corners_of 4) p
 
 -- a hull and its corners
-pub hull_counted : TalliesAddUp → (before mid after : Counts) (corners : ℕ) → mid ≡ joined before (spans_of 1) → after ≡ joined mid (corners_of corners) → after ≡ joined before (hulls_of 1 corners)
-hull_counted tallies before mid after corners p q =
-    subst (λ n. after ≡ joined before (hulls_of 1 n)) (zero-add corners) (tallies.sum before mid after (spans_of 1) (corners_of corners) p q)
+pub hull_counted : (before mid after : Counts) (corners : ℕ) → mid ≡ joined before (spans_of 1) → after ≡ joined mid (corners_of corners) → after ≡ joined before (hulls_of 1 corners)
+hull_counted before mid after corners p q =
+    subst (λ n. after ≡ joined before (hulls_of 1 n)) (zero-add corners) (tallies_add_up_is.sum before mid after (spans_of 1) (corners_of corners) p q)
 
 -- a hull and four corners at most
 only_corners : (by : Counts) → IsAtMost by (corners_of 4) → plus (spans_of 1) by ≡ hulls_of 1 by.corners
@@ -45,11 +45,11 @@ only_corners by le =
     ∙ ap (λ (n : ℕ). record { points = 0; spans = n; corners = 0 + by.corners }) s
     ∙ ap (λ (n : ℕ). record { points = 0; spans = 1; corners = n }) (omega arith)
 
-pub hull_few : TalliesAddUp → (before mid after : Counts) → mid ≡ joined before (spans_of 1) → RisesAtMost mid after (corners_of 4) → CountsHulls 1 before after
-hull_few tallies before mid after p rise = record {
+pub hull_few : (before mid after : Counts) → mid ≡ joined before (spans_of 1) → RisesAtMost mid after (corners_of 4) → CountsHulls 1 before after
+hull_few before mid after p rise = record {
   corners = rise.by.corners;
   few = omega arith;
-  rises = subst (λ (by : Counts). RisesBy before after by) (only_corners rise.by rise.within) (tallies.sum before mid after (spans_of 1) rise.by p rise.rises);
+  rises = subst (λ (by : Counts). RisesBy before after by) (only_corners rise.by rise.within) (tallies_add_up_is.sum before mid after (spans_of 1) rise.by p rise.rises);
 }
 
 -- a divisor below 0 is not 0

@@ -4,7 +4,6 @@ use Rattle.std.specs.Prelude.{◌<ℤ◌, ◌≤ℤ◌, int_lt, not, ◌&&◌, i
 use Rattle.std.specs.Int.{int_max, int_min}
 use Rattle.std.proofs.lemmas.Int.{ints, clamps, by_lt_z}
 use Rattle.std.proofs.Math.IntN.{*ℤ_comm}
-use Rattle.fixed_ops.specs.Laws.{ResultsAreRaw, RootHolds}
 use Rattle.fixed_ops.specs.Operations.{op_result, product_of}
 use Rattle.fixed_ops.specs.Raw.{IsRaw, clamp, floor_div, is_inside}
 use Rattle.fixed_ops.specs.declared.operation.Op.{Op}
@@ -15,6 +14,7 @@ use Rattle.interval_ops.proofs.QuotientOrder.{Holds-hull_above, Holds-hull_below
 use Rattle.interval_ops.specs.Laws.{HullHolds, HullsAreSpans}
 use Rattle.interval_ops.specs.Shapes.{IsRising, IsEven}
 use Rattle.interval_ops.specs.Spans.{Interval, IsSpan, Holds, all_numbers}
+use Rattle.fixed_ops.proofs.ResultLaws.{IsRaw-op_result}
 
 -- a span holds its ends
 pub holds_lo : (s : Interval) → IsSpan s → Holds s s.lo
@@ -40,12 +40,12 @@ result_by : (op : Op) (a b : Interval) (t : Bool) (u v w : ℤ) → Holds a u �
 result_by op a b true u v w h k l = result_on op a b u v h k
 result_by op a b false u v w h k l = result_on op a b u w h l
 
-rising_is_hull : RootHolds → (op : Op) (a b : Interval) → IsRising op → IsSpan a → IsSpan b
+rising_is_hull : (op : Op) (a b : Interval) → IsRising op → IsSpan a → IsSpan b
     → IsLeastAndGreatest op a b (between (op_result op a.lo b.lo) (op_result op a.hi b.hi))
-rising_is_hull is_root op a b is h k = record {
+rising_is_hull op a b is h k = record {
   least = result_on op a b a.lo b.lo (holds_lo a h) (holds_lo b k);
   greatest = result_on op a b a.hi b.hi (holds_hi a h) (holds_hi b k);
-  all = λ u v i j. (rises is_root op a.lo b.lo u v is i.0 j.0, rises is_root op u v a.hi b.hi is i.1 j.1);
+  all = λ u v i j. (rises op a.lo b.lo u v is i.0 j.0, rises op u v a.hi b.hi is i.1 j.1);
 }
 
 opposite_is_hull : (a b : Interval) → IsSpan a → IsSpan b
@@ -237,27 +237,27 @@ quotient_parts a b false false d e h k =
 quotient_is_hull : (a b : Interval) → IsSpan a → IsSpan b → IsQuotientHull a b (hull_of Div a b)
 quotient_is_hull a b h k = quotient_parts a b (is_inside b.hi) (int_lt (pos 0) b.lo) refl refl h k
 
-pub hull_of_is_hull : RootHolds → HullHolds
-hull_of_is_hull is_root X a b h k = refl
-hull_of_is_hull is_root Y a b h k = refl
-hull_of_is_hull is_root Z a b h k = refl
-hull_of_is_hull is_root Const a b h k = refl
-hull_of_is_hull is_root Neg a b h k = opposite_is_hull a b h k
-hull_of_is_hull is_root Square a b h k = even_is_hull Square a b tt h k
-hull_of_is_hull is_root Sqrt a b h k = rising_is_hull is_root Sqrt a b tt h k
-hull_of_is_hull is_root Abs a b h k = even_is_hull Abs a b tt h k
-hull_of_is_hull is_root Floor a b h k = rising_is_hull is_root Floor a b tt h k
-hull_of_is_hull is_root Add a b h k = rising_is_hull is_root Add a b tt h k
-hull_of_is_hull is_root Sub a b h k = difference_is_hull a b h k
-hull_of_is_hull is_root Mul a b h k = product_is_hull a b h k
-hull_of_is_hull is_root Div a b h k = quotient_is_hull a b h k
-hull_of_is_hull is_root Min a b h k = rising_is_hull is_root Min a b tt h k
-hull_of_is_hull is_root Max a b h k = rising_is_hull is_root Max a b tt h k
+pub hull_of_is_hull : HullHolds
+hull_of_is_hull X a b h k = refl
+hull_of_is_hull Y a b h k = refl
+hull_of_is_hull Z a b h k = refl
+hull_of_is_hull Const a b h k = refl
+hull_of_is_hull Neg a b h k = opposite_is_hull a b h k
+hull_of_is_hull Square a b h k = even_is_hull Square a b tt h k
+hull_of_is_hull Sqrt a b h k = rising_is_hull Sqrt a b tt h k
+hull_of_is_hull Abs a b h k = even_is_hull Abs a b tt h k
+hull_of_is_hull Floor a b h k = rising_is_hull Floor a b tt h k
+hull_of_is_hull Add a b h k = rising_is_hull Add a b tt h k
+hull_of_is_hull Sub a b h k = difference_is_hull a b h k
+hull_of_is_hull Mul a b h k = product_is_hull a b h k
+hull_of_is_hull Div a b h k = quotient_is_hull a b h k
+hull_of_is_hull Min a b h k = rising_is_hull Min a b tt h k
+hull_of_is_hull Max a b h k = rising_is_hull Max a b tt h k
 
-pub hull_is : HullHolds → (op : Op) (a b h : Interval) → IsSpan a → IsSpan b → h ≡ hull_of op a b
+pub hull_is : (op : Op) (a b h : Interval) → IsSpan a → IsSpan b → h ≡ hull_of op a b
     → IsHull op a b h
-hull_is holds op a b h i j e =
-    subst (λ (x : Interval). IsHull op a b x) (sym e) (holds op a b i j)
+hull_is op a b h i j e =
+    subst (λ (x : Interval). IsHull op a b x) (sym e) (hull_of_is_hull op a b i j)
 
 -- spans are equal where their ends are
 same_ends : (h k : Interval) → h.lo ≡ k.lo → h.hi ≡ k.hi → h ≡ k
@@ -306,36 +306,34 @@ hull_once Const a b h k i j = i ∙ sym j
 hull_once Div a b h k i j = quotient_once a b h k i j
 hull_once op a b h k i j = extremes_once op a b h k i j
 
+-- what a span holds is a raw number
+pub IsRaw-held : (s : Interval) (v : ℤ) → IsSpan s → Holds s v → IsRaw v
+IsRaw-held s v h k = (omega (arith, ints, h.lo.0, k.0), omega (arith, ints, h.hi.1, k.1))
+
 -- results on values of spans are raw numbers
-IsRaw-result : ResultsAreRaw → (op : Op) (a b : Interval) (r : ℤ) → IsSpan a → IsSpan b
+IsRaw-result : (op : Op) (a b : Interval) (r : ℤ) → IsSpan a → IsSpan b
     → IsResult op a b r → IsRaw r
-IsRaw-result are_raw op a b r h k result =
-    let left : IsRaw result.left = (
-      omega (arith, ints, h.lo.0, result.in_a.0),
-      omega (arith, ints, h.hi.1, result.in_a.1),
-    ) in
-    let right : IsRaw result.right = (
-      omega (arith, ints, k.lo.0, result.in_b.0),
-      omega (arith, ints, k.hi.1, result.in_b.1),
-    ) in
-    subst IsRaw (sym result.is) (are_raw op result.left result.right left right)
+IsRaw-result op a b r h k result =
+    subst IsRaw (sym result.is)
+    (IsRaw-op_result op result.left result.right
+    (IsRaw-held a result.left h result.in_a) (IsRaw-held b result.right k result.in_b))
 
 -- a hull is a span
-extremes_span : ResultsAreRaw → (op : Op) (a b h : Interval) → IsSpan a → IsSpan b
+extremes_span : (op : Op) (a b h : Interval) → IsSpan a → IsSpan b
     → IsLeastAndGreatest op a b h → IsSpan h
-extremes_span are_raw op a b h i j hull = record {
-  lo = IsRaw-result are_raw op a b h.lo i j hull.least;
-  hi = IsRaw-result are_raw op a b h.hi i j hull.greatest;
+extremes_span op a b h i j hull = record {
+  lo = IsRaw-result op a b h.lo i j hull.least;
+  hi = IsRaw-result op a b h.hi i j hull.greatest;
   order = (result_in op a b h h.lo hull hull.least).1;
 }
 
-quotient_span : ResultsAreRaw → (a b h : Interval) → IsSpan a → IsSpan b → IsQuotientHull a b h
+quotient_span : (a b h : Interval) → IsSpan a → IsSpan b → IsQuotientHull a b h
     → IsSpan h
-quotient_span are_raw a b h i j hull =
+quotient_span a b h i j hull =
     by_lt_z b.hi (pos 0)
-    (λ lt. extremes_span are_raw Div a b h i j (hull.free (λ z. omega (arith, ints, lt, z.1))))
+    (λ lt. extremes_span Div a b h i j (hull.free (λ z. omega (arith, ints, lt, z.1))))
     (λ high. by_lt_z (pos 0) b.lo
-    (λ lt. extremes_span are_raw Div a b h i j (hull.free (λ z. omega (arith, ints, lt, z.0))))
+    (λ lt. extremes_span Div a b h i j (hull.free (λ z. omega (arith, ints, lt, z.0))))
     (λ low. subst IsSpan (sym (hull.by_zero (low, high)))
     (record {
       lo = (omega (arith, ints), omega (arith, ints));
@@ -343,10 +341,10 @@ quotient_span are_raw a b h i j hull =
       order = omega (arith, ints);
     })))
 
-pub IsSpan-hull : ResultsAreRaw → HullsAreSpans
-IsSpan-hull are_raw X a b h i j e = subst IsSpan (sym e) i
-IsSpan-hull are_raw Y a b h i j e = subst IsSpan (sym e) i
-IsSpan-hull are_raw Z a b h i j e = subst IsSpan (sym e) i
-IsSpan-hull are_raw Const a b h i j e = subst IsSpan (sym e) i
-IsSpan-hull are_raw Div a b h i j hull = quotient_span are_raw a b h i j hull
-IsSpan-hull are_raw op a b h i j hull = extremes_span are_raw op a b h i j hull
+pub IsSpan-hull : HullsAreSpans
+IsSpan-hull X a b h i j e = subst IsSpan (sym e) i
+IsSpan-hull Y a b h i j e = subst IsSpan (sym e) i
+IsSpan-hull Z a b h i j e = subst IsSpan (sym e) i
+IsSpan-hull Const a b h i j e = subst IsSpan (sym e) i
+IsSpan-hull Div a b h i j hull = quotient_span a b h i j hull
+IsSpan-hull op a b h i j hull = extremes_span op a b h i j hull

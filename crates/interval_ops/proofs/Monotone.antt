@@ -6,13 +6,13 @@ use Rattle.std.proofs.lemmas.Int.{ints, clamps}
 use Rattle.std.proofs.lemmas.Nat.{le-div}
 use Rattle.std.proofs.Math.Nat.{mul-le-mul, mul-le-mul_right, div-mul-le_self}
 use borrow.Author.Differences.{up, down}
-use Rattle.fixed_ops.specs.Laws.{RootHolds}
 use Rattle.fixed_ops.specs.Operations.{op_result, square_root_of}
 use Rattle.fixed_ops.specs.Raw.{clamp, floor_div}
 use Rattle.fixed_ops.specs.Root.{floor_root}
 use Rattle.fixed_ops.specs.declared.operation.Op.{Op}
 use Rattle.fixed_ops.specs.declared.operation.Op.TheVariants.{Square, Sqrt, Abs, Floor, Add, Sub, Min, Max}
 use Rattle.interval_ops.specs.Shapes.{IsRising, IsEven}
+use Rattle.fixed_ops.proofs.ResultLaws.{floor_root_is_root}
 
 -- products with a natural number keep the order
 pub product_le : (a b : ℤ) (d : ℕ) → a ≤ℤ b → (a *ℤ pos d) ≤ℤ (b *ℤ pos d)
@@ -45,10 +45,10 @@ floor_div_le (negsuc m) (negsuc n) d h = omega (arith, ints, div_le n m d (omega
 pub rounded_le : (s t : ℤ) → s ≤ℤ t → clamp (floor_div s (2 ^ 32)) ≤ℤ clamp (floor_div t (2 ^ 32))
 rounded_le s t h = clamp_le (floor_div s (2 ^ 32)) (floor_div t (2 ^ 32)) (floor_div_le s t (2 ^ 32 - 1) h)
 
-floor_root_le : RootHolds → (m n : ℕ) → m ≤ n → floor_root m ≤ floor_root n
-floor_root_le is_root m n h =
-    let r = is_root m in
-    let s = is_root n in
+floor_root_le : (m n : ℕ) → m ≤ n → floor_root m ≤ floor_root n
+floor_root_le m n h =
+    let r = floor_root_is_root m in
+    let s = floor_root_is_root n in
     ⊎_elim (λ (lt : floor_root n < floor_root m).
     absurd (omega (
       arith,
@@ -60,24 +60,24 @@ floor_root_le is_root m n h =
     (λ (le : floor_root m ≤ floor_root n). le)
     (cases_lt (floor_root n) (floor_root m))
 
-root_of_le : RootHolds → (a b : ℤ) → a ≤ℤ b → square_root_of a ≤ℤ square_root_of b
-root_of_le is_root (pos m) (pos n) h =
-    omega (arith, ints, floor_root_le is_root (m * 2 ^ 32) (n * 2 ^ 32) (omega (arith, ints)))
-root_of_le is_root (pos m) (negsuc n) h = absurd (omega (arith, ints, h))
-root_of_le is_root (negsuc m) (pos n) h = omega (arith, ints)
-root_of_le is_root (negsuc m) (negsuc n) h = omega (arith, ints)
+root_of_le : (a b : ℤ) → a ≤ℤ b → square_root_of a ≤ℤ square_root_of b
+root_of_le (pos m) (pos n) h =
+    omega (arith, ints, floor_root_le (m * 2 ^ 32) (n * 2 ^ 32) (omega (arith, ints)))
+root_of_le (pos m) (negsuc n) h = absurd (omega (arith, ints, h))
+root_of_le (negsuc m) (pos n) h = omega (arith, ints)
+root_of_le (negsuc m) (negsuc n) h = omega (arith, ints)
 
 -- what rises with each operand does so
-pub rises : RootHolds → (op : Op) (u v x y : ℤ) → IsRising op → u ≤ℤ x → v ≤ℤ y
+pub rises : (op : Op) (u v x y : ℤ) → IsRising op → u ≤ℤ x → v ≤ℤ y
     → op_result op u v ≤ℤ op_result op x y
-rises is_root Sqrt u v x y is h k = root_of_le is_root u x h
-rises is_root Floor u v x y is h k =
+rises Sqrt u v x y is h k = root_of_le u x h
+rises Floor u v x y is h k =
     clamp_le (floor_div u (2 ^ 32) *ℤ pos (2 ^ 32)) (floor_div x (2 ^ 32) *ℤ pos (2 ^ 32))
     (product_le (floor_div u (2 ^ 32)) (floor_div x (2 ^ 32)) (2 ^ 32) (floor_div_le u x (2 ^ 32 - 1) h))
-rises is_root Add u v x y is h k = omega (arith, ints, clamps)
-rises is_root Min u v x y is h k = omega (arith, ints, clamps)
-rises is_root Max u v x y is h k = omega (arith, ints, clamps)
-rises is_root op u v x y is h k = absurd is
+rises Add u v x y is h k = omega (arith, ints, clamps)
+rises Min u v x y is h k = omega (arith, ints, clamps)
+rises Max u v x y is h k = omega (arith, ints, clamps)
+rises op u v x y is h k = absurd is
 
 -- the opposite falls
 pub opposite_falls : (u x : ℤ) → u ≤ℤ x → neg_ℤ x ≤ℤ neg_ℤ u

@@ -7,7 +7,7 @@ ghost use Rattle.fixed_ops.specs.Raw.{is_inside};
 ghost use Rattle.interval_ops.specs.Hulls.{between, hull_of_four};
 
 use crate::Span;
-use fixed_ops::{Fx, Op, Tally, corner, is_inside, le, tallies_add_up};
+use fixed_ops::{Fx, Op, Tally, corner, is_inside, le};
 
 // The lesser of two numbers.
 #[inline]
@@ -45,7 +45,6 @@ pub(crate) fn from_to(op: Op, low: (Fx, Fx), high: (Fx, Fx), tally: &mut Tally) 
     ensures value { result ≡ between (op_result op low.0 low.1) (op_result op high.0 high.1) }
     ensures counted { RisesBy tally.old tally.new (corners_of 2) }
 {
-    tallies_add_up();
     let lo = corner(op, low.0, low.1, tally);
     let hi = corner(op, high.0, high.1, tally);
     Span::new(lo, hi)

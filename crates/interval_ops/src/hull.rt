@@ -6,9 +6,9 @@ ghost use Rattle.interval_ops.specs.HullCounts.{CountsHulls, hull_corners, hulls
 ghost use Rattle.interval_ops.specs.Hulls.{IsHull, between, hull_above, hull_below, hull_of, hull_of_even};
 ghost use Rattle.interval_ops.specs.Shapes.{IsEven, IsRising};
 
+use crate::Span;
 use crate::ends::{by_sign, from_to, greater, lesser, of_four};
-use crate::{Span, hulls};
-use fixed_ops::{Fx, Op, Tally, corner, count_span, is_inside, lt, roots, tallies_add_up};
+use fixed_ops::{Fx, Op, Tally, corner, count_span, is_inside, lt};
 
 /// The hull of an operation over two spans: the least and the greatest of its results on a value
 /// of `a` and a value of `b`. It is all numbers for a division whose divisor may be 0, and `a` for
@@ -22,8 +22,6 @@ pub fn span_apply(op: Op, a: Span, b: Span, tally: &mut Tally) -> Span
     ensures counted { CountsHulls 1 tally.old tally.new }
     ensures corners { RisesBy tally.old tally.new (hulls_of 1 (hull_corners op a b)) }
 {
-    hulls();
-    tallies_add_up();
     count_span(tally);
     hull(op, a, b, tally)
 }
@@ -36,7 +34,6 @@ fn hull(op: Op, a: Span, b: Span, tally: &mut Tally) -> Span
     ensures counted { RisesBy tally.old tally.new (corners_of (hull_corners op a b)) }
     ensures few { RisesAtMost tally.old tally.new (corners_of 4) }
 {
-    tallies_add_up();
     match op {
         Op::X | Op::Y | Op::Z | Op::Const => a,
         Op::Neg => opposite(a, b, tally),
@@ -71,7 +68,6 @@ fn rising(op: Op, a: Span, b: Span, tally: &mut Tally) -> Span
     ensures value { result ≡ between (op_result op a.lo b.lo) (op_result op a.hi b.hi) }
     ensures counted { RisesBy tally.old tally.new (corners_of 2) }
 {
-    roots();
     from_to(op, (a.lo(), b.lo()), (a.hi(), b.hi()), tally)
 }
 
@@ -94,7 +90,6 @@ fn even(op: Op, a: Span, tally: &mut Tally) -> Span
     ensures value { result ≡ hull_of_even a (op_result op a.lo a.lo) (op_result op a.hi a.hi) }
     ensures counted { RisesBy tally.old tally.new (corners_of 2) }
 {
-    tallies_add_up();
     let first = corner(op, a.lo(), a.lo(), tally);
     let last = corner(op, a.hi(), a.hi(), tally);
     folded(a, first, last)
@@ -131,7 +126,6 @@ fn product(a: Span, b: Span, tally: &mut Tally) -> Span
     ensures value { result ≡ hull_of Op.Mul a b }
     ensures counted { RisesBy tally.old tally.new (corners_of 4) }
 {
-    tallies_add_up();
     let p = corner(Op::Mul, a.lo(), b.lo(), tally);
     let q = corner(Op::Mul, a.lo(), b.hi(), tally);
     let r = corner(Op::Mul, a.hi(), b.lo(), tally);
@@ -147,7 +141,6 @@ fn quotient(a: Span, b: Span, tally: &mut Tally) -> Span
     ensures counted { RisesBy tally.old tally.new (corners_of (hull_corners Op.Div a b)) }
     ensures few { RisesAtMost tally.old tally.new (corners_of 4) }
 {
-    tallies_add_up();
     if is_inside(b.hi()) {
         quotient_below(a, b, tally)
     } else if lt(Fx::from_raw(0), b.lo()) {

@@ -1,8 +1,6 @@
 // What always holds of the definitions that the contracts cite.
 ghost use Rattle.interval_ops.specs.Laws.{HullCountsAdd, HullCountsJoin, HullHolds, HullsAreSpans, OnlyHullHolds, StandingCountsNoHull};
 
-use fixed_ops::{raw_results, roots, tallies_add_up};
-
 /// The hull that is made from the ends of two spans is the one that all results on their values
 /// lie in and both of whose ends are such results. Nothing else is, and it is a span.
 #[inline]
@@ -10,10 +8,7 @@ pub fn hulls()
     ensures hold { HullHolds }
     ensures only { OnlyHullHolds }
     ensures spans { HullsAreSpans }
-{
-    roots();
-    raw_results();
-}
+{}
 
 /// Hulls that are counted one after another, or apart and then joined to a tally, are counted
 /// together. A tally that stands counts none.
@@ -22,6 +17,4 @@ pub fn hull_counts()
     ensures none { StandingCountsNoHull }
     ensures add { HullCountsAdd }
     ensures join { HullCountsJoin }
-{
-    tallies_add_up();
-}
+{}

@@ -16,6 +16,7 @@ pub mod Representatives
 pub mod RootLaws
 pub mod SlopeLaws
 pub mod Stored
+pub mod Theorems
 pub mod ValueLaws
 pub mod Walks
 pub mod Whole

@@ -4,17 +4,19 @@ use Rattle.std.specs.Prelude.{◌⊎◌, map, flat_map, get_or, All, AllPairs, C
 use Rattle.std.proofs.lemmas.Bool.{and_from, and_parts, eq-eqb, eqb-true, false_from_ne_true}
 use Rattle.std.proofs.lemmas.List.Elements.{All-contains, All-cons, All-head, All-map, All-nil, All-tail, Contains-get_or}
 use Rattle.std.proofs.lemmas.List.Kept.{AllPairs-cons}
+use Rattle.std.proofs.lemmas.List.Folds.{flat_map-map}
 use Rattle.std.proofs.lemmas.List.Sums.{sum_by-cons}
 use Rattle.kuhn_cells.specs.declared.edge_key.EdgeKey.{EdgeKey}
 use Rattle.kuhn_cells.specs.declared.triple.Triple.{Triple}
 use Rattle.kuhn_cells.specs.Faces.{all_triangles, face_among, faces, number_among}
 use Rattle.kuhn_cells.specs.Grids.{Grid, vertices}
-use Rattle.kuhn_cells.specs.Laws.{IsVertex, NumbersArePlaces, OfEdges, TrianglesHaveVertices}
+use Rattle.kuhn_cells.specs.Laws.{IsVertex, OfEdges}
+use Rattle.kuhn_cells.proofs.FaceLaws.{numbers_are_places, triangles_have_vertices}
+use Rattle.kuhn_cells.proofs.OrderLaws.{first_before, rest_in_order}
+use Rattle.kuhn_cells.proofs.VertexLaws.{head_or_tail, in_map, not_in_none}
 use Rattle.mesh_laws.specs.Closed.{IsTriangle, directed_edges, directed_edges_of, goes, occurrences}
 use Rattle.mesh_laws.specs.Laws.{EdgesArePaired}
-use Rattle.mesh_laws.proofs.Blocks.{first_before, rest_in_order}
-use Rattle.mesh_laws.proofs.Members.{head_or_tail, in_map, not_in_none}
-use Rattle.mesh_laws.proofs.Lists.{Differ, all_of_flat, flat_after_map, flat_of_maps}
+use Rattle.mesh_laws.proofs.Lists.{Differ, all_of_flat, flat_of_maps}
 use Rattle.mesh_laws.proofs.Partners.{all_made_back, pair_same}
 use Rattle.mesh_laws.proofs.Single.{all_differ, all_part}
 use Rattle.mesh_laws.proofs.Turns.{all_turns, turns_are_all, turns_of}
@@ -24,7 +26,7 @@ use Rattle.mesh_laws.proofs.Turns.{all_turns, turns_are_all, turns_of}
 pub goes_is : (e f : ℕ × ℕ) → goes e.0 e.1 f ≡ true → f ≡ e
 goes_is e f h = let p = and_parts _ _ h in rw (eqb-true f.0 e.0 p.0, eqb-true f.1 e.1 p.1) refl
 
-goes_itself : (e : ℕ × ℕ) → goes e.0 e.1 e ≡ true
+pub goes_itself : (e : ℕ × ℕ) → goes e.0 e.1 e ≡ true
 goes_itself e = and_from _ _ (eq-eqb e.0 e.0 refl) (eq-eqb e.1 e.1 refl)
 
 other_goes : (e f : ℕ × ℕ) → Differ f e → goes e.0 e.1 f ≡ false
@@ -74,37 +76,37 @@ numbered g k = (number g k.0, number g k.1)
 abbrev AreVertices : Grid → EdgeKey × EdgeKey → Type 0
 AreVertices g k = IsVertex g k.0 × IsVertex g k.1
 
-are_vertices : TrianglesHaveVertices → (g : Grid) → All (AreVertices g) (all_turns g)
-are_vertices triangles g =
+are_vertices : (g : Grid) → All (AreVertices g) (all_turns g)
+are_vertices g =
     let three : (t : Triple) → OfEdges (IsVertex g) t → All (AreVertices g) (turns_of t) =
     λ t h. All-cons (AreVertices g) (t.a, t.b) ((t.b, t.c) ∷ (t.c, t.a) ∷ []) (h.a, h.b) (All-cons (AreVertices g) (t.b, t.c) ((t.c, t.a) ∷ []) (h.b, h.c) (All-cons (AreVertices g) (t.c, t.a) [] (h.c, h.a) (All-nil (AreVertices g)))) in
-    subst (λ ks. All (AreVertices g) ks) (turns_are_all g) (all_of_flat (OfEdges (IsVertex g)) (AreVertices g) turns_of three (all_triangles g) (triangles g))
+    subst (λ ks. All (AreVertices g) ks) (turns_are_all g) (all_of_flat (OfEdges (IsVertex g)) (AreVertices g) turns_of three (all_triangles g) (triangles_have_vertices g))
 
 -- vertices with one number are one
-pub one_vertex : NumbersArePlaces → (g : Grid) (e f : EdgeKey) → IsVertex g e → IsVertex g f → number g e ≡ number g f → e ≡ f
-one_vertex numbers g e f v w same =
-    sym (numbers g e e v).1 ∙ ap (λ k. get_or (vertices g) k e) same ∙ (numbers g f e w).1
+pub one_vertex : (g : Grid) (e f : EdgeKey) → IsVertex g e → IsVertex g f → number g e ≡ number g f → e ≡ f
+one_vertex g e f v w same =
+    sym (numbers_are_places g e e v).1 ∙ ap (λ k. get_or (vertices g) k e) same ∙ (numbers_are_places g f e w).1
 
-tells : NumbersArePlaces → (g : Grid) (x y : EdgeKey × EdgeKey) → AreVertices g x → AreVertices g y → numbered g x ≡ numbered g y → x ≡ y
-tells numbers g x y p q same =
-    pair_same x.0 x.1 y.0 y.1 (one_vertex numbers g x.0 y.0 p.0 q.0 (ap (λ (e : ℕ × ℕ). e.0) same)) (one_vertex numbers g x.1 y.1 p.1 q.1 (ap (λ (e : ℕ × ℕ). e.1) same))
+tells : (g : Grid) (x y : EdgeKey × EdgeKey) → AreVertices g x → AreVertices g y → numbered g x ≡ numbered g y → x ≡ y
+tells g x y p q same =
+    pair_same x.0 x.1 y.0 y.1 (one_vertex g x.0 y.0 p.0 q.0 (ap (λ (e : ℕ × ℕ). e.0) same)) (one_vertex g x.1 y.1 p.1 q.1 (ap (λ (e : ℕ × ℕ). e.1) same))
 
 -- the directed edges of the faces are the turns of the triangles, by the numbers of the vertices
 edges_are_turns : (g : Grid) → directed_edges (faces g) ≡ map (numbered g) (all_turns g)
 unfolding faces
 edges_are_turns g =
-    flat_after_map directed_edges_of (face_among (vertices g)) (all_triangles g)
+    flat_map-map directed_edges_of (face_among (vertices g)) (all_triangles g)
     ∙ flat_of_maps (numbered g) turns_of (all_triangles g)
     ∙ ap (map (numbered g)) (turns_are_all g)
 
 -- ---- the law
 
-three_differ : TrianglesHaveVertices → NumbersArePlaces → (g : Grid) → All IsTriangle (faces g)
+three_differ : (g : Grid) → All IsTriangle (faces g)
 unfolding faces
-three_differ triangles numbers g =
+three_differ g =
     let Part = λ (k : EdgeKey × EdgeKey). number g k.0 ≡ number g k.1 → ⊥ in
-    let vertex = are_vertices triangles g in
-    let parted : All Part (all_turns g) = λ k d within same. all_part g k d within (one_vertex numbers g _ _ (vertex k d within).0 (vertex k d within).1 same) in
+    let vertex = are_vertices g in
+    let parted : All Part (all_turns g) = λ k d within same. all_part g k d within (one_vertex g _ _ (vertex k d within).0 (vertex k d within).1 same) in
     let each = each_triangle Part (all_triangles g) (subst (λ ks. All Part ks) (sym (turns_are_all g)) parted) in
     All-map IsTriangle (face_among (vertices g)) (all_triangles g) (λ k d within. let h = each k d within in record { ab = h.0; bc = h.1; ca = h.2 })
 
@@ -115,20 +117,20 @@ abbrev Back : List (ℕ × ℕ) → Type 0
 Back es = All (λ e. occurrences es e.1 e.0 ≡ 1) es
 
 -- no directed edge stands in two places
-pub edges_differ : TrianglesHaveVertices → NumbersArePlaces → (g : Grid) → AllPairs Differ (directed_edges (faces g))
-edges_differ triangles numbers g =
-    subst (λ es. AllPairs Differ es) (sym (edges_are_turns g)) (differ_mapped (numbered g) (AreVertices g) (tells numbers g) (all_turns g) (are_vertices triangles g) (all_differ g))
+pub edges_differ : (g : Grid) → AllPairs Differ (directed_edges (faces g))
+edges_differ g =
+    subst (λ es. AllPairs Differ es) (sym (edges_are_turns g)) (differ_mapped (numbered g) (AreVertices g) (tells g) (all_turns g) (are_vertices g) (all_differ g))
 
-pub edges_are_paired : TrianglesHaveVertices → NumbersArePlaces → EdgesArePaired
-edges_are_paired triangles numbers g framed =
+pub edges_are_paired : EdgesArePaired
+edges_are_paired g framed =
     let es = map (numbered g) (all_turns g) in
-    let differ = differ_mapped (numbered g) (AreVertices g) (tells numbers g) (all_turns g) (are_vertices triangles g) (all_differ g) in
+    let differ = differ_mapped (numbered g) (AreVertices g) (tells g) (all_turns g) (are_vertices g) (all_differ g) in
     let once : Once es = λ k d within. occurs_once (get_or es k d) es differ (Contains-get_or es k d within) in
     let back : Back es = All-map (λ e. occurrences es e.1 e.0 ≡ 1) (numbered g) (all_turns g) (λ k d within.
     let t = get_or (all_turns g) k d in
     occurs_once (numbered g (t.1, t.0)) es differ (in_map (numbered g) (all_turns g) (t.1, t.0) (all_made_back g framed k d within))) in
     record {
-      triangles = three_differ triangles numbers g;
+      triangles = three_differ g;
       once = subst Once (sym (edges_are_turns g)) once;
       back = subst Back (sym (edges_are_turns g)) back;
     }

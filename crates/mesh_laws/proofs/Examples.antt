@@ -12,12 +12,12 @@ use Rattle.kuhn_cells.specs.Grids.{Grid, edges, value_at, vertices}
 use Rattle.kuhn_cells.specs.Triangles.{GridPoint, point}
 use Rattle.kuhn_cells.specs.Vectors.{determinant_at}
 use Rattle.kuhn_cells.specs.declared.edge_key.EdgeKey.{EdgeKey}
+use Rattle.kuhn_cells.proofs.VertexLaws.{in_map, not_in_none}
 use Rattle.mesh_laws.specs.Closed.{IsClosed, IsTriangle, directed_edges, occurrences}
 use Rattle.mesh_laws.specs.Frames.{IsFramed, IsOuter}
 use Rattle.mesh_laws.specs.Manifold.{HasFan, IsManifold, arcs, arcs_on, cycle_arcs}
 use Rattle.mesh_laws.specs.Places.{inner_end, lattice_place, point_place}
 use Rattle.mesh_laws.specs.Separating.{FacesOut, IsPath, passed}
-use Rattle.mesh_laws.proofs.Members.{in_map, not_in_none}
 use Rattle.mesh_laws.proofs.FanLaws.{counted, cycle_sources, occurs}
 use Rattle.mesh_laws.proofs.Owners.{found}
 use Rattle.mesh_laws.proofs.Rings.{cycle_of, follow, is_fan}

@@ -9,12 +9,11 @@ use Rattle.kuhn_cells.specs.declared.triple.Triple.{Triple}
 use Rattle.kuhn_cells.specs.Corners.{along_x, along_y, along_z, corner, is_negative}
 use Rattle.kuhn_cells.specs.Faces.{all_triangles, cell_triangles, face_among, faces}
 use Rattle.kuhn_cells.specs.Grids.{Grid, is_inside_at, lower, upper, value_at, vertices}
-use Rattle.kuhn_cells.specs.Laws.{NumbersArePlaces, TrianglesHaveVertices}
 use Rattle.kuhn_cells.specs.Triangles.{GridPoint, further, point, triangles_in}
 use Rattle.kuhn_cells.specs.Vectors.{Vector, determinant, determinant_at}
+use Rattle.kuhn_cells.proofs.FaceLaws.{all_in_block, all_within, numbers_are_places, triangles_have_vertices}
 use Rattle.mesh_laws.specs.Places.{inner_end, inner_of, lattice_place, point_place, share, share_between}
 use Rattle.mesh_laws.specs.Separating.{FacesOut, HasInsideBehind, IsBehind}
-use Rattle.mesh_laws.proofs.Blocks.{all_in_block, all_within}
 use Rattle.mesh_laws.proofs.Determinants.{IsLow, IsWeight, arrow, below_zero, between, diff, diff_same, from_last, low_between, vector, weighed}
 use Rattle.mesh_laws.proofs.Sides.{AreEnds, HasEnds, IsOut, all_out, ends_low, is_behind, less_at, some_less, to_end}
 use Rattle.mesh_laws.proofs.Turns.{Way, key_of, pattern_at, triangles_of_tetrahedron, triple_of, ways_in}
@@ -163,10 +162,10 @@ same_three : (g : Grid) (a b c d e f : EdgeKey) → a ≡ d → b ≡ e → c �
 same_three g a b c d e f p q r h =
     subst (λ (x : EdgeKey). HasInsideBehind g x b c) (sym p) (subst (λ (x : EdgeKey). HasInsideBehind g d x c) (sym q) (subst (λ (x : EdgeKey). HasInsideBehind g d e x) (sym r) h))
 
-pub faces_out : TrianglesHaveVertices → NumbersArePlaces → (g : Grid) → All (FacesOut g (vertices g)) (faces g)
+pub faces_out : (g : Grid) → All (FacesOut g (vertices g)) (faces g)
 unfolding faces
-faces_out triangles numbers g =
+faces_out g =
     All-map (FacesOut g (vertices g)) (face_among (vertices g)) (all_triangles g) (λ k e within d.
     let t = get_or (all_triangles g) k e in
-    let v = triangles g k e within in
-    same_three g _ _ _ t.a t.b t.c (numbers g t.a d v.a).1 (numbers g t.b d v.b).1 (numbers g t.c d v.c).1 (triangles_out g k e within))
+    let v = triangles_have_vertices g k e within in
+    same_three g _ _ _ t.a t.b t.c (numbers_are_places g t.a d v.a).1 (numbers_are_places g t.b d v.b).1 (numbers_are_places g t.c d v.c).1 (triangles_out g k e within))

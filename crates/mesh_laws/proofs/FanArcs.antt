@@ -4,6 +4,7 @@ use Rattle.std.specs.Prelude.{◌==◌, ◌&&◌, ◌⊎◌, map, flat_map, get_
 use Rattle.std.specs.List.{range_with_len}
 use Rattle.std.proofs.lemmas.Bool.{agree_below, agree_below_at, and_parts, cases_Bool, eqb-true, leb-true, ltb-true, or_cases, false≢true}
 use Rattle.std.proofs.lemmas.List.Elements.{All-cons, All-contains, All-contains_itself, All-map, All-nil, All-weaker, Contains-append_right, Contains-get_or}
+use Rattle.std.proofs.lemmas.List.Folds.{flat_map-map}
 use Rattle.std.proofs.lemmas.List.Sums.{AllPass-from_list_all}
 use Rattle.kuhn_cells.specs.declared.edge_key.EdgeKey.{EdgeKey}
 use Rattle.kuhn_cells.specs.declared.triple.Triple.{Triple}
@@ -11,15 +12,15 @@ use Rattle.kuhn_cells.specs.Arrangement.{differ}
 use Rattle.kuhn_cells.specs.Corners.{along_x, along_y, along_z, corner, is_negative}
 use Rattle.kuhn_cells.specs.Faces.{all_triangles, cell_triangles, face_among, faces}
 use Rattle.kuhn_cells.specs.Grids.{Grid, is_inside_at, lower, upper, vertices}
-use Rattle.kuhn_cells.specs.Laws.{IsDirection, IsVertex, NumbersArePlaces, OfEdges, TrianglesHaveVertices}
+use Rattle.kuhn_cells.specs.Laws.{IsDirection, IsVertex, OfEdges}
 use Rattle.kuhn_cells.specs.Triangles.{GridPoint, further, point, triangles_in}
+use Rattle.kuhn_cells.proofs.FaceLaws.{all_in_block, all_within, triangles_have_vertices}
+use Rattle.kuhn_cells.proofs.VertexLaws.{in_block, in_flat, in_map, in_range}
 use Rattle.mesh_laws.specs.Frames.{IsFramed}
 use Rattle.mesh_laws.specs.Manifold.{arcs, arcs_at}
-use Rattle.mesh_laws.proofs.Blocks.{all_in_block, all_within}
-use Rattle.mesh_laws.proofs.Members.{in_block, in_flat, in_map, in_range}
 use Rattle.mesh_laws.proofs.ClosedLaws.{number, one_vertex}
 use Rattle.mesh_laws.proofs.Fans.{IsBack, both_by, cell_back, key_is, key_near, number_is, number_near, own_key, own_number, pattern_is, same_arcs, same_test, spot}
-use Rattle.mesh_laws.proofs.Lists.{all_of_flat, flat_after_map}
+use Rattle.mesh_laws.proofs.Lists.{all_of_flat}
 use Rattle.mesh_laws.proofs.Owners.{direction, low}
 use Rattle.mesh_laws.proofs.Partners.{IsInner, inner, or_then}
 use Rattle.mesh_laws.proofs.Rings.{always_near, always_round, arcs_in, are_near, edge_number, has_arc, is_near, is_point_of, is_round, offset, pattern_in, points, ring, ring_arcs}
@@ -140,30 +141,30 @@ triangle_arcs g u t = arcs_at u (number g t.a) (number g t.b) (number g t.c)
 
 pub arcs_are : (g : Grid) (u : ℕ) → arcs (faces g) u ≡ flat_map (triangle_arcs g u) (all_triangles g)
 unfolding faces
-arcs_are g u = flat_after_map (λ f. arcs_at u f.a f.b f.c) (face_among (vertices g)) (all_triangles g)
+arcs_are g u = flat_map-map (λ f. arcs_at u f.a f.b f.c) (face_among (vertices g)) (all_triangles g)
 
 -- an edge of a tetrahedron whose cell is known
 record IsValued (g : Grid) (e : EdgeKey) (mask tetra : ℕ) (w : Way) (k : EdgeKey) : Type 0 where
   test : (number g k == number g e) ≡ (edge_number mask tetra w == 13 + 27 * e.dir)
   value : value_of g e (edge_number mask tetra w) ≡ number g k
 
-valued : NumbersArePlaces → (g : Grid) (e : EdgeKey) (mask tetra : ℕ) (w : Way) → IsBack (lower e) mask → IsVertex g e → IsVertex g (key_of (cell_back (lower e) mask) tetra w) → IsValued g e mask tetra w (key_of (cell_back (lower e) mask) tetra w)
+valued : (g : Grid) (e : EdgeKey) (mask tetra : ℕ) (w : Way) → IsBack (lower e) mask → IsVertex g e → IsVertex g (key_of (cell_back (lower e) mask) tetra w) → IsValued g e mask tetra w (key_of (cell_back (lower e) mask) tetra w)
 unfolding value_of
-valued numbers g e mask tetra w back v at_k =
+valued g e mask tetra w back v at_k =
     let k = key_of (cell_back (lower e) mask) tetra w in
     let key = key_is (lower e) mask tetra w back in
     record {
       test = same_test (number g k) (number g e) (edge_number mask tetra w) (13 + 27 * e.dir)
-          (λ same. sym (number_is (lower e) mask tetra w back) ∙ ap (number_near (lower e)) (one_vertex numbers g k e at_k v same) ∙ own_number e)
+          (λ same. sym (number_is (lower e) mask tetra w back) ∙ ap (number_near (lower e)) (one_vertex g k e at_k v same) ∙ own_number e)
           (λ same. ap (number g) (sym key ∙ ap (key_near (lower e)) same ∙ own_key e));
       value = ap (number g) key;
     }
 
-same_triangle : NumbersArePlaces → (g : Grid) (e : EdgeKey) (m : ℕ × ℕ) (t : Way × Way × Way) → IsBack (lower e) m.0 → IsVertex g e → OfEdges (IsVertex g) (triple_of (cell_back (lower e) m.0) m.1 t) → triangle_arcs g (number g e) (triple_of (cell_back (lower e) m.0) m.1 t) ≡ map (both_by (value_of g e)) (arcs_in e.dir m t)
-same_triangle numbers g e m t back v at =
-    let a = valued numbers g e m.0 m.1 t.0 back v at.a in
-    let b = valued numbers g e m.0 m.1 t.1 back v at.b in
-    let c = valued numbers g e m.0 m.1 t.2 back v at.c in
+same_triangle : (g : Grid) (e : EdgeKey) (m : ℕ × ℕ) (t : Way × Way × Way) → IsBack (lower e) m.0 → IsVertex g e → OfEdges (IsVertex g) (triple_of (cell_back (lower e) m.0) m.1 t) → triangle_arcs g (number g e) (triple_of (cell_back (lower e) m.0) m.1 t) ≡ map (both_by (value_of g e)) (arcs_in e.dir m t)
+same_triangle g e m t back v at =
+    let a = valued g e m.0 m.1 t.0 back v at.a in
+    let b = valued g e m.0 m.1 t.1 back v at.b in
+    let c = valued g e m.0 m.1 t.2 back v at.c in
     same_arcs (number g e) (13 + 27 * e.dir) _ _ _ (edge_number m.0 m.1 t.0) (edge_number m.0 m.1 t.1) (edge_number m.0 m.1 t.2) (value_of g e) a.test b.test c.test a.value b.value c.value
 
 -- ---- triangles of a grid
@@ -177,14 +178,14 @@ in_triangles g cell tetra t lies few h =
     (in_flat at (range_with_len 0 6) tetra (triple_of cell tetra t) (in_range 0 6 tetra (omega arith) (omega (arith, few)))
     (subst (λ (ts : List Triple). Contains ts (triple_of cell tetra t)) (sym (triangles_of_tetrahedron inside cell tetra)) (in_map (triple_of cell tetra) (ways_in (is_negative tetra) (pattern_at inside cell tetra)) t h)))
 
-vertices_of : TrianglesHaveVertices → (g : Grid) (t : Triple) → Contains (all_triangles g) t → OfEdges (IsVertex g) t
-vertices_of triangles g t h = All-contains (OfEdges (IsVertex g)) (all_triangles g) t (triangles g) h
+vertices_of : (g : Grid) (t : Triple) → Contains (all_triangles g) t → OfEdges (IsVertex g) t
+vertices_of g t h = All-contains (OfEdges (IsVertex g)) (all_triangles g) t (triangles_have_vertices g) h
 
 -- ---- the arcs round the edge are arcs of faces
 
-pub near_are_arcs : TrianglesHaveVertices → NumbersArePlaces → (g : Grid) (e : EdgeKey) → IsFramed g → IsVertex g e → All (λ a. Contains (flat_map (triangle_arcs g (number g e)) (all_triangles g)) (both_by (value_of g e) a)) (near_arcs g e)
+pub near_are_arcs : (g : Grid) (e : EdgeKey) → IsFramed g → IsVertex g e → All (λ a. Contains (flat_map (triangle_arcs g (number g e)) (all_triangles g)) (both_by (value_of g e) a)) (near_arcs g e)
 unfolding ring_arcs
-near_are_arcs triangles numbers g e framed v =
+near_are_arcs g e framed v =
     let inside = is_inside_at g in
     let os = points e.dir in
     let bs = signs_of g e in
@@ -199,7 +200,7 @@ near_are_arcs triangles numbers g e framed v =
     all_of_flat (Contains ways) Q (arcs_in e.dir m) (λ t at_t.
     let t_in : Contains (ways_in (is_negative m.1) (pattern_at inside cell m.1)) t = subst (λ (bs : List Bool). Contains (ways_in (is_negative m.1) bs) t) same at_t in
     let in_all = in_triangles g cell m.1 t there.cell around.few t_in in
-    let eq = same_triangle numbers g e m t there.back v (vertices_of triangles g (triple_of cell m.1 t) in_all) in
+    let eq = same_triangle g e m t there.back v (vertices_of g (triple_of cell m.1 t) in_all) in
     λ k d within.
     let a = get_or (arcs_in e.dir m t) k d in
     in_flat (triangle_arcs g u) (all_triangles g) (triple_of cell m.1 t) (f a) in_all
@@ -239,9 +240,9 @@ same_cell cell mask = rw (gone_back cell.x (along_x mask), gone_back cell.y (alo
 abbrev AreNear : Grid → EdgeKey → ℕ → Triple → Type 0
 AreNear g e u t = All (Contains (fan_arcs g e)) (triangle_arcs g u t)
 
-own_arcs : NumbersArePlaces → (g : Grid) (cell : GridPoint) (tetra : ℕ) (t : Way × Way × Way) (w : Way) → tetra < 6 → HasEnds (is_inside_at g) cell tetra w → IsVertex g (key_of cell tetra w) → OfEdges (IsVertex g) (triple_of cell tetra t) → Contains (ways_in (is_negative tetra) (pattern_at (is_inside_at g) cell tetra)) t → AreNear g (key_of cell tetra w) (number g (key_of cell tetra w)) (triple_of cell tetra t)
+own_arcs : (g : Grid) (cell : GridPoint) (tetra : ℕ) (t : Way × Way × Way) (w : Way) → tetra < 6 → HasEnds (is_inside_at g) cell tetra w → IsVertex g (key_of cell tetra w) → OfEdges (IsVertex g) (triple_of cell tetra t) → Contains (ways_in (is_negative tetra) (pattern_at (is_inside_at g) cell tetra)) t → AreNear g (key_of cell tetra w) (number g (key_of cell tetra w)) (triple_of cell tetra t)
 unfolding ring_arcs
-own_arcs numbers g cell tetra t w few ends v at t_in =
+own_arcs g cell tetra t w few ends v at t_in =
     let inside = is_inside_at g in
     let e = key_of cell tetra w in
     let mask = low tetra w in
@@ -258,7 +259,7 @@ own_arcs numbers g cell tetra t w few ends v at t_in =
     let pattern = pattern_is os inside (lower e) m back around.near ∙ ap (λ (c : GridPoint). pattern_at inside c tetra) same in
     let at_t : Contains ways t = subst (λ (bs : List Bool). Contains (ways_in (is_negative tetra) bs) t) (sym pattern) t_in in
     let there = subst (λ (c : GridPoint). OfEdges (IsVertex g) (triple_of c tetra t)) (sym same) at in
-    let eq = ap (λ (c : GridPoint). triangle_arcs g u (triple_of c tetra t)) (sym same) ∙ same_triangle numbers g e m t back v there in
+    let eq = ap (λ (c : GridPoint). triangle_arcs g u (triple_of c tetra t)) (sym same) ∙ same_triangle g e m t back v there in
     subst (λ (xs : List (ℕ × ℕ)). All (Contains (fan_arcs g e)) xs) (sym eq)
     (All-map (Contains (fan_arcs g e)) f (arcs_in e.dir m t) (λ k d within.
     let a = get_or (arcs_in e.dir m t) k d in
@@ -267,9 +268,9 @@ own_arcs numbers g cell tetra t w few ends v at t_in =
     (in_flat (arcs_in e.dir m) ways t a at_t (Contains-get_or (arcs_in e.dir m t) k d within)))))
 
 -- the vertex of an edge of a triangle
-arcs_through : NumbersArePlaces → (g : Grid) (e : EdgeKey) (cell : GridPoint) (tetra : ℕ) (t : Way × Way × Way) (w : Way) → IsVertex g e → tetra < 6 → HasEnds (is_inside_at g) cell tetra w → IsVertex g (key_of cell tetra w) → OfEdges (IsVertex g) (triple_of cell tetra t) → Contains (ways_in (is_negative tetra) (pattern_at (is_inside_at g) cell tetra)) t → number g (key_of cell tetra w) ≡ number g e → AreNear g e (number g e) (triple_of cell tetra t)
-arcs_through numbers g e cell tetra t w v few ends at_w at t_in same =
-    subst (λ (k : EdgeKey). AreNear g k (number g k) (triple_of cell tetra t)) (one_vertex numbers g (key_of cell tetra w) e at_w v same) (own_arcs numbers g cell tetra t w few ends at_w at t_in)
+arcs_through : (g : Grid) (e : EdgeKey) (cell : GridPoint) (tetra : ℕ) (t : Way × Way × Way) (w : Way) → IsVertex g e → tetra < 6 → HasEnds (is_inside_at g) cell tetra w → IsVertex g (key_of cell tetra w) → OfEdges (IsVertex g) (triple_of cell tetra t) → Contains (ways_in (is_negative tetra) (pattern_at (is_inside_at g) cell tetra)) t → number g (key_of cell tetra w) ≡ number g e → AreNear g e (number g e) (triple_of cell tetra t)
+arcs_through g e cell tetra t w v few ends at_w at t_in same =
+    subst (λ (k : EdgeKey). AreNear g k (number g k) (triple_of cell tetra t)) (one_vertex g (key_of cell tetra w) e at_w v same) (own_arcs g cell tetra t w few ends at_w at t_in)
 
 by_corner : (P : ℕ × ℕ → Type 0) (u a b c : ℕ) → (a ≡ u → All P (arcs_at u a b c)) → (b ≡ u → All P (arcs_at u a b c)) → (c ≡ u → All P (arcs_at u a b c)) → All P (arcs_at u a b c)
 by_corner P u a b c first second third = by (cases_Bool (a == u)) (cases_Bool (b == u)) (cases_Bool (c == u))
@@ -280,17 +281,17 @@ by_corner P u a b c first second third = by (cases_Bool (a == u)) (cases_Bool (b
     by (inr p) (inr q) (inl r) = third (eqb-true c u r)
     by (inr p) (inr q) (inr r) = rw (p, q, r) (All-nil P)
 
-triangle_near : TrianglesHaveVertices → NumbersArePlaces → (g : Grid) (e : EdgeKey) (cell : GridPoint) (tetra : ℕ) (t : Way × Way × Way) → IsVertex g e → IsInGrid g cell → tetra < 6 → IsOut (is_inside_at g) cell tetra t → Contains (ways_in (is_negative tetra) (pattern_at (is_inside_at g) cell tetra)) t → AreNear g e (number g e) (triple_of cell tetra t)
-triangle_near triangles numbers g e cell tetra t v lies few out t_in =
-    let at = vertices_of triangles g (triple_of cell tetra t) (in_triangles g cell tetra t lies few t_in) in
+triangle_near : (g : Grid) (e : EdgeKey) (cell : GridPoint) (tetra : ℕ) (t : Way × Way × Way) → IsVertex g e → IsInGrid g cell → tetra < 6 → IsOut (is_inside_at g) cell tetra t → Contains (ways_in (is_negative tetra) (pattern_at (is_inside_at g) cell tetra)) t → AreNear g e (number g e) (triple_of cell tetra t)
+triangle_near g e cell tetra t v lies few out t_in =
+    let at = vertices_of g (triple_of cell tetra t) (in_triangles g cell tetra t lies few t_in) in
     by_corner (Contains (fan_arcs g e)) (number g e) _ _ _
-    (arcs_through numbers g e cell tetra t t.0 v few out.first at.a at t_in)
-    (arcs_through numbers g e cell tetra t t.1 v few out.second at.b at t_in)
-    (arcs_through numbers g e cell tetra t t.2 v few out.third at.c at t_in)
+    (arcs_through g e cell tetra t t.0 v few out.first at.a at t_in)
+    (arcs_through g e cell tetra t t.1 v few out.second at.b at t_in)
+    (arcs_through g e cell tetra t t.2 v few out.third at.c at t_in)
 
-all_near : TrianglesHaveVertices → NumbersArePlaces → (g : Grid) (e : EdgeKey) → IsVertex g e → All (AreNear g e (number g e)) (all_triangles g)
+all_near : (g : Grid) (e : EdgeKey) → IsVertex g e → All (AreNear g e (number g e)) (all_triangles g)
 unfolding all_triangles
-all_near triangles numbers g e v =
+all_near g e v =
     let inside = is_inside_at g in
     let P = AreNear g e (number g e) in
     all_in_block P g.x g.y g.z (cell_triangles inside) (λ cell x y z.
@@ -298,11 +299,11 @@ all_near triangles numbers g e v =
     let ways = ways_in (is_negative tetra) (pattern_at inside cell tetra) in
     let six : tetra < 6 = omega (arith, few) in
     subst (λ (ts : List Triple). All P ts) (sym (triangles_of_tetrahedron inside cell tetra))
-    (All-map P (triple_of cell tetra) ways (λ k d within. triangle_near triangles numbers g e cell tetra (get_or ways k d) v (record { x = x; y = y; z = z }) six (all_out inside cell tetra six k d within) (Contains-get_or ways k d within)))))
+    (All-map P (triple_of cell tetra) ways (λ k d within. triangle_near g e cell tetra (get_or ways k d) v (record { x = x; y = y; z = z }) six (all_out inside cell tetra six k d within) (Contains-get_or ways k d within)))))
 
-pub arcs_are_near : TrianglesHaveVertices → NumbersArePlaces → (g : Grid) (e : EdgeKey) → IsVertex g e → All (Contains (fan_arcs g e)) (flat_map (triangle_arcs g (number g e)) (all_triangles g))
-arcs_are_near triangles numbers g e v =
-    all_of_flat (AreNear g e (number g e)) (Contains (fan_arcs g e)) (triangle_arcs g (number g e)) (λ t h. h) (all_triangles g) (all_near triangles numbers g e v)
+pub arcs_are_near : (g : Grid) (e : EdgeKey) → IsVertex g e → All (Contains (fan_arcs g e)) (flat_map (triangle_arcs g (number g e)) (all_triangles g))
+arcs_are_near g e v =
+    all_of_flat (AreNear g e (number g e)) (Contains (fan_arcs g e)) (triangle_arcs g (number g e)) (λ t h. h) (all_triangles g) (all_near g e v)
 
 -- ---- the numbers near an edge tell vertices apart
 
@@ -328,9 +329,9 @@ from_corners P u a b c p q r = by (a == u) (b == u) (c == u)
     by false false true = All-cons (λ (x : ℕ × ℕ). P x.0) (a, b) [] p (All-nil (λ (x : ℕ × ℕ). P x.0))
     by false false false = All-nil (λ (x : ℕ × ℕ). P x.0)
 
-pub near_vertices : TrianglesHaveVertices → (g : Grid) (e : EdgeKey) → IsFramed g → IsVertex g e → All (λ a. IsNearVertex g e a.0) (near_arcs g e)
+pub near_vertices : (g : Grid) (e : EdgeKey) → IsFramed g → IsVertex g e → All (λ a. IsNearVertex g e a.0) (near_arcs g e)
 unfolding ring_arcs
-near_vertices triangles g e framed v =
+near_vertices g e framed v =
     let inside = is_inside_at g in
     let os = points e.dir in
     let bs = signs_of g e in
@@ -342,7 +343,7 @@ near_vertices triangles g e framed v =
     let same = pattern_is os inside (lower e) m there.back around.near in
     all_of_flat (Contains ways) Q (arcs_in e.dir m) (λ t at_t.
     let t_in : Contains (ways_in (is_negative m.1) (pattern_at inside cell m.1)) t = subst (λ (bs : List Bool). Contains (ways_in (is_negative m.1) bs) t) same at_t in
-    let at = vertices_of triangles g (triple_of cell m.1 t) (in_triangles g cell m.1 t there.cell around.few t_in) in
+    let at = vertices_of g (triple_of cell m.1 t) (in_triangles g cell m.1 t there.cell around.few t_in) in
     from_corners (IsNearVertex g e) (13 + 27 * e.dir) _ _ _ (near_vertex g e m.0 m.1 t.0 there.back at.a) (near_vertex g e m.0 m.1 t.1 there.back at.b) (near_vertex g e m.0 m.1 t.2 there.back at.c))
     ways (All-contains_itself ways))
     (ring e.dir) (all_around e.dir v.direction)

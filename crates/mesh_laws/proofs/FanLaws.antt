@@ -11,15 +11,16 @@ use Rattle.kuhn_cells.specs.declared.edge_key.EdgeKey.{EdgeKey}
 use Rattle.kuhn_cells.specs.Arrangement.{differ}
 use Rattle.kuhn_cells.specs.Faces.{Face, all_triangles, faces}
 use Rattle.kuhn_cells.specs.Grids.{Grid, is_inside_at, lower, upper, vertices}
-use Rattle.kuhn_cells.specs.Laws.{IsBefore, IsDirection, IsVertex, NumbersArePlaces, TrianglesHaveVertices, VerticesAreMixedEdges, VerticesRise}
+use Rattle.kuhn_cells.specs.Laws.{IsBefore, IsDirection, IsVertex}
 use Rattle.kuhn_cells.specs.Triangles.{GridPoint, further}
+use Rattle.kuhn_cells.proofs.FaceLaws.{numbers_are_places}
+use Rattle.kuhn_cells.proofs.OrderLaws.{first_before, rest_in_order, vertices_rise}
+use Rattle.kuhn_cells.proofs.VertexLaws.{head_or_tail, in_map, not_in_none, vertices_are_mixed_edges}
 use Rattle.mesh_laws.specs.Closed.{directed_edges, directed_edges_of, goes, occurrences}
 use Rattle.mesh_laws.specs.Frames.{IsFramed}
 use Rattle.mesh_laws.specs.Laws.{HaveOneCycle}
 use Rattle.mesh_laws.specs.Manifold.{HasFan, arcs, arcs_at, arcs_on, cycle_arcs}
-use Rattle.mesh_laws.proofs.Blocks.{first_before, rest_in_order}
-use Rattle.mesh_laws.proofs.Members.{head_or_tail, in_map, not_in_none}
-use Rattle.mesh_laws.proofs.ClosedLaws.{differ_mapped, edges_differ, none_goes, number, one_vertex}
+use Rattle.mesh_laws.proofs.ClosedLaws.{differ_mapped, edges_differ, goes_itself, none_goes, number, one_vertex}
 use Rattle.mesh_laws.proofs.FanArcs.{IsNearVertex, arc_found, arcs_are, arcs_are_near, ends_are_points, fan_arcs, near_arcs, near_are_arcs, near_vertices, triangle_arcs, value_of}
 use Rattle.mesh_laws.proofs.Fans.{both_by, cell_back, key_near, number_near, own_spot, sign_is, spot, spot_is}
 use Rattle.mesh_laws.proofs.Lists.{Differ, differ_by, distinct}
@@ -49,16 +50,13 @@ occurs (f ∷ fs) v w h =
     by true is some next = let p = and_parts _ _ is in (0, omega arith, rw (eqb-true f.0 v p.0, eqb-true f.1 w p.1) refl)
     by false is some next = Contains-append_right (f ∷ []) fs (v, w) (next (omega (arith, some)))
 
-goes_here : (v w : ℕ) → goes v w (v, w) ≡ true
-goes_here v w = and_from _ _ (eq-eqb v v refl) (eq-eqb w w refl)
-
 pub counted : (fs : List (ℕ × ℕ)) (v w : ℕ) → Contains fs (v, w) → 1 ≤ occurrences fs v w
 counted [] v w h = absurd (not_in_none (v, w) h)
 counted (f ∷ fs) v w h =
     subst (λ (n : ℕ). 1 ≤ n) (sym (sum_by-cons (λ x. cond (goes v w x) 1 0) f fs)) (by (head_or_tail f fs (v, w) h) (λ k. counted fs v w k))
   where
     by : (f ≡ (v, w)) ⊎ Contains fs (v, w) → (Contains fs (v, w) → 1 ≤ occurrences fs v w) → 1 ≤ cond (goes v w f) 1 0 + occurrences fs v w
-    by (inl same) next = let here : goes v w f ≡ true = ap (goes v w) same ∙ goes_here v w in rw here (omega arith)
+    by (inl same) next = let here : goes v w f ≡ true = ap (goes v w) same ∙ goes_itself (v, w) in rw here (omega arith)
     by (inr later) next = let some = next later in omega (arith, some)
 
 same_count : (a b : ℕ) → a ≤ 1 → b ≤ 1 → (1 ≤ a → 1 ≤ b) → (1 ≤ b → 1 ≤ a) → a ≡ b
@@ -105,7 +103,7 @@ cycle_mapped : (f : ℕ → ℕ) (c : List ℕ) → cycle_arcs (map f c) ≡ map
 cycle_mapped f [] = refl
 cycle_mapped f (v ∷ vs) = arcs_mapped f v v vs
 
-unmapped : {A B : Type 0} (P : B → Type 0) (f : A → B) (xs : List A) → All P (map f xs) → All (λ x. P (f x)) xs
+pub unmapped : {A B : Type 0} (P : B → Type 0) (f : A → B) (xs : List A) → All P (map f xs) → All (λ x. P (f x)) xs
 unmapped P f [] h = All-nil (λ x. P (f x))
 unmapped P f (x ∷ xs) h = All-cons (λ x. P (f x)) x xs (All-head P (f x) (map f xs) h) (unmapped P f xs (All-tail P (f x) (map f xs) h))
 
@@ -170,9 +168,9 @@ cycle_at es h =
       only = has_all es (cycle_arcs c) third.1;
     }
 
-fan_of : TrianglesHaveVertices → NumbersArePlaces → (g : Grid) (e : EdgeKey) → IsFramed g → IsVertex g e → HasFan (faces g) (number g e)
+fan_of : (g : Grid) (e : EdgeKey) → IsFramed g → IsVertex g e → HasFan (faces g) (number g e)
 unfolding value_of
-fan_of triangles numbers g e framed v =
+fan_of g e framed v =
     let es = near_arcs g e in
     let c = cycle_of es in
     let is = cycle_at es (fan_at g e v) in
@@ -180,27 +178,27 @@ fan_of triangles numbers g e framed v =
     let u = number g e in
     let cycle = map f c in
     let faced = flat_map (triangle_arcs g u) (all_triangles g) in
-    let near = near_vertices triangles g e framed v in
+    let near = near_vertices g e framed v in
     let Near = IsNearVertex g e in
     let starts : All (λ a. Near a.0) (cycle_arcs c) = All-weaker (Contains es) (λ a. Near a.0) (λ a h. All-contains (λ a. Near a.0) es a near h) (cycle_arcs c) is.only in
     let all_near : All Near c = subst (λ (xs : List ℕ). All Near xs) (cycle_sources c) (All-map Near (λ (a : ℕ × ℕ). a.0) (cycle_arcs c) starts) in
-    let tells : (x y : ℕ) → Near x → Near y → f x ≡ f y → x ≡ y = λ x y p q same. sym p.same ∙ ap (number_near (lower e)) (one_vertex numbers g (key_near (lower e) x) (key_near (lower e) y) p.vertex q.vertex same) ∙ q.same in
+    let tells : (x y : ℕ) → Near x → Near y → f x ≡ f y → x ≡ y = λ x y p q same. sym p.same ∙ ap (number_near (lower e)) (one_vertex g (key_near (lower e) x) (key_near (lower e) y) p.vertex q.vertex same) ∙ q.same in
     let differ = differ_mapped f Near tells c all_near is.differ in
     let arcs_differ = differ_from (λ (a : ℕ × ℕ). a.0) (cycle_arcs cycle) (subst (λ (xs : List ℕ). AllPairs Differ xs) (sym (cycle_sources cycle)) differ) in
     let mapped = cycle_mapped f c in
     let there : All (Contains (cycle_arcs cycle)) (fan_arcs g e) =
     All-map (Contains (cycle_arcs cycle)) (both_by f) es (All-weaker (Contains (cycle_arcs c)) (λ a. Contains (cycle_arcs cycle) (both_by f a)) (λ a h. subst (λ (xs : List (ℕ × ℕ)). Contains xs (both_by f a)) (sym mapped) (in_map (both_by f) (cycle_arcs c) a h)) es is.all) in
     let back : All (Contains faced) (cycle_arcs cycle) =
-    subst (λ (xs : List (ℕ × ℕ)). All (Contains faced) xs) (sym mapped) (All-map (Contains faced) (both_by f) (cycle_arcs c) (All-weaker (Contains es) (λ a. Contains faced (both_by f a)) (λ a h. All-contains (λ a. Contains faced (both_by f a)) es a (near_are_arcs triangles numbers g e framed v) h) (cycle_arcs c) is.only)) in
+    subst (λ (xs : List (ℕ × ℕ)). All (Contains faced) xs) (sym mapped) (All-map (Contains faced) (both_by f) (cycle_arcs c) (All-weaker (Contains es) (λ a. Contains faced (both_by f a)) (λ a h. All-contains (λ a. Contains faced (both_by f a)) es a (near_are_arcs g e framed v) h) (cycle_arcs c) is.only)) in
     record {
       cycle = cycle;
       long = subst (λ (n : ℕ). 3 ≤ n) (sym (length-map c f)) is.long;
       differ = differ;
       exact = λ w x.
-          let once = at_most_once (directed_edges (faces g)) w x (edges_differ triangles numbers g) in
+          let once = at_most_once (directed_edges (faces g)) w x (edges_differ g) in
           let few = fewer (faces g) u w x in
           same_count (occurrences (arcs (faces g) u) w x) (occurrences (cycle_arcs cycle) w x) (omega (arith, once, few)) (at_most_once (cycle_arcs cycle) w x arcs_differ)
-          (λ h. counted (cycle_arcs cycle) w x (All-contains (Contains (cycle_arcs cycle)) (fan_arcs g e) (w, x) there (All-contains (Contains (fan_arcs g e)) faced (w, x) (arcs_are_near triangles numbers g e v) (subst (λ (xs : List (ℕ × ℕ)). Contains xs (w, x)) (arcs_are g u) (occurs (arcs (faces g) u) w x h)))))
+          (λ h. counted (cycle_arcs cycle) w x (All-contains (Contains (cycle_arcs cycle)) (fan_arcs g e) (w, x) there (All-contains (Contains (fan_arcs g e)) faced (w, x) (arcs_are_near g e v) (subst (λ (xs : List (ℕ × ℕ)). Contains xs (w, x)) (arcs_are g u) (occurs (arcs (faces g) u) w x h)))))
           (λ h. counted (arcs (faces g) u) w x (subst (λ (xs : List (ℕ × ℕ)). Contains xs (w, x)) (sym (arcs_are g u)) (All-contains (Contains faced) (cycle_arcs cycle) (w, x) back (occurs (cycle_arcs cycle) w x h))));
     }
 
@@ -212,22 +210,22 @@ not_before_itself e (inr (_, inl h)) = omega (arith, h)
 not_before_itself e (inr (_, inr (_, inl h))) = omega (arith, h)
 not_before_itself e (inr (_, inr (_, inr (_, h)))) = omega (arith, h)
 
-own_place : VerticesRise → NumbersArePlaces → (g : Grid) (u : ℕ) (d : EdgeKey) → u < length (vertices g) → IsVertex g (get_or (vertices g) u d) → number g (get_or (vertices g) u d) ≡ u
-own_place rise numbers g u d few v = by (cases_order (number g (get_or (vertices g) u d)) u)
+own_place : (g : Grid) (u : ℕ) (d : EdgeKey) → u < length (vertices g) → IsVertex g (get_or (vertices g) u d) → number g (get_or (vertices g) u d) ≡ u
+own_place g u d few v = by (cases_order (number g (get_or (vertices g) u d)) u)
   where
     here : (number g (get_or (vertices g) u d) < length (vertices g)) × (get_or (vertices g) (number g (get_or (vertices g) u d)) d ≡ get_or (vertices g) u d)
-    here = numbers g (get_or (vertices g) u d) d v
+    here = numbers_are_places g (get_or (vertices g) u d) d v
 
     by : (number g (get_or (vertices g) u d) ≡ u) ⊎ ((number g (get_or (vertices g) u d) < u) ⊎ (u < number g (get_or (vertices g) u d))) → number g (get_or (vertices g) u d) ≡ u
     by (inl same) = same
     by (inr (inl less)) =
-        absurd (not_before_itself (get_or (vertices g) u d) (subst (λ (x : EdgeKey). IsBefore x (get_or (vertices g) u d)) here.1 (rise g (number g (get_or (vertices g) u d)) u d less few)))
+        absurd (not_before_itself (get_or (vertices g) u d) (subst (λ (x : EdgeKey). IsBefore x (get_or (vertices g) u d)) here.1 (vertices_rise g (number g (get_or (vertices g) u d)) u d less few)))
     by (inr (inr more)) =
-        absurd (not_before_itself (get_or (vertices g) u d) (subst (λ (x : EdgeKey). IsBefore (get_or (vertices g) u d) x) here.1 (rise g u (number g (get_or (vertices g) u d)) d more here.0)))
+        absurd (not_before_itself (get_or (vertices g) u d) (subst (λ (x : EdgeKey). IsBefore (get_or (vertices g) u d) x) here.1 (vertices_rise g u (number g (get_or (vertices g) u d)) d more here.0)))
 
-pub have_one_cycle : TrianglesHaveVertices → NumbersArePlaces → VerticesAreMixedEdges → VerticesRise → HaveOneCycle
-have_one_cycle triangles numbers mixed rise g framed u few =
+pub have_one_cycle : HaveOneCycle
+have_one_cycle g framed u few =
     let d : EdgeKey = record { x = 0; y = 0; z = 0; dir = 0 } in
     let e = get_or (vertices g) u d in
-    let v = (mixed g e).0 (Contains-get_or (vertices g) u d few) in
-    subst (HasFan (faces g)) (own_place rise numbers g u d few v) (fan_of triangles numbers g e framed v)
+    let v = (vertices_are_mixed_edges g e).0 (Contains-get_or (vertices g) u d few) in
+    subst (HasFan (faces g)) (own_place g u d few v) (fan_of g e framed v)

@@ -1,7 +1,4 @@
-pub mod Blocks
-pub mod Checks
 pub mod ClosedLaws
-pub mod CornerLaws
 pub mod Determinants
 mod Examples
 pub mod Facing
@@ -11,7 +8,6 @@ pub mod Fans
 pub mod Lattice
 pub mod Lines
 pub mod Lists
-pub mod Members
 pub mod Neighbours
 pub mod Owners
 pub mod Partners
@@ -20,4 +16,5 @@ pub mod Raws
 pub mod Rings
 pub mod Sides
 pub mod Single
+pub mod Theorems
 pub mod Turns

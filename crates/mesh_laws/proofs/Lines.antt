@@ -11,11 +11,11 @@ use Rattle.std.proofs.lemmas.Int.{ints}
 use Rattle.std.proofs.lemmas.List.{same_from_push}
 use Rattle.std.proofs.lemmas.List.Folds.{list_all-append}
 use Rattle.std.proofs.lemmas.Str.Parse.{digit_from_value}
-use Rattle.fixed_ops.specs.Laws.{NumberTextsAreRead}
 use Rattle.fixed_ops.specs.Numerals.{numeral}
 use Rattle.fixed_ops.specs.NumberTexts.{number_text, size_text, zero_padded}
 use Rattle.fixed_ops.specs.Raw.{IsRaw}
 use Rattle.kuhn_cells.specs.Vectors.{Vector}
+use Rattle.fixed_ops.proofs.TextLaws.{number_text_reads}
 use Rattle.mesh_laws.specs.Places.{place_line}
 
 -- ---- number texts have no space
@@ -79,10 +79,10 @@ up_to_space (x ∷ xs) (u ∷ us) ys vs p q e =
     let rest = up_to_space xs us ys vs (and_parts _ _ p).1 (and_parts _ _ q).1 tail in
     (rw (head, rest.0) refl, rest.1)
 
-text_tells : NumberTextsAreRead → (v w : ℤ) → IsRaw v → IsRaw w → number_text v ≡ number_text w → v ≡ w
-text_tells reads v w h k e =
-    let one = reads v h in
-    let other = reads w k in
+text_tells : (v w : ℤ) → IsRaw v → IsRaw w → number_text v ≡ number_text w → v ≡ w
+text_tells v w h k e =
+    let one = number_text_reads v h in
+    let other = number_text_reads w k in
     let same : numeral (number_text v) ≡ numeral (number_text w) = ap numeral e in
     cc
 
@@ -91,9 +91,9 @@ pub record IsRawPlace (v : Vector) : Type 0 where
   pub y : IsRaw v.y
   pub z : IsRaw v.z
 
-pub line_tells : NumberTextsAreRead → (v w : Vector) → IsRawPlace v → IsRawPlace w → place_line v ≡ place_line w → v ≡ w
-line_tells reads v w p q e =
+pub line_tells : (v w : Vector) → IsRawPlace v → IsRawPlace w → place_line v ≡ place_line w → v ≡ w
+line_tells v w p q e =
     let first = up_to_space (number_text v.x) (number_text w.x) (number_text v.y ++ 32 ∷ (number_text v.z ++ 10 ∷ [])) (number_text w.y ++ 32 ∷ (number_text w.z ++ 10 ∷ [])) (text_has_none v.x p.x) (text_has_none w.x q.x) e in
     let second = up_to_space (number_text v.y) (number_text w.y) (number_text v.z ++ 10 ∷ []) (number_text w.z ++ 10 ∷ []) (text_has_none v.y p.y) (text_has_none w.y q.y) first.1 in
     let third = same_from_push (number_text v.z) (number_text w.z) 10 10 second.1 in
-    rw (text_tells reads v.x w.x p.x q.x first.0, text_tells reads v.y w.y p.y q.y second.0, text_tells reads v.z w.z p.z q.z third.0) refl
+    rw (text_tells v.x w.x p.x q.x first.0, text_tells v.y w.y p.y q.y second.0, text_tells v.z w.z p.z q.z third.0) refl

@@ -1,8 +1,9 @@
 -- Lists that are put together from others, and lists without repetition.
-use Rattle.std.proofs.Common.{◌≡◌, ℕ, Bool, true, List, [], ◌∷◌, ◌++◌, refl, arith, ap, ◌∙◌}
+use Rattle.std.proofs.Common.{◌≡◌, ℕ, Bool, true, List, [], ◌∷◌, ◌++◌, refl, arith, ap, sym, ◌∙◌}
 use Rattle.std.specs.Prelude.{◌==◌, ◌&&◌, not, map, flat_map, All, AllPairs}
 use Rattle.std.specs.List.{list_all}
 use Rattle.std.proofs.lemmas.Bool.{and_parts, both_ways, eq-eqb, not-true}
+use Rattle.std.proofs.lemmas.List.{map-append}
 use Rattle.std.proofs.lemmas.List.Concat.{flat_map-append}
 use Rattle.std.proofs.lemmas.List.Elements.{All-append, All-cons, All-nil, All-head, All-tail}
 use Rattle.std.proofs.lemmas.List.Kept.{AllPairs-cons}
@@ -17,17 +18,9 @@ pub flat_same : {X Y : Type 0} (f g : X → List Y) → ((x : X) → f x ≡ g x
 flat_same f g same [] = refl
 flat_same f g same (x ∷ xs) = rw (same x, flat_same f g same xs) refl
 
-map_append : {X Y : Type 0} (h : X → Y) (xs ys : List X) → map h xs ++ map h ys ≡ map h (xs ++ ys)
-map_append h [] ys = refl
-map_append h (x ∷ xs) ys = ap (λ zs. h x ∷ zs) (map_append h xs ys)
-
 pub flat_of_maps : {X Y Z : Type 0} (h : Y → Z) (g : X → List Y) (xs : List X) → flat_map (λ x. map h (g x)) xs ≡ map h (flat_map g xs)
 flat_of_maps h g [] = refl
-flat_of_maps h g (x ∷ xs) = ap (λ ys. map h (g x) ++ ys) (flat_of_maps h g xs) ∙ map_append h (g x) (flat_map g xs)
-
-pub flat_after_map : {X Y Z : Type 0} (f : Y → List Z) (h : X → Y) (xs : List X) → flat_map f (map h xs) ≡ flat_map (λ x. f (h x)) xs
-flat_after_map f h [] = refl
-flat_after_map f h (x ∷ xs) = ap (λ ys. f (h x) ++ ys) (flat_after_map f h xs)
+flat_of_maps h g (x ∷ xs) = ap (λ ys. map h (g x) ++ ys) (flat_of_maps h g xs) ∙ sym (map-append h (g x) (flat_map g xs))
 
 pub all_of_flat : {X Y : Type 0} (P : X → Type 0) (Q : Y → Type 0) (f : X → List Y) → ((x : X) → P x → All Q (f x)) → (xs : List X) → All P xs → All Q (flat_map f xs)
 all_of_flat P Q f each [] h = All-nil Q

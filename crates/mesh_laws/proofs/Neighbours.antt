@@ -6,7 +6,7 @@ use Rattle.std.specs.List.{list_all, list_any}
 use Rattle.std.proofs.lemmas.Bool.{agree_below}
 use Rattle.kuhn_cells.specs.Arrangement.{arranged}
 use Rattle.kuhn_cells.specs.Corners.{along_x, along_y, along_z, corner, is_negative}
-use Rattle.mesh_laws.proofs.Checks.{both, every}
+use Rattle.kuhn_cells.proofs.Checks.{both, every}
 use Rattle.mesh_laws.proofs.Owners.{direction, low}
 use Rattle.mesh_laws.proofs.Turns.{Way, turns_in, way, ways_in}
 

@@ -10,8 +10,8 @@ use Rattle.kuhn_cells.specs.Arrangement.{arranged}
 use Rattle.kuhn_cells.specs.Corners.{along_x, along_y, along_z, corner, is_negative}
 use Rattle.kuhn_cells.specs.Grids.{lower}
 use Rattle.kuhn_cells.specs.Triangles.{GridPoint, further}
-use Rattle.mesh_laws.proofs.Checks.{every, every_at}
-use Rattle.mesh_laws.proofs.CornerLaws.{pattern_at as pattern_is}
+use Rattle.kuhn_cells.proofs.Checks.{every, every_at}
+use Rattle.kuhn_cells.proofs.EdgeLaws.{pattern_at as pattern_is}
 use Rattle.mesh_laws.proofs.Lists.{Differ, differ_by, distinct, same_numbers}
 use Rattle.mesh_laws.proofs.Turns.{Way, keys_of, pattern_at, turns_at, turns_in, ways_in}
 

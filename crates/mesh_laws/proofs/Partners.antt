@@ -11,11 +11,11 @@ use Rattle.kuhn_cells.specs.declared.edge_key.EdgeKey.{EdgeKey}
 use Rattle.kuhn_cells.specs.Corners.{along_x, along_y, along_z, corner, is_negative}
 use Rattle.kuhn_cells.specs.Grids.{Grid, is_inside_at, is_point, lower}
 use Rattle.kuhn_cells.specs.Triangles.{GridPoint, further}
+use Rattle.kuhn_cells.proofs.Checks.{both, both_at, every, every_at}
+use Rattle.kuhn_cells.proofs.EdgeLaws.{pattern_at as pattern_is}
+use Rattle.kuhn_cells.proofs.FaceLaws.{all_in_block, all_within}
+use Rattle.kuhn_cells.proofs.VertexLaws.{in_block, in_flat, in_map, in_range}
 use Rattle.mesh_laws.specs.Frames.{IsFramed, IsOuter}
-use Rattle.mesh_laws.proofs.Blocks.{all_in_block, all_within}
-use Rattle.mesh_laws.proofs.Checks.{both, both_at, every, every_at}
-use Rattle.mesh_laws.proofs.CornerLaws.{pattern_at as pattern_is}
-use Rattle.mesh_laws.proofs.Members.{in_block, in_flat, in_map, in_range}
 use Rattle.mesh_laws.proofs.Neighbours.{ahead, always_beyond, always_met, are_met, back, beyond, fits, has, has_turn, is_beyond, is_met, missing, missing_of, moved, opposite, pattern_beyond, same_flag, same_way, sign_beyond, touches, turn_beyond, way_beyond, yes}
 use Rattle.mesh_laws.proofs.Owners.{IsPlaced, all_placed}
 use Rattle.mesh_laws.proofs.Turns.{Way, all_turns, cell_turns, key_of, keys_of, pattern_at, turns_at, turns_in, way}

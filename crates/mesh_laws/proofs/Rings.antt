@@ -5,8 +5,8 @@ use Rattle.std.specs.List.{list_all, list_any, position_or_len, range_with_len}
 use Rattle.std.proofs.lemmas.Bool.{agree_below}
 use Rattle.kuhn_cells.specs.Arrangement.{arranged, differ, positions}
 use Rattle.kuhn_cells.specs.Corners.{along_x, along_y, along_z, corner, is_negative}
+use Rattle.kuhn_cells.proofs.Checks.{both, both_at}
 use Rattle.mesh_laws.specs.Manifold.{arcs_at, cycle_arcs}
-use Rattle.mesh_laws.proofs.Checks.{both, both_at}
 use Rattle.mesh_laws.proofs.Lists.{distinct}
 use Rattle.mesh_laws.proofs.Owners.{direction, found, low}
 use Rattle.mesh_laws.proofs.Turns.{Way, way, ways_in}

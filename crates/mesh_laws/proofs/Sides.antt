@@ -10,8 +10,8 @@ use Rattle.kuhn_cells.specs.Corners.{along_x, along_y, along_z, corner, is_negat
 use Rattle.kuhn_cells.specs.declared.edge_key.EdgeKey.{EdgeKey}
 use Rattle.kuhn_cells.specs.Grids.{lower, upper}
 use Rattle.kuhn_cells.specs.Triangles.{GridPoint, further, point}
-use Rattle.mesh_laws.proofs.Checks.{both, both_at, every, every_at}
-use Rattle.mesh_laws.proofs.CornerLaws.{pattern_at as pattern_is, step_on}
+use Rattle.kuhn_cells.proofs.Checks.{both, both_at, every, every_at}
+use Rattle.kuhn_cells.proofs.EdgeLaws.{pattern_at as pattern_is, step_on}
 use Rattle.mesh_laws.proofs.Determinants.{Arrow, IsLow, added, arrow, either, minus, plus, taken}
 use Rattle.mesh_laws.proofs.Owners.{direction, low}
 use Rattle.mesh_laws.proofs.Turns.{Way, key_of, pattern_at, ways_in}

@@ -2,6 +2,7 @@
 use Rattle.std.proofs.Common.{◌≡◌, ℕ, Bool, true, false, List, [], ◌∷◌, refl, arith, ap, ◌∙◌}
 use Rattle.std.specs.Prelude.{◌==◌, min, max, map, flat_map, get_or, if◌then◌else◌}
 use Rattle.std.specs.List.{range_with_len}
+use Rattle.std.proofs.lemmas.List.Folds.{flat_map-map}
 use Rattle.kuhn_cells.specs.declared.edge_key.EdgeKey.{EdgeKey}
 use Rattle.kuhn_cells.specs.declared.triple.Triple.{Triple}
 use Rattle.kuhn_cells.specs.Arrangement.{arranged, inside_count, pattern_of}
@@ -9,8 +10,8 @@ use Rattle.kuhn_cells.specs.Corners.{corner, is_negative}
 use Rattle.kuhn_cells.specs.Faces.{all_triangles, cell_triangles}
 use Rattle.kuhn_cells.specs.Grids.{Grid, is_inside_at, over_block}
 use Rattle.kuhn_cells.specs.Triangles.{GridPoint, edge_between, further, point, triangles_among, triangles_in}
-use Rattle.mesh_laws.proofs.CornerLaws.{corner_at}
-use Rattle.mesh_laws.proofs.Lists.{flat_after_map, flat_in_flat, flat_of_maps, flat_same}
+use Rattle.kuhn_cells.proofs.EdgeLaws.{corner_at}
+use Rattle.mesh_laws.proofs.Lists.{flat_in_flat, flat_of_maps, flat_same}
 
 -- the pairs in which three things follow each other, round and round
 abbrev pub round : {A : Type 0} → A → A → A → List (A × A)
@@ -113,7 +114,7 @@ pub turns_of_tetrahedron : (inside : GridPoint → Bool) (cell : GridPoint) (tet
 turns_of_tetrahedron inside cell tetra =
     let ways = ways_in (is_negative tetra) (pattern_at inside cell tetra) in
     ap (flat_map turns_of) (triangles_of_tetrahedron inside cell tetra)
-    ∙ flat_after_map turns_of (triple_of cell tetra) ways
+    ∙ flat_map-map turns_of (triple_of cell tetra) ways
     ∙ flat_of_maps (keys_of cell tetra) (λ t. round t.0 t.1 t.2) ways
 
 pub turns_of_cell : (inside : GridPoint → Bool) (cell : GridPoint) → flat_map turns_of (cell_triangles inside cell) ≡ cell_turns inside cell

@@ -11,7 +11,7 @@ use crate::clauses::push_disc;
 use crate::disc::Disc;
 use crate::stream::Stream;
 use fixed_ops::{Fx, Op};
-use solid_model::{Model, ModelBuilder, PushFault, edits_give_models};
+use solid_model::{Model, ModelBuilder, PushFault};
 use std::alloc::{AllocError, Global};
 
 /// The model of so many discs, each drawn from the stream of numbers of a seed: its centre lies
@@ -27,7 +27,6 @@ pub fn forge_model(alloc: Global, seed: u64, solids: u32) -> Result<Model, Alloc
     let mut builder = ModelBuilder::new(alloc);
     push_axes(&mut builder)?;
     push_discs(&mut builder, seed, solids)?;
-    edits_give_models();
     match builder.finish() {
         Some(model) => Ok(model),
         None => unreachable!(),

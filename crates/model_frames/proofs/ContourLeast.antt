@@ -1,5 +1,5 @@
 -- The least work of a contour is no more than its most.
-use Rattle.std.proofs.Common.{ℕ, ◌≤◌, List, [], ◌∷◌, length, if◌then◌else◌, arith}
+use Rattle.std.proofs.Common.{◌≤◌, List, [], ◌∷◌, length, if◌then◌else◌, arith}
 use Rattle.std.specs.Prelude.{◌&&◌}
 use Rattle.std.proofs.lemmas.List.Sums.{sum_by-le-sum_by}
 use Rattle.box_chains.specs.Chains.{is_long}

@@ -1,4 +1,4 @@
-mod Closed
+pub mod Closed
 mod ContourExamples
 mod ContourLeast
 mod ContourWork
@@ -10,6 +10,6 @@ mod GridWork
 mod LeastWork
 mod MeshLaws
 mod MeshesAfter
-mod SoundTexts
+pub mod SoundTexts
 mod Shades
 pub mod WorkLaws

@@ -13,7 +13,7 @@ use Rattle.kuhn_cells.specs.declared.triple.Triple.{Triple}
 use Rattle.kuhn_cells.specs.Arrangement.{arrangement, inside_count, pattern_of}
 use Rattle.kuhn_cells.specs.Faces.{all_triangles, cell_triangles, face_among, faces}
 use Rattle.kuhn_cells.specs.Grids.{Grid, edges, is_inside_at, is_mixed, is_point, lower, over_block, upper, value_at, vertices}
-use Rattle.kuhn_cells.specs.Laws.{IsVertex, VerticesAreMixedEdges}
+use Rattle.kuhn_cells.specs.Laws.{IsVertex}
 use Rattle.kuhn_cells.specs.Triangles.{GridPoint, edge_between, edge_from, further, point, triangles_by, triangles_in}
 use Rattle.live_clauses.specs.Steps.{tape_value}
 use Rattle.live_clauses.specs.declared.step.Step.{Step}
@@ -27,6 +27,7 @@ use Rattle.tetra_mesh.specs.Places.{IsPlaced}
 use Rattle.view_places.specs.Window.{IsWindow, Window}
 use Rattle.model_frames.specs.Meshes.{grid_of, mesh_text}
 use Rattle.model_frames.proofs.GridLaws.{flat_length}
+use Rattle.kuhn_cells.proofs.VertexLaws.{vertices_are_mixed_edges}
 
 -- ---- counts
 
@@ -140,11 +141,11 @@ placed view g e sx sy sz v =
     }
 
 -- each vertex of the mesh of a view's grid lies in that grid
-pub all_placed : (view : Window) (g : Grid) → VerticesAreMixedEdges → g.x ≡ view.nx → g.y ≡ view.ny → g.z ≡ view.nz → All (IsPlaced view) (mesh_of g).vertices
-all_placed view g law sx sy sz =
+pub all_placed : (view : Window) (g : Grid) → g.x ≡ view.nx → g.y ≡ view.ny → g.z ≡ view.nz → All (IsPlaced view) (mesh_of g).vertices
+all_placed view g sx sy sz =
     All-map (IsPlaced view) (vertex_of g) (vertices g) (λ k d within.
     let e = get_or (vertices g) k d in
-    placed view g e sx sy sz ((law g e).0 (k, within, get_or_default (vertices g) k e d within)))
+    placed view g e sx sy sz ((vertices_are_mixed_edges g e).0 (k, within, get_or_default (vertices g) k e d within)))
 
 -- ---- solids
 
@@ -172,9 +173,9 @@ unfolding mesh_text
 solid_text view clauses = refl
 
 -- the mesh of a view's grid may be written
-pub solid_placed : (view : Window) (value : Point → ℤ) → VerticesAreMixedEdges → All (IsPlaced view) (mesh_of (grid_of view value)).vertices
+pub solid_placed : (view : Window) (value : Point → ℤ) → All (IsPlaced view) (mesh_of (grid_of view value)).vertices
 unfolding grid_of
-solid_placed view value law = all_placed view (grid_of view value) law refl refl refl
+solid_placed view value = all_placed view (grid_of view value) refl refl refl
 
 pub solid_vertices : (view : Window) (value : Point → ℤ) → IsWindow view → length (mesh_of (grid_of view value)).vertices < 2 ^ 31
 unfolding grid_of

@@ -10,12 +10,13 @@ use Rattle.tetra_mesh.specs.declared.vertex.Vertex.{Vertex}
 use Rattle.tetra_mesh.specs.Cuts.{mesh_of}
 use Rattle.tetra_mesh.specs.Places.{vertex_place}
 use Rattle.tetra_mesh.specs.Sound.{raw_of}
-use Rattle.tetra_mesh.specs.SoundLaws.{GridMeshesAreSound, GridMeshesLieApart, IsGridOf}
+use Rattle.tetra_mesh.specs.SoundLaws.{IsGridOf}
 use Rattle.view_places.specs.declared.lattice.Axis.TheVariants.{X, Y, Z}
 use Rattle.view_places.specs.Window.{Window}
 use Rattle.model_frames.specs.Meshes.{grid_of, mesh_text}
 use Rattle.model_frames.specs.SoundTexts.{MeshTextsAreSound}
 use Rattle.model_frames.proofs.GridLaws.{grid_bordered}
+use Rattle.tetra_mesh.proofs.SoundLaws.{grid_meshes_are_sound, grid_meshes_lie_apart}
 
 -- the line of a vertex is that of its raw place
 parts_joined : (a s b t c e : List ℕ) → ((((a ++ s) ++ b) ++ t) ++ c) ++ e ≡ a ++ (s ++ (b ++ (t ++ (c ++ e))))
@@ -30,12 +31,12 @@ lines_apart : (view : Window) (vs : List Vertex) → AllPairs (λ u v. place_lin
 lines_apart view vs apart i j d less within same =
     apart i j d less within (sym (line_same view (get_or vs i d)) ∙ same ∙ line_same view (get_or vs j d))
 
-pub texts_are_sound : GridMeshesAreSound → GridMeshesLieApart → MeshTextsAreSound
+pub texts_are_sound : MeshTextsAreSound
 unfolding grid_of mesh_text
-texts_are_sound sound apart view clauses window fits =
+texts_are_sound view clauses window fits =
     let value : Point → ℤ = λ p. solid_value p clauses in
     let g = grid_of view value in
     let border = grid_bordered view value in
     let of_view : IsGridOf view g = record { x = refl; y = refl; z = refl } in
-    let lie = apart view g window fits of_view border in
-    record { mesh = mesh_of g; «is» = refl; text_is = refl; sound = sound g border; places = lie.raw; lines = lines_apart view (mesh_of g).vertices lie.lines }
+    let lie = grid_meshes_lie_apart view g window fits of_view border in
+    record { mesh = mesh_of g; «is» = refl; text_is = refl; sound = grid_meshes_are_sound g border; places = lie.raw; lines = lines_apart view (mesh_of g).vertices lie.lines }

@@ -1,9 +1,9 @@
 -- How work that is done, work that may have stopped and no work go together.
 use Rattle.std.proofs.Common.{◌≡◌, ℕ, ◌+◌, ◌^◌, ◌<◌, ◌≤◌, ap, ◌∙◌, arith}
 use Rattle.fixed_ops.specs.Counts.{Counts, IsAtMost, RisesBy, no_counts, plus, risen}
-use Rattle.fixed_ops.specs.Laws.{TalliesAddUp}
 use Rattle.model_frames.specs.Laws.{FramesAddUp}
 use Rattle.model_frames.specs.Work.{CountsWithin, CountsWork, FitsCounts, PointsRiseAtMost, Work, both, exactly, no_work}
+use Rattle.fixed_ops.proofs.CountLaws.{tallies_add_up_is}
 
 -- counts that are at most greater ones
 at_most-trans : (a b c : Counts) → IsAtMost a b → IsAtMost b c → IsAtMost a c
@@ -15,18 +15,18 @@ at_most-plus a b c d p q =
     record { points = omega arith; spans = omega arith; corners = omega arith }
 
 -- no work is exactly none, and within any
-work-none : TalliesAddUp → (counts : Counts) → CountsWork counts counts no_work
+work-none : (counts : Counts) → CountsWork counts counts no_work
 unfolding CountsWork
-work-none tallies counts = record {
+work-none counts = record {
   by = no_counts;
   enough = record { points = omega arith; spans = omega arith; corners = omega arith };
   within = record { points = omega arith; spans = omega arith; corners = omega arith };
-  rises = tallies.none counts;
+  rises = tallies_add_up_is.none counts;
 }
 
-pub within-none : TalliesAddUp → (counts : Counts) (work : Work) → CountsWithin counts counts work
+pub within-none : (counts : Counts) (work : Work) → CountsWithin counts counts work
 unfolding CountsWithin
-within-none tallies counts work = tallies.most_none counts work.bound
+within-none counts work = tallies_add_up_is.most_none counts work.bound
 
 plain-none : (counts : Counts) (most : ℕ) → PointsRiseAtMost counts counts most
 plain-none counts most = record {
@@ -46,25 +46,25 @@ within-done before after work less h = record {
 }
 
 -- work after work
-done-then : TalliesAddUp → (before mid after : Counts) (a b : Work) → CountsWork before mid a → CountsWork mid after b → CountsWork before after (both a b)
+done-then : (before mid after : Counts) (a b : Work) → CountsWork before mid a → CountsWork mid after b → CountsWork before after (both a b)
 unfolding CountsWork
-done-then tallies before mid after a b first next = record {
+done-then before mid after a b first next = record {
   by = plus first.by next.by;
   enough = at_most-plus a.least b.least first.by next.by first.enough next.enough;
   within = at_most-plus first.by next.by a.most b.most first.within next.within;
-  rises = tallies.sum before mid after first.by next.by first.rises next.rises;
+  rises = tallies_add_up_is.sum before mid after first.by next.by first.rises next.rises;
 }
 
-within-then : TalliesAddUp → (before mid after : Counts) (a b : Work) → CountsWithin before mid a → CountsWithin mid after b → CountsWithin before after (both a b)
+within-then : (before mid after : Counts) (a b : Work) → CountsWithin before mid a → CountsWithin mid after b → CountsWithin before after (both a b)
 unfolding CountsWithin
-within-then tallies before mid after a b first next =
-    tallies.most_sum before mid after a.bound b.bound first next
+within-then before mid after a b first next =
+    tallies_add_up_is.most_sum before mid after a.bound b.bound first next
 
 -- what is within a bound is within more
-within-more : TalliesAddUp → (before after : Counts) (a b : Work) → CountsWithin before after a → CountsWithin before after (both a b)
+within-more : (before after : Counts) (a b : Work) → CountsWithin before after a → CountsWithin before after (both a b)
 unfolding CountsWithin
-within-more tallies before after a b few =
-    tallies.most_more before after a.bound (plus a.bound b.bound) few
+within-more before after a b few =
+    tallies_add_up_is.most_more before after a.bound (plus a.bound b.bound) few
     (record { points = omega arith; spans = omega arith; corners = omega arith })
 
 -- evaluations after evaluations
@@ -80,21 +80,21 @@ plain-more before after m n rise =
     record { by = rise.by; few = omega (arith, rise.few); rises = rise.rises }
 
 -- what another tally has counted from nothing
-done-joined : TalliesAddUp → (before after counts : Counts) (work : Work) → CountsWork no_counts counts work → RisesBy before after counts → CountsWork before after work
+done-joined : (before after counts : Counts) (work : Work) → CountsWork no_counts counts work → RisesBy before after counts → CountsWork before after work
 unfolding CountsWork
-done-joined tallies before after counts work h joined = record {
+done-joined before after counts work h joined = record {
   by = h.by;
   enough = h.enough;
   within = h.within;
-  rises = tallies.joined before after counts h.by h.rises joined;
+  rises = tallies_add_up_is.joined before after counts h.by h.rises joined;
 }
 
-within-joined : TalliesAddUp → (before after counts : Counts) (work : Work) → CountsWithin no_counts counts work → RisesBy before after counts → CountsWithin before after work
+within-joined : (before after counts : Counts) (work : Work) → CountsWithin no_counts counts work → RisesBy before after counts → CountsWithin before after work
 unfolding CountsWithin
-within-joined tallies before after counts work h joined = record {
+within-joined before after counts work h joined = record {
   by = h.by;
   within = h.within;
-  rises = tallies.joined before after counts h.by h.rises joined;
+  rises = tallies_add_up_is.joined before after counts h.by h.rises joined;
 }
 
 -- a count that takes in one that rose from nothing
@@ -122,19 +122,19 @@ told-exactly counts points spans plain fits h = (
 )
 
 -- so the work of frames adds up
-pub frames_add_up_is : TalliesAddUp → FramesAddUp
-frames_add_up_is tallies = record {
-  none = work-none tallies;
-  within_none = within-none tallies;
+pub frames_add_up_is : FramesAddUp
+frames_add_up_is = record {
+  none = work-none;
+  within_none = within-none;
   plain_none = plain-none;
   within = within-done;
-  within_more = within-more tallies;
+  within_more = within-more;
   plain_more = plain-more;
-  sum = done-then tallies;
-  within_sum = within-then tallies;
+  sum = done-then;
+  within_sum = within-then;
   plain_sum = plain-then;
-  joined = done-joined tallies;
-  within_joined = within-joined tallies;
+  joined = done-joined;
+  within_joined = within-joined;
   plain_joined = plain-joined;
   told = told-exactly;
 }

@@ -49,7 +49,6 @@ impl Frame {
         ensures plain { PointsRiseAtMost tally.old tally.new
             (frame_part self.now model.now).work.plain }
     {
-        frames_add_up();
         match self {
             Frame::Render(view) => Ok(Drawn::Image(draw_image(alloc, model, view, tally)?)),
             Frame::Height(view) => Ok(Drawn::Bytes(height_text(alloc, model, view, tally)?)),

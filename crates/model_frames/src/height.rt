@@ -5,7 +5,7 @@ ghost use Rattle.model_frames.specs.Heights.{heights_of, plain_depths, tops_of};
 ghost use Rattle.model_frames.specs.Work.{CountsWithin, CountsWork, PointsRiseAtMost, height_work};
 
 use crate::render::window_holds;
-use fixed_ops::{Tally, tallies_add_up};
+use fixed_ops::Tally;
 use height_map::{TopMap, height_work_is_bounded, heights};
 use live_clauses::root_tape;
 use raster_pgm::samples_text;
@@ -55,7 +55,6 @@ fn top_map(
     ensures plain { PointsRiseAtMost tally.old tally.new
         (plain_depths view.now (length model.now)) }
 {
-    tallies_add_up();
     height_work_is_bounded();
     window_holds(view);
     let list = root_tape(alloc, model)?;

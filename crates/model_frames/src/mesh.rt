@@ -15,13 +15,13 @@ ghost use Rattle.model_frames.specs.SoundTexts.{MeshTextsAreSound};
 ghost use Rattle.model_frames.specs.Work.{CountsWithin, CountsWork, PointsRiseAtMost, mesh_work};
 
 use crate::render::window_holds;
-use fixed_ops::{Tally, tallies_add_up};
-use kuhn_cells::{CellList, vertices_are_mixed_edges};
+use fixed_ops::Tally;
+use kuhn_cells::CellList;
 use live_clauses::{Tape, root_tape};
 use oct_descent::{CellGrid, cell_grid, cell_list, grid_work_is_bounded};
 use solid_model::Model;
 use std::alloc::{AllocError, Global};
-use tetra_mesh::{Mesh, build_from, meshes_are_sound};
+use tetra_mesh::{Mesh, build_from};
 use view_places::View;
 
 // The grid of a model's root list over a view, the text of whose mesh is the model's. The work of the
@@ -40,7 +40,6 @@ pub(crate) fn solid_grid(
     ensures at_most { CountsWithin tally.old tally.new (mesh_work view.now model.now) }
     ensures plain { PointsRiseAtMost tally.old tally.new (plain_grid view.now (length model.now)) }
 {
-    tallies_add_up();
     grid_work_is_bounded();
     window_holds(view);
     let list = root_tape(alloc, model)?;
@@ -69,9 +68,7 @@ pub fn solid_mesh(
     ensures at_most { CountsWithin tally.old tally.new (mesh_work view.now model.now) }
     ensures plain { PointsRiseAtMost tally.old tally.new (plain_grid view.now (length model.now)) }
 {
-    tallies_add_up();
     grid_work_is_bounded();
-    vertices_are_mixed_edges();
     window_holds(view);
     let list = root_tape(alloc, model)?;
     let cells = mixed_cells(alloc, &list, view, tally)?;
@@ -105,6 +102,4 @@ fn mixed_cells(
 /// made.
 pub fn mesh_texts_are_sound()
     ensures { MeshTextsAreSound }
-{
-    meshes_are_sound();
-}
+{}

@@ -7,11 +7,10 @@ ghost use Rattle.model_frames.specs.Contours.{contour_text, contour_work, plain_
 
 use crate::laws::frames_add_up;
 use crate::render::window_holds;
-use contour_lines::{borders_are_outside, contour, contour_work_is_bounded};
+use contour_lines::{contour, contour_work_is_bounded};
 use fixed_ops::Tally;
 use live_clauses::root_tape;
-use path_writer::{contours_have_paths, path_text};
-use plane_loops::one_contour;
+use path_writer::path_text;
 use solid_model::Model;
 use std::alloc::{AllocError, Global};
 use view_places::View;
@@ -34,11 +33,7 @@ pub fn contour_paths(
     ensures plain { PointsRiseAtMost tally.old tally.new
         (plain_contour view.now (length model.now)) }
 {
-    frames_add_up();
-    borders_are_outside();
     contour_work_is_bounded();
-    one_contour();
-    contours_have_paths();
     window_holds(view);
     let list = root_tape(alloc, model)?;
     let loops = contour(alloc, &list, view, tally)?;

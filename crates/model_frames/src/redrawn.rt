@@ -11,7 +11,7 @@ ghost use Rattle.model_frames.specs.Images.{drawn_text, image_of, list_before, p
 ghost use Rattle.model_frames.specs.Work.{CountsWithin, CountsWork, FitsCounts, PointsRiseAtMost, image_work};
 
 use crate::render::window_holds;
-use fixed_ops::{Tally, tallies_add_up};
+use fixed_ops::Tally;
 use live_clauses::{RootRoom, Tape};
 use quad_descent::{QuadTree, draw, frame_work_is_bounded, fresh_work_is_bounded, redraw};
 use solid_model::Model;
@@ -41,7 +41,6 @@ pub fn redraw_image(
     ensures plain { PointsRiseAtMost tally.old tally.new
         (plain_points view.now (length model.now)) }
 {
-    tallies_add_up();
     fresh_work_is_bounded();
     frame_work_is_bounded();
     window_holds(view);

@@ -10,7 +10,7 @@ ghost use Rattle.model_frames.specs.Work.{CountsWithin, CountsWork, PointsRiseAt
 
 use crate::redrawn::is_same;
 use crate::render::window_holds;
-use fixed_ops::{Tally, tallies_add_up};
+use fixed_ops::Tally;
 use grid_text::{TextRoom, grid_text_in};
 use live_clauses::{RootRoom, Tape};
 use oct_descent::{OctTree, cells, grid_work_is_bounded, meshes_after_add_up, recells};
@@ -42,7 +42,6 @@ pub fn redraw_mesh(
     ensures plain { PointsRiseAtMost tally.old tally.new
         (plain_grid view.now (length model.now)) }
 {
-    tallies_add_up();
     grid_work_is_bounded();
     meshes_after_add_up();
     window_holds(view);

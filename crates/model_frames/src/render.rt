@@ -8,7 +8,7 @@ ghost use Rattle.view_places.specs.Window.{IsWindow};
 ghost use Rattle.model_frames.specs.Images.{drawn_text, image_of, plain_points};
 ghost use Rattle.model_frames.specs.Work.{CountsWithin, CountsWork, FitsCounts, PointsRiseAtMost, frame_work};
 
-use fixed_ops::{Tally, tallies_add_up};
+use fixed_ops::Tally;
 use live_clauses::root_tape;
 use quad_descent::{Picture, draw_picture, fresh_work_is_bounded, image};
 use raster_pgm::pgm_text;
@@ -36,7 +36,6 @@ pub fn draw_image(
     ensures plain { PointsRiseAtMost tally.old tally.new
         (plain_points view.now (length model.now)) }
 {
-    tallies_add_up();
     fresh_work_is_bounded();
     window_holds(view);
     let list = root_tape(alloc, model)?;

@@ -7,9 +7,9 @@ ghost use Rattle.model_frames.specs.Work.{CountsWithin, CountsWork, PointsRiseAt
 
 use crate::laws::frames_add_up;
 use crate::render::window_holds;
-use fixed_ops::{Tally, tallies_add_up};
+use fixed_ops::Tally;
 use height_map::{height_work_is_bounded, heights};
-use live_clauses::{root_tape, values_have_slopes};
+use live_clauses::root_tape;
 use normal_shade::{shade, shade_work_is_bounded};
 use solid_model::Model;
 use std::alloc::{AllocError, Global};
@@ -32,9 +32,6 @@ pub fn shade_pixels(
     ensures plain { PointsRiseAtMost tally.old tally.new
         (plain_shades view.now (length model.now)) }
 {
-    tallies_add_up();
-    frames_add_up();
-    values_have_slopes();
     height_work_is_bounded();
     shade_work_is_bounded();
     window_holds(view);

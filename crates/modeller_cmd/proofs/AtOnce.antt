@@ -7,7 +7,6 @@ use Rattle.clause_reader.specs.declared.text_reason.TextReason.{TextReason}
 use Rattle.clause_reader.specs.declared.text_reason.TextReason.TheVariants as reasons
 use Rattle.fixed_ops.specs.Counts.{Counts}
 use Rattle.model_frames.specs.Frames.{Part}
-use Rattle.model_frames.specs.Laws.{FramesAddUp}
 use Rattle.model_frames.specs.Work.{CountsWithin, CountsWork, PointsRiseAtMost}
 use Rattle.ply_check.specs.Reports.{reported}
 use Rattle.ply_check.specs.declared.ply_fault.PlyFault.{PlyFault}
@@ -37,6 +36,7 @@ use Rattle.modeller_cmd.specs.declared.task.Task.TheVariants as tasks
 use Rattle.modeller_cmd.proofs.Outcomes.{forms_refused, mesh_refused, solid_refused, work_of_one}
 use Rattle.modeller_cmd.proofs.Tasks.{made-by, made_by}
 use Rattle.modeller_cmd.proofs.Writing.{part-counted, part-written, part-halted, halted-before}
+use Rattle.model_frames.proofs.WorkLaws.{frames_add_up_is}
 
 -- bytes that were sent, where they did not all go out
 pub sent-none : {K T : Type 0} (held : K → Option (List ℕ)) (faults : K → ℕ) (out : K) (bytes : List ℕ) (r : Result T Stop)
@@ -81,52 +81,52 @@ module _ {K T : Type 0} (held : K → Option (List ℕ)) (faults : K → ℕ) wh
   }
 
   -- the text of its solid was refused, or memory to read it in
-  pub refused-at-once : (frames : FramesAddUp) (out : K) (counts : Counts) (input : List ℕ) (part : List Clause → Part) (line : ℕ) (reason : TextReason) (r : Result T Stop)
+  pub refused-at-once : (out : K) (counts : Counts) (input : List ℕ) (part : List Clause → Part) (line : ℕ) (reason : TextReason) (r : Result T Stop)
       → length input ≤ input_limit → (reason ≢ reasons.NoMemory → text_read input ≡ Err (record { line = line; reason = reason }))
       → IsErrAnd r (λ stop. stop ≡ stop_of_text (record { line = line; reason = reason })) → ExecutedAtOnce held faults out out counts counts (of_model input part) r
-  refused-at-once frames out counts input part line reason (Ok x) few reads is = absurd is
-  refused-at-once frames out counts input part line reasons.NoMemory (Err stop) few reads is =
+  refused-at-once out counts input part line reason (Ok x) few reads is = absurd is
+  refused-at-once out counts input part line reasons.NoMemory (Err stop) few reads is =
       subst (λ s. ExecutedAtOnce {T = T} held faults out out counts counts (of_model input part) (Err s)) (sym is)
       (unexecuted out counts counts (of_model input part) NoMemory tt tt (λ fault. cc) (λ script. cc) (λ refused. refl)
-      (frames.within_none counts (work_of_parts (output_as (of_model input part)).parts)) (frames.plain_none counts (work_of_parts (output_as (of_model input part)).parts).plain))
-  refused-at-once frames out counts input part line other (Err stop) few reads is =
+      (frames_add_up_is.within_none counts (work_of_parts (output_as (of_model input part)).parts)) (frames_add_up_is.plain_none counts (work_of_parts (output_as (of_model input part)).parts).plain))
+  refused-at-once out counts input part line other (Err stop) few reads is =
       let fault : TextFault = record { line = line; reason = other } in
       subst (λ s. ExecutedAtOnce {T = T} held faults out out counts counts (of_model input part) (Err s)) (sym is)
       (unexecuted out counts counts (of_model input part) (Refused (refusal.Text (bad.Model fault)))
       (solid_refused input input (λ clauses. Ok (part clauses ∷ [])) fault few (reads (λ memory. cc))) tt (λ write. cc) (λ script. cc) (λ refused. refl)
-      (frames.within_none counts (work_of_parts (output_as (of_model input part)).parts)) (frames.plain_none counts (work_of_parts (output_as (of_model input part)).parts).plain))
+      (frames_add_up_is.within_none counts (work_of_parts (output_as (of_model input part)).parts)) (frames_add_up_is.plain_none counts (work_of_parts (output_as (of_model input part)).parts).plain))
 
   -- the text of a solid, written as forms, was refused, or memory to read it in and to write what it means
-  pub forms-refused : (frames : FramesAddUp) (out : K) (counts : Counts) (input : List ℕ) (line : ℕ) (reason : SolidReason) (r : Result T Stop)
+  pub forms-refused : (out : K) (counts : Counts) (input : List ℕ) (line : ℕ) (reason : SolidReason) (r : Result T Stop)
       → length input ≤ input_limit → (reason ≢ forms.NoMemory → translated input ≡ Err (record { line = line; reason = reason }))
       → IsErrAnd r (λ stop. stop ≡ stop_of_forms (record { line = line; reason = reason })) → ExecutedAtOnce held faults out out counts counts (of_forms input) r
-  forms-refused frames out counts input line reason (Ok x) few reads is = absurd is
-  forms-refused frames out counts input line forms.NoMemory (Err stop) few reads is =
+  forms-refused out counts input line reason (Ok x) few reads is = absurd is
+  forms-refused out counts input line forms.NoMemory (Err stop) few reads is =
       subst (λ s. ExecutedAtOnce {T = T} held faults out out counts counts (of_forms input) (Err s)) (sym is)
       (unexecuted out counts counts (of_forms input) NoMemory tt tt (λ fault. cc) (λ script. cc) (λ refused. refl)
-      (frames.within_none counts (work_of_parts (output_as (of_forms input)).parts)) (frames.plain_none counts (work_of_parts (output_as (of_forms input)).parts).plain))
-  forms-refused frames out counts input line other (Err stop) few reads is =
+      (frames_add_up_is.within_none counts (work_of_parts (output_as (of_forms input)).parts)) (frames_add_up_is.plain_none counts (work_of_parts (output_as (of_forms input)).parts).plain))
+  forms-refused out counts input line other (Err stop) few reads is =
       let fault : SolidFault = record { line = line; reason = other } in
       subst (λ s. ExecutedAtOnce {T = T} held faults out out counts counts (of_forms input) (Err s)) (sym is)
       (unexecuted out counts counts (of_forms input) (Refused (refusal.Text (bad.Solid fault)))
       (forms_refused input fault few (reads (λ memory. cc))) tt (λ write. cc) (λ script. cc) (λ refused. refl)
-      (frames.within_none counts (work_of_parts (output_as (of_forms input)).parts)) (frames.plain_none counts (work_of_parts (output_as (of_forms input)).parts).plain))
+      (frames_add_up_is.within_none counts (work_of_parts (output_as (of_forms input)).parts)) (frames_add_up_is.plain_none counts (work_of_parts (output_as (of_forms input)).parts).plain))
 
   -- a mesh was refused, or memory to read it in and to look at its faces
-  pub mesh-refused : (frames : FramesAddUp) (out : K) (counts : Counts) (input : List ℕ) (line : ℕ) (reason : PlyReason) (r : Result T Stop)
+  pub mesh-refused : (out : K) (counts : Counts) (input : List ℕ) (line : ℕ) (reason : PlyReason) (r : Result T Stop)
       → length input ≤ input_limit → (reason ≢ mesh.NoMemory → reported input ≡ Err (record { line = line; reason = reason }))
       → IsErrAnd r (λ stop. stop ≡ stop_of_mesh (record { line = line; reason = reason })) → ExecutedAtOnce held faults out out counts counts (of_mesh input) r
-  mesh-refused frames out counts input line reason (Ok x) few reads is = absurd is
-  mesh-refused frames out counts input line mesh.NoMemory (Err stop) few reads is =
+  mesh-refused out counts input line reason (Ok x) few reads is = absurd is
+  mesh-refused out counts input line mesh.NoMemory (Err stop) few reads is =
       subst (λ s. ExecutedAtOnce {T = T} held faults out out counts counts (of_mesh input) (Err s)) (sym is)
       (unexecuted out counts counts (of_mesh input) NoMemory tt tt (λ fault. cc) (λ script. cc) (λ refused. refl)
-      (frames.within_none counts (work_of_parts (output_as (of_mesh input)).parts)) (frames.plain_none counts (work_of_parts (output_as (of_mesh input)).parts).plain))
-  mesh-refused frames out counts input line other (Err stop) few reads is =
+      (frames_add_up_is.within_none counts (work_of_parts (output_as (of_mesh input)).parts)) (frames_add_up_is.plain_none counts (work_of_parts (output_as (of_mesh input)).parts).plain))
+  mesh-refused out counts input line other (Err stop) few reads is =
       let fault : PlyFault = record { line = line; reason = other } in
       subst (λ s. ExecutedAtOnce {T = T} held faults out out counts counts (of_mesh input) (Err s)) (sym is)
       (unexecuted out counts counts (of_mesh input) (Refused (refusal.Text (bad.Mesh fault)))
       (mesh_refused input fault few (reads (λ memory. cc))) tt (λ write. cc) (λ script. cc) (λ refused. refl)
-      (frames.within_none counts (work_of_parts (output_as (of_mesh input)).parts)) (frames.plain_none counts (work_of_parts (output_as (of_mesh input)).parts).plain))
+      (frames_add_up_is.within_none counts (work_of_parts (output_as (of_mesh input)).parts)) (frames_add_up_is.plain_none counts (work_of_parts (output_as (of_mesh input)).parts).plain))
 
   -- memory was refused while its one part was made
   pub undrawn-at-once : (out : K) (s t : Counts) (outcome : Result (List Part) Refusal) (part : Part) (r : Result T Stop) → outcome ≡ Ok (part ∷ [])

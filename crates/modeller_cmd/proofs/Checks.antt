@@ -3,15 +3,12 @@ use Rattle.std.proofs.Common.{◌≡◌, ℕ, ◌≤◌, Bool, true, false, List
 use Rattle.std.specs.Prelude.{map, nat_lt}
 use Rattle.std.proofs.lemmas.Bool.{ltb-false}
 use Rattle.std.proofs.lemmas.List.{length-map}
-use Rattle.checked_meshes.specs.ModelTexts.{MeshTextsCheck}
 use Rattle.checked_meshes.specs.Readings.{corners_of}
 use Rattle.kuhn_cells.specs.Faces.{Face as Triple, faces}
 use Rattle.kuhn_cells.specs.Grids.{vertices}
-use Rattle.ply_check.specs.ReportLaws.{RefusalsAreReported, VerdictsAreReported}
 use Rattle.ply_check.specs.Reports.{finding_line, reported}
 use Rattle.ply_check.specs.declared.finding.Finding.TheVariants.{Closed}
 use Rattle.ply_check.specs.Corners.{triples}
-use Rattle.ply_check.specs.VerdictLaws.{OneFindingIsRight}
 use Rattle.ply_check.specs.Verdicts.{Verdict}
 use Rattle.model_frames.specs.Meshes.{grid_of}
 use Rattle.ply_check.specs.Answers.{fault_at}
@@ -25,6 +22,9 @@ use Rattle.modeller_cmd.specs.Output.{input_limit, of_mesh, outcome, output_as}
 use Rattle.modeller_cmd.specs.Parts.{bytes_of_parts}
 use Rattle.modeller_cmd.specs.declared.status.Status.TheVariants.{Done}
 use Rattle.modeller_cmd.proofs.Outcomes.{mesh_refused, mesh_reported}
+use Rattle.checked_meshes.proofs.Meshes.{texts_check}
+use Rattle.ply_check.proofs.Theorems.{refusals_are_reported, verdicts_are_reported}
+use Rattle.ply_check.proofs.VerdictLaws.{one_finding_is_right}
 
 outcome_of : (words : List (List ℕ)) (input : List ℕ) → asked words ≡ Ok Check → outcome words input ≡ of_mesh input
 outcome_of words input is = rw is refl
@@ -40,17 +40,17 @@ few_of input done = by (nat_lt input_limit (length input)) refl
 written : (input line : List ℕ) → length input ≤ input_limit → reported input ≡ Ok line → bytes_of_parts (output_as (of_mesh input)).parts ≡ line
 written input line few says = ap (λ o. bytes_of_parts (output_as o).parts) (mesh_reported input line few says) ∙ append-nil line
 
-verdicts_written : VerdictsAreReported → OneFindingIsRight → (words : List (List ℕ)) (input : List ℕ) → VerdictsAreWritten words input
-verdicts_written reports one words input count triangles asks reads done =
+verdicts_written : (words : List (List ℕ)) (input : List ℕ) → VerdictsAreWritten words input
+verdicts_written words input count triangles asks reads done =
     let is = outcome_of words input asks in
-    let found = (one count (triples triangles)).some in
+    let found = (one_finding_is_right count (triples triangles)).some in
     let few = few_of input (ap (λ o. (output_as o).status) (sym is) ∙ done) in
     record {
       finding = found.0;
       right = found.1;
       says =
           ap (λ o. bytes_of_parts (output_as o).parts) is
-          ∙ written input (finding_line found.0 count (length triangles)) few (reports input count triangles found.0 reads found.1);
+          ∙ written input (finding_line found.0 count (length triangles)) few (verdicts_are_reported input count triangles found.0 reads found.1);
     }
 
 -- the faces as they are written say the very faces
@@ -58,16 +58,16 @@ same_triples : (fs : List Triple) → triples (map corners_of fs) ≡ fs
 same_triples [] = refl
 same_triples (f ∷ fs) = ap (λ rest. f ∷ rest) (same_triples fs)
 
-meshes_pass : VerdictsAreReported → MeshTextsCheck → (words : List (List ℕ)) (input : List ℕ) → WrittenMeshesPass words input
-meshes_pass reports texts words input view clauses asks model window fits same few =
+meshes_pass : (words : List (List ℕ)) (input : List ℕ) → WrittenMeshesPass words input
+meshes_pass words input view clauses asks model window fits same few =
     let g = grid_of view (λ p. solid_value p clauses) in
     let is = outcome_of words input asks in
-    let text = texts view clauses model window fits in
+    let text = texts_check view clauses model window fits in
     let reads : PlyReads input (length (vertices g)) (map corners_of (faces g)) =
     subst (λ bytes. PlyReads bytes (length (vertices g)) (map corners_of (faces g))) (sym same) text.says.reads in
     let closed : Verdict (length (vertices g)) (triples (map corners_of (faces g))) Closed =
     subst (λ fs. Verdict (length (vertices g)) fs Closed) (sym (same_triples (faces g))) text.closed in
-    let line = reports input (length (vertices g)) (map corners_of (faces g)) Closed reads closed in
+    let line = verdicts_are_reported input (length (vertices g)) (map corners_of (faces g)) Closed reads closed in
     let all = written input _ few line in
     record {
       done = ap (λ o. (output_as o).status) (is ∙ mesh_reported input _ few line);
@@ -76,14 +76,10 @@ meshes_pass reports texts words input view clauses asks model window fits same f
           ∙ (all ∙ ap (finding_line Closed (length (vertices g))) (length-map (faces g) corners_of));
     }
 
-meshes_refused : RefusalsAreReported → (words : List (List ℕ)) (input : List ℕ) → MeshesAreRefused words input
-meshes_refused refusals words input line reason asks few refuses =
-    let is = outcome_of words input asks ∙ mesh_refused input (fault_at line reason) few (refusals input line reason refuses) in
+meshes_refused : (words : List (List ℕ)) (input : List ℕ) → MeshesAreRefused words input
+meshes_refused words input line reason asks few refuses =
+    let is = outcome_of words input asks ∙ mesh_refused input (fault_at line reason) few (refusals_are_reported input line reason refuses) in
     record { refused = ap (λ o. (output_as o).status) is; note = ap (λ o. (output_as o).note) is }
 
-pub checks-exact : VerdictsAreReported → RefusalsAreReported → OneFindingIsRight → MeshTextsCheck → ChecksAreExact
-checks-exact reports refusals one texts = record {
-  verdicts = verdicts_written reports one;
-  passes = meshes_pass reports texts;
-  refused = meshes_refused refusals;
-}
+pub checks_are_exact : ChecksAreExact
+checks_are_exact = record { verdicts = verdicts_written; passes = meshes_pass; refused = meshes_refused }

@@ -18,6 +18,7 @@ mod ShownModels
 mod Soundness
 mod StopExamples
 mod Tasks
+pub mod Theorems
 mod UndoExamples
 mod Undoing
 mod Waiting

@@ -1,11 +1,10 @@
 -- What an outcome says of the status, the bytes and the work of a run.
-use Rattle.std.proofs.Common.{◌≡◌, ℕ, ◌≤◌, ◌<◌, false, List, [], ◌∷◌, length, nat_lt, Option, Some, None, Result, Ok, Err, IsOk, IfSome, append-nil, refl, sym, ap, subst, ◌∙◌, arith}
+use Rattle.std.proofs.Common.{◌≡◌, ℕ, ◌≤◌, ◌<◌, Bool, false, List, [], ◌∷◌, length, nat_lt, Option, Some, None, Result, Ok, Err, IsOk, IfSome, append-nil, refl, sym, ap, subst, ◌∙◌, arith}
 use Rattle.std.specs.Prelude.{OnSome, true}
 use Rattle.std.specs.Io.KnownBytes.{Consumes}
-use Rattle.std.proofs.lemmas.Bool.{le-ltb, lt-ltb}
+use Rattle.std.proofs.lemmas.Bool.{le-ltb, lt-ltb, ltb-false}
 use Rattle.clause_reader.specs.Reading.{text_read}
 use Rattle.clause_reader.specs.declared.text_fault.TextFault.{TextFault}
-use Rattle.model_frames.specs.Laws.{FramesAddUp}
 use Rattle.fixed_ops.specs.Counts.{Counts}
 use Rattle.modeller_io.specs.Count.{RoseBy}
 use Rattle.modeller_io.specs.Took.{LosesAtMost}
@@ -30,6 +29,19 @@ use Rattle.modeller_cmd.specs.declared.status.Status.TheVariants as status
 use Rattle.modeller_cmd.specs.declared.stop.Stop.{Stop}
 use Rattle.modeller_cmd.specs.declared.stop.Stop.TheVariants as stop
 use Rattle.modeller_cmd.proofs.WorkSums.{both-none}
+use Rattle.model_frames.proofs.WorkLaws.{frames_add_up_is}
+
+-- what is made of the input of a job that the words ask for
+pub outcome_of : (words : List (List ℕ)) (input : List ℕ) (job : Job) → asked words ≡ Ok job → outcome words input ≡ made job input
+outcome_of words input job is = rw is refl
+
+-- an input of which something is made is no longer than is accepted
+pub few_of : (input solid : List ℕ) (makes : List Clause → Result (List Part) Refusal) → (output_as (of_solid input solid makes)).status ≡ status.Done → length input ≤ input_limit
+few_of input solid makes done = by (nat_lt input_limit (length input)) refl
+  where
+    by : (long : Bool) → nat_lt input_limit (length input) ≡ long → length input ≤ input_limit
+    by true is = let refused = rw is at done in absurd (grind (arith, refused))
+    by false is = ltb-false input_limit (length input) is
 
 -- what follows from a fact about what is told
 pub some_follows : {X : Type 0} (told : Option X) (P Q : X → Type 0) → ((x : X) → P x → Q x) → IfSome told P → IfSome told Q
@@ -147,10 +159,10 @@ read_whole rest taken before after most bytes len many few rose all empty = reco
 }
 
 -- a run that does nothing counts no more than some output's work
-pub some-none : (frames : FramesAddUp) (words : List (List ℕ)) (counts : Counts) → CountsForSome words counts counts
-some-none frames words counts = record {
+pub some-none : (words : List (List ℕ)) (counts : Counts) → CountsForSome words counts counts
+some-none words counts = record {
   input = [];
   few = omega arith;
-  work = frames.within_none counts (work_of_parts (output_of words []).parts);
-  plain = frames.plain_none counts (work_of_parts (output_of words []).parts).plain;
+  work = frames_add_up_is.within_none counts (work_of_parts (output_of words []).parts);
+  plain = frames_add_up_is.plain_none counts (work_of_parts (output_of words []).parts).plain;
 }

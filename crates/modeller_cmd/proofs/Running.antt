@@ -2,7 +2,6 @@
 use Rattle.std.proofs.Common.{◌≡◌, ◌≢◌, ◌+◌, ◌<◌, ◌≤◌, ℕ, true, false, List, [], length, inl, inr, Option, Some, Result, Ok, Err, IfSome, refl, sym, ap, subst, ◌∙◌, arith}
 use Rattle.std.specs.Prelude.{IsErr, IsErrAnd}
 use Rattle.fixed_ops.specs.Counts.{Counts}
-use Rattle.model_frames.specs.Laws.{FramesAddUp}
 use Rattle.model_frames.specs.Work.{CountsWithin, CountsWork, PointsRiseAtMost}
 use Rattle.modeller_io.specs.Count.{last_count, RoseAtMost, RoseBy, Stands}
 use Rattle.modeller_io.specs.Held.{Gains, GainsProperPrefix}
@@ -32,6 +31,7 @@ use Rattle.modeller_cmd.proofs.Execution.{as-told, told-input}
 use Rattle.modeller_cmd.proofs.Gaining.{Extends-none, Grew-gains}
 use Rattle.modeller_cmd.proofs.Inputs.{loses_none, stopped, told-by-source, too_long_outcome, words-refused}
 use Rattle.modeller_cmd.proofs.Outcomes.{asked_made, ok_done, some-none, some_all, some_follows}
+use Rattle.model_frames.proofs.WorkLaws.{frames_add_up_is}
 
 -- notes that are a list of bytes take a whole line, and no fault is counted of them
 whole_line : (line : List ℕ) → TakesLine Some (λ (bytes : List ℕ). 0) [] line line
@@ -58,9 +58,9 @@ module _ {S K : Type 0} (rest : S → Option (List ℕ)) (taken read_faults : S 
   told = input_told rest source (asks_nothing words)
 
   -- its words are refused
-  pub words-end : {T : Type 0} (frames : FramesAddUp) (r : Result T Stop) (why : Refusal) → Err why ≡ asked words → IsErrAnd r (λ e. e ≡ stop.Refused why)
+  pub words-end : {T : Type 0} (r : Result T Stop) (why : Refusal) → Err why ≡ asked words → IsErrAnd r (λ e. e ≡ stop.Refused why)
       → IsRun (ended source out first (line_after r) (status_after r))
-  words-end frames r why refused is =
+  words-end r why refused is =
       words-refused words r why refused is (λ r. IsRun (ended source out first (line_after r) (status_after r))) (λ fault asks. record {
         done = λ other. absurd cc;
         refused = λ _. record {
@@ -85,15 +85,15 @@ module _ {S K : Type 0} (rest : S → Option (List ℕ)) (taken read_faults : S 
           unasked = λ _. refl;
           lost = loses_none rest taken source 8388609 (omega arith);
           notes = unfailed (refusal_line (refusal.Words fault));
-          at_most = some_all told _ (λ input. frames.within_none first (work_of_parts (output_of words input).parts));
-          plain = some_all told _ (λ input. frames.plain_none first (work_of_parts (output_of words input).parts).plain);
+          at_most = some_all told _ (λ input. frames_add_up_is.within_none first (work_of_parts (output_of words input).parts));
+          plain = some_all told _ (λ input. frames_add_up_is.plain_none first (work_of_parts (output_of words input).parts).plain);
           grew = Grew-gains held out out [] (Extends-none (held out));
-          some = some-none frames words first;
+          some = some-none words first;
         };
       })
 
   -- its source is not read to the end
-  module _ (frames : FramesAddUp) (after : S) (job : Job) (why : ReadEnd) (asks : Ok job ≡ asked words) (same : reads_nothing job ≡ asks_nothing words) (reads : reads_nothing job ≡ false)
+  module _ (after : S) (job : Job) (why : ReadEnd) (asks : Ok job ≡ asked words) (same : reads_nothing job ≡ asks_nothing words) (reads : reads_nothing job ≡ false)
       (failed : why ≡ end.Failed → RoseBy read_faults source after 1) (no_fault : why ≢ end.Failed → Stands read_faults source after)
       (too_long : why ≡ end.TooLong → IfSome (rest source) (λ bytes. input_limit < length bytes)) (took : why ≡ end.TooLong → RoseBy taken source after 8388609)
       (too_long_there : taken after ≡ taken source + 8388609 → taken after < last_count → why ≡ end.TooLong) (lost : LosesAtMost rest taken source after 8388609) where
@@ -107,10 +107,10 @@ module _ {S K : Type 0} (rest : S → Option (List ℕ)) (taken read_faults : S 
       unasked = λ nothing. let no : false ≡ true = sym reads ∙ same ∙ nothing in absurd cc;
       lost = lost;
       notes = unfailed line;
-      at_most = some_all told _ (λ input. frames.within_none first (work_of_parts (output_of words input).parts));
-      plain = some_all told _ (λ input. frames.plain_none first (work_of_parts (output_of words input).parts).plain);
+      at_most = some_all told _ (λ input. frames_add_up_is.within_none first (work_of_parts (output_of words input).parts));
+      plain = some_all told _ (λ input. frames_add_up_is.plain_none first (work_of_parts (output_of words input).parts).plain);
       grew = Grew-gains held out out [] (Extends-none (held out));
-      some = some-none frames words first;
+      some = some-none words first;
     }
 
     unread-by : (other : ReadEnd) → why ≡ other → IsRun (ended after out first (line_of (stop_of_end other)) (status_at (stop_of_end other)))

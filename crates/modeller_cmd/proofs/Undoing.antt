@@ -13,7 +13,6 @@ use Rattle.solid_model.specs.Clauses.{IsModel}
 use Rattle.solid_model.specs.Edited.{Edited, after_edits, given_or}
 use Rattle.solid_model.specs.Edits.{edited}
 use Rattle.solid_model.specs.Inverses.{inverse_of}
-use Rattle.solid_model.specs.Laws.{EditsAreTakenBack, EditsGiveModels}
 use Rattle.solid_model.specs.declared.clause.Clause.{Clause}
 use Rattle.solid_model.specs.declared.edit.Edit.{Edit}
 use Rattle.solid_model.specs.declared.edit.EditFault.{EditFault}
@@ -21,6 +20,8 @@ use Rattle.modeller_cmd.specs.Replays.{after_undo, framed, replayed, standing, s
 use Rattle.modeller_cmd.specs.Undoing.{edits_among, edits_at, undos_among, FramesShowWhatStands, HasFrame, UndosLeadBack}
 use Rattle.modeller_cmd.proofs.ReplayLaws.{replayed-between}
 use Rattle.modeller_cmd.proofs.WorkSums.{All-between, All-right}
+use Rattle.solid_model.proofs.SurgeryModels.{edits-models}
+use Rattle.solid_model.proofs.InverseLemmas.{taken-back}
 
 -- edits after others are made of what those give
 edits-append : (clauses : List Clause) (xs ys : List Edit) → after_edits clauses (xs ++ ys) ≡ after_edits (after_edits clauses xs) ys
@@ -113,49 +114,48 @@ first x xs are = All-between IsCommand [] x xs are
 pub others : (x : Command) (xs : List Command) → All IsCommand (x ∷ xs) → All IsCommand xs
 others x xs are = All-right IsCommand (x ∷ []) xs are
 
-module _ (taken : EditsAreTakenBack) (give : EditsGiveModels) where
-  made-edits : (state : State) (there : List Command) → IsModel state.clauses → All IsCommand there → undos_among there ≡ 0
-      → LeadBack state (standing state there) (edits_among state there)
-  unfolding standing after_edits
-  made-edits state [] is are none = record { edits = []; before = refl; as_many = refl; back = refl }
-  made-edits state (commands.Edit line edit ∷ there) is are none =
-      by (edited state.clauses edit) refl (λ new model_is. made-edits (after_edit state edit new) there model_is (others _ there are) none) (made-edits state there is (others _ there are) none)
-    where
-      by : (r : Result (List Clause) EditFault) → edited state.clauses edit ≡ r
-          → ((new : List Clause) → IsModel new → LeadBack (after_edit state edit new) (standing (after_edit state edit new) there) (edits_among (after_edit state edit new) there))
-          → LeadBack state (standing state there) (edits_among state there)
-          → LeadBack state (standing (state_after state (commands.Edit line edit)) there)
-          (edits_at state (commands.Edit line edit) + edits_among (state_after state (commands.Edit line edit)) there)
-      by (Ok new) at accepted refused =
-          let next = accepted-next state line edit new at in
-          let one = accepted-count state line edit new at in
-          let leads = accepted new (give state.clauses edit new is.clauses_are (first _ there are) at) in
-          subst (λ (after : State). LeadBack state (standing after there) (edits_at state (commands.Edit line edit) + edits_among after there)) (sym next)
-          (subst (λ n. LeadBack state (standing (after_edit state edit new) there) (n + edits_among (after_edit state edit new) there)) (sym one)
-          (one-more state (standing (after_edit state edit new) there) edit new (edits_among (after_edit state edit new) there) (taken state.clauses edit new is (first _ there are) at).back leads))
-      by (Err fault) at accepted refused =
-          let next = refused-next state line edit fault at in
-          let no = refused-count state line edit fault at in
-          subst (λ (after : State). LeadBack state (standing after there) (edits_at state (commands.Edit line edit) + edits_among after there)) (sym next)
-          (subst (λ n. LeadBack state (standing state there) (n + edits_among state there)) (sym no) (not-more refused))
-  made-edits state (commands.Stray line ∷ there) is are none = not-more (made-edits state there is (others _ there are) none)
-  made-edits state (commands.Undo line ∷ there) is are none = absurd (omega (arith, none))
-  made-edits state (commands.Render view ∷ there) is are none =
-      let leads = made-edits (state_after state (commands.Render view)) there is (others _ there are) none in
-      record { edits = leads.edits; before = leads.before; as_many = omega (arith, leads.as_many); back = leads.back }
-  made-edits state (commands.Height view ∷ there) is are none = not-more (made-edits state there is (others _ there are) none)
-  made-edits state (commands.Mesh view ∷ there) is are none =
-      let leads = made-edits (state_after state (commands.Mesh view)) there is (others _ there are) none in
-      record { edits = leads.edits; before = leads.before; as_many = omega (arith, leads.as_many); back = leads.back }
-  made-edits state (commands.Text ∷ there) is are none = not-more (made-edits state there is (others _ there are) none)
-  made-edits state (commands.Cost ∷ there) is are none = not-more (made-edits state there is (others _ there are) none)
+made-edits : (state : State) (there : List Command) → IsModel state.clauses → All IsCommand there → undos_among there ≡ 0
+    → LeadBack state (standing state there) (edits_among state there)
+unfolding standing after_edits
+made-edits state [] is are none = record { edits = []; before = refl; as_many = refl; back = refl }
+made-edits state (commands.Edit line edit ∷ there) is are none =
+    by (edited state.clauses edit) refl (λ new model_is. made-edits (after_edit state edit new) there model_is (others _ there are) none) (made-edits state there is (others _ there are) none)
+  where
+    by : (r : Result (List Clause) EditFault) → edited state.clauses edit ≡ r
+        → ((new : List Clause) → IsModel new → LeadBack (after_edit state edit new) (standing (after_edit state edit new) there) (edits_among (after_edit state edit new) there))
+        → LeadBack state (standing state there) (edits_among state there)
+        → LeadBack state (standing (state_after state (commands.Edit line edit)) there)
+        (edits_at state (commands.Edit line edit) + edits_among (state_after state (commands.Edit line edit)) there)
+    by (Ok new) at accepted refused =
+        let next = accepted-next state line edit new at in
+        let one = accepted-count state line edit new at in
+        let leads = accepted new (edits-models state.clauses edit new is.clauses_are (first _ there are) at) in
+        subst (λ (after : State). LeadBack state (standing after there) (edits_at state (commands.Edit line edit) + edits_among after there)) (sym next)
+        (subst (λ n. LeadBack state (standing (after_edit state edit new) there) (n + edits_among (after_edit state edit new) there)) (sym one)
+        (one-more state (standing (after_edit state edit new) there) edit new (edits_among (after_edit state edit new) there) (taken-back state.clauses edit new is (first _ there are) at).back leads))
+    by (Err fault) at accepted refused =
+        let next = refused-next state line edit fault at in
+        let no = refused-count state line edit fault at in
+        subst (λ (after : State). LeadBack state (standing after there) (edits_at state (commands.Edit line edit) + edits_among after there)) (sym next)
+        (subst (λ n. LeadBack state (standing state there) (n + edits_among state there)) (sym no) (not-more refused))
+made-edits state (commands.Stray line ∷ there) is are none = not-more (made-edits state there is (others _ there are) none)
+made-edits state (commands.Undo line ∷ there) is are none = absurd (omega (arith, none))
+made-edits state (commands.Render view ∷ there) is are none =
+    let leads = made-edits (state_after state (commands.Render view)) there is (others _ there are) none in
+    record { edits = leads.edits; before = leads.before; as_many = omega (arith, leads.as_many); back = leads.back }
+made-edits state (commands.Height view ∷ there) is are none = not-more (made-edits state there is (others _ there are) none)
+made-edits state (commands.Mesh view ∷ there) is are none =
+    let leads = made-edits (state_after state (commands.Mesh view)) there is (others _ there are) none in
+    record { edits = leads.edits; before = leads.before; as_many = omega (arith, leads.as_many); back = leads.back }
+made-edits state (commands.Text ∷ there) is are none = not-more (made-edits state there is (others _ there are) none)
+made-edits state (commands.Cost ∷ there) is are none = not-more (made-edits state there is (others _ there are) none)
 
-  pub undos-lead-back : UndosLeadBack
-  undos-lead-back state there back is are taken_back =
-      let leads = made-edits state there is are taken_back.no_undo in
-      ap model_of (standing-append state there back)
-      ∙ undone-all (standing state there) back leads.edits state.undo taken_back.no_edit leads.before (taken_back.as_many ∙ sym leads.as_many)
-      ∙ ap (λ (clauses : List Clause). model clauses state.undo) leads.back
+pub undos-lead-back : UndosLeadBack
+undos-lead-back state there back is are taken_back =
+    let leads = made-edits state there is are taken_back.no_undo in
+    ap model_of (standing-append state there back)
+    ∙ undone-all (standing state there) back leads.edits state.undo taken_back.no_edit leads.before (taken_back.as_many ∙ sym leads.as_many)
+    ∙ ap (λ (clauses : List Clause). model clauses state.undo) leads.back
 
 -- a frame that one command draws is there where another one that is the same comes
 drawn-too : (frame : Frame) (state : State) (before after : List Command) (told draw : Command) → told ≡ draw

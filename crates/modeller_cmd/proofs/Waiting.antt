@@ -8,7 +8,6 @@ use Rattle.edit_script.specs.declared.command.Command.{Command}
 use Rattle.edit_session.specs.Sessions.{State}
 use Rattle.fixed_ops.specs.Counts.{Counts}
 use Rattle.model_frames.specs.Frames.{Part}
-use Rattle.model_frames.specs.Laws.{FramesAddUp}
 use Rattle.model_frames.specs.Work.{CountsWithin, CountsWork, PointsRiseAtMost, both, no_work}
 use Rattle.modeller_io.specs.Count.{Stands}
 use Rattle.modeller_io.specs.Held.{Gains, GainsProperPrefix}
@@ -24,6 +23,7 @@ use Rattle.modeller_cmd.proofs.Gaining.{Extends-none, Gains-then, Grew-gains, Ro
 use Rattle.modeller_cmd.proofs.ReplayLaws.{replayed-append, replayed-between, replayed-more, replayed-none, standing-append, standing-more, standing-none}
 use Rattle.modeller_cmd.proofs.WorkSums.{both-none, bytes-append, work-append}
 use Rattle.modeller_cmd.proofs.Writing.{written-none, written-then}
+use Rattle.model_frames.proofs.WorkLaws.{frames_add_up_is}
 
 -- each of these commands takes no work
 abbrev pub Idle : State → List Command → Type 0
@@ -187,7 +187,7 @@ halts-between held faults before after first counts last state commands earlier 
       halts = subst (λ xs. HaltsIn held faults before after counts last (bytes_of_parts (replayed state xs)) (standing state xs) command why) start halts;
     }
 
-module _ (frames : FramesAddUp) {K : Type 0} (held : K → Option (List ℕ)) (faults : K → ℕ) (before : K) (first : Counts) (opened : State) (commands : List Command) where
+module _ {K : Type 0} (held : K → Option (List ℕ)) (faults : K → ℕ) (before : K) (first : Counts) (opened : State) (commands : List Command) where
   -- before the first command
   pub passed-none : Passed held faults before before first first opened opened commands commands []
   passed-none = record {
@@ -195,7 +195,7 @@ module _ (frames : FramesAddUp) {K : Type 0} (held : K → Option (List ℕ)) (f
     waiting = [];
     parts = refl;
     stands = sym (standing-none opened);
-    written = subst (Written held faults before before first first) (sym (replayed-none opened)) (written-none frames held faults before first);
+    written = subst (Written held faults before before first first) (sym (replayed-none opened)) (written-none held faults before first);
     idle = tt;
     bytes = sym (ap bytes_of_parts (replayed-none (standing opened [])));
   }
@@ -208,16 +208,16 @@ module _ (frames : FramesAddUp) {K : Type 0} (held : K → Option (List ℕ)) (f
     idle-written a b gained stands = record {
       gained = gained;
       no_fault = stands;
-      counted = subst (CountsWork last last) (sym (idle-work shown so_far.waiting so_far.idle)) (frames.none last);
-      at_most = frames.within_none last (work_of_parts (replayed shown so_far.waiting));
-      plain = frames.plain_none last (work_of_parts (replayed shown so_far.waiting)).plain;
+      counted = subst (CountsWork last last) (sym (idle-work shown so_far.waiting so_far.idle)) (frames_add_up_is.none last);
+      at_most = frames_add_up_is.within_none last (work_of_parts (replayed shown so_far.waiting));
+      plain = frames_add_up_is.plain_none last (work_of_parts (replayed shown so_far.waiting)).plain;
     }
 
     -- what waited is written, and with it all that the commands so far write
     pub all-written : Gains held after next waited → Stands faults after next → Written held faults before next first last (replayed opened (so_far.sent ++ so_far.waiting))
     all-written gained stands =
         subst (Written held faults before next first last) (sym (replayed-append opened so_far.sent so_far.waiting))
-        (written-then frames held faults before after next first last last (replayed opened so_far.sent) (replayed shown so_far.waiting) so_far.written
+        (written-then held faults before after next first last last (replayed opened so_far.sent) (replayed shown so_far.waiting) so_far.written
         (idle-written after next (subst (Gains held after next) so_far.bytes gained) stands))
 
     -- and where nothing waits they are written already
@@ -225,7 +225,7 @@ module _ (frames : FramesAddUp) {K : Type 0} (held : K → Option (List ℕ)) (f
     sent-still none =
         let parts = replayed shown so_far.waiting in
         subst (Written held faults before after first last) (sym (replayed-append opened so_far.sent so_far.waiting))
-        (written-then frames held faults before after after first last last (replayed opened so_far.sent) parts so_far.written
+        (written-then held faults before after after first last last (replayed opened so_far.sent) parts so_far.written
         (idle-written after after (subst (Gains held after after) (sym none ∙ so_far.bytes) (Extends-none (held after))) refl))
 
     -- the way is free for the next command
@@ -285,9 +285,9 @@ module _ (frames : FramesAddUp) {K : Type 0} (held : K → Option (List ℕ)) (f
           gained = record { count = place.over; within = place.within; gained = subst (Gains held after next) place.front prefix.gained };
           fault = fails.fault;
           worked = record {
-            counted = subst (CountsWork last last) (sym place.none) (frames.none last);
-            at_most = frames.within_none last (work_of_parts (parts_at (standing shown place.earlier) place.command));
-            plain = frames.plain_none last (work_of_parts (parts_at (standing shown place.earlier) place.command)).plain;
+            counted = subst (CountsWork last last) (sym place.none) (frames_add_up_is.none last);
+            at_most = frames_add_up_is.within_none last (work_of_parts (parts_at (standing shown place.earlier) place.command));
+            plain = frames_add_up_is.plain_none last (work_of_parts (parts_at (standing shown place.earlier) place.command)).plain;
           };
         }))
 
@@ -330,7 +330,7 @@ module _ (frames : FramesAddUp) {K : Type 0} (held : K → Option (List ℕ)) (f
           parts = so_far.parts ∙ ap (λ left. sent ++ left) is ∙ sym (append_assoc sent (command ∷ []) later) ∙ ap (λ commands. commands ++ later) all;
           stands = stood ∙ ap (λ state. state_after state command) so_far.stands ∙ sym (standing-more opened sent command) ∙ ap (standing opened) all;
           written = subst (Written held faults before next first then) (sym (replayed-more opened sent command))
-              (written-then frames held faults before after next first last then (replayed opened sent) (parts_at (standing opened sent) command)
+              (written-then held faults before after next first last then (replayed opened sent) (parts_at (standing opened sent) command)
               (sent-still goes.unwaited)
               (subst (λ state. Written held faults after next last then (parts_at state command)) so_far.stands goes.written));
           idle = tt;
@@ -338,9 +338,9 @@ module _ (frames : FramesAddUp) {K : Type 0} (held : K → Option (List ℕ)) (f
         }
 
 -- what halts one of some commands halts what they all write
-pub halted-at : (frames : FramesAddUp) {K : Type 0} (held : K → Option (List ℕ)) (faults : K → ℕ) (before after : K) (first last : Counts) (state : State) (commands : List Command) (why : Stop)
+pub halted-at : {K : Type 0} (held : K → Option (List ℕ)) (faults : K → ℕ) (before after : K) (first last : Counts) (state : State) (commands : List Command) (why : Stop)
     → HaltsAt held faults before after first last state commands why → Halted held faults before after first last (replayed state commands) why
-halted-at frames held faults before after first last state commands why at =
+halted-at held faults before after first last state commands why at =
     subst (λ parts. Halted held faults before after first last parts why)
     (sym (ap (replayed state) at.kth ∙ replayed-between state earlier at.command later)) (by why at.halts)
   where
@@ -367,13 +367,13 @@ halted-at frames held faults before after first last state commands why at =
 
     few : CountsWithin at.counts last (work_of_parts qs) → CountsWithin first last (work_of_parts (ps ++ (qs ++ rs)))
     few within = subst (CountsWithin first last) (sym work)
-        (frames.within_sum first at.counts last (work_of_parts ps) (both (work_of_parts qs) (work_of_parts rs)) at.worked.at_most
-        (frames.within_more at.counts last (work_of_parts qs) (work_of_parts rs) within))
+        (frames_add_up_is.within_sum first at.counts last (work_of_parts ps) (both (work_of_parts qs) (work_of_parts rs)) at.worked.at_most
+        (frames_add_up_is.within_more at.counts last (work_of_parts qs) (work_of_parts rs) within))
 
     plainly : PointsRiseAtMost at.counts last (work_of_parts qs).plain → PointsRiseAtMost first last (work_of_parts (ps ++ (qs ++ rs))).plain
     plainly within = subst (λ w. PointsRiseAtMost first last w.plain) (sym work)
-        (frames.plain_sum first at.counts last (work_of_parts ps).plain (both (work_of_parts qs) (work_of_parts rs)).plain at.worked.plain
-        (frames.plain_more at.counts last (work_of_parts qs).plain (work_of_parts rs).plain within))
+        (frames_add_up_is.plain_sum first at.counts last (work_of_parts ps).plain (both (work_of_parts qs) (work_of_parts rs)).plain at.worked.plain
+        (frames_add_up_is.plain_more at.counts last (work_of_parts qs).plain (work_of_parts rs).plain within))
 
     by : (halt : Stop) → HaltsIn held faults before after at.counts last (bytes_of_parts ps) (standing state earlier) at.command halt
         → Halted held faults before after first last (ps ++ (qs ++ rs)) halt
@@ -404,7 +404,7 @@ halted-at frames held faults before after first last state commands why at =
     by (stop.Refused refusal) halts = absurd halts
 
 -- a command that draws no frame was played, or halted
-module _ (frames : FramesAddUp) {K T : Type 0} (held : K → Option (List ℕ)) (faults : K → ℕ) (before after : K) (counts : Counts) (lines : List ℕ) (state : State) (command : Command) (r : Result T Stop)
+module _ {K T : Type 0} (held : K → Option (List ℕ)) (faults : K → ℕ) (before after : K) (counts : Counts) (lines : List ℕ) (state : State) (command : Command) (r : Result T Stop)
     (none : work_of_parts (parts_at state command) ≡ no_work) where
   pub quiet-played : (waits : List ℕ) → OnOk r (waits ≡ lines ++ bytes_of_parts (parts_at state command)) → OnOk r (after ≡ before)
       → OnOk r (IsPlayed held faults before after counts counts lines waits (parts_at state command))
@@ -429,8 +429,8 @@ module _ (frames : FramesAddUp) {K T : Type 0} (held : K → Option (List ℕ)) 
         may = may refl;
         gained = sent refl;
         no_fault = stands refl;
-        at_most = frames.within_none counts (work_of_parts (parts_at state command));
-        plain = frames.plain_none counts (work_of_parts (parts_at state command)).plain;
+        at_most = frames_add_up_is.within_none counts (work_of_parts (parts_at state command));
+        plain = frames_add_up_is.plain_none counts (work_of_parts (parts_at state command)).plain;
       })
       by (Err stop.ReadFault) halt failed sent stands wants = absurd halt
       by (Err (stop.Refused refusal)) halt failed sent stands wants = absurd halt

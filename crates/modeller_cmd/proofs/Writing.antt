@@ -2,7 +2,6 @@
 use Rattle.std.proofs.Common.{◌≡◌, ◌≢◌, ℕ, List, [], ◌∷◌, ◌++◌, Option, Result, Ok, Err, refl, sym, subst, ◌∙◌, append-nil}
 use Rattle.std.specs.Prelude.{IfErr, IsErrAnd}
 use Rattle.model_frames.specs.Work.{CountsWithin, CountsWork, PointsRiseAtMost, no_work}
-use Rattle.model_frames.specs.Laws.{FramesAddUp}
 use Rattle.fixed_ops.specs.Counts.{Counts}
 use Rattle.modeller_io.specs.Count.{Stands}
 use Rattle.modeller_io.specs.Held.{Gains}
@@ -13,30 +12,31 @@ use Rattle.modeller_cmd.specs.declared.stop.Stop.{Stop}
 use Rattle.modeller_cmd.specs.declared.stop.Stop.TheVariants.{WriteFault, NoMemory}
 use Rattle.modeller_cmd.proofs.Gaining.{Extends-none, Gains-then, Grew-gains, Grew-prefix}
 use Rattle.modeller_cmd.proofs.WorkSums.{both-none, bytes-append, work-append}
+use Rattle.model_frames.proofs.WorkLaws.{frames_add_up_is}
 
 -- nothing was written
-pub written-none : (frames : FramesAddUp) {K : Type 0} (held : K → Option (List ℕ)) (faults : K → ℕ) (out : K) (counts : Counts) → Written held faults out out counts counts []
-written-none frames held faults out counts = record {
+pub written-none : {K : Type 0} (held : K → Option (List ℕ)) (faults : K → ℕ) (out : K) (counts : Counts) → Written held faults out out counts counts []
+written-none held faults out counts = record {
   gained = Extends-none (held out);
   no_fault = refl;
-  counted = frames.none counts;
-  at_most = frames.within_none counts no_work;
-  plain = frames.plain_none counts 0;
+  counted = frames_add_up_is.none counts;
+  at_most = frames_add_up_is.within_none counts no_work;
+  plain = frames_add_up_is.plain_none counts 0;
 }
 
 -- parts after parts
-pub written-then : (frames : FramesAddUp) {K : Type 0} (held : K → Option (List ℕ)) (faults : K → ℕ) (a b c : K) (s t u : Counts) (ps qs : List Part)
+pub written-then : {K : Type 0} (held : K → Option (List ℕ)) (faults : K → ℕ) (a b c : K) (s t u : Counts) (ps qs : List Part)
     → Written held faults a b s t ps → Written held faults b c t u qs → Written held faults a c s u (ps ++ qs)
-written-then frames held faults a b c s t u ps qs first next =
+written-then held faults a b c s t u ps qs first next =
     let work = sym (work-append ps qs) in
     record {
       gained = subst (Gains held a c) (sym (bytes-append ps qs)) (Gains-then held a b c (bytes_of_parts ps) (bytes_of_parts qs) first.gained next.gained);
       no_fault = next.no_fault ∙ first.no_fault;
-      counted = subst (CountsWork s u) work (frames.sum s t u (work_of_parts ps) (work_of_parts qs) first.counted next.counted);
+      counted = subst (CountsWork s u) work (frames_add_up_is.sum s t u (work_of_parts ps) (work_of_parts qs) first.counted next.counted);
       at_most = subst (CountsWithin s u) work
-          (frames.within_sum s t u (work_of_parts ps) (work_of_parts qs) first.at_most next.at_most);
+          (frames_add_up_is.within_sum s t u (work_of_parts ps) (work_of_parts qs) first.at_most next.at_most);
       plain = subst (λ w. PointsRiseAtMost s u w.plain) work
-          (frames.plain_sum s t u (work_of_parts ps).plain (work_of_parts qs).plain first.plain next.plain);
+          (frames_add_up_is.plain_sum s t u (work_of_parts ps).plain (work_of_parts qs).plain first.plain next.plain);
     }
 
 -- nothing was written, and work within that of the parts was counted
@@ -52,10 +52,10 @@ halted-before held faults out s t parts stop other few plain = record {
 }
 
 -- nothing was done
-pub halted-at-once : (frames : FramesAddUp) {K : Type 0} (held : K → Option (List ℕ)) (faults : K → ℕ) (out : K) (counts : Counts) (parts : List Part) (stop : Stop)
+pub halted-at-once : {K : Type 0} (held : K → Option (List ℕ)) (faults : K → ℕ) (out : K) (counts : Counts) (parts : List Part) (stop : Stop)
     → stop ≢ WriteFault → Halted held faults out out counts counts parts stop
-halted-at-once frames held faults out counts parts stop other =
-    halted-before held faults out counts counts parts stop other (frames.within_none counts (work_of_parts parts)) (frames.plain_none counts (work_of_parts parts).plain)
+halted-at-once held faults out counts parts stop other =
+    halted-before held faults out counts counts parts stop other (frames_add_up_is.within_none counts (work_of_parts parts)) (frames_add_up_is.plain_none counts (work_of_parts parts).plain)
 
 -- a lack of memory is no fault of a sink
 pub memory-other : (stop : Stop) → stop ≡ NoMemory → stop ≢ WriteFault

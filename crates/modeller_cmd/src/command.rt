@@ -19,18 +19,13 @@ use crate::checking::check;
 use crate::count::count;
 use crate::drawing::draw;
 use crate::forge::forge;
-use crate::laws::{checks_are_exact, undos_lead_back};
 use crate::note::note_of;
 use crate::replay::replay;
 use crate::solid::solid;
 use crate::stop::Stop;
 use crate::task::Task;
-use clause_reader::reading_is_exact;
-use edit_script::draws_may_be_drawn;
 use fixed_ops::Tally;
-use model_frames::{contour_texts_are_closed, frames_add_up, mesh_texts_are_sound};
 use modeller_io::{ReadEnd, Sink, Source, read_all, write_all};
-use solid_lang::translation_is_exact;
 use std::alloc::Global;
 use view_settings::{Job, Reads};
 
@@ -125,14 +120,6 @@ fn work<S: Source, K: Sink>(
         (status_after result)) }
     ensures laws { (input : List ℕ) → Laws (bytes_of words.now) input }
 {
-    frames_add_up();
-    reading_is_exact();
-    mesh_texts_are_sound();
-    contour_texts_are_closed();
-    translation_is_exact();
-    draws_may_be_drawn();
-    checks_are_exact();
-    undos_lead_back();
     let job = read_job(words)?;
     let input = read_input(alloc, &job, source)?;
     execute(alloc, &job, &input, out, tally)

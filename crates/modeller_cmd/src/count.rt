@@ -28,7 +28,6 @@ pub fn count<K: Sink>(
     ensures { ExecutedAtOnce K.held K.faults out.old out.new tally.old tally.new
         (of_model input.now (count_part view.now)) result }
 {
-    frames_add_up();
     let model = read_model(alloc, input)?;
     let text = count_image(alloc, &model, view, tally)?;
     send(alloc, &Drawn::Bytes(text), out)

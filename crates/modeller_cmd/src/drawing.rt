@@ -8,7 +8,7 @@ use crate::send::send;
 use crate::stop::Stop;
 use clause_reader::read_model;
 use fixed_ops::Tally;
-use model_frames::{Frame, frames_add_up};
+use model_frames::Frame;
 use modeller_io::Sink;
 use std::alloc::Global;
 
@@ -25,7 +25,6 @@ pub fn draw<K: Sink>(
     ensures { ExecutedAtOnce K.held K.faults out.old out.new tally.old tally.new
         (of_model input.now (frame_part frame.now)) result }
 {
-    frames_add_up();
     let model = read_model(alloc, input)?;
     let drawn = frame.draw(alloc, &model, tally)?;
     send(alloc, &drawn, out)

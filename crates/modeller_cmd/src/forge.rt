@@ -35,7 +35,6 @@ pub fn forge<K: Sink>(
     ensures { ExecutedAtOnce K.held K.faults out.old out.new tally.old tally.new
         (Ok (forge_part wanted.now ∷ [])) result }
 {
-    frames_add_up();
     let text = forge_text(alloc, wanted, tally)?;
     send(alloc, &Drawn::Bytes(text), out)
 }
@@ -54,7 +53,6 @@ fn forge_text(alloc: Global, wanted: &Forge, tally: &mut Tally) -> Result<Vec<u8
     ensures plain { PointsRiseAtMost tally.old tally.new
         (plain_points_of wanted.now.view (length (forged_clauses wanted.now))) }
 {
-    frames_add_up();
     let model = forge_model(alloc, wanted.seed, wanted.solids)?;
     draw_lines(alloc, &model, &wanted.view, tally)
 }

@@ -30,7 +30,6 @@ use clause_reader::read_model;
 use edit_script::{Command, Commands, split_input};
 use edit_session::Session;
 use fixed_ops::Tally;
-use model_frames::frames_add_up;
 use modeller_io::{Failed, Sink};
 use solid_model::{EditFault, EditRef};
 use std::alloc::Global;
@@ -62,7 +61,6 @@ pub fn replay<K: Sink>(
     ensures halts { IfErr result
         (HaltsScript K.held K.faults out.old out.new tally.old tally.new input.now) }
 {
-    frames_add_up();
     let model = read_model(alloc, model_text(input))?;
     let commands = Commands::of(input)?;
     let session = Session::start(alloc, model);
@@ -120,7 +118,6 @@ fn play_commands<K: Sink>(
     ensures ends { IfErr result (HaltsAt K.held K.faults out.old out.new tally.old tally.new
         session.old commands.entry) }
 {
-    frames_add_up();
     while let Some(command) = commands.next() {
         make_way(&command, lines, out)?;
         step(session, command, lines, buffer, out, tally)?;
@@ -195,7 +192,6 @@ fn play<K: Sink>(
     ensures halted { IfErr result (HaltsPlay K.held K.faults out.old out.new tally.old tally.new
         lines.old session.old command.now) }
 {
-    frames_add_up();
     match command {
         Command::Edit(line, edit) => change(session, *line, edit, lines, out),
         Command::Stray(line) => refuse(*line, EditFault::UnknownName, lines, out),
@@ -247,7 +243,6 @@ fn show_text<K: Sink>(session: &Session, out: &mut K) -> Result<(), Stop>
     ensures counted { (counts : Counts) → CountsWork counts counts
         (work_of_parts (framed frames.Text session.now ∷ [])) }
 {
-    frames_add_up();
     let bytes = session.text()?;
     Ok(write_frame(out, b"text", &bytes)?)
 }

@@ -6,7 +6,6 @@ ghost use Rattle.modeller_cmd.specs.Execution.{ExecutedAtOnce};
 
 use crate::send::send_text;
 use crate::stop::Stop;
-use model_frames::frames_add_up;
 use modeller_io::Sink;
 use solid_lang::translate;
 use std::alloc::Global;
@@ -17,7 +16,6 @@ pub fn solid<K: Sink>(alloc: Global, input: &[u8], out: &mut K) -> Result<(), St
     ensures { (counts : Counts) → ExecutedAtOnce K.held K.faults out.old out.new counts counts
         (of_forms input.now) result }
 {
-    frames_add_up();
     let text = translate(alloc, input)?;
     send_text(out, &text)
 }

@@ -1,14 +1,13 @@
 -- The vertices of a contour lie as far apart as those of a mesh in whose middle layer it lies.
-use Rattle.std.proofs.Common.{◌≡◌, ◌≢◌, ℕ, zero, suc, ◌+◌, ◌*◌, ◌/◌, ◌%◌, ◌<◌, ◌≤◌, ℤ, pos, true, List, [], ◌∷◌, ◌++◌, length, map, get_or, refl, ap, sym, subst, ◌∙◌, append_assoc, arith, mul-le-mul, inl, inr}
-use Rattle.std.specs.Prelude.{◌⊎◌, ◌==◌, if◌then◌else◌, All, AllPairs, Contains, codes}
-use Rattle.std.proofs.lemmas.Bool.{cases_order}
+use Rattle.std.proofs.Common.{◌≡◌, ◌≢◌, ℕ, ◌+◌, ◌*◌, ◌/◌, ◌<◌, ◌≤◌, ℤ, pos, true, List, [], ◌∷◌, ◌++◌, length, map, get_or, refl, ap, sym, subst, ◌∙◌, append_assoc, arith, mul-le-mul, inl, inr}
+use Rattle.std.specs.Prelude.{◌⊎◌, All, AllPairs, Contains, codes}
+use Rattle.std.proofs.lemmas.Bool.{and_parts, cases_order, leb-true}
 use Rattle.std.proofs.lemmas.Int.{ints}
 use Rattle.std.proofs.lemmas.List.{get_or-map, get_or_default, length-map}
 use Rattle.std.proofs.lemmas.List.Elements.{All-filter, filter_passes}
 use Rattle.fixed_ops.specs.NumberTexts.{number_text}
 use Rattle.kuhn_cells.specs.Corners.{along_x, along_y}
 use Rattle.kuhn_cells.specs.Grids.{vertices}
-use Rattle.kuhn_cells.specs.Laws.{VerticesAreMixedEdges}
 use Rattle.kuhn_cells.specs.Vectors.{Vector}
 use Rattle.mesh_laws.specs.Places.{place_line}
 use Rattle.plane_loops.specs.Contours.{Contour}
@@ -19,21 +18,21 @@ use Rattle.plane_loops.specs.Sides.{lattice_place}
 use Rattle.tetra_mesh.specs.declared.vertex.Vertex.{Vertex}
 use Rattle.tetra_mesh.specs.Cuts.{mesh_of, vertex_of}
 use Rattle.tetra_mesh.specs.Sound as solid
-use Rattle.tetra_mesh.specs.SoundLaws.{GridMeshesAreSound, GridMeshesLieApart, IsGridOf}
+use Rattle.tetra_mesh.specs.SoundLaws.{IsGridOf}
 use Rattle.view_places.specs.declared.lattice.Axis.TheVariants.{Z}
 use Rattle.view_places.specs.declared.lattice.Lattice.TheVariants.{Grid}
 use Rattle.view_places.specs.Places.{sample_place}
 use Rattle.view_places.specs.Window.{FitsContour, FitsMesh, IsWindow, Window}
+use Rattle.kuhn_cells.proofs.VertexLaws.{in_map}
+use Rattle.mesh_laws.proofs.Lattice.{few_steps}
+use Rattle.tetra_mesh.proofs.SoundLaws.{grid_meshes_are_sound, grid_meshes_lie_apart, lattice_axis}
 use Rattle.path_writer.specs.Apart.{ContoursLieApart, LieApart, raw_of}
 use Rattle.path_writer.specs.Paths.{place_text}
-use Rattle.path_writer.proofs.Contours.{HasSteps, both_true, le_yes, steps_over}
+use Rattle.path_writer.proofs.Contours.{HasSteps, steps_over}
 use Rattle.path_writer.proofs.Layers.{IsMixed, layered, layered_bordered, lower_value, no_step, raised, raised_listed, upper_value}
 use Rattle.path_writer.proofs.Order.{edges_differ}
 
 -- ---- lists
-
-contains_map : {A B : Type 0} (f : A → B) (xs : List A) (x : A) → Contains xs x → Contains (map f xs) (f x)
-contains_map f xs x (k, within, «is») = (k, (let long = length-map xs f in omega (arith, within, long)), get_or-map f xs k x (f x) within ∙ ap f «is»)
 
 -- two different things of a list have different places, where those of any two on it differ
 two_apart : {A B : Type 0} (place : A → B) (xs : List A) → AllPairs (λ u v. place u ≢ place v) xs → (u v : A) → Contains xs u → Contains xs v → u ≢ v → place u ≢ place v
@@ -80,15 +79,6 @@ up v = record { key = record { x = v.x; y = v.y; z = 1; dir = v.dir }; t = v.t }
 abbrev at_height : ℤ → ℤ → ℤ → Vector
 at_height z x y = record { x = x; y = y; z = z }
 
--- a share of a way along an axis of one step, or none
-lattice_axis : (index steps t : ℕ) → steps ≤ 1 → 65536 * index + (if steps == 1 then t else 0) ≡ 65536 * index + t * steps
-lattice_axis index zero t few = omega arith
-lattice_axis index (suc zero) t few = omega arith
-lattice_axis index (suc (suc steps)) t few = absurd (omega (arith, few))
-
-few_steps : (n : ℕ) → n % 2 ≤ 1
-few_steps n = omega arith
-
 lattice_up : (g : PlaneGrid) (e : PlaneEdge) → e.dir ≤ 3 → solid.lattice_of (up (vertex_on g e)) ≡ at_height (pos 65536) (lattice_place g e).x (lattice_place g e).y
 lattice_up g e few =
     let x = lattice_axis e.x (along_x e.dir) (share g e) (few_steps e.dir) in
@@ -122,12 +112,12 @@ all_mixed g k d less =
     let within = λ (e : PlaneEdge). is_point g (upper e) in
     let parted = is_mixed (is_inside_at g) in
     let steps = All-filter parted HasSteps (edges g) (All-filter within HasSteps every (steps_over (g.n + 1))) k d less in
-    let ends = both_true _ _ (All-filter parted (λ e. within e ≡ true) (edges g) (filter_passes within every) k d less) in
+    let ends = and_parts _ _ (All-filter parted (λ e. within e ≡ true) (edges g) (filter_passes within every) k d less) in
     record {
       some = steps.0;
       few = steps.1;
-      x = le_yes _ g.n ends.0;
-      y = le_yes _ g.n ends.1;
+      x = leb-true _ g.n ends.0;
+      y = leb-true _ g.n ends.1;
       mixed = filter_passes parted (edges g) k d less;
     }
 
@@ -143,7 +133,7 @@ pairs_map made place xs any apart i j d less within =
 
 -- ---- they lie apart
 
-module _ (sound : GridMeshesAreSound) (mesh_apart : GridMeshesLieApart) (law : VerticesAreMixedEdges) (w : Window) (g : PlaneGrid)
+module _ (w : Window) (g : PlaneGrid)
     (window : IsWindow w) (fits : FitsContour w) (size : g.n ≡ w.nx) (border : IsBordered g) where
   vertex_same : (e : PlaneEdge) → IsMixed g e → vertex_of (layered g) (raised e) ≡ up (vertex_on g e)
   vertex_same e «is» = rw (lower_value g border e «is», upper_value g border e «is») refl
@@ -151,7 +141,7 @@ module _ (sound : GridMeshesAreSound) (mesh_apart : GridMeshesLieApart) (law : V
   listed : (e : PlaneEdge) → IsMixed g e → Contains (mesh_of (layered g)).vertices (up (vertex_on g e))
   listed e «is» =
       subst (Contains (mesh_of (layered g)).vertices) (vertex_same e «is»)
-      (contains_map (vertex_of (layered g)) (vertices (layered g)) (raised e) (raised_listed g border e «is» law))
+      (in_map (vertex_of (layered g)) (vertices (layered g)) (raised e) (raised_listed g border e «is»))
 
   -- a place that no two vertices of the mesh share is shared by none of the plane
   told : {B C : Type 0} (place : PlaneEdge → B) (high : Vertex → C) (put : B → C) → ((e : PlaneEdge) → e.dir ≤ 3 → high (up (vertex_on g e)) ≡ put (place e))
@@ -172,18 +162,18 @@ module _ (sound : GridMeshesAreSound) (mesh_apart : GridMeshesLieApart) (law : V
   vertices_apart : (c : Contour) → c.vertices ≡ planes.vertices g → LieApart w g c
   vertices_apart c same =
       let bordered = layered_bordered g border in
-      let apart = mesh_apart (lifted w) (layered g) (lifted_window w window) (lifted_fits w fits) of_view bordered in
+      let apart = grid_meshes_lie_apart (lifted w) (layered g) (lifted_window w window) (lifted_fits w fits) of_view bordered in
       let any : PlaneEdge = record { x = 0; y = 0; dir = 0 } in
       let raw = told (λ e. raw_of w (vertex_on g e)) (solid.raw_of (lifted w)) (λ p. at_height (level w) p.x p.y) (λ e. raw_up w (vertex_on g e)) apart.raw in
       let texts = told (λ e. place_text w (vertex_on g e)) (λ v. place_line (solid.raw_of (lifted w) v)) (λ text. text ++ 32 ∷ (number_text (level w) ++ 10 ∷ []))
       (λ e. line_up w (vertex_on g e)) apart.lines in
       record {
-        lattice = told (lattice_place g) solid.lattice_of (λ p. at_height (pos 65536) p.x p.y) (lattice_up g) (sound (layered g) bordered).apart;
+        lattice = told (lattice_place g) solid.lattice_of (λ p. at_height (pos 65536) p.x p.y) (lattice_up g) (grid_meshes_are_sound (layered g) bordered).apart;
         raw = subst (λ (vs : List PlaneVertex). AllPairs (λ u v. raw_of w u ≢ raw_of w v) vs) (sym same) (pairs_map (vertex_on g) (raw_of w) (mixed_edges g) any raw);
         texts = subst (λ (vs : List PlaneVertex). AllPairs (λ u v. place_text w u ≢ place_text w v) vs) (sym same)
             (pairs_map (vertex_on g) (place_text w) (mixed_edges g) any texts);
       }
 
-pub contours_lie_apart : GridMeshesAreSound → GridMeshesLieApart → VerticesAreMixedEdges → ContoursLieApart
-contours_lie_apart sound apart law w g c window fits size border contour =
-    vertices_apart sound apart law w g window fits size border c (ap (λ (k : Contour). k.vertices) contour.is)
+pub contours_lie_apart : ContoursLieApart
+contours_lie_apart w g c window fits size border contour =
+    vertices_apart w g window fits size border c (ap (λ (k : Contour). k.vertices) contour.is)

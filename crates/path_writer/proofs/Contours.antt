@@ -1,13 +1,14 @@
 -- The contours of grids have paths.
-use Rattle.std.proofs.Common.{◌≡◌, ℕ, suc, ◌+◌, ◌-◌, ◌*◌, ◌/◌, ◌<◌, ◌≤◌, ℤ, Bool, true, false, List, [], ◌∷◌, ◌++◌, length, map, refl, sym, subst, length-append, arith}
-use Rattle.std.specs.Prelude.{All, flat_map, get_or, if◌then◌else◌, max, min, nat_le, unsigned_abs, ◌&&◌}
+use Rattle.std.proofs.Common.{◌≡◌, ℕ, suc, ◌+◌, ◌-◌, ◌*◌, ◌/◌, ◌<◌, ◌≤◌, ℤ, Bool, true, false, List, [], ◌∷◌, ◌++◌, length, map, sym, subst, length-append, arith}
+use Rattle.std.specs.Prelude.{All, flat_map, get_or, if◌then◌else◌, max, min, nat_le, unsigned_abs}
 use Rattle.std.specs.List.{concat, range_with_len}
-use Rattle.std.proofs.lemmas.Bool.Decides.{nat_tests}
+use Rattle.std.proofs.lemmas.Bool.{and_parts, leb-true}
 use Rattle.std.proofs.lemmas.List.{length-map}
-use Rattle.std.proofs.lemmas.List.Elements.{All-append, All-cons, All-filter, All-map, All-nil, filter_passes}
+use Rattle.std.proofs.lemmas.List.Elements.{All-cons, All-filter, All-map, All-nil, filter_passes}
 use Rattle.fixed_ops.specs.Cut.{cut_of}
 use Rattle.fixed_ops.specs.Raw.{is_inside}
 use Rattle.kuhn_cells.specs.Corners.{along_x, along_y}
+use Rattle.kuhn_cells.proofs.VertexLaws.{all_flat}
 use Rattle.mesh_laws.specs.Places.{way_up}
 use Rattle.plane_loops.specs.Contours.{AreJoined, AreLoops, StartsLowest, ends_from}
 use Rattle.plane_loops.specs.Planes.{PlaneEdge, PlaneGrid, PlanePoint, directions, edge_from, edges, is_inside_at, is_mixed, is_point, mixed_edges, over_square, point, upper, value_at, lower, vertex_on}
@@ -50,10 +51,6 @@ way_within a b =
     let n = unsigned_abs b in
     turned (is_inside a) (cut_of a b) (cut_of b a) (cut_least (65536 * m / (m + n))) (cut_most (65536 * m / (m + n))) (cut_least (65536 * n / (n + m))) (cut_most (65536 * n / (n + m)))
 
-pub all_flat : {X A : Type 0} (P : A → Type 0) (f : X → List A) → ((x : X) → All P (f x)) → (xs : List X) → All P (flat_map f xs)
-all_flat P f each [] = All-nil P
-all_flat P f each (x ∷ xs) = All-append P (f x) (flat_map f xs) (each x) (all_flat P f each xs)
-
 abbrev pub HasSteps : PlaneEdge → Type 0
 HasSteps e = (1 ≤ e.dir) × (e.dir ≤ 3)
 
@@ -69,23 +66,15 @@ steps_over n =
     (λ y. all_flat HasSteps (λ x. map (edge_from (point x y)) directions) (λ x. steps_at (point x y)) (range_with_len 0 n))
     (range_with_len 0 n)
 
-pub both_true : (a b : Bool) → (a && b) ≡ true → (a ≡ true) × (b ≡ true)
-both_true true true e = (refl, refl)
-both_true true false e = absurd cc
-both_true false b e = absurd cc
-
-pub le_yes : (a b : ℕ) → nat_le a b ≡ true → a ≤ b
-le_yes a b e = grind (arith, nat_tests, e)
-
 in_plane : (w : Window) (g : PlaneGrid) (e : PlaneEdge) → g.n ≡ w.nx → g.n ≡ w.ny → HasSteps e → is_point g (upper e) ≡ true → IsInPlane w (vertex_on g e)
 in_plane w g e across along steps point =
-    let ends = both_true (nat_le (e.x + along_x e.dir) g.n) (nat_le (e.y + along_y e.dir) g.n) point in
+    let ends = and_parts (nat_le (e.x + along_x e.dir) g.n) (nat_le (e.y + along_y e.dir) g.n) point in
     let way = way_within (value_at g (lower e)) (value_at g (upper e)) in
     record {
       some_steps = steps.0;
       few_steps = steps.1;
-      x = subst (λ n. e.x + along_x e.dir ≤ n) across (le_yes (e.x + along_x e.dir) g.n ends.0);
-      y = subst (λ n. e.y + along_y e.dir ≤ n) along (le_yes (e.y + along_y e.dir) g.n ends.1);
+      x = subst (λ n. e.x + along_x e.dir ≤ n) across (leb-true (e.x + along_x e.dir) g.n ends.0);
+      y = subst (λ n. e.y + along_y e.dir ≤ n) along (leb-true (e.y + along_y e.dir) g.n ends.1);
       some = way.0;
       few = way.1;
     }

@@ -10,10 +10,11 @@ use Rattle.kuhn_cells.specs.Arrangement.{differ}
 use Rattle.kuhn_cells.specs.Cells.{IsBordered, is_outermost}
 use Rattle.kuhn_cells.specs.Corners.{along_x, along_y, along_z}
 use Rattle.kuhn_cells.specs.Grids.{Grid, is_inside_at, value_at, vertices}
-use Rattle.kuhn_cells.specs.Laws.{IsVertex, VerticesAreMixedEdges}
+use Rattle.kuhn_cells.specs.Laws.{IsVertex}
 use Rattle.kuhn_cells.specs.Triangles.{GridPoint}
 use Rattle.plane_loops.specs.Planes as planes
 use Rattle.plane_loops.specs.Planes.{PlaneEdge, PlaneGrid}
+use Rattle.kuhn_cells.proofs.VertexLaws.{vertices_are_mixed_edges}
 
 -- the values of a layer of points that are all outside
 pub outside : ℕ → List ℤ
@@ -154,5 +155,5 @@ module _ (g : PlaneGrid) (border : planes.IsBordered g) (e : PlaneEdge) (is : Is
         ∙ ap (λ v. differ (planes.is_inside_at g (planes.lower e)) (is_inside v)) upper_value ∙ is.mixed;
   }
 
-  pub raised_listed : VerticesAreMixedEdges → Contains (vertices (layered g)) (raised e)
-  raised_listed law = (law (layered g) (raised e)).1 raised_is_vertex
+  pub raised_listed : Contains (vertices (layered g)) (raised e)
+  raised_listed = (vertices_are_mixed_edges (layered g) (raised e)).1 raised_is_vertex

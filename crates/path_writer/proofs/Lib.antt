@@ -1,5 +1,5 @@
 pub mod Apart
-mod Contours
+pub mod Contours
 mod Examples
 mod Layers
 mod Order

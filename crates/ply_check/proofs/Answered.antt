@@ -1,7 +1,7 @@
 -- What is answered of files of each kind.
-use Rattle.std.proofs.Common.{◌≡◌, ◌≢◌, ℕ, suc, ◌+◌, ◌-◌, ◌<◌, Bool, true, false, List, [], ◌∷◌, ◌++◌, length, Option, Some, None, Ok, Err, refl, ap, sym, ◌∙◌, arith, append_assoc, eqb, inl, inr}
+use Rattle.std.proofs.Common.{◌≡◌, ℕ, suc, ◌+◌, ◌-◌, ◌<◌, false, List, [], ◌∷◌, ◌++◌, length, Option, Some, None, Ok, Err, refl, ap, sym, ◌∙◌, arith, append_assoc, inl, inr}
 use Rattle.std.specs.Prelude.{All}
-use Rattle.std.proofs.lemmas.Bool.{eqb-true}
+use Rattle.std.proofs.lemmas.Bool.{ne_eqb}
 use Rattle.std.proofs.lemmas.List.{append-nil}
 use Rattle.ply_check.specs.declared.header.Header.{Header}
 use Rattle.ply_check.specs.declared.header_line.HeaderLine.{HeaderLine}
@@ -130,17 +130,10 @@ header_refused lines line is =
 what_is_left : (n m : ℕ) → n < m → (left : ℕ) × (n + suc left ≡ m)
 what_is_left n m less = (m - n - 1, omega arith)
 
-told_apart : (n m : ℕ) → n ≢ m → eqb n m ≡ false
-told_apart n m apart = by (eqb n m) refl
-  where
-    by : (b : Bool) → eqb n m ≡ b → b ≡ false
-    by true e = absurd (apart (eqb-true n m e))
-    by false e = refl
-
 vertex_refused : (lines : Lines) (line : ℕ) → HasBadVertex lines line → ply_answer lines ≡ Err (fault_at line BadVertex)
 vertex_refused lines line is =
     let left = what_is_left (length is.before) is.count is.few in
-    let narrow = told_apart (length is.tokens) is.width is.bad in
+    let narrow = ne_eqb (length is.tokens) is.width is.bad in
     rw (is.parts, at_vertices is.opening is.before is.count is.width is.faces (suc left.0) ((line, is.tokens) ∷ is.after) is.opens is.wide left.1, narrow) refl
 
 pub face_refused : (lines : Lines) (line : ℕ) (reason : PlyReason) → HasBadFace lines line reason → ply_answer lines ≡ Err (fault_at line reason)

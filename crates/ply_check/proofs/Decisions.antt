@@ -8,6 +8,9 @@ use Rattle.std.proofs.lemmas.List.Elements.{All-cons, All-contains, All-nil}
 use Rattle.kuhn_cells.specs.Faces.{Face as Triple}
 use Rattle.mesh_laws.specs.Closed.{IsTriangle, directed_edges, occurrences}
 use Rattle.mesh_laws.specs.Manifold.{HasFan, arcs}
+use Rattle.kuhn_cells.proofs.OrderLaws.{first_before, rest_in_order}
+use Rattle.kuhn_cells.proofs.VertexLaws.{in_head, in_map}
+use Rattle.mesh_laws.proofs.Lists.{Differ}
 use Rattle.ply_check.specs.declared.finding.Finding.{Finding}
 use Rattle.ply_check.specs.declared.finding.Finding.TheVariants.{Closed, Edge, Face, Vertex}
 use Rattle.ply_check.specs.Findings.{after}
@@ -16,7 +19,7 @@ use Rattle.ply_check.specs.Verdicts.{ArePaired, IsPaired, Verdict}
 use Rattle.ply_check.proofs.EdgeLaws.{arcs_are_one_to_one, arcs_by_next, firsts_differ}
 use Rattle.ply_check.specs.Walks.{GoesRound, IsNotBack, LeadsOn, first_of, stepped}
 use Rattle.ply_check.proofs.FanLaws.{IsCycle, cycle_is_as_long, cycle_keeps_away, walk_is_apart, walk_is_exact}
-use Rattle.ply_check.proofs.Lists.{Differ, all_in, in_head, in_map, pairs_head, pairs_tail}
+use Rattle.ply_check.proofs.Lists.{all_in}
 use Rattle.ply_check.proofs.Walks.{length-walk, walk}
 
 abbrev pub OrNot : Type 0 → Type 0
@@ -30,13 +33,13 @@ leads_on (e ∷ es) apart =
     All-cons (λ (d : ℕ × ℕ). after (e ∷ es) d.0 ≡ d.1) e es (rw (eq-eqb e.0 e.0 refl) refl)
     (all_in (λ (d : ℕ × ℕ). after (e ∷ es) d.0 ≡ d.1) es (λ d at.
     let other : e.0 ≡ d.0 → ⊥ =
-    All-contains (Differ e.0) (map (λ (a : ℕ × ℕ). a.0) es) d.0 (pairs_head Differ e.0 (map (λ (a : ℕ × ℕ). a.0) es) apart) (in_map (λ (a : ℕ × ℕ). a.0) es d at) in
+    All-contains (Differ e.0) (map (λ (a : ℕ × ℕ). a.0) es) d.0 (first_before Differ e.0 (map (λ (a : ℕ × ℕ). a.0) es) apart) (in_map (λ (a : ℕ × ℕ). a.0) es d at) in
     rw (ne_eqb e.0 d.0 other)
-    (All-contains (λ (a : ℕ × ℕ). after es a.0 ≡ a.1) es d (leads_on es (pairs_tail Differ e.0 (map (λ (a : ℕ × ℕ). a.0) es) apart)) at)))
+    (All-contains (λ (a : ℕ × ℕ). after es a.0 ≡ a.1) es d (leads_on es (rest_in_order Differ e.0 (map (λ (a : ℕ × ℕ). a.0) es) apart)) at)))
 
 starts_there : (es : List (ℕ × ℕ)) → 0 < length es → Contains (map (λ (e : ℕ × ℕ). e.0) es) (first_of es)
 starts_there [] some = absurd (omega (arith, some))
-starts_there (e ∷ es) some = in_head e.0 (map (λ (d : ℕ × ℕ). d.0) es)
+starts_there (e ∷ es) some = in_head (map (λ (d : ℕ × ℕ). d.0) es) e.0
 
 pub linked : (fs : List Triple) (u : ℕ) → All IsTriangle fs → ArePaired fs → LeadsOn (after (arcs fs u)) (arcs fs u)
 linked fs u t paired = leads_on (arcs fs u) (firsts_differ fs u t paired)

@@ -1,16 +1,19 @@
 -- The edges at a vertex stand in its corners.
 use Rattle.std.proofs.Common.{◌≡◌, ℕ, ◌+◌, ◌≤◌, Bool, true, false, List, [], ◌∷◌, ◌++◌, refl, sym, ap, arith, inl, inr, subst, cond, ◌∙◌}
 use Rattle.std.specs.Prelude.{◌==◌, ◌&&◌, ◌⊎◌, All, AllPairs, Contains, count_by, map}
-use Rattle.std.proofs.lemmas.Bool.{and_parts, cases_eq, eq-eqb, eqb-true, ne_eqb}
+use Rattle.std.proofs.lemmas.Bool.{cases_eq, eq-eqb, eqb-true, ne_eqb}
 use Rattle.std.proofs.lemmas.List.Elements.{All-contains, All-head, All-tail}
 use Rattle.std.proofs.lemmas.List.Sums.{sum_by-append}
 use Rattle.kuhn_cells.specs.Faces.{Face as Triple}
 use Rattle.mesh_laws.specs.Closed.{IsTriangle, directed_edges, directed_edges_of, goes, occurrences}
 use Rattle.mesh_laws.specs.Manifold.{arcs, arcs_at}
+use Rattle.kuhn_cells.proofs.VertexLaws.{in_map}
+use Rattle.mesh_laws.proofs.ClosedLaws.{goes_is}
+use Rattle.mesh_laws.proofs.Lists.{Differ}
 use Rattle.ply_check.specs.Degrees.{arriving, leaving}
 use Rattle.ply_check.specs.Verdicts.{ArePaired, IsPaired}
 use Rattle.ply_check.proofs.FanLaws.{IsOneToOne, arc}
-use Rattle.ply_check.proofs.Lists.{Differ, count-cons, counted, differ_by_counts, found, from_map, in_map, one_alone}
+use Rattle.ply_check.proofs.Lists.{count-cons, counted, differ_by_counts, found, from_map, one_alone}
 
 -- ---- of one face
 
@@ -76,13 +79,10 @@ edges_arrive (f ∷ fs) u v t =
 
 -- ---- where each edge is paired
 
-goes_is : (u v : ℕ) (e : ℕ × ℕ) → goes u v e ≡ true → e ≡ (u, v)
-goes_is u v e h = let p = and_parts _ _ h in rw (eqb-true e.0 u p.0, eqb-true e.1 v p.1) refl
-
 pub paired_at : (fs : List Triple) (u v : ℕ) → ArePaired fs → 1 ≤ occurrences (directed_edges fs) u v → IsPaired (directed_edges fs) (u, v)
 paired_at fs u v paired some =
     let r = found (goes u v) (directed_edges fs) some in
-    subst (IsPaired (directed_edges fs)) (goes_is u v r.0 r.2) (All-contains (IsPaired (directed_edges fs)) (directed_edges fs) r.0 paired r.1)
+    subst (IsPaired (directed_edges fs)) (goes_is (u, v) r.0 r.2) (All-contains (IsPaired (directed_edges fs)) (directed_edges fs) r.0 paired r.1)
 
 -- each arc at a vertex leads from an edge that leaves it to one that arrives
 record HasArc (fs : List Triple) (u : ℕ) (e : ℕ × ℕ) : Type 0 where

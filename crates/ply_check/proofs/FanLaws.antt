@@ -1,11 +1,15 @@
 -- When a walk goes round a fan.
 use Rattle.std.proofs.Common.{◌≡◌, ℕ, zero, suc, ◌+◌, ◌-◌, ◌<◌, ◌≤◌, Bool, true, false, List, [], ◌∷◌, length, refl, sym, ap, arith, inl, inr, subst, cond, ◌∙◌}
 use Rattle.std.specs.Prelude.{◌==◌, ◌&&◌, ◌⊎◌, All, AllPairs, Contains, count_by, map}
-use Rattle.std.proofs.lemmas.Bool.{and_from, and_parts, cases_Bool, cases_eq, cases_lt, eq-eqb, eqb-true, ne_eqb}
+use Rattle.std.proofs.lemmas.Bool.{cases_Bool, cases_eq, cases_lt, ne_eqb}
 use Rattle.std.proofs.lemmas.List.Elements.{All-cons, All-contains, All-nil}
 use Rattle.mesh_laws.specs.Closed.{goes, occurrences}
 use Rattle.mesh_laws.specs.Manifold.{arcs_on, cycle_arcs}
-use Rattle.ply_check.proofs.Lists.{Differ, all_in, count-cons, count-none, count-once, counted, found, from_map, has_all, head_or_tail, in_head, in_map, in_or_not, in_tail, no_longer, not_in_none}
+use Rattle.kuhn_cells.proofs.VertexLaws.{head_or_tail, in_head, in_map, in_tail, not_in_none}
+use Rattle.mesh_laws.proofs.ClosedLaws.{goes_is, goes_itself}
+use Rattle.mesh_laws.proofs.FanLaws.{cycle_sources}
+use Rattle.mesh_laws.proofs.Lists.{Differ}
+use Rattle.ply_check.proofs.Lists.{all_in, count-cons, count-none, count-once, counted, found, from_map, has_all, in_or_not, no_longer}
 use Rattle.ply_check.specs.Walks.{IsNotBack, stepped}
 use Rattle.ply_check.proofs.Walks.{length-walk, on_walk, one_more, walk, walk_differs, walk_has}
 
@@ -124,34 +128,20 @@ walk_is_apart next ys one x h away = goes_on next ys one x h (length ys) away
 
 -- ---- a cycle with exactly the arcs between the numbers
 
-sources : (first v : ℕ) (ws : List ℕ) → map (λ (a : ℕ × ℕ). a.0) (arcs_on first v ws) ≡ v ∷ ws
-sources first v [] = refl
-sources first v (w ∷ ws) = ap (λ xs. v ∷ xs) (sources first w ws)
-
-cycle_sources : (c : List ℕ) → map (λ (a : ℕ × ℕ). a.0) (cycle_arcs c) ≡ c
-cycle_sources [] = refl
-cycle_sources (v ∷ vs) = sources v v vs
-
-goes_itself : (e : ℕ × ℕ) → goes e.0 e.1 e ≡ true
-goes_itself e = and_from _ _ (eq-eqb e.0 e.0 refl) (eq-eqb e.1 e.1 refl)
-
-goes_is : (v w : ℕ) (e : ℕ × ℕ) → goes v w e ≡ true → e ≡ (v, w)
-goes_is v w e h = let p = and_parts _ _ h in rw (eqb-true e.0 v p.0, eqb-true e.1 w p.1) refl
-
 -- a list has each element of another, where the edges are counted alike
 same_elements : (es fs : List (ℕ × ℕ)) → ((v w : ℕ) → occurrences es v w ≡ occurrences fs v w) → (e : ℕ × ℕ) → Contains es e → Contains fs e
 same_elements es fs same e h =
     let some = counted (goes e.0 e.1) es e h (goes_itself e) in
     let r = found (goes e.0 e.1) fs (omega (arith, some, same e.0 e.1)) in
-    subst (Contains fs) (goes_is e.0 e.1 r.0 r.2) r.1
+    subst (Contains fs) (goes_is e r.0 r.2) r.1
 
 -- what passes from number to number along arcs goes all the way
 goes_along : (P : ℕ → Type 0) (first v : ℕ) (ws : List ℕ) → P v → ((e : ℕ × ℕ) → Contains (arcs_on first v ws) e → P e.0 → P e.1)
     → All P (v ∷ ws) × P first
 goes_along P first v [] here step =
-    (All-cons P v [] here (All-nil P), step (v, first) (in_head (v, first) []) here)
+    (All-cons P v [] here (All-nil P), step (v, first) (in_head [] (v, first)) here)
 goes_along P first v (w ∷ ws) here step =
-    let on = step (v, w) (in_head (v, w) (arcs_on first w ws)) here in
+    let on = step (v, w) (in_head (arcs_on first w ws) (v, w)) here in
     let r = goes_along P first w ws on (λ e at. step e (in_tail (v, w) (arcs_on first w ws) e at)) in
     (All-cons P v (w ∷ ws) here r.0, r.1)
 

@@ -1,6 +1,7 @@
 -- How the lines of a header lead from stage to stage.
 use Rattle.std.proofs.Common.{◌≡◌, ℕ, zero, suc, ◌+◌, ◌<◌, true, false, List, [], ◌∷◌, ◌++◌, length, replicate, Some, None, refl, ap, sym, ◌∙◌, arith, append_assoc, inl, inr}
 use Rattle.std.specs.Prelude.{◌⊎◌}
+use Rattle.std.proofs.lemmas.Grind.{replicate_next}
 use Rattle.ply_check.specs.declared.header.Header.{Header}
 use Rattle.ply_check.specs.declared.header_line.HeaderLine.{HeaderLine}
 use Rattle.ply_check.specs.declared.header_line.HeaderLine.TheVariants.{Format, Vertices, Property, Faces, FaceList, Comment, End}
@@ -31,10 +32,6 @@ pub record Leads (s : Stage) (l : HeaderLine) (next : Stage) : Type 0 where
   pub wide : Wide next
   pub far : ((is_comment l ≡ true) × (so_far next ≡ so_far s)) ⊎ ((is_comment l ≡ false) × (so_far next ≡ so_far s ++ l ∷ []))
 
-replicate-one_more : (n : ℕ) (x : HeaderLine) → replicate (n + 1) x ≡ replicate n x ++ x ∷ []
-replicate-one_more zero x = refl
-replicate-one_more (suc n) x = let one : suc n + 1 ≡ suc (n + 1) = omega arith in rw one (ap (λ xs. x ∷ xs) (replicate-one_more n x))
-
 pub leads : (s : Stage) (l : HeaderLine) (next : Stage) → Wide s → step_after s l ≡ Some (On next) → Leads s l next
 leads s Comment next wide e = let same : s ≡ next = cc in rw (← same) (record { wide = wide; far = inl (refl, refl) })
 leads Opened Format next wide e = let is : Formatted ≡ next = cc in rw (← is) (record { wide = tt; far = inr (refl, refl) })
@@ -42,7 +39,7 @@ leads Formatted (Vertices n) next wide e = let is : Counted n ≡ next = cc in r
 leads (Counted n) Property next wide e = let is : Measured n 1 ≡ next = cc in rw (← is) (record { wide = omega arith; far = inr (refl, refl) })
 leads (Measured n w) Property next wide e =
     let is : Measured n (w + 1) ≡ next = cc in
-    rw (← is) (record { wide = omega arith; far = inr (refl, ap (λ xs. Format ∷ Vertices n ∷ xs) (replicate-one_more w Property)) })
+    rw (← is) (record { wide = omega arith; far = inr (refl, ap (λ xs. Format ∷ Vertices n ∷ xs) (replicate_next w Property)) })
 leads (Measured n w) (Faces f) next wide e =
     let is : Listed (record { vertices = n; width = w; faces = f }) ≡ next = cc in
     rw (← is) (record { wide = wide; far = inr (refl, refl) })

@@ -1,45 +1,24 @@
 -- What lists of numbers have, and how often.
-use Rattle.std.proofs.Common.{◌≡◌, ℕ, zero, suc, ◌+◌, ◌<◌, ◌≤◌, Bool, true, false, List, [], ◌∷◌, length, get_or, refl, sym, ap, arith, inl, inr, subst, cond, ◌∙◌}
+use Rattle.std.proofs.Common.{◌≡◌, ℕ, ◌+◌, ◌≤◌, Bool, true, false, List, [], ◌∷◌, length, refl, sym, ap, arith, inl, inr, cond, ◌∙◌}
 use Rattle.std.specs.Prelude.{◌==◌, ◌⊎◌, All, AllPairs, Contains, count_by, map}
 use Rattle.std.specs.List.{remove}
 use Rattle.std.proofs.lemmas.Bool.{cases_Bool, cases_eq, eq-eqb, ne_eqb}
-use Rattle.std.proofs.lemmas.List.Elements.{All-cons, All-contains, All-head, All-nil, All-tail, Contains-append_right}
+use Rattle.std.proofs.lemmas.List.Elements.{All-cons, All-contains, All-head, All-nil, All-tail}
 use Rattle.std.proofs.lemmas.List.Kept.{AllPairs-cons}
 use Rattle.std.proofs.lemmas.List.Sorted.{Contains-permutation, IsPermutation-remove, length_permutation}
 use Rattle.std.proofs.lemmas.List.Sums.{sum_by-cons}
+use Rattle.kuhn_cells.proofs.OrderLaws.{first_before, rest_in_order}
+use Rattle.kuhn_cells.proofs.VertexLaws.{head_or_tail, in_head, in_tail, not_in_none}
+use Rattle.mesh_laws.proofs.Lists.{Differ}
 
 -- ---- what a list has
-
-pub not_in_none : {A : Type 0} (x : A) → Contains [] x → ⊥
-not_in_none x h = omega (arith, h.1)
-
-pub in_head : {A : Type 0} (x : A) (xs : List A) → Contains (x ∷ xs) x
-in_head x xs = (0, omega arith, refl)
-
-pub in_tail : {A : Type 0} (y : A) (xs : List A) (x : A) → Contains xs x → Contains (y ∷ xs) x
-in_tail y xs x h = Contains-append_right (y ∷ []) xs x h
-
-pub head_or_tail : {A : Type 0} (y : A) (ys : List A) (x : A) → Contains (y ∷ ys) x → (y ≡ x) ⊎ Contains ys x
-head_or_tail {A} y ys x h = at h.0 h.1 h.2
-  where
-    at : (k : ℕ) → k < length (y ∷ ys) → get_or (y ∷ ys) k x ≡ x → (y ≡ x) ⊎ Contains ys x
-    at zero within e = inl e
-    at (suc k) within e = inr (k, omega (arith, within), e)
-
-pub in_map : {X A : Type 0} (f : X → A) (ys : List X) (y : X) → Contains ys y → Contains (map f ys) (f y)
-in_map f [] y h = absurd (not_in_none y h)
-in_map f (z ∷ zs) y h =
-    elim (head_or_tail z zs y h) [
-      | inl same ↦ subst (Contains (f z ∷ map f zs)) (ap f same) (in_head (f z) (map f zs))
-      | inr later ↦ in_tail (f z) (map f zs) (f y) (in_map f zs y later)
-    ]
 
 -- an element of a list that is made by a function comes from one
 pub from_map : {X A : Type 0} (f : X → A) (ys : List X) (x : A) → Contains (map f ys) x → (y : X) × (Contains ys y) × (f y ≡ x)
 from_map f [] x h = absurd (not_in_none x h)
 from_map f (z ∷ zs) x h =
     elim (head_or_tail (f z) (map f zs) x h) [
-      | inl same ↦ (z, in_head z zs, same)
+      | inl same ↦ (z, in_head zs z, same)
       | inr later ↦ let p = from_map f zs x later in (p.0, in_tail z zs p.0 p.1, p.2)
     ]
 
@@ -53,24 +32,15 @@ in_or_not (y ∷ ys) x = by (cases_eq y x) (in_or_not ys x)
     neither a b (inr q) = b q
 
     by : (y ≡ x) ⊎ (y ≡ x → ⊥) → Contains ys x ⊎ (Contains ys x → ⊥) → Contains (y ∷ ys) x ⊎ (Contains (y ∷ ys) x → ⊥)
-    by (inl same) rest = inl (rw same (in_head x ys))
+    by (inl same) rest = inl (rw same (in_head ys x))
     by (inr other) (inl later) = inl (in_tail y ys x later)
     by (inr other) (inr none) = inr (λ h. neither other none (head_or_tail y ys x h))
 
 pub all_in : {A : Type 0} (P : A → Type 0) (xs : List A) → ((x : A) → Contains xs x → P x) → All P xs
 all_in P [] each = All-nil P
-all_in P (x ∷ xs) each = All-cons P x xs (each x (in_head x xs)) (all_in P xs (λ y h. each y (in_tail x xs y h)))
+all_in P (x ∷ xs) each = All-cons P x xs (each x (in_head xs x)) (all_in P xs (λ y h. each y (in_tail x xs y h)))
 
 -- ---- lists without repetition
-
-abbrev pub Differ : ℕ → ℕ → Type 0
-Differ x y = x ≡ y → ⊥
-
-pub pairs_head : {A : Type 0} (R : A → A → Type 0) (x : A) (xs : List A) → AllPairs R (x ∷ xs) → All (R x) xs
-pairs_head R x xs h = λ k d within. h 0 (suc k) d (omega arith) (omega (arith, within))
-
-pub pairs_tail : {A : Type 0} (R : A → A → Type 0) (x : A) (xs : List A) → AllPairs R (x ∷ xs) → AllPairs R xs
-pairs_tail R x xs h = λ i j d less within. h (suc i) (suc j) d (omega (arith, less)) (omega (arith, within))
 
 other_than : (x y : ℕ) (zs : List ℕ) → Differ x y → Contains (x ∷ zs) y → Contains zs y
 other_than x y zs differ h = by (head_or_tail x zs y h)
@@ -87,9 +57,9 @@ no_longer (x ∷ xs) ys differ within =
     let rest : List ℕ = remove ys h.0 in
     let moved = IsPermutation-remove ys h.0 x h.1 (sym h.2) in
     let each : All (Contains rest) xs =
-    all_in (Contains rest) xs (λ y at. other_than x y rest (All-contains (Differ x) xs y (pairs_head Differ x xs differ) at)
+    all_in (Contains rest) xs (λ y at. other_than x y rest (All-contains (Differ x) xs y (first_before Differ x xs differ) at)
     (Contains-permutation ys (x ∷ rest) y moved (All-contains (Contains ys) xs y (All-tail (Contains ys) x xs within) at))) in
-    let shorter = no_longer xs rest (pairs_tail Differ x xs differ) each in
+    let shorter = no_longer xs rest (rest_in_order Differ x xs differ) each in
     omega (arith, shorter, length_permutation ys (x ∷ rest) moved)
 
 -- where it is no shorter either, it has all elements of the other
@@ -118,7 +88,7 @@ count-take p x xs e = let k : cond {A = ℕ} (p x) 1 0 ≡ 1 = ap (λ b. cond {A
 pub count-none : (ys : List ℕ) (v : ℕ) → (Contains ys v → ⊥) → count_by (λ y. y == v) ys ≡ 0
 count-none [] v none = refl
 count-none (y ∷ ys) v none =
-    let other : (y == v) ≡ false = ne_eqb y v (λ same. none (rw same (in_head v ys))) in
+    let other : (y == v) ≡ false = ne_eqb y v (λ same. none (rw same (in_head ys v))) in
     rw (count-cons (λ z. z == v) y ys, other, count-none ys v (λ h. none (in_tail y ys v h))) refl
 
 pub count-once : (ys : List ℕ) (v : ℕ) → AllPairs Differ ys → Contains ys v → count_by (λ y. y == v) ys ≡ 1
@@ -126,11 +96,11 @@ count-once [] v differ h = absurd (not_in_none v h)
 count-once (y ∷ ys) v differ h =
     elim (head_or_tail y ys v h) [
       | inl same ↦
-          let rest = count-none ys v (λ at. All-contains (Differ y) ys v (pairs_head Differ y ys differ) at same) in
+          let rest = count-none ys v (λ at. All-contains (Differ y) ys v (first_before Differ y ys differ) at same) in
           rw (count-cons (λ z. z == v) y ys, eq-eqb y v same, rest) refl
       | inr later ↦
-          let other : (y == v) ≡ false = ne_eqb y v (All-contains (Differ y) ys v (pairs_head Differ y ys differ) later) in
-          rw (count-cons (λ z. z == v) y ys, other, count-once ys v (pairs_tail Differ y ys differ) later) refl
+          let other : (y == v) ≡ false = ne_eqb y v (All-contains (Differ y) ys v (first_before Differ y ys differ) later) in
+          rw (count-cons (λ z. z == v) y ys, other, count-once ys v (rest_in_order Differ y ys differ) later) refl
     ]
 
 -- what is counted is there
@@ -138,7 +108,7 @@ pub found : {A : Type 0} (p : A → Bool) (xs : List A) → 1 ≤ count_by p xs 
 found p [] h = absurd (omega (arith, h))
 found p (x ∷ xs) h =
     elim (cases_Bool (p x)) [
-      | inl e ↦ (x, in_head x xs, e)
+      | inl e ↦ (x, in_head xs x, e)
       | inr e ↦
           let fewer = count-skip p x xs e in
           let r = found p xs (omega (arith, h, fewer)) in

@@ -3,6 +3,8 @@ use Rattle.std.proofs.Common.{◌≡◌, ℕ, zero, suc, ◌+◌, ◌-◌, ◌<�
 use Rattle.std.specs.Prelude.{filter, OnOk}
 use Rattle.std.specs.List.{range_with_len}
 use Rattle.std.specs.Result.{is_err}
+use Rattle.std.proofs.lemmas.List.{length-map}
+use Rattle.std.proofs.lemmas.List.Sums.{count_by-le-length, length-filter}
 use Rattle.std.proofs.lemmas.Slice.Zip.{length-zip}
 use Rattle.clause_reader.specs.declared.comments.Comments.TheVariants.{Kept}
 use Rattle.clause_reader.specs.Lines.{lines_of, onto_first, tokens_of}
@@ -152,16 +154,7 @@ lines_few (byte ∷ rest) = by (eqb byte 10) (lines_few rest)
     by false few = onto_first-length byte (lines_of rest) (length rest) few
 
 filter_few : {X : Type 0} (p : X → Bool) → (xs : List X) → length (filter p xs) ≤ length xs
-filter_few p [] = omega arith
-filter_few p (x ∷ xs) = by (p x) (filter_few p xs)
-  where
-    by : (b : Bool) → length (filter p xs) ≤ length xs → length (cond b (x ∷ filter p xs) (filter p xs)) ≤ suc (length xs)
-    by true few = omega arith
-    by false few = omega arith
-
-map_length : (lines : List (List ℕ)) → length (map tokens_of lines) ≡ length lines
-map_length [] = refl
-map_length (line ∷ lines) = ap suc (map_length lines)
+filter_few p xs = rw (length-filter p xs) (count_by-le-length p xs)
 
 pub given_few : (text : List ℕ) → length (given_lines Kept text) ≤ length text
 given_few text =
@@ -169,7 +162,7 @@ given_few text =
       arith,
       filter_few (λ (line : ℕ × List (List ℕ)). is_given Kept line.1) (numbered_from 1 (lines_of text)),
       length-zip (range_with_len 1 (length (lines_of text))) (map tokens_of (lines_of text)),
-      map_length (lines_of text),
+      length-map (lines_of text) tokens_of,
       lines_few text,
     )
 

@@ -11,8 +11,8 @@ use Rattle.ply_check.specs.Answers.{fault_at, ply_answer, width_at}
 use Rattle.ply_check.specs.FaceLines.{said_face}
 use Rattle.ply_check.specs.Gives.{MayWantMemory}
 use Rattle.ply_check.specs.HeaderLines.{digits_said, header_line, is_ply, is_type}
-use Rattle.ply_check.specs.ReadingLaws.{NoneIsReadAndRefused}
 use Rattle.ply_check.specs.PlyFiles.{ply_lines, HasWidth, PlyReads, PlyRefuses}
+use Rattle.ply_check.proofs.Exact.{never_both}
 
 -- what the lines of headers say
 format_says : header_line (tokens_of (codes "format  ascii 1.0\r")) ≡ Format
@@ -210,8 +210,8 @@ some_face_is_left : (bytes : List ℕ) (line : ℕ) (memory : MayWantMemory byte
 some_face_is_left bytes line memory = memory.few
 
 -- the same file is refused nowhere
-one_face_is_not_refused : NoneIsReadAndRefused → (line : ℕ) (reason : PlyReason) → PlyRefuses one_face line reason → ⊥
-one_face_is_not_refused law line reason = law one_face 3 ((0 ∷ 1 ∷ 2 ∷ []) ∷ []) line reason one_face_is_said
+one_face_is_not_refused : (line : ℕ) (reason : PlyReason) → PlyRefuses one_face line reason → ⊥
+one_face_is_not_refused line reason = never_both one_face 3 ((0 ∷ 1 ∷ 2 ∷ []) ∷ []) line reason one_face_is_said
 
 -- properties are counted while they are read alone
 widths : width_at Opened ∷ width_at Formatted ∷ width_at (Counted 4) ∷ width_at (Measured 4 3)

@@ -5,7 +5,8 @@ use Rattle.std.specs.List.{HoldsAt}
 use Rattle.std.proofs.lemmas.Bool.{cases_order}
 use Rattle.kuhn_cells.specs.Faces.{Face as Triple}
 use Rattle.mesh_laws.specs.Closed.{IsClosed, IsTriangle, directed_edges}
-use Rattle.mesh_laws.specs.Laws.{EdgesArePaired, HaveOneCycle}
+use Rattle.mesh_laws.proofs.ClosedLaws.{edges_are_paired}
+use Rattle.mesh_laws.proofs.FanLaws.{have_one_cycle}
 use Rattle.ply_check.specs.declared.finding.Finding.{Finding}
 use Rattle.ply_check.specs.declared.finding.Finding.TheVariants.{Closed, Edge, Face, Vertex}
 use Rattle.ply_check.specs.VerdictLaws.{MeshesAreFoundClosed, OneFindingIsRight, VerdictsAreExact}
@@ -26,9 +27,9 @@ pub verdicts_are_exact : VerdictsAreExact
 verdicts_are_exact count faces =
     (λ h. (closed_from faces h.0 h.1, h.2), λ h. (h.0.triangles, closed_is faces h.0, h.1))
 
-pub meshes_are_found_closed : EdgesArePaired → HaveOneCycle → MeshesAreFoundClosed
-meshes_are_found_closed paired cycle g framed =
-    ((paired g framed).triangles, closed_is _ (paired g framed), cycle g framed)
+pub meshes_are_found_closed : MeshesAreFoundClosed
+meshes_are_found_closed g framed =
+    ((edges_are_paired g framed).triangles, closed_is _ (edges_are_paired g framed), have_one_cycle g framed)
 
 -- ---- one finding
 

@@ -2,8 +2,10 @@
 use Rattle.std.proofs.Common.{◌≡◌, ℕ, zero, suc, ◌<◌, List, [], ◌∷◌, length, refl, sym, ap, arith, inl, inr, ◌∙◌}
 use Rattle.std.specs.Prelude.{AllPairs, Contains}
 use Rattle.std.proofs.lemmas.List.Kept.{AllPairs-cons}
+use Rattle.kuhn_cells.proofs.VertexLaws.{head_or_tail, in_head, in_tail, not_in_none}
+use Rattle.mesh_laws.proofs.Lists.{Differ}
 use Rattle.ply_check.specs.Walks.{stepped}
-use Rattle.ply_check.proofs.Lists.{Differ, all_in, head_or_tail, in_head, in_tail, not_in_none}
+use Rattle.ply_check.proofs.Lists.{all_in}
 
 -- the numbers on a walk of so many
 abbrev pub walk : (ℕ → ℕ) → ℕ → ℕ → List ℕ
@@ -29,7 +31,7 @@ on_walk next x (suc n) y h =
 
 pub walk_has : (next : ℕ → ℕ) (i n x : ℕ) → i < n → Contains (walk next x n) (stepped next i x)
 walk_has next i zero x less = absurd (omega (arith, less))
-walk_has next zero (suc n) x less = in_head x (walk next (next x) n)
+walk_has next zero (suc n) x less = in_head (walk next (next x) n) x
 walk_has next (suc i) (suc n) x less =
     in_tail x (walk next (next x) n) (stepped next i (next x)) (walk_has next i n (next x) (omega (arith, less)))
 

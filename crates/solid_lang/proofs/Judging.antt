@@ -1,10 +1,10 @@
 -- What is told of tokens: that they say a solid, with so many clauses, or why they are none.
-use Rattle.std.proofs.Common.{◌≡◌, ◌≢◌, ℕ, ◌+◌, ◌≤◌, ℤ, Bool, true, false, ◌⊎◌, inl, inr, nat_le, if◌then◌else◌, List, [], ◌∷◌, ◌++◌, append_assoc, append-nil, Option, Some, None, Result, Ok, Err, refl, ap, sym, subst, ◌∙◌, arith}
+use Rattle.std.proofs.Common.{◌≡◌, ◌≢◌, ℕ, ◌+◌, ℤ, Bool, true, false, ◌⊎◌, inl, inr, nat_le, if◌then◌else◌, List, [], ◌∷◌, ◌++◌, append_assoc, append-nil, Option, Some, None, Result, Ok, Err, refl, ap, sym, subst, ◌∙◌, arith}
 use Rattle.std.specs.Int.{is_positive}
 use Rattle.fixed_ops.specs.Numerals.{numeral}
 use Rattle.solid_lang.specs.declared.solid_fault.SolidFault.{SolidFault}
 use Rattle.solid_lang.specs.declared.solid_reason.SolidReason.{SolidReason}
-use Rattle.solid_lang.specs.declared.solid_reason.SolidReason.TheVariants.{UnknownForm, TooDeep, NotPositive, Unended, Empty, NoMemory}
+use Rattle.solid_lang.specs.declared.solid_reason.SolidReason.TheVariants.{TooDeep, NotPositive, Unended, Empty, NoMemory}
 use Rattle.solid_lang.specs.declared.form.Form.{Form}
 use Rattle.solid_lang.specs.declared.want.Want.{Want}
 use Rattle.solid_lang.specs.declared.want.Want.TheVariants.{Numeral, Size, Whole}
@@ -13,7 +13,7 @@ use Rattle.solid_lang.specs.Counts.{clause_count}
 use Rattle.solid_lang.specs.Forms.{form_named}
 use Rattle.solid_lang.specs.Judged.{capped, fault_at, judged, told, unless_bad}
 use Rattle.solid_lang.specs.Reading.{Says, TokensRead}
-use Rattle.solid_lang.specs.Refusing.{EndsWithin, HasBad, HasNone, TokensRefuse}
+use Rattle.solid_lang.specs.Refusing.{EndsWithin, HasBad, TokensRefuse}
 use Rattle.solid_lang.specs.Solids.{SolidTree}
 use Rattle.solid_lang.specs.Wants.{and_then, form_wants, in_front, numeral_wants, size_wants, take_token, wants_after, wants_of, whole_solid}
 use Rattle.solid_lang.proofs.Filling.{all-filled}
@@ -210,8 +210,8 @@ never_both ts s line reason reads refuses =
     let b = refuses-told ts line reason refuses in
     (cc)
 
-pub one_refusal : (ts : Tokens) (a b : SolidFault) → TokensRefuse ts a.line a.reason → TokensRefuse ts b.line b.reason → a ≡ b
-one_refusal ts a b x y =
+pub tokens_refuse_once : (ts : Tokens) (a b : SolidFault) → TokensRefuse ts a.line a.reason → TokensRefuse ts b.line b.reason → a ≡ b
+tokens_refuse_once ts a b x y =
     let p = refuses-told ts a.line a.reason x in
     let q = refuses-told ts b.line b.reason y in
     (cc)

@@ -1,6 +1,6 @@
 -- Each text has one judgement.
-use Rattle.std.proofs.Common.{◌≡◌, ℕ, ◌<◌, ◌≤◌, Bool, true, false, ◌⊎◌, inl, inr, nat_le, List, refl, ap, sym, ◌∙◌, arith}
-use Rattle.std.proofs.lemmas.Bool.Decides.{nat_tests}
+use Rattle.std.proofs.Common.{◌≡◌, ℕ, ◌<◌, ◌≤◌, ◌⊎◌, inl, inr, List, refl, ap, sym, ◌∙◌, arith}
+use Rattle.std.proofs.lemmas.Bool.{cases_lt}
 use Rattle.solid_lang.specs.declared.solid_fault.SolidFault.{SolidFault}
 use Rattle.solid_lang.specs.declared.solid_reason.SolidReason.{SolidReason}
 use Rattle.solid_lang.specs.declared.solid_reason.SolidReason.TheVariants.{TooMany}
@@ -12,26 +12,19 @@ use Rattle.solid_lang.specs.Reading.{SolidReads}
 use Rattle.solid_lang.specs.Refusing.{SolidRefuses, TokensRefuse}
 use Rattle.solid_lang.specs.Solids.{SolidTree}
 use Rattle.solid_lang.proofs.BuildLemmas.{one-read}
-use Rattle.solid_lang.proofs.Judging.{each_answered, never_both, one_refusal}
-
-few_or_many : (n : ℕ) → (n ≤ 65535) ⊎ (65535 < n)
-few_or_many n = by (nat_le n 65535) refl
-  where
-    by : (b : Bool) → nat_le n 65535 ≡ b → (n ≤ 65535) ⊎ (65535 < n)
-    by true low = let few : n ≤ 65535 = grind (arith, nat_tests) in inl few
-    by false high = let many : 65535 < n = grind (arith, nat_tests) in inr many
+use Rattle.solid_lang.proofs.Judging.{each_answered, never_both, tokens_refuse_once}
 
 pub each_judged : (text : List ℕ) → ((clauses : ℕ) × HasClauses text clauses) ⊎ ((fault : SolidFault) × SolidRefuses text fault.line fault.reason)
 each_judged text = by (each_answered (numbered_tokens text))
   where
-    count : (s : SolidTree) → SolidReads text s → (clause_count s ≤ 65535) ⊎ (65535 < clause_count s)
+    count : (s : SolidTree) → SolidReads text s → (65535 < clause_count s) ⊎ (clause_count s ≤ 65535)
         → ((clauses : ℕ) × HasClauses text clauses) ⊎ ((fault : SolidFault) × SolidRefuses text fault.line fault.reason)
-    count s reads (inl few) = inl (clause_count s, record { solid = s; reads = reads; count = refl; few = few })
-    count s reads (inr many) = inr (fault_at 0 TooMany, inr (record { solid = s; read = reads; many = many; zero = refl; too_many = refl }))
+    count s reads (inr few) = inl (clause_count s, record { solid = s; reads = reads; count = refl; few = few })
+    count s reads (inl many) = inr (fault_at 0 TooMany, inr (record { solid = s; read = reads; many = many; zero = refl; too_many = refl }))
 
     by : ((s : SolidTree) × SolidReads text s) ⊎ ((f : SolidFault) × TokensRefuse (numbered_tokens text) f.line f.reason)
         → ((clauses : ℕ) × HasClauses text clauses) ⊎ ((fault : SolidFault) × SolidRefuses text fault.line fault.reason)
-    by (inl h) = count h.0 h.1 (few_or_many (clause_count h.0))
+    by (inl h) = count h.0 h.1 (cases_lt 65535 (clause_count h.0))
     by (inr h) = inr (h.0, inl h.1)
 
 pub none_judged_and_refused : (text : List ℕ) (clauses : ℕ) (f : SolidFault) → HasClauses text clauses → SolidRefuses text f.line f.reason → ⊥
@@ -47,7 +40,7 @@ one_count text a b x y =
     x.count ∙ (ap (λ (s : SolidTree). clause_count s) same ∙ sym y.count)
 
 pub one_fault : (text : List ℕ) (a b : SolidFault) → SolidRefuses text a.line a.reason → SolidRefuses text b.line b.reason → a ≡ b
-one_fault text a b (inl x) (inl y) = one_refusal (numbered_tokens text) a b x y
+one_fault text a b (inl x) (inl y) = tokens_refuse_once (numbered_tokens text) a b x y
 one_fault text a b (inl x) (inr y) = absurd (never_both (numbered_tokens text) y.solid a.line a.reason y.read x)
 one_fault text a b (inr x) (inl y) = absurd (never_both (numbered_tokens text) x.solid b.line b.reason x.read y)
 one_fault text a b (inr x) (inr y) =

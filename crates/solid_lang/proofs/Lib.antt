@@ -19,5 +19,6 @@ pub mod RawLemmas
 pub mod RawReads
 pub mod ReasonLemmas
 pub mod SolidExamples
+pub mod Theorems
 pub mod Translations
 pub mod ValueLemmas

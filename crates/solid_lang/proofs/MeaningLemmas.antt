@@ -1,18 +1,15 @@
 -- The clauses of a solid have its value.
-use Rattle.std.proofs.Common.{◌≡◌, ℕ, suc, ◌+◌, ◌-◌, ℤ, pos, List, [], ◌∷◌, ◌++◌, length, get_or, refl, ap, subst, ◌∙◌, length-append, arith}
-use Rattle.std.proofs.lemmas.List.{length-map}
-use Rattle.fixed_ops.specs.Laws.{OwnOperandsAreRead}
+use Rattle.std.proofs.Common.{◌≡◌, ℕ, suc, ◌+◌, ◌-◌, ℤ, pos, List, [], ◌∷◌, ◌++◌, length, get_or, refl, ap, subst, ◌∙◌, arith}
 use Rattle.fixed_ops.specs.Points.{Point}
-use Rattle.fixed_ops.specs.declared.operation.Op.TheVariants.{X, Y, Z, Const, Neg, Square, Abs, Add, Sub, Div, Min, Max}
-use Rattle.solid_model.specs.Values.{values, solid_value}
+use Rattle.fixed_ops.specs.declared.operation.Op.TheVariants.{X, Y, Z}
+use Rattle.solid_model.specs.Values.{values}
 use Rattle.solid_lang.specs.declared.axes.Axes.{Axes}
 use Rattle.solid_lang.specs.declared.step.Step.{Step}
-use Rattle.solid_lang.specs.Compiled.{all_steps, clauses_at, compiled, coordinate, coordinates, first_axes}
+use Rattle.solid_lang.specs.Compiled.{clauses_at, compiled, coordinate, coordinates, first_axes}
 use Rattle.solid_lang.specs.CompiledLaws.{CompiledSolidsKeepValues, CompiledSolidsAreCounted}
-use Rattle.solid_lang.specs.Counts.{form_clauses, clause_count}
 use Rattle.solid_lang.specs.Meaning.{add, distance, divided, greater, lesser, moved_back, negative, scaled_back, square, sub, value_at}
 use Rattle.solid_lang.specs.Solids.{SolidTree, Ball, Block, Cylinder, Move, Scale, Union, Intersect, Difference}
-use Rattle.solid_lang.specs.Steps.{after, ball_steps, box_steps, constant, cylinder_steps, difference_steps, intersect_steps, last_of, move_steps, moved_axes, on_one, on_two, scale_steps, scaled_axes, solid_steps, union_steps}
+use Rattle.solid_lang.specs.Steps.{after, ball_steps, box_steps, cylinder_steps, difference_steps, intersect_steps, last_of, move_steps, moved_axes, scale_steps, scaled_axes, solid_steps, union_steps}
 use Rattle.solid_lang.specs.Placing.{Each}
 use Rattle.solid_lang.proofs.EachStep.{each-back, each-front}
 use Rattle.solid_lang.proofs.FitLemmas.{length-solid_steps}
@@ -154,10 +151,10 @@ length-clauses_at n (x ∷ xs) = ap suc (length-clauses_at (n + 1) xs)
 pub length-compiled : CompiledSolidsAreCounted
 length-compiled s = omega (arith, length-clauses_at 3 (solid_steps s 3 first_axes), length-solid_steps s 3 first_axes)
 
-pub compiled_keep : OwnOperandsAreRead → CompiledSolidsKeepValues
-compiled_keep read s p =
+pub compiled_keep : CompiledSolidsKeepValues
+compiled_keep s p =
     let all = values p (compiled s) in
-    let hold = compiled_values read p s in
+    let hold = compiled_values p s in
     let gives : Gives p all first_axes p = record { x = hold 0 (coordinate X) refl; y = hold 1 (coordinate Y) refl; z = hold 2 (coordinate Z) refl } in
     let later = each-back (IsValue p all) 0 3 coordinates (solid_steps s 3 first_axes) refl hold in
     ap (λ k. get_or all (k - 1) (pos 0)) (length-compiled s) ∙ solid_has_value p all s 3 first_axes p later gives

@@ -1,11 +1,9 @@
 -- Where there is room for them, the clauses of a solid are a model.
-use Rattle.std.proofs.Common.{◌≡◌, ℕ, zero, suc, ◌+◌, ◌<◌, ◌≤◌, List, [], ◌∷◌, ◌++◌, length, Some, slice_get, ap, sym, ◌∙◌, refl, subst, arith}
+use Rattle.std.proofs.Common.{◌≡◌, ◌+◌, ◌≤◌, ap, sym, ◌∙◌, subst, arith}
 use Rattle.std.proofs.lemmas.Option.{slice_get_within}
 use Rattle.solid_model.specs.declared.clause.Clause.{Clause}
-use Rattle.solid_model.specs.Clauses.{AreInOrder, HaveDistinctNames, IsClauseAt, IsModel}
-use Rattle.clause_reader.specs.WritingLaws.{WrittenModelsAreRead}
-use Rattle.solid_lang.specs.declared.step.Step.{Step}
-use Rattle.solid_lang.specs.Compiled.{all_steps, clause_at, clauses_at, compiled, place_name}
+use Rattle.solid_model.specs.Clauses.{AreInOrder, HaveDistinctNames, IsClauseAt}
+use Rattle.solid_lang.specs.Compiled.{all_steps, clause_at, compiled, place_name}
 use Rattle.solid_lang.specs.CompiledLaws.{CompiledSolidsAreModels, CompiledTextsAreRead}
 use Rattle.solid_lang.specs.Counts.{clause_count}
 use Rattle.solid_lang.specs.Placing.{Fits}
@@ -15,25 +13,8 @@ use Rattle.solid_lang.proofs.FitLemmas.{all_fit}
 use Rattle.solid_lang.proofs.MeaningLemmas.{length-compiled}
 use Rattle.solid_lang.proofs.NameLemmas.{place_is_name, same_place}
 use Rattle.solid_lang.proofs.RawLemmas.{all_raw}
-
--- a clause at a place is that of a step
-record IsOfStep (n : ℕ) (steps : List Step) (k : ℕ) (clause : Clause) : Type 0 where
-  step : Step
-  there : slice_get steps k ≡ Some step
-  is : clause ≡ clause_at (n + k) step
-
-clause_is_of_step : (n : ℕ) (steps : List Step) (k : ℕ) (clause : Clause) → slice_get (clauses_at n steps) k ≡ Some clause → IsOfStep n steps k clause
-clause_is_of_step n [] k clause e = (cc)
-clause_is_of_step n (x ∷ xs) zero clause e =
-    let same : n ≡ n + 0 = omega arith in
-    record { step = x; there = refl; is = some-is (sym e) ∙ ap (λ j. clause_at j x) same }
-  where
-    some-is : Some clause ≡ Some (clause_at n x) → clause ≡ clause_at n x
-    some-is f = (cc)
-clause_is_of_step n (x ∷ xs) (suc k) clause e =
-    let rest = clause_is_of_step (n + 1) xs k clause e in
-    let same : n + 1 + k ≡ n + suc k = omega arith in
-    record { step = rest.step; there = rest.there; is = rest.is ∙ ap (λ j. clause_at j rest.step) same }
+use Rattle.solid_lang.proofs.ValueLemmas.{clause_is_of_step}
+use Rattle.clause_reader.proofs.ReadBack.{model_text_is_read}
 
 compiled_in_order : (s : SolidTree) → HasRawNumbers s → clause_count s ≤ 65535 → AreInOrder (compiled s)
 compiled_in_order s raw few place clause e =
@@ -71,5 +52,5 @@ compiled_is_model s raw few =
       };
     }
 
-pub compiled_text_is_read : WrittenModelsAreRead → CompiledTextsAreRead
-compiled_text_is_read read s raw few = read (compiled s) (compiled_is_model s raw few)
+pub compiled_text_is_read : CompiledTextsAreRead
+compiled_text_is_read s raw few = model_text_is_read (compiled s) (compiled_is_model s raw few)

@@ -1,14 +1,12 @@
 -- What the text of a solid is translated to.
-use Rattle.std.proofs.Common.{◌≡◌, ◌≢◌, IsOk, ℕ, ◌<◌, ◌≤◌, Bool, true, false, List, [], Option, Some, None, Result, Ok, Err, nat_le, ◌⊎◌, inl, inr, refl, sym, ap, subst, ◌∙◌, arith}
+use Rattle.std.proofs.Common.{◌≡◌, ◌≢◌, IsOk, ℕ, ◌<◌, ◌≤◌, Bool, true, false, List, None, Result, Ok, Err, nat_le, ◌⊎◌, inl, inr, refl, sym, ap, subst, ◌∙◌}
 use Rattle.std.specs.Prelude.{IfErr, IsErrAnd}
-use Rattle.std.proofs.lemmas.Bool.Decides.{nat_tests}
+use Rattle.std.proofs.lemmas.Bool.{cases_lt, le-leb, leb-false, leb-true, lt-leb}
 use Rattle.clause_reader.specs.ModelText.{model_text}
 use Rattle.solid_lang.specs.declared.solid_fault.SolidFault.{SolidFault}
 use Rattle.solid_lang.specs.declared.solid_reason.SolidReason.{SolidReason}
 use Rattle.solid_lang.specs.declared.solid_reason.SolidReason.TheVariants.{NoMemory, TooMany}
-use Rattle.solid_lang.specs.Building.{solid_read}
 use Rattle.solid_lang.specs.Compiled.{compiled}
-use Rattle.solid_lang.specs.CompiledLaws.{CompiledSolidsKeepValues, CompiledTextsAreRead}
 use Rattle.solid_lang.specs.Counts.{clause_count}
 use Rattle.solid_lang.specs.Gives.{HasClauses, LacksRoom, WithholdsShort}
 use Rattle.solid_lang.specs.Judged.{fault_at, judged}
@@ -16,26 +14,22 @@ use Rattle.solid_lang.specs.NumberedTokens.{numbered_tokens}
 use Rattle.solid_lang.specs.Reading.{SolidReads}
 use Rattle.solid_lang.specs.Refusing.{SolidRefuses}
 use Rattle.solid_lang.specs.Solids.{SolidTree}
-use Rattle.solid_lang.specs.Translated.{text_of, translated}
+use Rattle.solid_lang.specs.Translated.{translated}
 use Rattle.solid_lang.specs.TranslationLaws.{RefusalsStand, SaysValuesOf, SolidsAreTranslated, TranslationsKeepValues}
 use Rattle.solid_lang.specs.Wants.{whole_solid}
 use Rattle.solid_lang.proofs.BuildLemmas.{whole-built}
 use Rattle.solid_lang.proofs.Giving.{judges-fault, judges-few, judges-many}
 use Rattle.solid_lang.proofs.JudgingLemmas.{none_judged_and_refused, one_fault}
+use Rattle.solid_lang.proofs.MeaningLemmas.{compiled_keep}
+use Rattle.solid_lang.proofs.ModelLemmas.{compiled_text_is_read}
 use Rattle.solid_lang.proofs.RawReads.{said-raw}
 
 -- a judgement, and what the text is translated to by it
 few_yes : (n : ℕ) → n ≤ 65535 → nat_le n 65535 ≡ true
-few_yes n few = grind (arith, nat_tests, few)
+few_yes n few = le-leb n 65535 few
 
 many_no : (n : ℕ) → 65535 < n → nat_le n 65535 ≡ false
-many_no n many = grind (arith, nat_tests, many)
-
-le_few : (n : ℕ) → nat_le n 65535 ≡ true → n ≤ 65535
-le_few n low = grind (arith, nat_tests, low)
-
-le_many : (n : ℕ) → nat_le n 65535 ≡ false → 65535 < n
-le_many n high = grind (arith, nat_tests, high)
+many_no n many = lt-leb n 65535 many
 
 module _ (text : List ℕ) where
   abbrev judgement : Result ℕ SolidFault
@@ -61,8 +55,8 @@ module _ (text : List ℕ) where
       has = record { solid = s; reads = reads; count = refl; few = few }
 
       counted : (n : ℕ) (low : Bool) → judgement ≡ Ok n → nat_le n 65535 ≡ low → translated text ≡ Ok (model_text (compiled s))
-      counted n true is low = by_few n s is (le_few n low) reads
-      counted n false is high = absurd (none_judged_and_refused text (clause_count s) (fault_at 0 TooMany) has (judges-many text n (sym is) (le_many n high)))
+      counted n true is low = by_few n s is (leb-true n 65535 low) reads
+      counted n false is high = absurd (none_judged_and_refused text (clause_count s) (fault_at 0 TooMany) has (judges-many text n (sym is) (leb-false n 65535 high)))
 
       by : (j : Result ℕ SolidFault) → judgement ≡ j → translated text ≡ Ok (model_text (compiled s))
       by (Err f) is = absurd (none_judged_and_refused text (clause_count s) f has (judges-fault text f (sym is)))
@@ -73,10 +67,10 @@ module _ (text : List ℕ) where
   refuses f refused = by judgement refl
     where
       counted : (n : ℕ) (low : Bool) → judgement ≡ Ok n → nat_le n 65535 ≡ low → translated text ≡ Err f
-      counted n true is low = absurd (none_judged_and_refused text n f (judges-few text n (sym is) (le_few n low)) refused)
+      counted n true is low = absurd (none_judged_and_refused text n f (judges-few text n (sym is) (leb-true n 65535 low)) refused)
       counted n false is high =
-          by_many n is (le_many n high)
-          ∙ ap (λ (g : SolidFault). Err g) (one_fault text (fault_at 0 TooMany) f (judges-many text n (sym is) (le_many n high)) refused)
+          by_many n is (leb-false n 65535 high)
+          ∙ ap (λ (g : SolidFault). Err g) (one_fault text (fault_at 0 TooMany) f (judges-many text n (sym is) (leb-false n 65535 high)) refused)
 
       by : (j : Result ℕ SolidFault) → judgement ≡ j → translated text ≡ Err f
       by (Err g) is = by_fault g is ∙ ap (λ (h : SolidFault). Err h) (one_fault text g f (judges-fault text g (sym is)) refused)
@@ -106,30 +100,23 @@ handed_on (Ok x) f P «is» p = absurd «is»
 handed_on (Err e) f P «is» p = subst P (sym «is») p
 
 -- what is written has the solid's values: it is the text of its clauses, since a text of more is refused
-few_or_many : (n : ℕ) → (n ≤ 65535) ⊎ (65535 < n)
-few_or_many n = by (nat_le n 65535) refl
-  where
-    by : (b : Bool) → nat_le n 65535 ≡ b → (n ≤ 65535) ⊎ (65535 < n)
-    by true low = inl (le_few n low)
-    by false high = inr (le_many n high)
-
-kept : CompiledSolidsKeepValues → CompiledTextsAreRead → (text : List ℕ) (s : SolidTree) (written : List ℕ) → SolidReads text s → clause_count s ≤ 65535 → translated text ≡ Ok written
+kept : (text : List ℕ) (s : SolidTree) (written : List ℕ) → SolidReads text s → clause_count s ≤ 65535 → translated text ≡ Ok written
     → SaysValuesOf s written
-kept keeps read text s written reads few says =
+kept text s written reads few says =
     let both : Ok (model_text (compiled s)) ≡ Ok written = sym (translates text s reads few) ∙ says in
     let same : model_text (compiled s) ≡ written = cc in
     subst (SaysValuesOf s) same (record {
       clauses = compiled s;
-      read = read s (said-raw s (numbered_tokens text) reads.said) few;
-      values = keeps s;
+      read = compiled_text_is_read s (said-raw s (numbered_tokens text) reads.said) few;
+      values = compiled_keep s;
     })
 
-pub translations_keep_values : CompiledSolidsKeepValues → CompiledTextsAreRead → TranslationsKeepValues
-translations_keep_values keeps read text s written reads says = by (few_or_many (clause_count s))
+pub translations_keep_values : TranslationsKeepValues
+translations_keep_values text s written reads says = by (cases_lt 65535 (clause_count s))
   where
-    by : (clause_count s ≤ 65535) ⊎ (65535 < clause_count s) → SaysValuesOf s written
-    by (inl few) = kept keeps read text s written reads few says
-    by (inr many) =
+    by : (65535 < clause_count s) ⊎ (clause_count s ≤ 65535) → SaysValuesOf s written
+    by (inr few) = kept text s written reads few says
+    by (inl many) =
         let refused = refuses text (fault_at 0 TooMany) (inr (record { solid = s; read = reads; many = many; zero = refl; too_many = refl })) in
         let both : Err (fault_at 0 TooMany) ≡ Ok written = sym refused ∙ says in
         absurd cc

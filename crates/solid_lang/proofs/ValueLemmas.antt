@@ -1,16 +1,14 @@
 -- The value of each clause of a list is what it makes of the values of its operands in that list.
-use Rattle.std.proofs.Common.{◌≡◌, ℕ, zero, suc, ◌+◌, ◌<◌, ℤ, pos, List, [], ◌∷◌, ◌++◌, length, get_or, fold, Some, slice_get, refl, ap, sym, subst, ◌∙◌, arith}
-use Rattle.std.proofs.lemmas.List.{length-append, get_or_append_left}
-use Rattle.std.proofs.Math.Seq.{get_or-append_seam}
-use Rattle.fixed_ops.specs.Laws.{OwnOperandsAreRead}
+use Rattle.std.proofs.Common.{◌≡◌, ℕ, zero, suc, ◌+◌, ℤ, pos, List, [], ◌∷◌, get_or, Some, slice_get, refl, ap, sym, subst, ◌∙◌, arith}
 use Rattle.fixed_ops.specs.Points.{Point, step_value}
 use Rattle.solid_model.specs.declared.clause.Clause.{Clause}
-use Rattle.solid_model.specs.Values.{clause_value, values}
+use Rattle.solid_model.specs.Clauses.{FitsAt}
+use Rattle.solid_model.specs.Values.{values}
+use Rattle.solid_model.proofs.ValueLemmas.{value-values}
 use Rattle.solid_lang.specs.declared.step.Step.{Step}
-use Rattle.solid_lang.specs.Compiled.{clauses_at, all_steps}
+use Rattle.solid_lang.specs.Compiled.{all_steps, clause_at, clauses_at, compiled}
 use Rattle.solid_lang.specs.Solids.{SolidTree}
 use Rattle.solid_lang.specs.Placing.{Each, Fits}
-use Rattle.solid_lang.proofs.EachStep.{each_later}
 use Rattle.solid_lang.proofs.FitLemmas.{all_fit}
 
 -- what a step gives at a point from the values of all clauses
@@ -20,49 +18,44 @@ step_of p all step = step_value step.op p step.value (get_or all step.a (pos 0))
 abbrev pub IsValue : Point → List ℤ → ℕ → Step → Type 0
 IsValue p all place step = get_or all place (pos 0) ≡ step_of p all step
 
--- the values after those of earlier clauses
-abbrev values_from : Point → List ℤ → List Clause → List ℤ
-values_from p earlier clauses = fold (λ before clause. before ++ clause_value p before clause ∷ []) earlier clauses
+-- a clause at a place is that of a step
+pub record IsOfStep (n : ℕ) (steps : List Step) (k : ℕ) (clause : Clause) : Type 0 where
+  pub step : Step
+  pub there : slice_get steps k ≡ Some step
+  pub is : clause ≡ clause_at (n + k) step
 
--- earlier values stay
-earlier_stay : (p : Point) (earlier : List ℤ) (clauses : List Clause) (k : ℕ) → k < length earlier
-    → get_or (values_from p earlier clauses) k (pos 0) ≡ get_or earlier k (pos 0)
-earlier_stay p earlier [] k h = refl
-earlier_stay p earlier (c ∷ cs) k h =
-    let v = clause_value p earlier c in
-    earlier_stay p (earlier ++ v ∷ []) cs k (omega (arith, length-append earlier (v ∷ []))) ∙ get_or_append_left earlier (v ∷ []) (pos 0) k h
+pub clause_is_of_step : (n : ℕ) (steps : List Step) (k : ℕ) (clause : Clause) → slice_get (clauses_at n steps) k ≡ Some clause → IsOfStep n steps k clause
+clause_is_of_step n [] k clause e = (cc)
+clause_is_of_step n (x ∷ xs) zero clause e =
+    let same : n ≡ n + 0 = omega arith in
+    record { step = x; there = refl; is = some-is (sym e) ∙ ap (λ j. clause_at j x) same }
+  where
+    some-is : Some clause ≡ Some (clause_at n x) → clause ≡ clause_at n x
+    some-is f = (cc)
+clause_is_of_step n (x ∷ xs) (suc k) clause e =
+    let rest = clause_is_of_step (n + 1) xs k clause e in
+    let same : n + 1 + k ≡ n + suc k = omega arith in
+    record { step = rest.step; there = rest.there; is = rest.is ∙ ap (λ j. clause_at j rest.step) same }
 
--- a step has one value over lists that agree before its place
-step_same : OwnOperandsAreRead → (p : Point) (xs ys : List ℤ) (place : ℕ) (step : Step) → Fits place step
-    → ((k : ℕ) → k < place → get_or xs k (pos 0) ≡ get_or ys k (pos 0)) → step_of p xs step ≡ step_of p ys step
-step_same read p xs ys place step fits agree =
-    read step.op p step.value _ _ _ _ (λ h. agree step.a (fits.first h)) (λ h. agree step.b (fits.second h))
-
-values_hold : OwnOperandsAreRead → (p : Point) (steps : List Step) (earlier : List ℤ) (n : ℕ) → length earlier ≡ n → Each Fits n steps
-    → Each (IsValue p (values_from p earlier (clauses_at n steps))) n steps
-values_hold read p [] earlier n long fit k step e = (cc)
-values_hold read p (x ∷ xs) earlier n long fit zero step e =
-    let v = step_of p earlier x in
-    let all = values_from p (earlier ++ v ∷ []) (clauses_at (n + 1) xs) in
-    let more = length-append earlier (v ∷ []) in
-    let seam : get_or (earlier ++ v ∷ []) n (pos 0) ≡ v = subst (λ j. get_or (earlier ++ v ∷ []) j (pos 0) ≡ v) long (get_or-append_seam earlier v [] (pos 0)) in
-    let here : get_or all n (pos 0) ≡ v = earlier_stay p (earlier ++ v ∷ []) (clauses_at (n + 1) xs) n (omega (arith, more, long)) ∙ seam in
-    let stands : Fits n x = subst (λ j. Fits j x) (omega arith) (fit 0 x refl) in
-    let agree : (k : ℕ) → k < n → get_or earlier k (pos 0) ≡ get_or all k (pos 0) = λ k h. sym (
-    earlier_stay p (earlier ++ v ∷ []) (clauses_at (n + 1) xs) k (omega (arith, more, long, h))
-    ∙ get_or_append_left earlier (v ∷ []) (pos 0) k (omega (arith, long, h))) in
-    let whole : v ≡ step_of p all x = step_same read p earlier all n x stands agree in
+-- and that of a step stands at the step's place
+clause_of_step : (n : ℕ) (steps : List Step) (k : ℕ) (step : Step) → slice_get steps k ≡ Some step → slice_get (clauses_at n steps) k ≡ Some (clause_at (n + k) step)
+clause_of_step n [] k step e = (cc)
+clause_of_step n (x ∷ xs) zero step e =
+    let same : n ≡ n + 0 = omega arith in
     let is : x ≡ step = (cc) in
-    let place : n + 0 ≡ n = omega arith in
-    rw place (here ∙ whole ∙ ap (step_of p all) is)
-values_hold read p (x ∷ xs) earlier n long fit (suc k) step e =
-    let v = step_of p earlier x in
-    let more = length-append earlier (v ∷ []) in
-    let place : n + 1 + k ≡ n + suc k = omega arith in
-    let all = values_from p (earlier ++ v ∷ []) (clauses_at (n + 1) xs) in
-    subst (λ j. IsValue p all j step) place
-    (values_hold read p xs (earlier ++ v ∷ []) (n + 1) (omega (arith, more, long)) (each_later Fits n x xs fit) k step e)
+    ap (λ j. Some (clause_at j x)) same ∙ ap (λ y. Some (clause_at (n + 0) y)) is
+clause_of_step n (x ∷ xs) (suc k) step e =
+    let same : n + 1 + k ≡ n + suc k = omega arith in
+    clause_of_step (n + 1) xs k step e ∙ ap (λ j. Some (clause_at j step)) same
 
 -- the values of the clauses of a solid
-pub compiled_values : OwnOperandsAreRead → (p : Point) (s : SolidTree) → Each (IsValue p (values p (clauses_at 0 (all_steps s)))) 0 (all_steps s)
-compiled_values read p s = values_hold read p (all_steps s) [] 0 refl (all_fit s)
+pub compiled_values : (p : Point) (s : SolidTree) → Each (IsValue p (values p (compiled s))) 0 (all_steps s)
+compiled_values p s k step e =
+    subst (λ j. IsValue p (values p (compiled s)) j step) (omega arith)
+    (value-values p (compiled s) fits k (clause_at (0 + k) step) (clause_of_step 0 (all_steps s) k step e))
+  where
+    fits : (place : ℕ) (c : Clause) → slice_get (compiled s) place ≡ Some c → FitsAt place c.op c.a c.b c.value
+    fits place c at =
+        let of = clause_is_of_step 0 (all_steps s) place c at in
+        subst (λ (d : Clause). FitsAt place d.op d.a d.b d.value) (sym of.is)
+        (subst (λ j. Fits j of.step) (omega arith) (all_fit s place of.step of.there))

@@ -1,15 +1,10 @@
 // What always holds of the definitions that the contracts cite.
 ghost use Rattle.solid_lang.specs.CompiledLaws.{CompiledSolidsAreCounted, CompiledSolidsAreModels, CompiledSolidsKeepValues, CompiledTextsAreRead};
 
-use clause_reader::written_models_are_read;
-use fixed_ops::steps_read_their_operands;
-
 /// At each point the clauses of a solid have the value of the solid there.
 pub fn compiled_solids_keep_values()
     ensures { CompiledSolidsKeepValues }
-{
-    steps_read_their_operands();
-}
+{}
 
 /// The clauses of a solid are as many as its forms ask for. Where these are at most 65,535 they are
 /// a model, whose text is read as the very clauses.
@@ -17,6 +12,4 @@ pub fn compiled_solids_are_models()
     ensures counted { CompiledSolidsAreCounted }
     ensures models { CompiledSolidsAreModels }
     ensures read { CompiledTextsAreRead }
-{
-    written_models_are_read();
-}
+{}

@@ -4,8 +4,6 @@ ghost use Rattle.solid_lang.specs.JudgingLaws.{EachTextIsJudged, NoneIsJudgedAnd
 ghost use Rattle.solid_lang.specs.ReadingLaws.{ReadingIsExact, OneReading, EachTextIsAnswered, NoneIsReadAndRefused, OneRefusal};
 ghost use Rattle.solid_lang.specs.TranslationLaws.{RefusalsStand, SolidsAreTranslated, TranslationsKeepValues};
 
-use crate::compiled_laws::{compiled_solids_are_models, compiled_solids_keep_values};
-
 /// A text is read as the one solid that its tokens say, exactly where each token is taken for what
 /// is wanted and nothing is wanted after them, or else it is no solid on the one line and for the
 /// one reason where that fails.
@@ -39,7 +37,4 @@ pub fn translation_is_exact()
     ensures solids { SolidsAreTranslated }
     ensures refusals { RefusalsStand }
     ensures values { TranslationsKeepValues }
-{
-    compiled_solids_keep_values();
-    compiled_solids_are_models();
-}
+{}

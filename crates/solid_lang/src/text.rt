@@ -9,7 +9,6 @@ ghost use Rattle.solid_lang.specs.Solids.{tree};
 ghost use Rattle.solid_lang.specs.StepLines.{step_lines};
 
 use crate::Solid;
-use crate::compiled_laws::compiled_solids_are_models;
 use crate::compiler::put_all;
 use crate::count::count_clauses;
 use crate::form_steps::MOST_STEPS;
@@ -36,7 +35,6 @@ pub fn solid_text(alloc: Global, solid: &Solid) -> Result<Vec<u8>, AllocError>
     let count = count_clauses(solid);
     let mut text = Vec::with_capacity(alloc, count as usize * LINE)?;
     put_all(&mut text, solid)?;
-    compiled_solids_are_models();
     Ok(text)
 }
 

@@ -2,7 +2,6 @@
 ghost use Rattle.std.specs.Prelude.{◌≡◌, ◌≢◌, ◌^◌, ◌<◌, Ok, Err, IfErr, IfOk, IsOk, length};
 ghost use Rattle.solid_lang.specs.Translated.{translated};
 
-use crate::laws::translation_is_exact;
 use crate::reader::read_short_solid;
 use crate::text::solid_text;
 use crate::{SolidFault, SolidReason};
@@ -15,6 +14,7 @@ use std::alloc::Global;
 /// An `Err` tells the first bad token by its line and the lowest of the reasons that hold of it, or
 /// that the tokens end too early, or, where none of this holds, that the clauses are too many.
 /// `NoMemory`, on line 0, comes only where the text is not refused.
+#[tactic(auto, using(crate::proofs::Translations::solids_are_translated))]
 pub fn translate(alloc: Global, text: &[u8]) -> Result<Vec<u8>, SolidFault>
     requires { length text.now < 2 ^ 32 }
     ensures ok { IfOk result (λ written. translated text.now ≡ Ok written.items) }
@@ -23,7 +23,6 @@ pub fn translate(alloc: Global, text: &[u8]) -> Result<Vec<u8>, SolidFault>
     ensures memory { IfErr result (λ fault. fault.reason ≡ SolidReason.NoMemory
         → (fault.line ≡ 0) × IsOk (translated text.now)) }
 {
-    translation_is_exact();
     let solid = read_short_solid(alloc, text)?;
     match solid_text(alloc, &solid) {
         Ok(written) => Ok(written),

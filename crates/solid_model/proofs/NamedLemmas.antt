@@ -132,8 +132,8 @@ placed-front clauses ys are =
     map-map (λ c. by_place (named_of clauses ++ ys) c) (λ c. by_name clauses c) clauses
     ∙ map_fixed (λ c. by_place (named_of clauses ++ ys) (by_name clauses c)) clauses (λ k d h. by_place-name clauses ys k (get_or clauses k d) are (slice_get-get_or clauses k d h))
 
-pub placed-named : (clauses : List Clause) → AreClauses clauses → placed (named_of clauses) ≡ clauses
-placed-named clauses are =
+pub placed_named : (clauses : List Clause) → AreClauses clauses → placed (named_of clauses) ≡ clauses
+placed_named clauses are =
     let none : named_of clauses ++ [] ≡ named_of clauses = simp append-nil in
     subst (λ all. map (λ c. by_place all c) (named_of clauses) ≡ clauses) none (placed-front clauses [] are)
 

@@ -1,8 +1,6 @@
 // What always holds of the definitions that the contracts cite.
 ghost use Rattle.solid_model.specs.Laws.{PlainValuesHold, OnlyPlainValuesHold, PlainValuesAreRaw, NamesGivePlaces, EditsAreTakenBack, EditsGiveModels};
 
-use fixed_ops::steps_read_their_operands;
-
 /// The plain values of clauses whose operands stand before them are the one list in which each
 /// value is what its clause makes of the values of its operands. At a point of raw numbers they are
 /// raw numbers.
@@ -10,9 +8,7 @@ pub fn plain_values()
     ensures hold { PlainValuesHold }
     ensures only { OnlyPlainValuesHold }
     ensures raw { PlainValuesAreRaw }
-{
-    steps_read_their_operands();
-}
+{}
 
 /// Clauses by the names of their operands give the clauses back, and an edit that is not refused
 /// gives a model.

@@ -1,9 +1,9 @@
 -- Binary numbers whose digits tell which corners pass a test.
 use Rattle.std.proofs.Common.{◌≡◌, ℕ, zero, suc, ◌+◌, ◌-◌, ◌*◌, ◌/◌, ◌%◌, ◌^◌, ◌<◌, ◌≤◌, Bool, true, false, List, [], ◌∷◌, refl, ap, sym, ◌∙◌, arith}
-use Rattle.std.specs.Prelude.{◌==◌, ◌&&◌, filter, get_or, length, ℤ, pos, if◌then◌else◌}
+use Rattle.std.specs.Prelude.{◌==◌, filter, get_or, length, ℤ, pos, if◌then◌else◌}
 use Rattle.std.specs.Int.RustNames.{count_ones}
 use Rattle.std.specs.List.{range_with_len}
-use Rattle.std.proofs.lemmas.Bool.{agree_below, agree_below_at, and_parts, eqb-false, eqb-true}
+use Rattle.std.proofs.lemmas.Bool.{agree_below, agree_below_at, eqb-false, eqb-true}
 use lib.Bits.{bit_and}
 use lib.Count.{ones_step}
 use Rattle.std.proofs.lemmas.Nat.{and_mask}
@@ -15,26 +15,10 @@ use Rattle.kuhn_cells.specs.declared.cell_list.CellValues.{CellValues}
 use Rattle.kuhn_cells.specs.Arrangement.{differ}
 use Rattle.kuhn_cells.specs.Cells.{directions_of, has_inside}
 use Rattle.kuhn_cells.specs.Triangles.{has_sign}
+use Rattle.kuhn_cells.proofs.Checks.{every, every_at}
+use Rattle.mesh_laws.proofs.Paths.{not_from_itself}
 use Rattle.tetra_mesh.specs.Numbering.{digits, directions_below, mask_of, one_if, rank_of, signs_of}
 use Rattle.tetra_mesh.specs.Sides.{mask_by}
-
--- a test of both truth values
-both : (Bool → Bool) → Bool
-both p = p true && p false
-
-both_at : (p : Bool → Bool) → both p ≡ true → (b : Bool) → p b ≡ true
-unfolding both
-both_at p h true = (and_parts (p true) (p false) h).0
-both_at p h false = (and_parts (p true) (p false) h).1
-
--- a test of all choices of four truth values
-four : (Bool → Bool → Bool → Bool → Bool) → Bool
-four p = both (λ a. both (λ b. both (λ c. both (λ d. p a b c d))))
-
-four_at : (p : Bool → Bool → Bool → Bool → Bool) → four p ≡ true → (a b c d : Bool) → p a b c d ≡ true
-unfolding four
-four_at p h a b c d =
-    both_at (λ d. p a b c d) (both_at (λ c. both (λ d. p a b c d)) (both_at (λ b. both (λ c. both (λ d. p a b c d))) (both_at (λ a. both (λ b. both (λ c. both (λ d. p a b c d)))) h a) b) c) d
 
 -- ---- the digits
 
@@ -59,13 +43,13 @@ listed f (suc (suc (suc (suc (suc (suc (suc (suc k)))))))) few = absurd (omega (
 reads : Bool → Bool → Bool → Bool → Bool → Bool → Bool → Bool → Bool
 reads a b c d e f g h = agree_below (has_sign (number a b c d e f g h)) (λ k. get_or (eight a b c d e f g h) k false) 8
 
-all_read : four (λ a b c d. four (λ e f g h. reads a b c d e f g h)) ≡ true
-unfolding four both reads number
+all_read : every (λ a b c d. every (λ e f g h. reads a b c d e f g h)) ≡ true
+unfolding reads number
 all_read = refl
 
 reads_at : (a b c d e f g h : Bool) → reads a b c d e f g h ≡ true
 reads_at a b c d e f g h =
-    four_at (λ e f g h. reads a b c d e f g h) (four_at (λ a b c d. four (λ e f g h. reads a b c d e f g h)) all_read a b c d) e f g h
+    every_at (λ e f g h. reads a b c d e f g h) (every_at (λ a b c d. every (λ e f g h. reads a b c d e f g h)) all_read a b c d) e f g h
 
 -- each digit tells of its corner
 pub digit : (f : ℕ → Bool) (k : ℕ) → k < 8 → has_sign (digits f) k ≡ f k
@@ -117,8 +101,8 @@ ranks : Bool → Bool → Bool → Bool → Bool → Bool → Bool → Bool
 ranks b c d e f g h =
     agree_below (λ k. digit_sum (number false b c d e f g h % 2 ^ k) == length (filter (λ i. get_or (eight false b c d e f g h) i false) (range_with_len 1 (k - 1)))) (λ k. true) 9
 
-all_ranked : four (λ a b c d. four (λ e f g h. ranks b c d e f g h)) ≡ true
-unfolding four both ranks number digit_sum
+all_ranked : every (λ a b c d. every (λ e f g h. ranks b c d e f g h)) ≡ true
+unfolding ranks number digit_sum
 all_ranked = refl
 
 filter_range_same : (p q : ℕ → Bool) (a n : ℕ) → ((k : ℕ) → a ≤ k → k < a + n → p k ≡ q k) → filter p (range_with_len a n) ≡ filter q (range_with_len a n)
@@ -147,21 +131,17 @@ ranked f k e few =
     let list = λ (b : Bool). eight b (f 1) (f 2) (f 3) (f 4) (f 5) (f 6) (f 7) in
     let least = mod-le (digits f) (2 ^ k) in
     let below = small f in
-    let checked = four_at (λ a b c d. ranks (f 1) (f 2) (f 3) a b c d) (four_at (λ a b c d. four (λ e f g h. ranks b c d e f g h)) all_ranked false (f 1) (f 2) (f 3)) (f 4) (f 5) (f 6) (f 7) in
+    let checked = every_at (λ a b c d. ranks (f 1) (f 2) (f 3) a b c d) (every_at (λ a b c d. every (λ e f g h. ranks b c d e f g h)) all_ranked false (f 1) (f 2) (f 3)) (f 4) (f 5) (f 6) (f 7) in
     small_ones (digits f % 2 ^ k) (omega (arith, least, below))
     ∙ ap (λ m. digit_sum (m % 2 ^ k)) (with_first f e)
     ∙ eqb-true _ _ (agree_below_at (λ k. digit_sum (n % 2 ^ k) == length (filter (λ i. get_or (list false) i false) (range_with_len 1 (k - 1)))) (λ k. true) 9 k checked few)
     ∙ ap length (filter_range_same (λ i. get_or (list false) i false) f 1 (k - 1) (λ i low high. ap (λ b. get_or (list b) i false) (sym e) ∙ listed f i (omega (arith, few, low, high))))
 
-itself : (b : Bool) → differ b b ≡ false
-itself true = refl
-itself false = refl
-
 -- the rank of a direction is how many lesser ones lead to the other side
 pub rank : (c : CellValues) (dir : ℕ) → dir < 8 → rank_of (mask_of c) dir ≡ length (directions_below c dir)
 unfolding rank_of mask_of
 rank c dir few =
-    ranked (λ d. differ (has_inside c 0) (has_inside c d)) dir (itself (has_inside c 0)) (omega (arith, few))
+    ranked (λ d. differ (has_inside c 0) (has_inside c d)) dir (not_from_itself (has_inside c 0)) (omega (arith, few))
 
 -- and there are as many digits as directions to the other side
 pub ones : (c : CellValues) → count_ones (mask_of c) ≡ length (directions_of c)
@@ -170,7 +150,7 @@ ones c =
     let f = λ (d : ℕ). differ (has_inside c 0) (has_inside c d) in
     let below = small f in
     let whole : digits f % 2 ^ 8 ≡ digits f = omega (arith, below) in
-    ap count_ones (sym whole) ∙ ranked f 8 (itself (has_inside c 0)) (omega arith)
+    ap count_ones (sym whole) ∙ ranked f 8 (not_from_itself (has_inside c 0)) (omega arith)
 
 pub rank-few : (mask dir : ℕ) → mask < 256 → rank_of mask dir ≤ 8
 unfolding rank_of digit_sum

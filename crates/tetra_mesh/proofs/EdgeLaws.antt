@@ -54,7 +54,7 @@ adds_triangle t e0 e1 e2 e3 a b c before after first second third pushed =
 
 -- ---- one triangle after another
 
-map_same : {A B : Type 0} (f g : A → B) (xs : List A) → All (λ x. f x ≡ g x) xs → map f xs ≡ map g xs
+pub map_same : {A B : Type 0} (f g : A → B) (xs : List A) → All (λ x. f x ≡ g x) xs → map f xs ≡ map g xs
 map_same f g [] h = refl
 map_same f g (x ∷ xs) h =
     let first = All-head (λ x. f x ≡ g x) x xs h in

@@ -2,7 +2,7 @@
 use Rattle.std.proofs.Common.{◌≡◌, ℕ, ◌+◌, ◌<◌, List, [], ◌∷◌, ◌++◌, refl, ap, sym, ◌∙◌, subst, arith}
 use Rattle.std.specs.Prelude.{map, flat_map, drop, take, get_or, length, All, Contains}
 use Rattle.std.proofs.lemmas.List.{append_assoc, drop_more, get_or_default, map-append}
-use Rattle.std.proofs.lemmas.List.Elements.{All-contains, All-head, All-tail, All-weaker}
+use Rattle.std.proofs.lemmas.List.Elements.{All-contains, All-weaker}
 use Rattle.kuhn_cells.specs.declared.cell_list.CellValues.{CellValues}
 use Rattle.kuhn_cells.specs.declared.edge_key.EdgeKey.{EdgeKey}
 use Rattle.kuhn_cells.specs.declared.grid_size.GridSize.{GridSize}
@@ -14,6 +14,7 @@ use Rattle.kuhn_cells.specs.Triangles.{GridPoint, edge_from}
 use Rattle.tetra_mesh.specs.declared.entry.Entry.{Entry}
 use Rattle.tetra_mesh.specs.declared.numbering.Numbering.{Numbering}
 use Rattle.tetra_mesh.specs.Numbering.{AreCells, AreSlots, HasReached, IsIn, IsKept, IsNumbered, LiesBelow, ReachesAbove, all_faces, face_in, no_entry, number_in, rank_of, slot_of}
+use Rattle.tetra_mesh.proofs.EdgeLaws.{map_same}
 use Rattle.tetra_mesh.proofs.NumberLaws.{is_direction, number_by_cells}
 use Rattle.tetra_mesh.proofs.ReachLaws.{not_above}
 
@@ -64,13 +65,6 @@ looked_up cells n s c e are is below reached h =
     ∙ ap number kept
     ∙ sym (number_by_cells cells j e.dir h.cell are.rise within direction)
     ∙ ap (number_among (flat_map edges_of cells)) key
-
-map_same : {A B : Type 0} (f g : A → B) (xs : List A) → All (λ x. f x ≡ g x) xs → map f xs ≡ map g xs
-map_same f g [] h = refl
-map_same f g (x ∷ xs) h =
-    let first = All-head (λ x. f x ≡ g x) x xs h in
-    let rest = map_same f g xs (All-tail (λ x. f x ≡ g x) x xs h) in
-    cc
 
 pub faces_here : (cells : List CellValues) (n : GridSize) (s : Numbering) (i : ℕ) (c : CellValues) → AreCells n cells → IsNumbered cells n s → LiesBelow cells s.ahead c.z → ReachesAbove cells s.ahead c.z → i < length cells → c ≡ get_or cells i c → map (face_in n s.slots.items) (triangles_of_cell c) ≡ map (face_among (flat_map edges_of cells)) (triangles_of_cell c)
 faces_here cells n s i c are is below reached within here =

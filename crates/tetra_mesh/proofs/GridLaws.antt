@@ -1,10 +1,10 @@
 -- The mesh of the mixed cells of a grid is the mesh of the grid.
-use Rattle.std.proofs.Common.{◌≡◌, ℕ, ◌*◌, ◌<◌, ◌≤◌, List, [], ◌∷◌, ◌++◌, refl, ap, sym, ◌∙◌, add-zero, arith}
+use Rattle.std.proofs.Common.{◌≡◌, ℕ, ◌*◌, ◌<◌, ◌≤◌, List, [], ◌∷◌, refl, ap, sym, ◌∙◌, add-zero, arith}
 use Rattle.std.specs.Prelude.{pos, map, flat_map, get_or, length, All}
 use Rattle.std.specs.List.{range_with_len}
-use Rattle.std.proofs.lemmas.List.{map-append}
 use Rattle.std.proofs.lemmas.List.Elements.{All-filter, All-head, All-tail, All-weaker}
 use Rattle.std.proofs.lemmas.List.FromFn.{get_or-map-range_with_len, get_or-range_with_len}
+use Rattle.std.proofs.lemmas.Simd.{map-map}
 use Rattle.kuhn_cells.specs.declared.cell_list.CellList.{CellList}
 use Rattle.kuhn_cells.specs.declared.cell_list.CellValues.{CellValues}
 use Rattle.kuhn_cells.specs.declared.grid_size.GridSize.{GridSize}
@@ -12,10 +12,11 @@ use Rattle.kuhn_cells.specs.Arrangement.{differ}
 use Rattle.kuhn_cells.specs.Cells.{IsBordered, IsCellOf, cell_at, directions_of, edges_of, has_inside, mixed_cells, lowest_corner}
 use Rattle.kuhn_cells.specs.Faces.{Face, all_triangles, face_among, faces}
 use Rattle.kuhn_cells.specs.Grids.{Grid, grid_size, value_at, vertices}
-use Rattle.kuhn_cells.specs.Laws.{CellsAreFew, CellsAreOfTheGrid, CellsHaveTriangles, CellsHaveVertices, CellsRise, EdgesHaveCells}
 use Rattle.kuhn_cells.specs.Lists.{ListsCells}
 use Rattle.kuhn_cells.specs.Sizes.{IsBounded}
 use Rattle.kuhn_cells.specs.Triangles.{GridPoint, edge_from, further}
+use Rattle.kuhn_cells.proofs.CellLaws.{cells_are_few, cells_are_of_the_grid, cells_have_triangles, cells_have_vertices, cells_rise, edges_have_cells}
+use Rattle.mesh_laws.proofs.Lists.{flat_of_maps}
 use Rattle.tetra_mesh.specs.declared.sided_cell.SidedCell.{SidedCell}
 use Rattle.tetra_mesh.specs.declared.vertex.Vertex.{Vertex}
 use Rattle.tetra_mesh.specs.CellLaws.{CellsMakeMeshes, MixedCellsAreCells}
@@ -24,6 +25,7 @@ use Rattle.mesh_laws.specs.Places.{way_up}
 use Rattle.tetra_mesh.specs.Meshes.{Triangulation}
 use Rattle.tetra_mesh.specs.Numbering.{AreCells, IsIn, all_faces, vertex_on, vertices_on}
 use Rattle.tetra_mesh.specs.Sides.{HasParts, sided_of}
+use Rattle.tetra_mesh.proofs.EdgeLaws.{map_same}
 
 -- ---- the cells
 
@@ -32,29 +34,25 @@ few_cells n x y z bounded ex ey ez =
     let same : x * (y * z) ≡ n.x * (n.y * n.z) = ap (λ i. i * (y * z)) ex ∙ ap (λ i. n.x * (i * z)) ey ∙ ap (λ i. n.x * (n.y * i)) ez in
     omega (arith, same, bounded.all)
 
-pub are_few : CellsAreFew → (n : GridSize) (list : CellList) (g : Grid) → IsBounded n → ListsCells n list g → length list.cells.items ≤ 16777216
-are_few few n list g bounded is =
-    let count = few g in
+pub are_few : (n : GridSize) (list : CellList) (g : Grid) → IsBounded n → ListsCells n list g → length list.cells.items ≤ 16777216
+are_few n list g bounded is =
+    let count = cells_are_few g in
     let most = few_cells n g.x g.y g.z bounded is.x is.y is.z in
     let same = ap length is.cells in
     omega (arith, count, most, same)
 
-pub are_cells : CellsAreOfTheGrid → CellsRise → CellsAreFew → EdgesHaveCells → (n : GridSize) (g : Grid) (vertices : List Vertex) (sided : List SidedCell) → IsBounded n → HasParts n g vertices sided → AreCells n (mixed_cells g)
-are_cells of_grid rise few edges n g vertices sided bounded is =
+pub are_cells : (n : GridSize) (g : Grid) (vertices : List Vertex) (sided : List SidedCell) → IsBounded n → HasParts n g vertices sided → AreCells n (mixed_cells g)
+are_cells n g vertices sided bounded is =
     let x = is.x in
     let y = is.y in
     let z = is.z in
     let within : All (IsIn n) (mixed_cells g) =
-    All-weaker (IsCellOf g) (IsIn n) (λ c h. let fx = h.x in let fy = h.y in let fz = h.z in record { x = omega (arith, fx, x); y = omega (arith, fy, y); z = omega (arith, fz, z) }) (mixed_cells g) (of_grid g) in
-    let count = few g in
+    All-weaker (IsCellOf g) (IsIn n) (λ c h. let fx = h.x in let fy = h.y in let fz = h.z in record { x = omega (arith, fx, x); y = omega (arith, fy, y); z = omega (arith, fz, z) }) (mixed_cells g) (cells_are_of_the_grid g) in
+    let count = cells_are_few g in
     let most = few_cells n g.x g.y g.z bounded x y z in
-    record { bounded = bounded; few = omega (arith, count, most); within = within; rise = rise g; edges = edges g is.border }
+    record { bounded = bounded; few = omega (arith, count, most); within = within; rise = cells_rise g; edges = edges_have_cells g is.border }
 
 -- ---- the vertices
-
-map_flat : {X A B : Type 0} (f : A → B) (h : X → List A) (xs : List X) → map f (flat_map h xs) ≡ flat_map (λ x. map f (h x)) xs
-map_flat f h [] = refl
-map_flat f h (x ∷ xs) = map-append f (h x) (flat_map h xs) ∙ ap (λ l. map f (h x) ++ l) (map_flat f h xs)
 
 flat_same : {X A : Type 0} (f h : X → List A) (xs : List X) → All (λ x. f x ≡ h x) xs → flat_map f xs ≡ flat_map h xs
 flat_same f h [] same = refl
@@ -64,11 +62,7 @@ flat_same f h (x ∷ xs) same =
     cc
 
 map_map : {X A B : Type 0} (f : A → B) (h : X → A) (k : X → B) (xs : List X) → All (λ x. f (h x) ≡ k x) xs → map f (map h xs) ≡ map k xs
-map_map f h k [] same = refl
-map_map f h k (x ∷ xs) same =
-    let first = All-head (λ x. f (h x) ≡ k x) x xs same in
-    let rest = map_map f h k xs (All-tail (λ x. f (h x) ≡ k x) x xs same) in
-    cc
+map_map f h k xs same = map-map f h xs ∙ map_same (λ x. f (h x)) k xs same
 
 directions_near : (c : CellValues) → All (λ d. d < 8) (directions_of c)
 unfolding directions_of
@@ -93,18 +87,18 @@ vertices_of_cell g c is =
     let make : ℕ → Vertex = λ t. record { key = edge_from p d; t = t } in
     ap make (ap (λ v. way_up v (value_at g (further p d))) low ∙ ap (λ v. way_up (get_or c.values 0 (pos 0)) v) high)) (directions_of c) (directions_near c))
 
-all_vertices : CellsAreOfTheGrid → CellsHaveVertices → (g : Grid) → IsBordered g → flat_map vertices_on (mixed_cells g) ≡ map (vertex_of g) (vertices g)
-all_vertices of_grid have g border =
-    sym (ap (map (vertex_of g)) (have g border)
-    ∙ map_flat (vertex_of g) edges_of (mixed_cells g)
-    ∙ flat_same (λ c. map (vertex_of g) (edges_of c)) vertices_on (mixed_cells g) (All-weaker (IsCellOf g) (λ c. map (vertex_of g) (edges_of c) ≡ vertices_on c) (vertices_of_cell g) (mixed_cells g) (of_grid g)))
+all_vertices : (g : Grid) → IsBordered g → flat_map vertices_on (mixed_cells g) ≡ map (vertex_of g) (vertices g)
+all_vertices g border =
+    sym (ap (map (vertex_of g)) (cells_have_vertices g border)
+    ∙ sym (flat_of_maps (vertex_of g) edges_of (mixed_cells g))
+    ∙ flat_same (λ c. map (vertex_of g) (edges_of c)) vertices_on (mixed_cells g) (All-weaker (IsCellOf g) (λ c. map (vertex_of g) (edges_of c) ≡ vertices_on c) (vertices_of_cell g) (mixed_cells g) (cells_are_of_the_grid g)))
 
 -- ---- the faces
 
-faces_of_cells : CellsHaveVertices → CellsHaveTriangles → (g : Grid) → IsBordered g → all_faces (mixed_cells g) (mixed_cells g) ≡ faces g
+faces_of_cells : (g : Grid) → IsBordered g → all_faces (mixed_cells g) (mixed_cells g) ≡ faces g
 unfolding faces
-faces_of_cells have triangles g border =
-    sym (ap (λ l. map (face_among l) (all_triangles g)) (have g border) ∙ ap (map (face_among (flat_map edges_of (mixed_cells g)))) (triangles g))
+faces_of_cells g border =
+    sym (ap (λ l. map (face_among l) (all_triangles g)) (cells_have_vertices g border) ∙ ap (map (face_among (flat_map edges_of (mixed_cells g)))) (cells_have_triangles g))
 
 -- ---- the mesh
 
@@ -119,11 +113,11 @@ parts_of_grid n list items g vertices sided is same have sides = record {
   sides = sides ∙ ap (map sided_of) (same ∙ is.cells);
 }
 
-pub mesh_is : CellsAreOfTheGrid → CellsHaveVertices → CellsHaveTriangles → (n : GridSize) (g : Grid) (vertices : List Vertex) (sided : List SidedCell) (faces : List Face) → HasParts n g vertices sided → faces ≡ all_faces (mixed_cells g) (mixed_cells g) → record { vertices = vertices; faces = faces } ≡ mesh_of g
-mesh_is of_grid have triangles n g v sided f is made =
+pub mesh_is : (n : GridSize) (g : Grid) (vertices : List Vertex) (sided : List SidedCell) (faces : List Face) → HasParts n g vertices sided → faces ≡ all_faces (mixed_cells g) (mixed_cells g) → record { vertices = vertices; faces = faces } ≡ mesh_of g
+mesh_is n g v sided f is made =
     let make : List Vertex → List Face → Triangulation = λ v f. record { vertices = v; faces = f } in
-    ap (λ l. make l f) (is.on_edges ∙ all_vertices of_grid have g is.border)
-    ∙ ap (make (map (vertex_of g) (vertices g))) (made ∙ faces_of_cells have triangles g is.border)
+    ap (λ l. make l f) (is.on_edges ∙ all_vertices g is.border)
+    ∙ ap (make (map (vertex_of g) (vertices g))) (made ∙ faces_of_cells g is.border)
 
 -- ---- the same of the grid's own parts
 
@@ -131,11 +125,11 @@ mesh_is of_grid have triangles n g v sided f is made =
 own_parts : (g : Grid) → IsBordered g → HasParts (grid_size g) g (flat_map vertices_on (mixed_cells g)) (map sided_of (mixed_cells g))
 own_parts g border = record { x = refl; y = refl; z = refl; border = border; on_edges = refl; sides = refl }
 
-pub mesh_of_cells : CellsAreOfTheGrid → CellsHaveVertices → CellsHaveTriangles → CellsMakeMeshes
-mesh_of_cells of_grid have triangles g border =
+pub mesh_of_cells : CellsMakeMeshes
+mesh_of_cells g border =
     let cells = mixed_cells g in
-    sym (mesh_is of_grid have triangles (grid_size g) g (flat_map vertices_on cells) (map sided_of cells) (all_faces cells cells) (own_parts g border) refl)
+    sym (mesh_is (grid_size g) g (flat_map vertices_on cells) (map sided_of cells) (all_faces cells cells) (own_parts g border) refl)
 
-pub cells_of_grid : CellsAreOfTheGrid → CellsRise → CellsAreFew → EdgesHaveCells → MixedCellsAreCells
-cells_of_grid of_grid rise few edges g bounded border =
-    are_cells of_grid rise few edges (grid_size g) g (flat_map vertices_on (mixed_cells g)) (map sided_of (mixed_cells g)) bounded (own_parts g border)
+pub cells_of_grid : MixedCellsAreCells
+cells_of_grid g bounded border =
+    are_cells (grid_size g) g (flat_map vertices_on (mixed_cells g)) (map sided_of (mixed_cells g)) bounded (own_parts g border)

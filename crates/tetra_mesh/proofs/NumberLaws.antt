@@ -2,7 +2,7 @@
 use Rattle.std.proofs.Common.{◌≡◌, ℕ, zero, suc, ◌+◌, ◌-◌, ◌<◌, ◌≤◌, Bool, true, false, List, [], ◌∷◌, ◌++◌, refl, ap, sym, ◌∙◌, subst, inl, inr, arith}
 use Rattle.std.specs.Prelude.{◌⊎◌, ◌==◌, ◌&&◌, map, filter, flat_map, take, drop, get_or, length, All, AllPairs, Contains}
 use Rattle.std.specs.List.{position_or_len, range_with_len}
-use Rattle.std.proofs.lemmas.Bool.{and_parts, eq-eqb, eqb-true, and_from, false_from_ne_true}
+use Rattle.std.proofs.lemmas.Bool.{and_parts, eqb-true, false_from_ne_true}
 use Rattle.std.proofs.lemmas.List.{append_assoc, drop_more, get_or-take, length-append, length-map, map-append, take-append-drop, length-take-le}
 use Rattle.std.proofs.lemmas.List.Concat.{flat_map-append}
 use Rattle.std.proofs.lemmas.List.Elements.{All-append, All-contains, All-filter, All-from_get_or, All-head, All-map, All-nil, All-tail, filter-append, filter_passes}
@@ -14,6 +14,7 @@ use Rattle.kuhn_cells.specs.Cells.{directions_of, edges_of, has_inside, lowest_c
 use Rattle.kuhn_cells.specs.Faces.{number_among, same_edge}
 use Rattle.kuhn_cells.specs.Laws.{IsCellBefore}
 use Rattle.kuhn_cells.specs.Triangles.{edge_from}
+use Rattle.kuhn_cells.proofs.FaceLaws.{same_as_itself}
 use Rattle.tetra_mesh.specs.Numbering.{directions_below, mask_of, rank_of}
 use Rattle.tetra_mesh.proofs.Bits.{rank}
 
@@ -110,9 +111,6 @@ none_below c dir =
         let z = and_parts (c.z == c.z) (dir == d) y.1 in
         let same = eqb-true dir d z.1 in
         omega (arith, less, same)
-
-same_as_itself : (e : EdgeKey) → same_edge e e ≡ true
-same_as_itself e = and_from _ _ (eq-eqb e.x e.x refl) (and_from _ _ (eq-eqb e.y e.y refl) (and_from _ _ (eq-eqb e.z e.z refl) (eq-eqb e.dir e.dir refl)))
 
 earlier : (cells : List CellValues) (j : ℕ) (d : CellValues) → AllPairs IsCellBefore cells → j < length cells → All (λ b. IsCellBefore b (get_or cells j d)) (take j cells)
 earlier cells j d rise within =

@@ -1,11 +1,12 @@
 -- Numbering one more cell.
-use Rattle.std.proofs.Common.{◌≡◌, ℕ, suc, ◌+◌, ◌*◌, ◌/◌, ◌%◌, ◌^◌, ◌<◌, ◌≤◌, Bool, true, false, cond, List, [], ◌∷◌, ◌++◌, ap, sym, ◌∙◌, subst, inl, inr, arith}
-use Rattle.std.specs.Prelude.{◌⊎◌, filter, flat_map, take, set, get_or, length}
+use Rattle.std.proofs.Common.{◌≡◌, ℕ, ◌+◌, ◌*◌, ◌/◌, ◌%◌, ◌^◌, ◌<◌, ◌≤◌, List, [], ◌∷◌, ◌++◌, ap, sym, ◌∙◌, subst, inl, inr, arith}
+use Rattle.std.specs.Prelude.{◌⊎◌, flat_map, take, set, get_or, length}
 use Rattle.std.specs.List.{range_with_len}
 use Rattle.std.proofs.lemmas.Bool.{cases_lt, cases_order}
 use Rattle.std.proofs.lemmas.List.{append-nil, get_or_default, get_or-set_other, get_or-set_same, length-append, length-map, length-set, length-take-le, take_more}
 use Rattle.std.proofs.lemmas.List.Concat.{flat_map-append}
 use Rattle.std.proofs.lemmas.List.Elements.{All-same, All-set}
+use Rattle.std.proofs.lemmas.List.Sums.{count_by-le-length, length-filter}
 use Rattle.std.proofs.lemmas.Nat.{div-mul-add, mod-mul-add}
 use Rattle.kuhn_cells.specs.declared.cell_list.CellValues.{CellValues}
 use Rattle.kuhn_cells.specs.declared.grid_size.GridSize.{GridSize}
@@ -20,17 +21,11 @@ use Rattle.tetra_mesh.proofs.SideLaws.{NumbersCell}
 
 -- ---- how many vertices there are
 
-filter_length : {A : Type 0} (q : A → Bool) (xs : List A) → length (filter q xs) ≤ length xs
-filter_length q [] = omega arith
-filter_length q (x ∷ xs) = by (q x) (filter_length q xs)
-  where
-    by : (b : Bool) → length (filter q xs) ≤ length xs → length (cond b (x ∷ filter q xs) (filter q xs)) ≤ suc (length xs)
-    by true h = omega (arith, h)
-    by false h = omega (arith, h)
-
 seven : (c : CellValues) → length (directions_of c) ≤ 7
 unfolding directions_of
-seven c = filter_length (λ d. differ (has_inside c 0) (has_inside c d)) (range_with_len 1 7)
+seven c =
+    let q = λ (d : ℕ). differ (has_inside c 0) (has_inside c d) in
+    rw (length-filter q (range_with_len 1 7)) (count_by-le-length q (range_with_len 1 7))
 
 edges_few : (cells : List CellValues) → length (flat_map edges_of cells) ≤ 7 * length cells
 edges_few [] = omega arith

@@ -1,8 +1,8 @@
 -- The laws of meshes hold of the mesh of a grid with its vertices, and the points of a view's grid lie apart.
-use Rattle.std.proofs.Common.{◌≡◌, ◌≢◌, ℕ, zero, suc, ◌+◌, ◌*◌, ◌/◌, ◌%◌, ◌<◌, ◌≤◌, ℤ, pos, negsuc, ◌+ℤ◌, Bool, true, false, List, [], ◌∷◌, length, map, get_or, refl, ap, sym, subst, ◌∙◌, inl, inr, arith}
+use Rattle.std.proofs.Common.{◌≡◌, ◌≢◌, ℕ, zero, suc, ◌+◌, ◌*◌, ◌/◌, ◌<◌, ◌≤◌, ℤ, pos, negsuc, ◌+ℤ◌, true, false, List, [], ◌∷◌, length, map, get_or, refl, ap, sym, subst, ◌∙◌, inl, inr, arith}
 use Rattle.std.specs.Prelude.{◌⊎◌, ◌==◌, ◌||◌, ◌-ℤ◌, ◌≤ℤ◌, IsTrue, AllPairs, Contains, if◌then◌else◌}
 use Rattle.std.specs.List.{range_with_len}
-use Rattle.std.proofs.lemmas.Bool.{and_parts, eq-eqb, leb-true, ne_eqb}
+use Rattle.std.proofs.lemmas.Bool.{and_parts, eq-eqb, leb-true, ne_eqb, or_left, or_right}
 use Rattle.std.proofs.lemmas.Int.{ints}
 use Rattle.std.proofs.lemmas.List.{get_or-map, length-map}
 use Rattle.std.proofs.lemmas.List.Elements.{Contains-get_or}
@@ -15,15 +15,20 @@ use Rattle.kuhn_cells.specs.Cells.{IsBordered, is_outermost}
 use Rattle.kuhn_cells.specs.Corners.{along_x, along_y, along_z}
 use Rattle.kuhn_cells.specs.Faces.{faces}
 use Rattle.kuhn_cells.specs.Grids.{Grid, is_point, upper, value_at, vertices}
-use Rattle.kuhn_cells.specs.Laws.{IsBefore, VerticesAreMixedEdges, VerticesRise}
+use Rattle.kuhn_cells.specs.Laws.{IsBefore}
 use Rattle.kuhn_cells.specs.Triangles.{GridPoint}
 use Rattle.mesh_laws.specs.Frames.{IsFramed, IsOuter}
-use Rattle.mesh_laws.specs.Laws.{EdgesArePaired, HaveOneCycle, PlacesAreDistinct, Separates}
 use Rattle.mesh_laws.specs.Manifold.{IsManifold}
 use Rattle.mesh_laws.specs.Places.{AreAllApart, AreApart, RawPlaces, place_between, lattice_place as edge_place, place_line, raw_along, raw_place, share}
 use Rattle.mesh_laws.specs.Separating.{IsSeparating}
 use Rattle.view_places.specs.Samples.{place_up}
 use Rattle.view_places.specs.Window.{FitsMesh, IsWindow, Window}
+use Rattle.kuhn_cells.proofs.OrderLaws.{vertices_rise}
+use Rattle.kuhn_cells.proofs.VertexLaws.{vertices_are_mixed_edges}
+use Rattle.mesh_laws.proofs.Theorems.{places_are_distinct, separates}
+use Rattle.mesh_laws.proofs.ClosedLaws.{edges_are_paired}
+use Rattle.mesh_laws.proofs.FanLaws.{have_one_cycle}
+use Rattle.mesh_laws.proofs.Lattice.{few_steps}
 use Rattle.tetra_mesh.specs.declared.vertex.Vertex.{Vertex}
 use Rattle.tetra_mesh.specs.Cuts.{vertex_of}
 use Rattle.tetra_mesh.specs.Sound.{lattice_of, raw_of}
@@ -35,22 +40,14 @@ not_inside : (v : ℤ) → is_inside v ≡ false → pos 0 ≤ℤ v
 not_inside (pos a) h = omega (arith, ints)
 not_inside (negsuc a) h = (cc)
 
-first_of : (a b : Bool) → a ≡ true → (a || b) ≡ true
-first_of true b h = refl
-first_of false b h = (cc)
-
-second_of : (a b : Bool) → b ≡ true → (a || b) ≡ true
-second_of true b h = refl
-second_of false b h = h
-
 end_is : (count index : ℕ) → (index ≡ 0) ⊎ (index ≡ count) → (index == 0 || index == count) ≡ true
-end_is count index (inl h) = first_of _ _ (eq-eqb index 0 h)
-end_is count index (inr h) = second_of _ _ (eq-eqb index count h)
+end_is count index (inl h) = or_left _ _ (eq-eqb index 0 h)
+end_is count index (inr h) = or_right _ _ (eq-eqb index count h)
 
 outer_is : (g : Grid) (p : GridPoint) → IsOuter g p → is_outermost g p ≡ true
-outer_is g p (inl h) = first_of _ _ (end_is g.x p.x h)
-outer_is g p (inr (inl h)) = second_of _ _ (first_of _ _ (end_is g.y p.y h))
-outer_is g p (inr (inr h)) = second_of _ _ (second_of _ _ (end_is g.z p.z h))
+outer_is g p (inl h) = or_left _ _ (end_is g.x p.x h)
+outer_is g p (inr (inl h)) = or_right _ _ (or_left _ _ (end_is g.y p.y h))
+outer_is g p (inr (inr h)) = or_right _ _ (or_right _ _ (end_is g.z p.z h))
 
 framed : (g : Grid) → IsBordered g → IsFramed g
 framed g border = record {
@@ -74,10 +71,10 @@ abbrev some_edge : EdgeKey
 some_edge = record { x = 0; y = 0; z = 0; dir = 0 }
 
 -- what holds of any two different vertices of a grid holds of any two on its list
-pairs : (g : Grid) (R : Vertex → Vertex → Type 0) → VerticesRise
+pairs : (g : Grid) (R : Vertex → Vertex → Type 0)
     → ((e f : EdgeKey) → Contains (vertices g) e → Contains (vertices g) f → e ≢ f → R (vertex_of g e) (vertex_of g f))
     → AllPairs R (map (vertex_of g) (vertices g))
-pairs g R rise differ i j d less within =
+pairs g R differ i j d less within =
     let long = length-map (vertices g) (vertex_of g) in
     let few : j < length (vertices g) = omega (arith, long, within) in
     let at_i = get_or-map (vertex_of g) (vertices g) i some_edge d (omega (arith, less, few)) in
@@ -85,17 +82,14 @@ pairs g R rise differ i j d less within =
     rw (at_i, at_j)
     (differ (get_or (vertices g) i some_edge) (get_or (vertices g) j some_edge)
     (Contains-get_or (vertices g) i some_edge (omega (arith, less, few))) (Contains-get_or (vertices g) j some_edge few)
-    (before_differs _ _ (rise g i j some_edge less few)))
+    (before_differs _ _ (vertices_rise g i j some_edge less few)))
 
 -- ---- the lattice
 
-lattice_axis : (index n t : ℕ) → n ≤ 1 → 65536 * index + (if n == 1 then t else 0) ≡ 65536 * index + t * n
+pub lattice_axis : (index n t : ℕ) → n ≤ 1 → 65536 * index + (if n == 1 then t else 0) ≡ 65536 * index + t * n
 lattice_axis index zero t few = omega arith
 lattice_axis index (suc zero) t few = omega arith
 lattice_axis index (suc (suc n)) t few = absurd (omega (arith, few))
-
-few_steps : (n : ℕ) → n % 2 ≤ 1
-few_steps n = omega arith
 
 lattice_same : (g : Grid) (e : EdgeKey) → lattice_of (vertex_of g e) ≡ edge_place g e
 lattice_same g e =
@@ -208,25 +202,25 @@ points_apart w g is fits of_view = record {
 
 -- ---- the laws
 
-pub grid_meshes_are_sound : EdgesArePaired → HaveOneCycle → Separates → PlacesAreDistinct → VerticesRise → GridMeshesAreSound
-grid_meshes_are_sound paired cycle separate distinct rise g border =
+pub grid_meshes_are_sound : GridMeshesAreSound
+grid_meshes_are_sound g border =
     let is = framed g border in
     record {
-      closed = paired g is;
-      manifold = subst (λ (n : ℕ). IsManifold n (faces g)) (sym (length-map (vertices g) (vertex_of g))) (cycle g is);
-      separating = subst (λ (es : List EdgeKey). IsSeparating g es (faces g)) (sym (keys_are g (vertices g))) (separate g is);
-      apart = pairs g (λ u v. lattice_of u ≢ lattice_of v) rise (λ e f at_e at_f differ same.
-          (distinct g is e f at_e at_f differ).lattice (sym (lattice_same g e) ∙ same ∙ lattice_same g f));
+      closed = edges_are_paired g is;
+      manifold = subst (λ (n : ℕ). IsManifold n (faces g)) (sym (length-map (vertices g) (vertex_of g))) (have_one_cycle g is);
+      separating = subst (λ (es : List EdgeKey). IsSeparating g es (faces g)) (sym (keys_are g (vertices g))) (separates g is);
+      apart = pairs g (λ u v. lattice_of u ≢ lattice_of v) (λ e f at_e at_f differ same.
+          (places_are_distinct g is e f at_e at_f differ).lattice (sym (lattice_same g e) ∙ same ∙ lattice_same g f));
     }
 
-pub grid_meshes_lie_apart : PlacesAreDistinct → VerticesAreMixedEdges → VerticesRise → GridMeshesLieApart
-grid_meshes_lie_apart distinct mixed rise w g window fits of_view border =
+pub grid_meshes_lie_apart : GridMeshesLieApart
+grid_meshes_lie_apart w g window fits of_view border =
     let is = framed g border in
     let apart = points_apart w g window fits of_view in
-    let same = λ (e : EdgeKey) (at_e : Contains (vertices g) e). raw_same w g e of_view ((mixed g e).0 at_e).within in
+    let same = λ (e : EdgeKey) (at_e : Contains (vertices g) e). raw_same w g e of_view ((vertices_are_mixed_edges g e).0 at_e).within in
     record {
-      raw = pairs g (λ u v. raw_of w u ≢ raw_of w v) rise (λ e f at_e at_f differ equal.
-          (distinct g is e f at_e at_f differ).raw (places_of w) apart (sym (same e at_e) ∙ equal ∙ same f at_f));
-      lines = pairs g (λ u v. place_line (raw_of w u) ≢ place_line (raw_of w v)) rise (λ e f at_e at_f differ equal.
-          (distinct g is e f at_e at_f differ).lines (places_of w) apart (ap place_line (sym (same e at_e)) ∙ equal ∙ ap place_line (same f at_f)));
+      raw = pairs g (λ u v. raw_of w u ≢ raw_of w v) (λ e f at_e at_f differ equal.
+          (places_are_distinct g is e f at_e at_f differ).raw (places_of w) apart (sym (same e at_e) ∙ equal ∙ same f at_f));
+      lines = pairs g (λ u v. place_line (raw_of w u) ≢ place_line (raw_of w v)) (λ e f at_e at_f differ equal.
+          (places_are_distinct g is e f at_e at_f differ).lines (places_of w) apart (ap place_line (sym (same e at_e)) ∙ equal ∙ ap place_line (same f at_f)));
     }

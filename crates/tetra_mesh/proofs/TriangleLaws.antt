@@ -3,9 +3,10 @@ use Rattle.std.proofs.Common.{◌≡◌, ℕ, zero, suc, ◌+◌, ◌*◌, ◌<�
 use Rattle.std.specs.Prelude.{◌⊎◌, ◌==◌, nat_lt, min, map, flat_map, get_or, length, All, if◌then◌else◌}
 use Rattle.std.specs.List.{range_with_len}
 use Rattle.std.proofs.lemmas.Bool.{agree_below, agree_below_at, cases_lt, ltb-true}
-use Rattle.std.proofs.lemmas.List.{append-nil, get_or_append_left, get_or_push, length-map, map-append}
+use Rattle.std.proofs.lemmas.List.{append-nil, get_or_append_left, get_or_push, length-map}
 use Rattle.std.proofs.lemmas.List.Concat.{flat_map-append}
-use Rattle.std.proofs.lemmas.List.Elements.{All-cons, All-head, All-nil, All-same, All-tail}
+use Rattle.std.proofs.lemmas.List.Elements.{All-same}
+use Rattle.std.proofs.lemmas.Simd.{map-map}
 use Rattle.kuhn_cells.specs.declared.cell_list.CellValues.{CellValues}
 use Rattle.kuhn_cells.specs.declared.edge_key.EdgeKey.{EdgeKey}
 use Rattle.kuhn_cells.specs.declared.triple.Triple.{Triple}
@@ -13,6 +14,8 @@ use Rattle.kuhn_cells.specs.Arrangement.{arrangement, inside_count, pattern_of}
 use Rattle.kuhn_cells.specs.Cells.{has_inside, lowest_corner, triangles_of_cell}
 use Rattle.kuhn_cells.specs.Corners.{along_x, along_y, along_z, corner}
 use Rattle.kuhn_cells.specs.Triangles.{edge_between, has_sign, point, triangles_among, triangles_by, triangles_in, triangles_of}
+use Rattle.mesh_laws.proofs.FanLaws.{unmapped}
+use Rattle.mesh_laws.proofs.Lists.{flat_of_maps}
 use Rattle.tetra_mesh.specs.declared.sided_cell.SidedCell.{SidedCell}
 use Rattle.tetra_mesh.specs.declared.shape.Shape.{Shape}
 use Rattle.tetra_mesh.specs.Edges.{HasTriangles}
@@ -63,10 +66,6 @@ tetra_moved c tetra signs =
     let corners = arrangement tetra pattern in
     among_moved (moved (sided_of c)) (edge_between (point 0 0 0)) (edge_between (lowest_corner c)) (edge_moved c) (inside_count pattern) (get_or corners 0 0) (get_or corners 1 0) (get_or corners 2 0) (get_or corners 3 0)
 
-map_flat : {X A B : Type 0} (f : A → B) (h : X → List A) (xs : List X) → map f (flat_map h xs) ≡ flat_map (λ x. map f (h x)) xs
-map_flat f h [] = refl
-map_flat f h (x ∷ xs) = map-append f (h x) (flat_map h xs) ∙ ap (λ l. map f (h x) ++ l) (map_flat f h xs)
-
 flat_same : {A : Type 0} (f h : ℕ → List A) (a n : ℕ) → ((k : ℕ) → k < a + n → f k ≡ h k) → flat_map f (range_with_len a n) ≡ flat_map h (range_with_len a n)
 flat_same f h a zero same = refl
 flat_same f h a (suc n) same =
@@ -78,7 +77,7 @@ flat_same f h a (suc n) same =
 pub shape_moved : (c : CellValues) → sided_triangles (sided_of c) ≡ triangles_of_cell c
 unfolding shape_of triangles_of_cell
 shape_moved c =
-    map_flat (moved_triple (sided_of c)) (λ tetra. triangles_of 0 0 0 tetra (signs_of c)) (range_with_len 0 6)
+    sym (flat_of_maps (moved_triple (sided_of c)) (λ tetra. triangles_of 0 0 0 tetra (signs_of c)) (range_with_len 0 6))
     ∙ flat_same (λ tetra. map (moved_triple (sided_of c)) (triangles_of 0 0 0 tetra (signs_of c))) (λ tetra. triangles_in (lowest_corner c) tetra (has_inside c)) 0 6 (λ tetra few. tetra_moved c tetra (signs_of c) ∙ by_signs c tetra (omega (arith, few)))
 
 -- there are as many of them
@@ -86,22 +85,13 @@ pub shape_long : (s : SidedCell) (c : CellValues) → s ≡ sided_of c → lengt
 shape_long s c same =
     ap (λ (x : SidedCell). length (shape_of x.signs)) same ∙ sym (length-map (shape_of (signs_of c)) (moved_triple (sided_of c))) ∙ ap length (shape_moved c)
 
-map_map : {X A B : Type 0} (f : A → B) (h : X → A) (xs : List X) → map (λ x. f (h x)) xs ≡ map f (map h xs)
-map_map f h [] = refl
-map_map f h (x ∷ xs) = ap (λ l. f (h x) ∷ l) (map_map f h xs)
-
-all_mapped : {X A : Type 0} (P : A → Type 0) (h : X → A) (xs : List X) → All P (map h xs) → All (λ x. P (h x)) xs
-all_mapped P h [] all = All-nil (λ x. P (h x))
-all_mapped P h (x ∷ xs) all =
-    All-cons (λ x. P (h x)) x xs (All-head P (h x) (map h xs) all) (all_mapped P h xs (All-tail P (h x) (map h xs) all))
-
 pub faces_moved : {A : Type 0} (f : Triple → A) (c : SidedCell) (ts : List Triple) → ts ≡ shape_of c.signs → map (λ t. f (moved_triple c t)) ts ≡ map f (sided_triangles c)
 faces_moved f c ts is =
-    map_map f (moved_triple c) ts ∙ ap (λ l. map f (map (moved_triple c) l)) is
+    sym (map-map f (moved_triple c) ts) ∙ ap (λ l. map f (map (moved_triple c) l)) is
 
 pub all_moved : (P : Triple → Type 0) (c : SidedCell) (ts : List Triple) → ts ≡ shape_of c.signs → All P (sided_triangles c) → All (λ t. P (moved_triple c t)) ts
 all_moved P c ts is all =
-    all_mapped P (moved_triple c) ts (All-same P (map (moved_triple c) ts) (sided_triangles c) (ap (map (moved_triple c)) is) all)
+    unmapped P (moved_triple c) ts (All-same P (map (moved_triple c) ts) (sided_triangles c) (ap (map (moved_triple c)) is) all)
 
 -- ---- how many triangles there are
 

@@ -15,7 +15,7 @@ use crate::sided_cell::SidedCell;
 use crate::vertices::vertices_of;
 use crate::{Face, Mesh, Vertex};
 use arrayvec::ArrayVec;
-use kuhn_cells::{CellList, CellValues, GridSize, mixed_cells_suffice};
+use kuhn_cells::{CellList, CellValues, GridSize};
 use std::alloc::{AllocError, Global};
 use view_places::View;
 
@@ -56,7 +56,6 @@ fn cells_are_few(cells: &CellList, view: &View)
     requires cells { (g : Grid) × ListsCells (size_of view.now) cells.now g }
     ensures { length cells.now.cells.items ≤ 16777216 }
 {
-    mixed_cells_suffice();
     let _size = view.grid();
 }
 
@@ -110,8 +109,6 @@ fn mesh_of_parts(
         → IfOk result (IsSound g) }
     ensures apart { IfOk result (λ mesh. LieApart view.now mesh.vertices) }
 {
-    meshes_are_sound();
-    mixed_cells_suffice();
     let faces = faces_of(alloc, sided, view.grid())?;
     Ok(Mesh { vertices, faces })
 }

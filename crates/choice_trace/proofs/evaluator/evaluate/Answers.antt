@@ -10,7 +10,7 @@ pub loop-at-init : goal.loop-at-init
 loop-at-init g c = let d = g.D.Domain in record {
   read = λ p stand. none_read d.stands_for c.args.inputs.x c.args.regs.now (values p c.steps-steps.result);
   rest = refl {a = drop (length c.steps-steps.result) c.args.regs.now};
-  counted = subst (λ counts. RisesWithin no_counts counts (times 0 d.least) (times 0 d.most)) (sym c.new-work.ensures) (within_none c.tallies_add_up.ensures no_counts d.least d.most);
+  counted = subst (λ counts. RisesWithin no_counts counts (times 0 d.least) (times 0 d.most)) (sym c.new-work.ensures) (within_none no_counts d.least d.most);
 }
 
 pub loop-at-preserved : goal.loop-at-preserved
@@ -24,8 +24,8 @@ loop-at-preserved g c =
     record {
       read = λ p stand.
           read_more d.stands_for c.args.inputs.x c.loop-at.regs (values p steps) at c.apply.result (omega (arith, ap length c.steps-steps.ensures.steps)) (c.loop-at.invariant.read p stand)
-          (step_stands c.values_are_of_operands.ensures d.stands_for p steps at step a b c.apply.result c.len-len.ensures.tape.each c.step-step.ensures.step
+          (step_stands d.stands_for p steps at step a b c.apply.result c.len-len.ensures.tape.each c.step-step.ensures.step
           (operands-stand d.stands_for c.args.inputs c.constant.result c.loop-at.regs p (values p steps) at step a b c.step-step.ensures.stands c.constant.ensures stand (c.loop-at.invariant.read p stand) c.operands.ensures.first c.operands.ensures.second) c.apply.ensures.stands);
       rest = drop-set-lt (length steps) c.loop-at.regs at c.apply.result (omega arith) ∙ c.loop-at.invariant.rest;
-      counted = within_more c.tallies_add_up.ensures no_counts c.loop-at.work c.apply.new.tally d.least d.most at c.loop-at.invariant.counted c.apply.ensures.counted;
+      counted = within_more no_counts c.loop-at.work c.apply.new.tally d.least d.most at c.loop-at.invariant.counted c.apply.ensures.counted;
     }

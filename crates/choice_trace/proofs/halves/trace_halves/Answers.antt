@@ -7,8 +7,10 @@ use Rattle.interval_ops.specs.Spans.{Interval}
 use Rattle.live_clauses.specs.Choices.{choice_at, choice_in, lane}
 use Rattle.choice_trace.specs.Halves.{flag_in, region_in, row_in}
 use Rattle.choice_trace.specs.Hulls.{choices_over, hull_at, hull_in, step_hull}
-use Rattle.choice_trace.proofs.HalfRows.{choice_made, flag_more, hull_made, lane_more, lane_traced, lane_written, row_written}
+use Rattle.choice_trace.proofs.Elements.{each_more}
+use Rattle.choice_trace.proofs.HalfRows.{choice_made, flag_more, hull_made, lane_traced, lane_written, row_written}
 use Rattle.choice_trace.proofs.Traces.{are_choices, are_right, length-choices}
+use Rattle.interval_ops.proofs.HullCountLaws.{CountsHulls-then}
 use Rattle.choice_trace.proofs.halves.trace_halves.Goals as goal
 
 pub loop-at-preserved : goal.loop-at-preserved
@@ -32,7 +34,7 @@ loop-at-preserved g c =
     (λ place below. c.loop-at.invariant.hulls place below l h) (c.trace_step.ensures.choices l h) in
     record {
       hulls = subst (λ (rows : List (List Interval)). (place : ℕ) → place < at + 1 → (l : ℕ) → l < g.row.L → hull_in (row_in rows place) l ≡ hull_at (region l) steps place) (sym written)
-          (lane_more (λ place (new : List Interval). (l : ℕ) → l < g.row.L → hull_in new l ≡ hull_at (region l) steps place) regs at row [] (omega (arith, same_length))
+          (each_more (λ place (new : List Interval). (l : ℕ) → l < g.row.L → hull_in new l ≡ hull_at (region l) steps place) regs at row [] (omega (arith, same_length))
           c.loop-at.invariant.hulls
           (λ l h. hull_made (region l) steps at l step regs earlier (hull_in row l) stand c.step-step.ensures.step c.split_at_mut-earlier.ensures.front
           (λ place below. c.loop-at.invariant.hulls place below l h)
@@ -44,7 +46,7 @@ loop-at-preserved g c =
       regs_rest = ap (drop (length steps)) written ∙ drop-set-lt (length steps) regs at row (omega arith) ∙ c.loop-at.invariant.regs_rest;
       choices_rest = drop-set-lt (length steps) choices at chosen (omega arith) ∙ c.loop-at.invariant.choices_rest;
       counted = subst (λ n. CountsHulls n no_counts c.trace_step.new.work) (sym (ap (λ n. g.row.L * n) (add-one at) ∙ mul-suc g.row.L at))
-          (c.hull_counts.ensures.add no_counts c.loop-at.work c.trace_step.new.work (g.row.L * at) g.row.L c.loop-at.invariant.counted c.trace_step.ensures.counted);
+          (CountsHulls-then no_counts c.loop-at.work c.trace_step.new.work (g.row.L * at) g.row.L c.loop-at.invariant.counted c.trace_step.ensures.counted);
     }
 
 pub returns-clause-choices : goal.returns-clause-choices
@@ -62,5 +64,5 @@ returns-clause-only g c = λ l h. are_choices (region_in c.args.regions.now l) c
 
 pub returns-clause-right : goal.returns-clause-right
 returns-clause-right g c = λ l p h inside.
-    are_right c.layers_hold.ensures (region_in c.args.regions.now l) c.args.list.now (lane l c.loop-at.choices) p (c.in_order.ensures l h)
+    are_right (region_in c.args.regions.now l) c.args.list.now (lane l c.loop-at.choices) p (c.in_order.ensures l h)
     c.again-steps.ensures.tape.each (returns-clause-choices g c l h) inside

@@ -20,7 +20,7 @@ loop-at-preserved g c =
     let split = c.split_at_mut-earlier.ensures.value in
     let len = c.split_at_mut-earlier.ensures.front_len in
     record {
-      read = λ lane h. rows_more c.steps_read_their_operands.ensures.read c.values_are_of_operands.ensures lane c.args.inputs.now c.loop-at.regs earlier later steps at c.step.result c.write_row.new.row c.len-len.ensures.tape.each c.step.ensures.step
+      read = λ lane h. rows_more lane c.args.inputs.now c.loop-at.regs earlier later steps at c.step.result c.write_row.new.row c.len-len.ensures.tape.each c.step.ensures.step
           (omega (arith, ap length c.again-steps.ensures.steps)) split len (c.loop-at.invariant.read lane h) (c.write_row.ensures lane h);
       rest = rows_behind c.loop-at.regs earlier later at (length steps) c.write_row.new.row (omega arith) split len ∙ c.loop-at.invariant.rest;
     }

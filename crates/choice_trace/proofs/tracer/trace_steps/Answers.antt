@@ -10,6 +10,7 @@ use Rattle.choice_trace.specs.Operands.{operand_of}
 use Rattle.choice_trace.proofs.Applied.{first-within, operands-trace, ranges_of, second-within}
 use Rattle.choice_trace.proofs.HullLists.{length-hulls}
 use Rattle.choice_trace.proofs.Traces.{agree, all_chosen, are_choices, are_right, choice_written, front_more, hull_written, last_held, length-choices}
+use Rattle.interval_ops.proofs.HullCountLaws.{CountsHulls-apart, CountsHulls-then}
 use Rattle.choice_trace.proofs.tracer.trace_steps.Goals as goal
 
 pub loop-at-preserved : goal.loop-at-preserved
@@ -33,7 +34,7 @@ loop-at-preserved c =
           (choice_written region steps c.loop-at.regs at step a b c.choose.result stand c.step-step.ensures.step same operands c.choose.ensures);
       hulls_rest = drop-set-lt (length steps) c.loop-at.regs at c.span_apply.result (omega arith) ∙ c.loop-at.invariant.hulls_rest;
       choices_rest = drop-set-lt (length steps) c.loop-at.choices at c.choose.result (omega arith) ∙ c.loop-at.invariant.choices_rest;
-      counted = c.hull_counts.ensures.add no_counts c.loop-at.work c.span_apply.new.tally at 1 c.loop-at.invariant.counted c.span_apply.ensures.counted;
+      counted = CountsHulls-then no_counts c.loop-at.work c.span_apply.new.tally at 1 c.loop-at.invariant.counted c.span_apply.ensures.counted;
     }
 
 pub returns-clause-hull : goal.returns-clause-hull
@@ -62,15 +63,15 @@ returns-clause-holds c = λ p inside.
     let steps = c.args.list.now in
     let tape = c.again-steps.ensures.tape in
     subst (λ (s : Interval). Holds s (tape_value p steps)) (sym (returns-clause-hull c))
-    (last_held c.layers_hold.ensures c.args.region p steps (record { x = c.lo.ensures.span; y = c.lo-2.ensures.span; z = c.lo-3.ensures.span }) inside tape)
+    (last_held c.args.region p steps (record { x = c.lo.ensures.span; y = c.lo-2.ensures.span; z = c.lo-3.ensures.span }) inside tape)
 
 pub returns-clause-right : goal.returns-clause-right
 returns-clause-right c = λ p inside.
-    are_right c.layers_hold.ensures c.args.region c.args.list.now c.loop-at.choices p (record { x = c.lo.ensures.span; y = c.lo-2.ensures.span; z = c.lo-3.ensures.span })
+    are_right c.args.region c.args.list.now c.loop-at.choices p (record { x = c.lo.ensures.span; y = c.lo-2.ensures.span; z = c.lo-3.ensures.span })
     c.again-steps.ensures.tape.each (returns-clause-choices c) inside
 
 pub returns-clause-counted : goal.returns-clause-counted
 returns-clause-counted c =
     let all : c.loop-at.at ≡ length c.args.list.now = omega (arith, c.len-len.ensures.len, ap length c.again-steps.ensures.steps) in
-    c.hull_counts.ensures.join c.args.tally.now c.join.new.self c.loop-at.work (length c.args.list.now)
+    CountsHulls-apart c.args.tally.now c.join.new.self c.loop-at.work (length c.args.list.now)
     (subst (λ n. CountsHulls n no_counts c.loop-at.work) all c.loop-at.invariant.counted) c.join.ensures

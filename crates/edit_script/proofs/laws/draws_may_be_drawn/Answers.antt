@@ -3,4 +3,4 @@ use Rattle.edit_script.proofs.CommandLaws.{draws-may-be-drawn}
 use Rattle.edit_script.proofs.laws.draws_may_be_drawn.Goals as goal
 
 pub returns : goal.returns
-returns c = draws-may-be-drawn c.read_scripts_are_commands.ensures
+returns c = draws-may-be-drawn

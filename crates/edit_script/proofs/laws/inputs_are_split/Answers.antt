@@ -3,4 +3,4 @@ use Rattle.edit_script.proofs.ScriptExact.{inputs-split}
 use Rattle.edit_script.proofs.laws.inputs_are_split.Goals as goal
 
 pub returns : goal.returns
-returns c = inputs-split c.texts_begin_with_lines.ensures
+returns c = inputs-split

@@ -3,4 +3,4 @@ use Rattle.edit_script.proofs.CommandLaws.{read-scripts-are-commands}
 use Rattle.edit_script.proofs.laws.read_scripts_are_commands.Goals as goal
 
 pub returns : goal.returns
-returns c = read-scripts-are-commands c.jobs_hold.ensures c.read_texts_are_models.ensures.forms c.read_texts_are_models.ensures.names
+returns c = read-scripts-are-commands

@@ -9,7 +9,7 @@ use Rattle.edit_script.proofs.mark.find_mark.Goals as goal
 pub returns-then-is_mark-clause-place : goal.returns-then-is_mark-clause-place
 returns-then-is_mark-clause-place c =
     let some : 0 < length c.loop-rest.rest.now = omega (arith, eqb-false (length c.loop-rest.rest.now) 0 (sym c.is_empty.ensures ∙ c.loop-rest-test.true)) in
-    passed-mark c.args.input.now c.loop-rest.place c.loop-rest.rest.now c.texts_begin_with_lines.ensures c.loop-rest.invariant some (sym c.is_mark.ensures ∙ c.if-is_mark.true)
+    passed-mark c.args.input.now c.loop-rest.place c.loop-rest.rest.now c.loop-rest.invariant some (sym c.is_mark.ensures ∙ c.if-is_mark.true)
 
 pub returns-then-is_mark-clause-start : goal.returns-then-is_mark-clause-start
 returns-then-is_mark-clause-start c = from_line-start c.args.input.now c.loop-rest.rest.now c.loop-rest.place c.loop-rest.invariant.from
@@ -17,9 +17,9 @@ returns-then-is_mark-clause-start c = from_line-start c.args.input.now c.loop-re
 pub returns-then-is_mark-clause-end : goal.returns-then-is_mark-clause-end
 returns-then-is_mark-clause-end c =
     from_line-start c.args.input.now c.after_line-after.result.now (c.loop-rest.place + 1)
-    (c.after_line-after.ensures ∙ ap after_line c.loop-rest.invariant.from ∙ sym (from_line-next c.texts_begin_with_lines.ensures c.args.input.now c.loop-rest.place))
+    (c.after_line-after.ensures ∙ ap after_line c.loop-rest.invariant.from ∙ sym (from_line-next c.args.input.now c.loop-rest.place))
 
 pub loop-rest-preserved : goal.loop-rest-preserved
 loop-rest-preserved c =
     let some : 0 < length c.loop-rest.rest.now = omega (arith, eqb-false (length c.loop-rest.rest.now) 0 (sym c.is_empty.ensures ∙ c.loop-rest-test.true)) in
-    rw c.after_line-after.ensures (passed-more c.args.input.now c.loop-rest.place c.loop-rest.rest.now c.texts_begin_with_lines.ensures c.loop-rest.invariant some (sym c.is_mark.ensures ∙ c.if-is_mark.false))
+    rw c.after_line-after.ensures (passed-more c.args.input.now c.loop-rest.place c.loop-rest.rest.now c.loop-rest.invariant some (sym c.is_mark.ensures ∙ c.if-is_mark.false))

@@ -8,7 +8,7 @@ pub loop-line-init : goal.loop-line-init
 loop-line-init c =
     let mark = c.in-Some.ensures in
     rw (c.new-commands.ensures.items, c.after-lines.ensures, take_rest) (record {
-      reads = reads-none c.args.input.now c.in-Some.mark.place c.in-Some.mark.end c.texts_begin_with_lines.ensures mark.place mark.end;
+      reads = reads-none c.args.input.now c.in-Some.mark.place c.in-Some.mark.end mark.place mark.end;
       keeps = keeps-none;
     })
 
@@ -17,7 +17,7 @@ returns-in-Err-clause-script c =
     let line = c.in-Some-next.line in
     let reads = subst (λ (left : List (ℕ × List (List ℕ))). Reads c.args.input.now c.loop-line.commands.items left) c.in-Some-next.ensures.next c.loop-line.invariant.reads in
     rw (c.fault-in-Err.ensures, c.defect_or.ensures)
-    (reads-refused c.args.input.now c.loop-line.commands.items line.number (line.first.now ∷ line.others) c.next.new.self c.in-Err.error c.given_lines_stand.ensures reads
+    (reads-refused c.args.input.now c.loop-line.commands.items line.number (line.first.now ∷ line.others) c.next.new.self c.in-Err.error reads
     c.in-Err.ensures.gives)
 
 pub returns-in-Err-clause-line : goal.returns-in-Err-clause-line
@@ -25,7 +25,7 @@ returns-in-Err-clause-line c =
     let line = c.in-Some-next.line in
     let reads = subst (λ (left : List (ℕ × List (List ℕ))). Reads c.args.input.now c.loop-line.commands.items left) c.in-Some-next.ensures.next c.loop-line.invariant.reads in
     rw c.fault-in-Err.ensures
-    (λ h. line-refused c.args.input.now c.loop-line.commands.items line.number (line.first.now ∷ line.others) c.next.new.self c.given_lines_stand.ensures reads)
+    (λ h. line-refused c.args.input.now c.loop-line.commands.items line.number (line.first.now ∷ line.others) c.next.new.self reads)
 
 pub loop-line-preserved : goal.loop-line-preserved
 loop-line-preserved c =

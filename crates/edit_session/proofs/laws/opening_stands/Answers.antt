@@ -8,6 +8,7 @@ use Rattle.solid_model.specs.declared.edit.Edit.{Edit}
 use Rattle.solid_model.specs.Edited.{after_edits, given_or, IsUndone}
 use Rattle.solid_model.specs.Edits.{edited}
 use Rattle.solid_model.specs.Inverses.{inverse_of}
+use Rattle.solid_model.proofs.InverseLemmas.{taken-back}
 use Rattle.edit_session.specs.Sessions.{State, after_frame, after_refusal, model_of, opening_of}
 use Rattle.edit_session.proofs.laws.opening_stands.Goals as goal
 
@@ -52,6 +53,6 @@ returns c = record {
   frame = framed;
   refusal = refused;
   edit = λ state edit new model is made.
-      led new state.clauses (inverse_of state.clauses edit) state.undo (c.edits_are_taken_back.ensures state.clauses edit new model is made).back;
+      led new state.clauses (inverse_of state.clauses edit) state.undo (taken-back state.clauses edit new model is made).back;
   undo = undone;
 }

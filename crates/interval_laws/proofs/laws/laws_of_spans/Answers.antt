@@ -3,13 +3,13 @@ use Rattle.interval_laws.proofs.LawProofs.{choice_keeps, chosen_wins, ends_attai
 use Rattle.interval_laws.proofs.laws.laws_of_spans.Goals as goal
 
 pub returns-clause-inclusion : goal.returns-clause-inclusion
-returns-clause-inclusion c = included c.raw_results.ensures
+returns-clause-inclusion c = included
 
 pub returns-clause-attained : goal.returns-clause-attained
 returns-clause-attained c = ends_attained
 
 pub returns-clause-shrinking : goal.returns-clause-shrinking
-returns-clause-shrinking c = shrinks c.raw_results.ensures
+returns-clause-shrinking c = shrinks
 
 pub returns-clause-kept : goal.returns-clause-kept
 returns-clause-kept c = choice_keeps

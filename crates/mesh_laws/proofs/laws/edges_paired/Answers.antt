@@ -3,4 +3,4 @@ use Rattle.mesh_laws.proofs.ClosedLaws.{edges_are_paired}
 use Rattle.mesh_laws.proofs.laws.edges_paired.Goals as goal
 
 pub returns : goal.returns
-returns c = edges_are_paired c.triangles_have_vertices.ensures.triangles c.triangles_have_vertices.ensures.numbers
+returns c = edges_are_paired

@@ -3,5 +3,4 @@ use Rattle.mesh_laws.proofs.FanLaws.{have_one_cycle}
 use Rattle.mesh_laws.proofs.laws.one_cycle.Goals as goal
 
 pub returns : goal.returns
-returns c =
-    have_one_cycle c.triangles_have_vertices.ensures.triangles c.triangles_have_vertices.ensures.numbers c.vertices_are_mixed_edges.ensures.edges c.vertices_are_mixed_edges.ensures.order
+returns c = have_one_cycle

@@ -5,7 +5,7 @@ use Rattle.model_frames.proofs.WorkLaws.{within-none}
 use Rattle.model_frames.proofs.height.top_map.Goals as goal
 
 pub returns-in_err-list-clause-at_most : goal.returns-in_err-list-clause-at_most
-returns-in_err-list-clause-at_most c = within-none c.tallies_add_up.ensures c.args.tally.now _
+returns-in_err-list-clause-at_most c = within-none c.args.tally.now _
 
 pub returns-clause-map : goal.returns-clause-map
 returns-clause-map c =

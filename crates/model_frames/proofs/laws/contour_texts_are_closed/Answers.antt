@@ -2,4 +2,4 @@ use Rattle.model_frames.proofs.Closed.{texts_closed}
 use Rattle.model_frames.proofs.laws.contour_texts_are_closed.Goals as goal
 
 pub returns : goal.returns
-returns c = texts_closed c.borders_are_outside.ensures.planes c.one_contour.ensures.worked_out c.contours_are_closed.ensures
+returns c = texts_closed

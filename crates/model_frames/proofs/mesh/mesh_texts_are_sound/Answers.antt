@@ -2,4 +2,4 @@ use Rattle.model_frames.proofs.SoundTexts.{texts_are_sound}
 use Rattle.model_frames.proofs.mesh.mesh_texts_are_sound.Goals as goal
 
 pub returns : goal.returns
-returns c = texts_are_sound c.meshes_are_sound.ensures.sound c.meshes_are_sound.ensures.apart
+returns c = texts_are_sound

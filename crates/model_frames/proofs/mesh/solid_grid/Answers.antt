@@ -6,7 +6,7 @@ use Rattle.model_frames.proofs.GridWork.{mesh_counted_then, mesh_plain, mesh_wit
 use Rattle.model_frames.proofs.mesh.solid_grid.Goals as goal
 
 pub returns-in_err-list-clause-at_most : goal.returns-in_err-list-clause-at_most
-returns-in_err-list-clause-at_most c = within-none c.tallies_add_up.ensures c.args.tally.now _
+returns-in_err-list-clause-at_most c = within-none c.args.tally.now _
 
 pub returns-clause-text : goal.returns-clause-text
 returns-clause-text c = text_same c.cell_grid.result c.args.view.now c.args.model.now c.in_ok-list.list c.in_ok-list.ensures.value c.cell_grid.ensures.grid

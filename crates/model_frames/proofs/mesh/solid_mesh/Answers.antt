@@ -12,7 +12,7 @@ use Rattle.model_frames.proofs.MeshLaws.{mesh_same, of_mesh, solid_faces, solid_
 use Rattle.model_frames.proofs.mesh.solid_mesh.Goals as goal
 
 pub returns-in_err-list-clause-at_most : goal.returns-in_err-list-clause-at_most
-returns-in_err-list-clause-at_most c = within-none c.tallies_add_up.ensures c.args.tally.now _
+returns-in_err-list-clause-at_most c = within-none c.args.tally.now _
 
 pub returns-in_err-cells-clause-at_most : goal.returns-in_err-cells-clause-at_most
 returns-in_err-cells-clause-at_most c =
@@ -44,7 +44,7 @@ returns-clause-placed c =
     of_mesh c.build_from.result (mesh_of (grid_of c.args.view.now (λ p. solid_value p c.args.model.now))) (λ mesh. All (IsPlaced c.args.view.now) mesh.vertices)
     (mesh_same c.build_from.result c.args.view.now c.args.model.now c.in_ok-list.list c.in_ok-list.ensures.value
     (c.build_from.ensures.mesh (grid_of c.args.view.now (λ p. tape_value p c.in_ok-list.list)) c.in_ok-cells.ensures.cells))
-    (solid_placed c.args.view.now (λ p. solid_value p c.args.model.now) c.vertices_are_mixed_edges.ensures.edges)
+    (solid_placed c.args.view.now (λ p. solid_value p c.args.model.now))
 
 pub returns-clause-vertices : goal.returns-clause-vertices
 returns-clause-vertices c =

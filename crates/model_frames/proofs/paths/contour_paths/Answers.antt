@@ -6,10 +6,16 @@ use Rattle.contour_lines.specs.PlaneGrids.{plane_over}
 use Rattle.live_clauses.specs.Steps.{IsTape, tape_value}
 use Rattle.path_writer.specs.Closed.{AreClosedPaths}
 use Rattle.path_writer.specs.Paths.{path_of}
-use Rattle.model_frames.specs.Contours.{contour_text}
+use Rattle.model_frames.specs.Contours.{contour_text, contour_work}
 use Rattle.model_frames.proofs.Closed.{contour_same, plane_same}
 use Rattle.model_frames.proofs.ContourWork.{contour_counted, contour_plain, contour_within}
+use Rattle.path_writer.proofs.Contours.{contours_have_paths}
+use Rattle.contour_lines.proofs.Joins.{planes_are_bordered}
+use Rattle.model_frames.proofs.WorkLaws.{within-none}
 use Rattle.model_frames.proofs.paths.contour_paths.Goals as goal
+
+pub returns-in_err-list-clause-at_most : goal.returns-in_err-list-clause-at_most
+returns-in_err-list-clause-at_most c = within-none c.args.tally.now (contour_work c.args.view.now c.args.model.now)
 
 pub returns-in_err-loops-clause-at_most : goal.returns-in_err-loops-clause-at_most
 returns-in_err-loops-clause-at_most c =
@@ -25,14 +31,14 @@ returns-in_err-loops-clause-plain c =
 
 pub path_text-requires : goal.path_text-requires
 path_text-requires c =
-    (c.contours_have_paths.ensures c.args.view.now (plane_over c.args.view.now (λ p. tape_value p c.in_ok-list.list)) c.in_ok-loops.loops refl
+    (contours_have_paths c.args.view.now (plane_over c.args.view.now (λ p. tape_value p c.in_ok-list.list)) c.in_ok-loops.loops refl
     c.requires.square c.in_ok-loops.ensures.contour).written
 
 pub returns-clause-ok : goal.returns-clause-ok
 returns-clause-ok c =
     let view = c.args.view.now in
     let clauses = c.args.model.now in
-    let same = contour_same c.borders_are_outside.ensures.planes c.one_contour.ensures.one c.one_contour.ensures.worked_out view clauses
+    let same = contour_same view clauses
     c.in_ok-list.list c.requires.square c.in_ok-list.ensures.value c.in_ok-loops.loops c.in_ok-loops.ensures.contour in
     IfOk-weaker c.path_text.result (λ text. text.items ≡ path_of view c.in_ok-loops.loops) (λ text. text.items ≡ contour_text view clauses)
     (λ text written. written ∙ same) c.path_text.ensures.text
@@ -41,7 +47,7 @@ pub returns-clause-closed : goal.returns-clause-closed
 returns-clause-closed c =
     let view = c.args.view.now in
     let list = c.in_ok-list.list in
-    let border = c.borders_are_outside.ensures.planes view (λ p. tape_value p list) c.requires.square in
+    let border = planes_are_bordered view (λ p. tape_value p list) c.requires.square in
     subst (λ g. IfOk c.path_text.result (λ text. AreClosedPaths view g text.items)) (plane_same view c.args.model.now list c.in_ok-list.ensures.value)
     (c.path_text.ensures.closed (plane_over view (λ p. tape_value p list)) border c.in_ok-loops.ensures.contour)
 

@@ -7,7 +7,7 @@ use Rattle.model_frames.proofs.Frames.{after-few, after-fits, image_counted, ima
 use Rattle.model_frames.proofs.redrawn.redraw_image.Goals as goal
 
 pub returns-in_err-list-clause-at_most : goal.returns-in_err-list-clause-at_most
-returns-in_err-list-clause-at_most c = within-none c.tallies_add_up.ensures c.args.tally.now (image_work c.args.before c.args.view.now c.args.model.now)
+returns-in_err-list-clause-at_most c = within-none c.args.tally.now (image_work c.args.before c.args.view.now c.args.model.now)
 
 pub returns-clause-text : goal.returns-clause-text
 returns-clause-text c =

@@ -8,7 +8,7 @@ use Rattle.model_frames.proofs.MeshesAfter.{after_counted, after_plain, after_wi
 use Rattle.model_frames.proofs.remeshed.redraw_mesh.Goals as goal
 
 pub returns-in_err-list-clause-at_most : goal.returns-in_err-list-clause-at_most
-returns-in_err-list-clause-at_most c = within-none c.tallies_add_up.ensures c.args.tally.now (mesh_work_after c.args.before c.args.view.now c.args.model.now)
+returns-in_err-list-clause-at_most c = within-none c.args.tally.now (mesh_work_after c.args.before c.args.view.now c.args.model.now)
 
 pub returns-clause-text : goal.returns-clause-text
 returns-clause-text c = text_same c.look_after.result c.args.view.now c.args.model.now c.in_ok-list.list c.in_ok-list.ensures.value c.look_after.ensures.tree

@@ -7,7 +7,7 @@ use Rattle.model_frames.proofs.Frames.{drawn_counted, drawn_few, drawn_fits, dra
 use Rattle.model_frames.proofs.render.draw_image.Goals as goal
 
 pub returns-in_err-list-clause-at_most : goal.returns-in_err-list-clause-at_most
-returns-in_err-list-clause-at_most c = within-none c.tallies_add_up.ensures c.args.tally.now (frame_work c.args.view.now c.args.model.now)
+returns-in_err-list-clause-at_most c = within-none c.args.tally.now (frame_work c.args.view.now c.args.model.now)
 
 pub returns-clause-text : goal.returns-clause-text
 returns-clause-text c =

@@ -7,17 +7,18 @@ use Rattle.solid_model.specs.Slopes.{solid_sloped}
 use Rattle.model_frames.specs.Work.{CountsWithin, shade_work}
 use Rattle.model_frames.proofs.Depths.{heights_counted, heights_within}
 use Rattle.model_frames.proofs.Shades.{heights-alone, pixels_shaded, shades_counted, shades_plain, shades_within}
-use Rattle.model_frames.proofs.WorkLaws.{within-none}
+use Rattle.model_frames.proofs.WorkLaws.{frames_add_up_is, within-none}
+use Rattle.live_clauses.proofs.SlopeLaws.{root_has_the_slopes}
 use Rattle.model_frames.proofs.shading.shade_pixels.Goals as goal
 
 pub returns-in_err-list-clause-at_most : goal.returns-in_err-list-clause-at_most
-returns-in_err-list-clause-at_most c = within-none c.tallies_add_up.ensures c.args.tally.now _
+returns-in_err-list-clause-at_most c = within-none c.args.tally.now _
 
 pub returns-in_err-map-clause-at_most : goal.returns-in_err-map-clause-at_most
 returns-in_err-map-clause-at_most c =
     let view = c.args.view.now in
     let clauses = c.args.model.now in
-    heights-alone c.args.tally.now c.heights.new.tally view clauses c.frames_add_up.ensures
+    heights-alone c.args.tally.now c.heights.new.tally view clauses frames_add_up_is
     (heights_within c.args.tally.now c.heights.new.tally view clauses c.in_ok-list.list c.in_ok-list.ensures.live
     c.heights.ensures.at_most)
 
@@ -26,7 +27,7 @@ returns-in_err-map-clause-plain c =
     let view = c.args.view.now in
     let clauses = c.args.model.now in
     let within : CountsWithin c.args.tally.now c.heights.new.tally (shade_work view clauses) =
-    heights-alone c.args.tally.now c.heights.new.tally view clauses c.frames_add_up.ensures
+    heights-alone c.args.tally.now c.heights.new.tally view clauses frames_add_up_is
     (heights_within c.args.tally.now c.heights.new.tally view clauses c.in_ok-list.list c.in_ok-list.ensures.live
     c.heights.ensures.at_most) in
     shades_plain c.args.tally.now c.heights.new.tally view clauses c.in_ok-list.list c.in_ok-list.ensures.live
@@ -38,7 +39,7 @@ returns-clause-ok c =
     let list = c.in_ok-list.list in
     let clauses = c.args.model.now in
     let slopes : (p : Point) → tape_meaning (sloped_at p) list ≡ solid_sloped p clauses =
-    λ p. ap (tape_meaning (sloped_at p)) c.in_ok-list.ensures.live ∙ c.values_have_slopes.ensures.root p clauses c.model_holds.ensures in
+    λ p. ap (tape_meaning (sloped_at p)) c.in_ok-list.ensures.live ∙ root_has_the_slopes p clauses c.model_holds.ensures in
     pixels_shaded c.shade.result (λ pixels. pixels.items) c.args.view.now clauses list c.in_ok-list.ensures.value slopes
     c.shade.ensures.pixels
 
@@ -49,7 +50,7 @@ returns-clause-counted c =
     let list = c.in_ok-list.list in
     let live = c.in_ok-list.ensures.live in
     shades_counted c.shade.result c.args.tally.now c.heights.new.tally c.shade.new.tally view clauses list
-    c.frames_add_up.ensures live
+    frames_add_up_is live
     (heights_counted {T = Unit {0}} {E = Unit {0}} (Ok tt) c.args.tally.now c.heights.new.tally view clauses list live
     c.in_ok-map.ensures.at_most c.in_ok-map.ensures.points c.in_ok-map.ensures.hulls)
     c.shade.ensures.counted
@@ -60,7 +61,7 @@ returns-clause-at_most c =
     let clauses = c.args.model.now in
     let list = c.in_ok-list.list in
     let live = c.in_ok-list.ensures.live in
-    shades_within c.args.tally.now c.heights.new.tally c.shade.new.tally view clauses list c.frames_add_up.ensures live
+    shades_within c.args.tally.now c.heights.new.tally c.shade.new.tally view clauses list frames_add_up_is live
     (heights_within c.args.tally.now c.heights.new.tally view clauses list live c.in_ok-map.ensures.at_most)
     c.shade.ensures.at_most
 
@@ -73,6 +74,6 @@ returns-clause-plain c =
     shades_plain c.args.tally.now c.shade.new.tally view clauses list live c.window_holds.ensures
     (subst IsTape c.list.view_is c.list.invariant) c.height_work_is_bounded.ensures.points
     c.shade_work_is_bounded.ensures.points
-    (shades_within c.args.tally.now c.heights.new.tally c.shade.new.tally view clauses list c.frames_add_up.ensures live
+    (shades_within c.args.tally.now c.heights.new.tally c.shade.new.tally view clauses list frames_add_up_is live
     (heights_within c.args.tally.now c.heights.new.tally view clauses list live c.in_ok-map.ensures.at_most)
     c.shade.ensures.at_most)

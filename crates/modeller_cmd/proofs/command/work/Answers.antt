@@ -11,13 +11,13 @@ use Rattle.modeller_cmd.proofs.command.work.Goals as goal
 pub returns-in_err-job-clause-run : goal.returns-in_err-job-clause-run
 returns-in_err-job-clause-run g c =
     words-end g.S.Source.rest g.S.Source.taken g.S.Source.faults g.K.Sink.held g.K.Sink.faults (bytes_of c.args.words.now) c.args.source.now c.args.out.now c.args.tally.now
-    c.frames_add_up.ensures c.from_residual.result c.in_err-job.field-0.0 c.in_err-job.ensures.job c.from_residual.ensures.1
+    c.from_residual.result c.in_err-job.field-0.0 c.in_err-job.ensures.job c.from_residual.ensures.1
 
 pub returns-in_err-input-clause-run : goal.returns-in_err-input-clause-run
 returns-in_err-input-clause-run g c =
     let read = c.in_err-input.ensures in
     unread-end g.S.Source.rest g.S.Source.taken g.S.Source.faults g.K.Sink.held g.K.Sink.faults (bytes_of c.args.words.now) c.args.source.now c.args.out.now c.args.tally.now
-    c.frames_add_up.ensures c.read_input.new.source c.in_ok-job.job c.in_err-input.field-0.0 c.in_ok-job.ensures.job c.in_ok-job.ensures.nothing
+    c.read_input.new.source c.in_ok-job.job c.in_err-input.field-0.0 c.in_ok-job.ensures.job c.in_ok-job.ensures.nothing
     (reads-some (reads_nothing c.in_ok-job.job) (λ nothing. grind (arith, (read.unasked nothing).0)))
     (λ is. read.failed (ap (λ e. Err e) is)) (λ other. read.no_fault (λ is. other cc)) (λ is. read.too_long (ap (λ e. Err e) is)) (λ is. read.too_long_took (ap (λ e. Err e) is))
     (λ more below. let long = read.too_long_there more below in cc) read.lost c.from_residual-in_err-input.result c.from_residual-in_err-input.ensures.1
@@ -36,18 +36,12 @@ returns-clause-run g c =
 
 pub returns-in_err-job-clause-laws : goal.returns-in_err-job-clause-laws
 returns-in_err-job-clause-laws g c = λ input.
-    laws_of (bytes_of c.args.words.now) input c.read_job.result c.read_job.ensures.job c.read_job.ensures.keeps c.reading_is_exact.ensures.reads c.reading_is_exact.ensures.refuses
-    c.mesh_texts_are_sound.ensures c.contour_texts_are_closed.ensures c.translation_is_exact.ensures.solids c.translation_is_exact.ensures.refusals c.translation_is_exact.ensures.values
-    c.draws_may_be_drawn.ensures c.checks_are_exact.ensures c.undos_lead_back.ensures.runs
+    laws_of (bytes_of c.args.words.now) input c.read_job.result c.read_job.ensures.job c.read_job.ensures.keeps
 
 pub returns-in_err-input-clause-laws : goal.returns-in_err-input-clause-laws
 returns-in_err-input-clause-laws g c = λ input.
-    laws_of (bytes_of c.args.words.now) input c.read_job.result c.read_job.ensures.job c.read_job.ensures.keeps c.reading_is_exact.ensures.reads c.reading_is_exact.ensures.refuses
-    c.mesh_texts_are_sound.ensures c.contour_texts_are_closed.ensures c.translation_is_exact.ensures.solids c.translation_is_exact.ensures.refusals c.translation_is_exact.ensures.values
-    c.draws_may_be_drawn.ensures c.checks_are_exact.ensures c.undos_lead_back.ensures.runs
+    laws_of (bytes_of c.args.words.now) input c.read_job.result c.read_job.ensures.job c.read_job.ensures.keeps
 
 pub returns-clause-laws : goal.returns-clause-laws
 returns-clause-laws g c = λ input.
-    laws_of (bytes_of c.args.words.now) input c.read_job.result c.read_job.ensures.job c.read_job.ensures.keeps c.reading_is_exact.ensures.reads c.reading_is_exact.ensures.refuses
-    c.mesh_texts_are_sound.ensures c.contour_texts_are_closed.ensures c.translation_is_exact.ensures.solids c.translation_is_exact.ensures.refusals c.translation_is_exact.ensures.values
-    c.draws_may_be_drawn.ensures c.checks_are_exact.ensures c.undos_lead_back.ensures.runs
+    laws_of (bytes_of c.args.words.now) input c.read_job.result c.read_job.ensures.job c.read_job.ensures.keeps

@@ -14,7 +14,7 @@ returns-clause-ok c =
     let clauses = c.args.model.now in
     IfOk-weaker c.count_lines.result (λ text. text.items ≡ count_lines c.points.result c.spans.result c.plain_points-plain.result)
     (λ text. text.items ≡ count_text view clauses)
-    (λ text told. told ∙ told-text c.frames_add_up.ensures c.draw_image-drawn.new.tally (fresh_points view (root_of clauses)) (fresh_spans view (root_of clauses)) (plain_points view (length clauses))
+    (λ text told. told ∙ told-text c.draw_image-drawn.new.tally (fresh_points view (root_of clauses)) (fresh_spans view (root_of clauses)) (plain_points view (length clauses))
     c.in_ok-drawn.ensures.fits (subst (λ start. CountsWork start c.draw_image-drawn.new.tally (frame_work view clauses)) c.new-frame.ensures c.in_ok-drawn.ensures.counted)
     c.points.result c.spans.result c.plain_points-plain.result c.points.ensures c.spans.ensures c.plain_points-plain.ensures)
     c.count_lines.ensures

@@ -8,7 +8,7 @@ use Rattle.modeller_cmd.proofs.drawing.draw.Goals as goal
 pub returns-in_err-model : goal.returns-in_err-model
 returns-in_err-model g c =
     let fault = c.in_err-model.field-0.0 in
-    refused-at-once g.K.Sink.held g.K.Sink.faults c.frames_add_up.ensures c.args.out.now c.args.tally.now c.args.input.now (frame_part c.args.frame.now) fault.line fault.reason c.from_residual.result
+    refused-at-once g.K.Sink.held g.K.Sink.faults c.args.out.now c.args.tally.now c.args.input.now (frame_part c.args.frame.now) fault.line fault.reason c.from_residual.result
     c.requires.limit c.in_err-model.ensures.0 c.from_residual.ensures.1
 
 pub returns-in_err-drawn : goal.returns-in_err-drawn

@@ -17,7 +17,7 @@ returns-clause-ok c =
     let view = c.args.view.now in
     let clauses = c.args.model.now in
     let inside = inside-same view clauses c.in_ok-picture.picture c.in_ok-inside.inside c.in_ok-picture.ensures.picture c.in_ok-picture.ensures.value c.in_ok-inside.ensures in
-    let lines = told-text c.frames_add_up.ensures c.draw_image-drawn.new.tally (fresh_points view (root_of clauses)) (fresh_spans view (root_of clauses)) (plain_points view (length clauses))
+    let lines = told-text c.draw_image-drawn.new.tally (fresh_points view (root_of clauses)) (fresh_spans view (root_of clauses)) (plain_points view (length clauses))
     c.in_ok-picture.ensures.fits (subst (λ start. CountsWork start c.draw_image-drawn.new.tally (frame_work view clauses)) c.new-frame.ensures c.in_ok-picture.ensures.counted)
     c.points.result c.spans.result c.plain_points-plain.result c.points.ensures c.spans.ensures c.plain_points-plain.ensures in
     IfOk-weaker c.forge_lines.result

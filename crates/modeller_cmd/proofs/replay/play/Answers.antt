@@ -29,35 +29,35 @@ pub returns-in-Edit-clause-played : goal.returns-in-Edit-clause-played
 returns-in-Edit-clause-played g c =
     at-command (λ command. OnOk c.change.result (IsPlayed g.K.Sink.held g.K.Sink.faults c.args.out.now c.change.new.out c.args.tally.now c.args.tally.now c.args.lines.now c.change.new.lines (parts_at c.args.session.now command)))
     c.args.command.now (Command.Edit c.in-Edit.line c.in-Edit.edit) c.in-Edit.is
-    (quiet-played c.frames_add_up.ensures g.K.Sink.held g.K.Sink.faults c.args.out.now c.change.new.out c.args.tally.now c.args.lines.now c.args.session.now (Command.Edit c.in-Edit.line c.in-Edit.edit) c.change.result
+    (quiet-played g.K.Sink.held g.K.Sink.faults c.args.out.now c.change.new.out c.args.tally.now c.args.lines.now c.args.session.now (Command.Edit c.in-Edit.line c.in-Edit.edit) c.change.result
     (edit-idle c.args.session.now c.in-Edit.line c.in-Edit.edit) c.change.new.lines c.change.ensures.said c.change.ensures.unsent)
 
 pub returns-in-Edit-clause-halted : goal.returns-in-Edit-clause-halted
 returns-in-Edit-clause-halted g c =
     at-command (λ command. IfErr c.change.result (HaltsPlay g.K.Sink.held g.K.Sink.faults c.args.out.now c.change.new.out c.args.tally.now c.args.tally.now c.args.lines.now c.args.session.now command))
     c.args.command.now (Command.Edit c.in-Edit.line c.in-Edit.edit) c.in-Edit.is
-    (quiet-halts c.frames_add_up.ensures g.K.Sink.held g.K.Sink.faults c.args.out.now c.change.new.out c.args.tally.now c.args.lines.now c.args.session.now (Command.Edit c.in-Edit.line c.in-Edit.edit) c.change.result
+    (quiet-halts g.K.Sink.held g.K.Sink.faults c.args.out.now c.change.new.out c.args.tally.now c.args.lines.now c.args.session.now (Command.Edit c.in-Edit.line c.in-Edit.edit) c.change.result
     (edit-idle c.args.session.now c.in-Edit.line c.in-Edit.edit) c.change.ensures.stop c.change.ensures.failed c.change.ensures.sent c.change.ensures.no_fault c.change.ensures.wants)
 
 pub returns-in-Undo-clause-played : goal.returns-in-Undo-clause-played
 returns-in-Undo-clause-played g c =
     at-command (λ command. OnOk c.take_back.result (IsPlayed g.K.Sink.held g.K.Sink.faults c.args.out.now c.take_back.new.out c.args.tally.now c.args.tally.now c.args.lines.now c.take_back.new.lines (parts_at c.args.session.now command)))
     c.args.command.now (Command.Undo c.in-Undo.line) c.in-Undo.is
-    (quiet-played c.frames_add_up.ensures g.K.Sink.held g.K.Sink.faults c.args.out.now c.take_back.new.out c.args.tally.now c.args.lines.now c.args.session.now (Command.Undo c.in-Undo.line) c.take_back.result
+    (quiet-played g.K.Sink.held g.K.Sink.faults c.args.out.now c.take_back.new.out c.args.tally.now c.args.lines.now c.args.session.now (Command.Undo c.in-Undo.line) c.take_back.result
     (undo-idle c.args.session.now c.in-Undo.line) c.take_back.new.lines c.take_back.ensures.said c.take_back.ensures.unsent)
 
 pub returns-in-Undo-clause-halted : goal.returns-in-Undo-clause-halted
 returns-in-Undo-clause-halted g c =
     at-command (λ command. IfErr c.take_back.result (HaltsPlay g.K.Sink.held g.K.Sink.faults c.args.out.now c.take_back.new.out c.args.tally.now c.args.tally.now c.args.lines.now c.args.session.now command))
     c.args.command.now (Command.Undo c.in-Undo.line) c.in-Undo.is
-    (quiet-halts c.frames_add_up.ensures g.K.Sink.held g.K.Sink.faults c.args.out.now c.take_back.new.out c.args.tally.now c.args.lines.now c.args.session.now (Command.Undo c.in-Undo.line) c.take_back.result
+    (quiet-halts g.K.Sink.held g.K.Sink.faults c.args.out.now c.take_back.new.out c.args.tally.now c.args.lines.now c.args.session.now (Command.Undo c.in-Undo.line) c.take_back.result
     (undo-idle c.args.session.now c.in-Undo.line) c.take_back.ensures.stop c.take_back.ensures.failed c.take_back.ensures.sent c.take_back.ensures.no_fault c.take_back.ensures.wants)
 
 pub returns-in-Stray-clause-played : goal.returns-in-Stray-clause-played
 returns-in-Stray-clause-played g c =
     at-command (λ command. OnOk c.refuse.result (IsPlayed g.K.Sink.held g.K.Sink.faults c.args.out.now c.refuse.new.out c.args.tally.now c.args.tally.now c.args.lines.now c.refuse.new.lines (parts_at c.args.session.now command)))
     c.args.command.now (Command.Stray c.in-Stray.line) c.in-Stray.is
-    (quiet-played c.frames_add_up.ensures g.K.Sink.held g.K.Sink.faults c.args.out.now c.refuse.new.out c.args.tally.now c.args.lines.now c.args.session.now (Command.Stray c.in-Stray.line) c.refuse.result
+    (quiet-played g.K.Sink.held g.K.Sink.faults c.args.out.now c.refuse.new.out c.args.tally.now c.args.lines.now c.args.session.now (Command.Stray c.in-Stray.line) c.refuse.result
     (both-none no_work) c.refuse.new.lines
     (stray-said c.refuse.result c.args.lines.now c.refuse.new.lines c.in-Stray.line c.refuse.ensures.said) c.refuse.ensures.unsent)
 
@@ -65,7 +65,7 @@ pub returns-in-Stray-clause-halted : goal.returns-in-Stray-clause-halted
 returns-in-Stray-clause-halted g c =
     at-command (λ command. IfErr c.refuse.result (HaltsPlay g.K.Sink.held g.K.Sink.faults c.args.out.now c.refuse.new.out c.args.tally.now c.args.tally.now c.args.lines.now c.args.session.now command))
     c.args.command.now (Command.Stray c.in-Stray.line) c.in-Stray.is
-    (quiet-halts c.frames_add_up.ensures g.K.Sink.held g.K.Sink.faults c.args.out.now c.refuse.new.out c.args.tally.now c.args.lines.now c.args.session.now (Command.Stray c.in-Stray.line) c.refuse.result
+    (quiet-halts g.K.Sink.held g.K.Sink.faults c.args.out.now c.refuse.new.out c.args.tally.now c.args.lines.now c.args.session.now (Command.Stray c.in-Stray.line) c.refuse.result
     (both-none no_work) c.refuse.ensures.stop c.refuse.ensures.failed c.refuse.ensures.sent c.refuse.ensures.no_fault
     (never c.refuse.result c.refuse.ensures.memory))
 

@@ -16,14 +16,14 @@ returns-in_err-model-clause-halted g c =
     let fault = c.in_err-model.field-0.0 in
     ends-with c.from_residual.result (stop_of_text fault)
     (Halted g.K.Sink.held g.K.Sink.faults c.args.out.now c.args.out.now c.args.tally.now c.args.tally.now (output_as (made Replay c.args.input.now)).parts) c.from_residual.ensures.1
-    (halted-at-once c.frames_add_up.ensures g.K.Sink.held g.K.Sink.faults c.args.out.now c.args.tally.now (output_as (made Replay c.args.input.now)).parts (stop_of_text fault) (text-other fault.line fault.reason))
+    (halted-at-once g.K.Sink.held g.K.Sink.faults c.args.out.now c.args.tally.now (output_as (made Replay c.args.input.now)).parts (stop_of_text fault) (text-other fault.line fault.reason))
 
 pub returns-in_err-commands-clause-halted : goal.returns-in_err-commands-clause-halted
 returns-in_err-commands-clause-halted g c =
     let fault = c.in_err-commands.field-0.0 in
     ends-with c.from_residual-in_err-commands.result (stop_of_script fault)
     (Halted g.K.Sink.held g.K.Sink.faults c.args.out.now c.args.out.now c.args.tally.now c.args.tally.now (output_as (made Replay c.args.input.now)).parts) c.from_residual-in_err-commands.ensures.1
-    (halted-at-once c.frames_add_up.ensures g.K.Sink.held g.K.Sink.faults c.args.out.now c.args.tally.now (output_as (made Replay c.args.input.now)).parts (stop_of_script fault) (script-other fault.line fault.reason))
+    (halted-at-once g.K.Sink.held g.K.Sink.faults c.args.out.now c.args.tally.now (output_as (made Replay c.args.input.now)).parts (stop_of_script fault) (script-other fault.line fault.reason))
 
 pub returns-in_err-model-clause-halts : goal.returns-in_err-model-clause-halts
 returns-in_err-model-clause-halts g c =

@@ -2,5 +2,4 @@ use Rattle.path_writer.proofs.Apart.{contours_lie_apart}
 use Rattle.path_writer.proofs.laws.contours_lie_apart.Goals as goal
 
 pub returns : goal.returns
-returns c =
-    contours_lie_apart c.meshes_are_sound.ensures.sound c.meshes_are_sound.ensures.apart c.vertices_are_mixed_edges.ensures.edges
+returns c = contours_lie_apart

@@ -3,4 +3,4 @@ use Rattle.ply_check.proofs.VerdictLaws.{meshes_are_found_closed}
 use Rattle.ply_check.proofs.laws.mesh_checks.Goals as goal
 
 pub returns : goal.returns
-returns c = meshes_are_found_closed c.edges_paired.ensures c.one_cycle.ensures
+returns c = meshes_are_found_closed

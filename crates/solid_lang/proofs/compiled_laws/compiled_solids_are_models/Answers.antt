@@ -1,7 +1,6 @@
--- The laws are lemmas, over the law of written models.
+-- The laws are lemmas.
 use Rattle.solid_lang.proofs.MeaningLemmas.{length-compiled}
 use Rattle.solid_lang.proofs.ModelLemmas.{compiled_is_model, compiled_text_is_read}
-use Rattle.solid_lang.proofs.LineLemmas.{text_is_lines}
 use Rattle.solid_lang.proofs.compiled_laws.compiled_solids_are_models.Goals as goal
 
 pub returns-clause-counted : goal.returns-clause-counted
@@ -11,4 +10,4 @@ pub returns-clause-models : goal.returns-clause-models
 returns-clause-models c = compiled_is_model
 
 pub returns-clause-read : goal.returns-clause-read
-returns-clause-read c = compiled_text_is_read c.written_models_are_read.ensures.read
+returns-clause-read c = compiled_text_is_read

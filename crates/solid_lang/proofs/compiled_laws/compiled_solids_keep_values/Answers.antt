@@ -3,4 +3,4 @@ use Rattle.solid_lang.proofs.MeaningLemmas.{compiled_keep}
 use Rattle.solid_lang.proofs.compiled_laws.compiled_solids_keep_values.Goals as goal
 
 pub returns : goal.returns
-returns c = compiled_keep c.steps_read_their_operands.ensures.read
+returns c = compiled_keep

@@ -9,4 +9,4 @@ pub returns-clause-refusals : goal.returns-clause-refusals
 returns-clause-refusals c = refusals_stand
 
 pub returns-clause-values : goal.returns-clause-values
-returns-clause-values c = translations_keep_values c.compiled_solids_keep_values.ensures c.compiled_solids_are_models.ensures.read
+returns-clause-values c = translations_keep_values

@@ -8,4 +8,4 @@ use Rattle.tetra_mesh.proofs.building.cells_are_few.Goals as goal
 pub returns : goal.returns
 returns c =
     let bounded = subst IsBounded c.grid-size.ensures.size (c.grid-size.ensures.bounded c.requires.fits) in
-    are_few c.mixed_cells_suffice.ensures.few (size_of c.args.view.now) c.args.cells.now c.requires.cells.0 bounded c.requires.cells.1
+    are_few (size_of c.args.view.now) c.args.cells.now c.requires.cells.0 bounded c.requires.cells.1

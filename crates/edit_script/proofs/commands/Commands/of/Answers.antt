@@ -10,7 +10,7 @@ loop-line-init c =
     let mark = c.in-Some.ensures in
     rw (c.after-lines.ensures, take_rest) (record {
       commands = [];
-      reads = reads-none c.args.input.now c.in-Some.mark.place c.in-Some.mark.end c.texts_begin_with_lines.ensures mark.place mark.end;
+      reads = reads-none c.args.input.now c.in-Some.mark.place c.in-Some.mark.end mark.place mark.end;
     })
 
 pub returns-in-Err-clause-script : goal.returns-in-Err-clause-script
@@ -18,7 +18,7 @@ returns-in-Err-clause-script c =
     let line = c.in-Some-next.line in
     let checks = subst (λ (left : List (ℕ × List (List ℕ))). Checks c.args.input.now left) c.in-Some-next.ensures.next c.loop-line.invariant in
     rw c.fault-in-Err.ensures
-    (reads-stopped c.args.input.now checks.commands line.number (line.first.now ∷ line.others) c.next.new.self c.in-Err.reason c.given_lines_stand.ensures checks.reads
+    (reads-stopped c.args.input.now checks.commands line.number (line.first.now ∷ line.others) c.next.new.self c.in-Err.reason checks.reads
     (sym c.in-Err.ensures.value))
 
 pub returns-in-Err-clause-line : goal.returns-in-Err-clause-line
@@ -26,7 +26,7 @@ returns-in-Err-clause-line c =
     let line = c.in-Some-next.line in
     let checks = subst (λ (left : List (ℕ × List (List ℕ))). Checks c.args.input.now left) c.in-Some-next.ensures.next c.loop-line.invariant in
     rw c.fault-in-Err.ensures
-    (λ h. line-refused c.args.input.now checks.commands line.number (line.first.now ∷ line.others) c.next.new.self c.given_lines_stand.ensures checks.reads)
+    (λ h. line-refused c.args.input.now checks.commands line.number (line.first.now ∷ line.others) c.next.new.self checks.reads)
 
 pub loop-line-preserved : goal.loop-line-preserved
 loop-line-preserved c =
@@ -39,7 +39,7 @@ invariant_of-result c =
     let mark = c.in-Some.ensures in
     rw (c.after-whole.ensures, take_rest)
     (opens-read c.args.input.now _
-    (reads-none c.args.input.now c.in-Some.mark.place c.in-Some.mark.end c.texts_begin_with_lines.ensures mark.place mark.end)
+    (reads-none c.args.input.now c.in-Some.mark.place c.in-Some.mark.end mark.place mark.end)
     (subst (λ (left : List (ℕ × List (List ℕ))). Checks c.args.input.now left) c.in_default-next.ensures.next.0 c.loop-line.invariant))
 
 pub returns-clause-script : goal.returns-clause-script
@@ -47,7 +47,7 @@ returns-clause-script c =
     let mark = c.in-Some.ensures in
     rw (c.after-whole.ensures, take_rest)
     (opens-said c.args.input.now _
-    (reads-none c.args.input.now c.in-Some.mark.place c.in-Some.mark.end c.texts_begin_with_lines.ensures mark.place mark.end)
+    (reads-none c.args.input.now c.in-Some.mark.place c.in-Some.mark.end mark.place mark.end)
     (subst (λ (left : List (ℕ × List (List ℕ))). Checks c.args.input.now left) c.in_default-next.ensures.next.0 c.loop-line.invariant))
 
 pub returns-in-Err-clause-memory : goal.returns-in-Err-clause-memory
