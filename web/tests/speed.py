@@ -20,9 +20,11 @@ RUNS = (
     ("redraw of the enclosure at half size", "enclosure.solid", f"shade {ENDS} w=240 h=165"),
 )
 
-# Moves a slider once a frame, and answers how often the page has drawn, a second.
+# Moves a slider once a frame, and answers how often the page has drawn, a second. What was drawn before, which is larger,
+# is waited for.
 DRAG = """
 (async () => {
+  for (let frame = 0; frame < 3; frame++) await new Promise(requestAnimationFrame);
   const slider = document.getElementById('slider-3');
   let drawn = 0;
   new MutationObserver(() => { drawn += 1; }).observe(document.getElementById('status'), { childList: true });
