@@ -16,6 +16,7 @@ mod SumExamples
 pub mod SumLaws
 pub mod TallyLaws
 pub mod TestedLaws
+pub mod Theorems
 pub mod Traced
 pub mod ValueLaws
 pub mod WorkLaws

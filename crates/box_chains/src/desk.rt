@@ -7,7 +7,7 @@ ghost use Rattle.interval_ops.specs.HullCounts.{CountsHulls};
 ghost use Rattle.live_clauses.specs.Live.{IsWhole};
 ghost use Rattle.view_places.specs.Spans.{IsInRoot, region_of, root_box_of};
 ghost use Rattle.box_chains.specs.Desks.{HasMore, Tracing, list_of, samples};
-ghost use Rattle.box_chains.specs.Outcomes.{AreInRoot, HandsOn, all_seen, asked_outcome, asked_outcomes, decision_of, decisions_of, held_box, outcome_of, outcomes_of, seen, traced_decisions, traced_outcomes};
+ghost use Rattle.box_chains.specs.Outcomes.{AreInRoot, HandsOn, all_seen, asked_decisions, asked_outcome, asked_outcomes, decision_of, decisions_of, held_box, outcome_of, outcomes_of, seen, traced_decisions, traced_outcomes};
 ghost use Rattle.box_chains.specs.Tallied.{CountsAtMost};
 
 use crate::{AskedBox, Outcome, Places, TracedBox, Workspace};
@@ -208,6 +208,40 @@ impl Desk {
     {
         self.room
             .trace_asked_boxes(&mut self.lists, list, &self.places, asked, tally)
+    }
+
+    /// Traces a tape over boxes that receive it, once over each: gives what its hull decides of each box,
+    /// beside the outcome, in their order. The tape is given by its number, and child tapes are put
+    /// behind the others. AllocError: there is no memory for a child tape, and no more was traced than
+    /// that.
+    #[inline]
+    pub fn trace(
+        &mut self,
+        tape: usize,
+        asked: &[AskedBox],
+        tally: &mut Tally,
+    ) -> Result<ArrayVec<TracedBox, 8>, AllocError>
+        requires among { tape < length self.old.lists }
+        requires whole { 2 ≤ length asked.now → IsWhole (list_of self.old tape) }
+        requires room { length (list_of self.old tape) ≤ self.old.room }
+        requires few { length asked.now ≤ 8 }
+        requires within { AreInRoot (samples self.old) asked.now }
+        ensures decisions { IfOk result (λ traced. traced_decisions traced.items
+            ≡ asked_decisions (samples self.old) (list_of self.old tape) asked.now) }
+        ensures outcomes { IfOk result (λ traced.
+            all_seen self.new.lists (traced_outcomes traced.items)
+            ≡ asked_outcomes (samples self.old) (list_of self.old tape) asked.now) }
+        ensures shorter { IfOk result (λ traced.
+            All (HandsOn (length (list_of self.old tape)) self.new.lists)
+            (traced_outcomes traced.items)) }
+        ensures more { HasMore self.old self.new }
+        ensures counted { OnOk result (CountsHulls
+            (length asked.now * length (list_of self.old tape)) tally.old tally.new) }
+        ensures at_most { OnErr result (CountsAtMost 0
+            (length asked.now * length (list_of self.old tape)) tally.old tally.new) }
+    {
+        self.room
+            .trace(&mut self.lists, tape, &self.places, asked, tally)
     }
 
     /// Traces a tape over a box that receives it and that is split even where it is decided: gives the

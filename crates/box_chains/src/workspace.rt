@@ -196,6 +196,44 @@ impl Workspace {
         self.trace_all(lists, at, places, asked, &mut decisions, tally)
     }
 
+    /// Traces a tape over boxes that receive it, once over each: gives what its hull decides of each box,
+    /// beside the outcome, in their order. So where a box that may be held open is all inside, its
+    /// decision tells it from a box that is not decided. The tape is given by its number, and child
+    /// tapes are put behind the others. Where several boxes are traced at once, one that chooses no
+    /// operand keeps the number of the tape. AllocError: there is no memory for a child tape, and no
+    /// more was traced than that.
+    pub fn trace(
+        &mut self,
+        lists: &mut Lists,
+        at: usize,
+        places: &Places,
+        asked: &[AskedBox],
+        tally: &mut Tally,
+    ) -> Result<ArrayVec<TracedBox, 8>, AllocError>
+        requires among { at < length lists.old }
+        requires whole { 2 ≤ length asked.now → IsWhole (list_at lists.old at) }
+        requires room { length (list_at lists.old at) ≤ length self.old }
+        requires few { length asked.now ≤ 8 }
+        requires within { AreInRoot places.now asked.now }
+        ensures decisions { IfOk result (λ traced. traced_decisions traced.items
+            ≡ asked_decisions places.now (list_at lists.old at) asked.now) }
+        ensures outcomes { IfOk result (λ traced.
+            all_seen lists.new (traced_outcomes traced.items)
+            ≡ asked_outcomes places.now (list_at lists.old at) asked.now) }
+        ensures shorter { IfOk result (λ traced. All
+            (HandsOn (length (list_at lists.old at)) lists.new) (traced_outcomes traced.items)) }
+        ensures first { AreFirst lists.old lists.new }
+        ensures room { length self.new ≡ length self.old }
+        ensures counted { OnOk result (CountsHulls
+            (length asked.now * length (list_at lists.old at)) tally.old tally.new) }
+        ensures at_most { OnErr result (CountsAtMost 0
+            (length asked.now * length (list_at lists.old at)) tally.old tally.new) }
+    {
+        let mut decisions = ArrayVec::new();
+        let outcomes = self.trace_all(lists, at, places, asked, &mut decisions, tally)?;
+        Ok(traced_boxes(decisions.as_slice(), outcomes.as_slice()))
+    }
+
     /// Traces a tape over boxes that receive it and that are split even where they are decided: gives
     /// the decision of each, beside its outcome, in their order. So a box that is all inside prunes a
     /// child tape too, and its decision tells it from a box that is not decided. The tape is given by
@@ -246,7 +284,7 @@ impl Workspace {
         tally: &mut Tally,
     ) -> Result<ArrayVec<Outcome<usize>, 8>, AllocError>
         requires among { at < length lists.old }
-        requires whole { IsWhole (list_at lists.old at) }
+        requires whole { 2 ≤ length asked.now → IsWhole (list_at lists.old at) }
         requires room { length (list_at lists.old at) ≤ length self.old }
         requires few { length asked.now ≤ 8 }
         requires none { decisions.old.items ≡ [] }
@@ -289,7 +327,7 @@ impl Workspace {
         tally: &mut Tally,
     ) -> Result<usize, AllocError>
         requires among { at < length lists.old }
-        requires whole { IsWhole (list_at lists.old at) }
+        requires whole { 2 ≤ length asked.now → IsWhole (list_at lists.old at) }
         requires room { length (list_at lists.old at) ≤ length self.old }
         requires some { 0 < length asked.now }
         requires few { array_vec_len outcomes.old + length asked.now ≤ 8 }

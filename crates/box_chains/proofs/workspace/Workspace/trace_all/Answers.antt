@@ -2,12 +2,18 @@ use Rattle.std.proofs.Common.{◌≡◌, ◌-◌, ◌*◌, ◌++◌, ◌∙◌, 
 use Rattle.std.proofs.lemmas.List.{length-drop}
 use Rattle.interval_ops.specs.HullCounts.{CountsHulls}
 use Rattle.live_clauses.specs.Blocks.{list_at}
+use Rattle.live_clauses.specs.Live.{IsWhole}
 use Rattle.box_chains.specs.Outcomes.{AreSeen, asked_decisions, asked_outcome, asked_outcomes, decision_of}
 use Rattle.box_chains.specs.Tallied.{CountsAtMost}
 use Rattle.box_chains.proofs.Lanes.{map-join, rest-is}
 use Rattle.box_chains.proofs.Seen.{first-list, first-then}
 use Rattle.box_chains.proofs.Traced.{hulls-begun, hulls-more, on_err}
 use Rattle.box_chains.proofs.workspace.Workspace.trace_all.Goals as goal
+
+pub trace_some-requires-clause-whole : goal.trace_some-requires-clause-whole
+trace_some-requires-clause-whole c = λ many.
+    subst IsWhole (sym (first-list c.args.lists.now c.loop-done.lists c.args.at c.loop-done.invariant.first c.requires.among))
+    (c.requires.whole (omega (arith, many, ap length (rest-is c.args.asked.now c.loop-done.done), length-drop c.loop-done.done c.args.asked.now)))
 
 pub returns-in_err-done-clause-at_most : goal.returns-in_err-done-clause-at_most
 returns-in_err-done-clause-at_most c =

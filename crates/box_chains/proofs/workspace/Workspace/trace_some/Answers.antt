@@ -42,3 +42,9 @@ returns-then-len-gt-LONGEST-clause-decisions c =
     c.push-then-len-gt-LONGEST.ensures.items
     ∙ ap (λ d. c.args.decisions.now.items ++ d ∷ []) c.in_ok-traced.ensures.decision
     ∙ ap (λ boxes. c.args.decisions.now.items ++ asked_decisions c.args.places.now list boxes) (sym one)
+
+pub trace-requires-clause-whole : goal.trace-requires-clause-whole
+trace-requires-clause-whole c = c.requires.whole (omega arith)
+
+pub trace-requires-else-asked-ge4-clause-whole : goal.trace-requires-else-asked-ge4-clause-whole
+trace-requires-else-asked-ge4-clause-whole c = c.requires.whole (omega arith)

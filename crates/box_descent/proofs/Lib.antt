@@ -1,0 +1,4 @@
+pub mod Descents
+pub mod Longest
+pub mod RunLemmas
+pub mod Traced
