@@ -71,19 +71,19 @@ goes-long plan d v goes = by (is_long d.leaf v.box) (goes_on_by (meets_border pl
 
 -- what children did is told of the same boxes and the same tape
 pub group-same : {S M : Type 0} (m : Meaning S M) (d : Descent) (tape other : List Step) (boxes others : List Indices) (a c : S) (t u : Counts) → tape ≡ other → boxes ≡ others
-    → Group m d tape (filter (m.wanted a) boxes) a c (filter (m.wanted a) boxes) t u → Group m d other (filter (m.wanted a) others) a c (filter (m.wanted a) others) t u
+    → Group m d tape (filter (m.wanted d a) boxes) a c (filter (m.wanted d a) boxes) t u → Group m d other (filter (m.wanted d a) others) a c (filter (m.wanted d a) others) t u
 group-same m d tape other boxes others a c t u same alike h =
-    subst (λ bs. Group m d other (filter (m.wanted a) bs) a c (filter (m.wanted a) bs) t u) alike (subst (λ l. Group m d l (filter (m.wanted a) boxes) a c (filter (m.wanted a) boxes) t u) same h)
+    subst (λ bs. Group m d other (filter (m.wanted d a) bs) a c (filter (m.wanted d a) bs) t u) alike (subst (λ l. Group m d l (filter (m.wanted d a) boxes) a c (filter (m.wanted d a) boxes) t u) same h)
 
 pub stops-same : {S M : Type 0} (m : Meaning S M) (d : Descent) (tape other : List Step) (boxes others : List Indices) (a c : S) (t u : Counts) → tape ≡ other → boxes ≡ others
-    → Stops m d tape (filter (m.wanted a) boxes) a c t u → Stops m d other (filter (m.wanted a) others) a c t u
+    → Stops m d tape (filter (m.wanted d a) boxes) a c t u → Stops m d other (filter (m.wanted d a) others) a c t u
 stops-same m d tape other boxes others a c t u same alike h =
-    subst (λ bs. Stops m d other (filter (m.wanted a) bs) a c t u) alike (subst (λ l. Stops m d l (filter (m.wanted a) boxes) a c t u) same h)
+    subst (λ bs. Stops m d other (filter (m.wanted d a) bs) a c t u) alike (subst (λ l. Stops m d l (filter (m.wanted d a) boxes) a c t u) same h)
 
 pub fits-same : {S M : Type 0} (m : Meaning S M) (d : Descent) (s : S) (tape other : List Step) (boxes others : List Indices) → tape ≡ other → boxes ≡ others
-    → m.fits d s other (filter (m.wanted s) others) → m.fits d s tape (filter (m.wanted s) boxes)
+    → m.fits d s other (filter (m.wanted d s) others) → m.fits d s tape (filter (m.wanted d s) boxes)
 fits-same m d s tape other boxes others same alike h =
-    subst (λ bs. m.fits d s tape (filter (m.wanted s) bs)) (sym alike) (subst (λ l. m.fits d s l (filter (m.wanted s) others)) (sym same) h)
+    subst (λ bs. m.fits d s tape (filter (m.wanted d s) bs)) (sym alike) (subst (λ l. m.fits d s l (filter (m.wanted d s) others)) (sym same) h)
 
 -- so its children are shorter
 pub children-shorter : (plan : Plan) (d : Descent) (v : Visit) → 0 < plan.leaf → IsBox v.box → goes_on plan d v ≡ true → d.leaf ≡ plan.leaf → longest (children plan v.box) < sides v.box

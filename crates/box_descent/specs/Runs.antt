@@ -52,26 +52,26 @@ Stops m d tape boxes a c t u =
     ((a ≡ c) × CountsAtMost 0 (traces m tape boxes) t u) ⊎ Left m d tape boxes a c t u
 
 -- the children of a box of either group that a visitor wants
-abbrev pub firsts : {S M : Type 0} → Meaning S M → S → Indices → List Indices
-firsts m s b = filter (m.wanted s) (first_group m.plan b)
+abbrev pub firsts : {S M : Type 0} → Meaning S M → Descent → S → Indices → List Indices
+firsts m d s b = filter (m.wanted d s) (first_group m.plan b)
 
-abbrev pub seconds : {S M : Type 0} → Meaning S M → S → Indices → List Indices
-seconds m s b = filter (m.wanted s) (second_group m.plan b)
+abbrev pub seconds : {S M : Type 0} → Meaning S M → Descent → S → Indices → List Indices
+seconds m d s b = filter (m.wanted d s) (second_group m.plan b)
 
 -- the children of a box are visited, one group after the other
 pub record Below {S M : Type 0} (m : Meaning S M) (d : Descent) (v : Visit) (a c : S) (t u : Counts) : Type 0 where
   pub mid : S
   pub tally : Counts
-  pub first : Group m d (handed_on d v) (firsts m a v.box) a mid (firsts m a v.box) t tally
-  pub second : Group m d (handed_on d v) (seconds m mid v.box) mid c (seconds m mid v.box) tally u
+  pub first : Group m d (handed_on d v) (firsts m d a v.box) a mid (firsts m d a v.box) t tally
+  pub second : Group m d (handed_on d v) (seconds m d mid v.box) mid c (seconds m d mid v.box) tally u
 
 -- one of the second group is left in its midst, or they are not all traced
 pub record StopsLater {S M : Type 0} (m : Meaning S M) (d : Descent) (v : Visit) (a c : S) (t u : Counts) : Type 0 where
   pub mid : S
   pub tally : Counts
-  pub first : Group m d (handed_on d v) (firsts m a v.box) a mid (firsts m a v.box) t tally
-  pub second : Stops m d (handed_on d v) (seconds m mid v.box) mid c tally u
+  pub first : Group m d (handed_on d v) (firsts m d a v.box) a mid (firsts m d a v.box) t tally
+  pub second : Stops m d (handed_on d v) (seconds m d mid v.box) mid c tally u
 
 -- or so one of the first
 abbrev pub StopsBelow : {S M : Type 0} → Meaning S M → Descent → Visit → S → S → Counts → Counts → Type 0
-StopsBelow m d v a c t u = Stops m d (handed_on d v) (firsts m a v.box) a c t u ⊎ StopsLater m d v a c t u
+StopsBelow m d v a c t u = Stops m d (handed_on d v) (firsts m d a v.box) a c t u ⊎ StopsLater m d v a c t u

@@ -28,12 +28,12 @@ pub record VisitsAreLawful {S M : Type 0} (m : Meaning S M) : Type 0 where
       → m.fits d a tape (b ∷ bs) → m.draws d a c (visit b tape) t u → m.fits d c tape bs
   -- once a box is opened, its children of the first group can be visited that are wanted
   pub begins : (d : Descent) (a mid : S) (v : Visit) (mark : M) → IsSplit m d a v → m.opens d a mid v mark
-      → m.fits d mid (handed_on d v) (firsts m mid v.box)
+      → m.fits d mid (handed_on d v) (firsts m d mid v.box)
   -- and then those of the second
   pub resumes : (d : Descent) (a mid c : S) (v : Visit) (mark : M) (t u : Counts) → IsSplit m d a v
       → m.opens d a mid v mark
-      → Group m d (handed_on d v) (firsts m mid v.box) mid c (firsts m mid v.box) t u
-      → m.fits d c (handed_on d v) (seconds m c v.box)
+      → Group m d (handed_on d v) (firsts m d mid v.box) mid c (firsts m d mid v.box) t u
+      → m.fits d c (handed_on d v) (seconds m d c v.box)
   -- a box that is split does what opening it, its children and closing it do
   pub closes : (d : Descent) (a mid last c : S) (v : Visit) (mark : M) (t u : Counts) → IsSplit m d a v
       → m.opens d a mid v mark → Below m d v mid last t u → m.closes last c mark → m.draws d a c v t u

@@ -13,7 +13,7 @@ pub record Meaning (S M : Type 0) : Type 1 where
   -- the state goes with a descent
   pub ready : Descent → S → Type 0
   -- a box is wanted
-  pub wanted : S → Indices → Bool
+  pub wanted : Descent → S → Indices → Bool
   -- these boxes, which are given a tape, are those that can be visited next, one after the other
   pub fits : Descent → S → List Step → List Indices → Type 0
   -- the second state and tally are what the first become by a box with all that is below it, but for its own trace

@@ -35,12 +35,12 @@ pub fn descend<V: Visitor>(
     requires traces { CanTrace desk.old tape (length boxes.now) }
     requires few { length boxes.now ≤ 8 }
     requires fit { V.meaning.fits (looked V.meaning.plan desk.old) visitor.old (list_of desk.old tape)
-        (filter (V.meaning.wanted visitor.old) boxes.now) }
+        (filter (V.meaning.wanted (looked V.meaning.plan desk.old) visitor.old) boxes.now) }
     ensures drawn { OnOk result (Group V.meaning (looked V.meaning.plan desk.old) (list_of desk.old tape)
-        (filter (V.meaning.wanted visitor.old) boxes.now) visitor.old visitor.new
-        (filter (V.meaning.wanted visitor.old) boxes.now) tally.old tally.new) }
+        (filter (V.meaning.wanted (looked V.meaning.plan desk.old) visitor.old) boxes.now) visitor.old visitor.new
+        (filter (V.meaning.wanted (looked V.meaning.plan desk.old) visitor.old) boxes.now) tally.old tally.new) }
     ensures halted { OnErr result (Stops V.meaning (looked V.meaning.plan desk.old)
-        (list_of desk.old tape) (filter (V.meaning.wanted visitor.old) boxes.now) visitor.old
+        (list_of desk.old tape) (filter (V.meaning.wanted (looked V.meaning.plan desk.old) visitor.old) boxes.now) visitor.old
         visitor.new tally.old tally.new) }
     ensures kept { desk.new ≡ desk.old }
 {

@@ -32,7 +32,7 @@ pub trait Visitor {
     fn wants(&self, desk: &Desk, b: IndexBox) -> bool
         requires placed { IsPlaced desk.now b }
         requires ready { meaning.ready (looked meaning.plan desk.now) self.now }
-        ensures { result ≡ meaning.wanted self.now b };
+        ensures { result ≡ meaning.wanted (looked meaning.plan desk.now) self.now b };
 
     /// Visits a box that has no children to be visited. It was given a tape, by its number. AllocError:
     /// there is no memory for what that takes.

@@ -18,7 +18,7 @@ pub(crate) fn wanted_among<V: Visitor>(
     requires few { length boxes.now ≤ 8 }
     requires placed { All (IsPlaced desk.now) boxes.now }
     requires ready { V.meaning.ready (looked V.meaning.plan desk.now) visitor.now }
-    ensures { result.items ≡ filter (V.meaning.wanted visitor.now) boxes.now }
+    ensures { result.items ≡ filter (V.meaning.wanted (looked V.meaning.plan desk.now) visitor.now) boxes.now }
 {
     let mut kept = ArrayVec::new();
     for n in 0..boxes.len() {

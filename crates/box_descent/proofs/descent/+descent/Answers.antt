@@ -25,7 +25,7 @@ descend-visit_boxes-done-requires g t c κs within =
     let m = g.V.Visitor.meaning in
     let desk = c.args.desk.now in
     let boxes = c.args.boxes.now in
-    let test = m.wanted c.args.visitor.now in
+    let test = m.wanted (looked m.plan desk) c.args.visitor.now in
     let kept = c.as_slice.ensures.value ∙ c.wanted_among-wanted.ensures in
     let few : length c.as_slice.result.now ≤ length boxes = omega (arith, few-kept test boxes, ap length kept) in (
       omega (arith, c.decreases, longest-kept test boxes, ap longest kept),
@@ -241,7 +241,7 @@ visit_children-descend-requires-2 g t c κs within =
                 subst (λ (x : Tracing). CanTrace x c.args.pruned (length boxes)) kept (record { tape = gives.may.visit_is.tape; among = gives.may.among; room = gives.may.room; whole = whole }),
                 (
                   omega (arith, few-taken (length kids - size) (drop size kids), few-dropped size kids, c.as_slice-children.ensures.fits),
-                  subst (λ (x : Tracing). m.fits (looked m.plan x) between (list_of x c.args.pruned) (filter (m.wanted between) boxes)) kept
+                  subst (λ (x : Tracing). m.fits (looked m.plan x) between (list_of x c.args.pruned) (filter (m.wanted (looked m.plan x) between) boxes)) kept
                       (fits-same m d between (list_of desk c.args.pruned) (handed_on d v) boxes (second_group m.plan b) gives.is second
                       (laws.resumes d a mid between v c.in-Some.mark c.args.tally.now c.descend.new.tally split opened done)),
                 ),
@@ -280,7 +280,7 @@ visit_children-returns-in_err-descend-2-clause-halted g t c =
       tally = c.descend.new.tally;
       first = done;
       second = stops-same m d (list_of desk c.args.pruned) (handed_on d v) boxes (second_group m.plan b) between last c.descend.new.tally c.descend-2.new.tally gives.is second
-          (subst (λ (x : Tracing). Stops m (looked m.plan x) (list_of x c.args.pruned) (filter (m.wanted between) boxes) between last c.descend.new.tally c.descend-2.new.tally) c.in_ok-descend.ensures.kept c.in_err-descend-2.ensures.halted);
+          (subst (λ (x : Tracing). Stops m (looked m.plan x) (list_of x c.args.pruned) (filter (m.wanted (looked m.plan x) between) boxes) between last c.descend.new.tally c.descend-2.new.tally) c.in_ok-descend.ensures.kept c.in_err-descend-2.ensures.halted);
     })))
 
 pub visit_children-returns-clause-drawn : goal.visit_children-returns-clause-drawn
@@ -309,5 +309,5 @@ visit_children-returns-clause-drawn g t c =
       tally = c.descend.new.tally;
       first = done;
       second = group-same m d (list_of desk c.args.pruned) (handed_on d v) boxes (second_group m.plan b) between last c.descend.new.tally c.descend-2.new.tally gives.is second
-          (subst (λ (x : Tracing). Group m (looked m.plan x) (list_of x c.args.pruned) (filter (m.wanted between) boxes) between last (filter (m.wanted between) boxes) c.descend.new.tally c.descend-2.new.tally) c.in_ok-descend.ensures.kept c.in_ok-descend-2.ensures.drawn);
+          (subst (λ (x : Tracing). Group m (looked m.plan x) (list_of x c.args.pruned) (filter (m.wanted (looked m.plan x) between) boxes) between last (filter (m.wanted (looked m.plan x) between) boxes) c.descend.new.tally c.descend-2.new.tally) c.in_ok-descend.ensures.kept c.in_ok-descend-2.ensures.drawn);
     }) c.close.ensures
