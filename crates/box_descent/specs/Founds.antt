@@ -53,3 +53,10 @@ found_of given t = by t.outcome t.decision
     by (Open at) (Some inside) = Inside at
     by AllInside decision = Inside given
     by AllOutside decision = Outside
+
+-- the tape that was found, or else the one that the box was given
+abbrev pub tape_of : ℕ → Found → ℕ
+tape_of given Untraced = given
+tape_of given (Inside at) = at
+tape_of given Outside = given
+tape_of given (Ambiguous at) = at

@@ -13,3 +13,19 @@ pub enum Found {
     /// Neither is decided. The tape is the pruned one.
     Ambiguous(usize),
 }
+
+impl Found {
+    ghost use Rattle.std.specs.Prelude.{◌≡◌};
+    ghost use Rattle.box_descent.specs.Founds.{tape_of};
+
+    /// The tape that was found, or else this one.
+    #[inline]
+    pub fn tape_or(self, given: usize) -> usize
+        ensures { result ≡ tape_of given self }
+    {
+        match self {
+            Found::Inside(tape) | Found::Ambiguous(tape) => tape,
+            Found::Untraced | Found::Outside => given,
+        }
+    }
+}

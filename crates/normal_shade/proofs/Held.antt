@@ -88,6 +88,10 @@ any-kept f test (x ∷ xs) among = by (test x) (f x) refl (among x) (any-kept f 
     by false true e h rest = absurd (omega (arith, ap (λ t. cond {A = ℕ} t 1 0) (h refl)))
     by false false e h rest = rest
 
+-- the boxes in which some column has its top sample have those of all
+pub boxes-held : (laws : Lawful) (w : ℕ) (tops : List ℕ) (boxes : List Indices) (p : ℕ) → some_top_at w tops (filter (has_some (is_marked w tops)) boxes) p ≡ some_top_at w tops boxes p
+boxes-held laws w tops boxes p = any-kept (λ h. has_top_at w tops h p) (has_some (is_marked w tops)) boxes (λ h e. held-some laws w tops h p e)
+
 -- the halves in which some column has its top sample have those of the box
 pub halves-held : (laws : Lawful) (w : ℕ) (tops : List ℕ) (b : Indices) (p : ℕ) → IsBox b
     → some_top_at w tops (filter (has_some (is_marked w tops)) (halves_of 8 b)) p ≡ has_top_at w tops b p

@@ -1,7 +1,9 @@
 pub mod Choices
 pub mod Reached
 pub mod DualRows
+pub mod ShaderLaws
 pub mod Sums
+pub mod Kept
 pub mod Lit
 pub mod Visits
 pub mod Held

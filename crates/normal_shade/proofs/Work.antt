@@ -23,7 +23,7 @@ use Rattle.normal_shade.proofs.Sums.{none-of}
 use Rattle.normal_shade.proofs.Visits.{split-pruned}
 
 -- work that is told by equal numbers
-same-work : (Counted : ℕ → ℕ → Type 0) (p s q t : ℕ) → p ≡ q → s ≡ t → Counted p s → Counted q t
+pub same-work : (Counted : ℕ → ℕ → Type 0) (p s q t : ℕ) → p ≡ q → s ≡ t → Counted p s → Counted q t
 same-work Counted p s q t points spans counted = subst (λ n. Counted q n) spans (subst (λ n. Counted n s) points counted)
 
 -- ---- the lists that the last boxes prune
@@ -114,7 +114,7 @@ traced-none laws test d v some is e =
 
 -- ---- some boxes, traced together
 
-abbrev below : (Sample → Bool) → Descent → List Step → Indices → ℕ
+abbrev pub below : (Sample → Bool) → Descent → List Step → Indices → ℕ
 below test d list b = spans_below test d (visit b list)
 
 -- all of them traced, and the first so many of them shaded

@@ -5,5 +5,6 @@ pub mod Laws
 pub mod Lit
 pub mod Marks
 pub mod Shades
+pub mod Shaders
 pub mod Shading
 pub mod TopSamples

@@ -6,8 +6,9 @@ ghost use Rattle.height_map.specs.Tops.{tops_of};
 ghost use Rattle.normal_shade.specs.Shades.{shade_points, shade_spans, shades_of};
 
 use crate::scratch::Scratch;
-use crate::shading::shade_box;
-use box_chains::{Desk, layers_hold};
+use crate::shading::Shader;
+use box_chains::Desk;
+use box_descent::descend;
 use fixed_ops::Tally;
 use live_clauses::Tape;
 use std::alloc::{AllocError, Global};
@@ -35,14 +36,16 @@ pub fn shade(
     ensures at_most { CountsAtMost (shade_points view.now tape.now)
         (shade_spans view.now tape.now) tally.old tally.new }
 {
-    layers_hold();
     // A list can be evaluated.
     let _len = tape.len();
     let mut desk = Desk::new(alloc, view, Lattice::Height, tape)?;
     let root = desk.root();
-    let mut scratch = Scratch::new(alloc);
-    let mut pixels = vec![in alloc; 0u8; view.w as usize * view.h as usize]?;
+    let mut shader = Shader {
+        tops,
+        pixels: vec![in alloc; 0u8; view.w as usize * view.h as usize]?,
+        scratch: Scratch::new(alloc),
+    };
     // The list that the desk was made with has the number 0.
-    shade_box(&mut desk, root, 0, tops, &mut scratch, &mut pixels, tally)?;
-    Ok(pixels)
+    descend(&mut desk, 0, &[root], &mut shader, tally)?;
+    Ok(shader.pixels)
 }

@@ -1,85 +1,89 @@
-// Boxes that are shaded.
-ghost use Rattle.std.specs.Prelude.{◌≡◌, ◌≤◌, ◌&&◌, is_none, length, OnErr, OnOk, IsTrue};
-ghost use Rattle.std.specs.List.{All};
-ghost use Rattle.box_chains.specs.Chains.{is_long as is_long_for, visit};
-ghost use Rattle.box_chains.specs.Desks.{HasMore, list_of, samples};
-ghost use Rattle.box_chains.specs.Outcomes.{HandsOn, asked_outcome, decision_of, held_box, seen};
-ghost use Rattle.box_chains.specs.Tallied.{CountsAtMost, CountsExactly};
-ghost use Rattle.box_chains.specs.Tested.{halves_spans_where, has_some, spans_where};
+// Height maps that are shaded box by box.
+ghost use Rattle.std.specs.Prelude.{◌≡◌, ◌≤◌, length, OnOk, OnErr};
+ghost use Rattle.box_chains.specs.Desks.{list_of};
+ghost use Rattle.box_descent.specs.Founds.{tape_of};
 ghost use Rattle.fixed_ops.specs.Counts.{RisesBy, points_of};
 ghost use Rattle.height_map.specs.Bound.{layered};
 ghost use Rattle.height_map.specs.Columns.{Changes};
-ghost use Rattle.height_map.specs.Desks.{IsPlaced, MayDraw, MayReceive};
-ghost use Rattle.live_clauses.specs.Live.{IsWhole};
-ghost use Rattle.normal_shade.specs.Lit.{lit_in, lit_where};
-ghost use Rattle.normal_shade.specs.Marks.{has_top_at, is_marked, shade_at, some_top_at};
-ghost use Rattle.normal_shade.specs.Shading.{boxes_points, pruned_at, spans_below};
-ghost use Rattle.view_places.specs.Boxes.{halves_of};
+ghost use Rattle.height_map.specs.Desks.{MayDraw};
+ghost use Rattle.normal_shade.specs.Lit.{lit_in};
+ghost use Rattle.normal_shade.specs.Marks.{has_top_at, is_marked, shade_at};
 
 use crate::lighting::light_tops;
-use crate::live_lists_keep_slopes;
 use crate::scratch::Scratch;
-use crate::tops::{boxes_with_tops, has_top};
-use box_chains::{Desk, LEAF, Outcome, TracedBox, is_long, layers_hold};
+use crate::tops::has_top;
+use box_chains::{Desk, LEAF};
+use box_descent::{Border, Found, Order, Plan, Visitor};
 use fixed_ops::Tally;
 use std::alloc::AllocError;
-use view_places::{IndexBox, split};
+use view_places::IndexBox;
 
-/// Shades a box, which receives a list: gives each column that has its top sample there the light on
-/// it.
-pub fn shade_box(
-    desk: &mut Desk,
-    b: IndexBox,
-    received: usize,
-    tops: &[u16],
-    scratch: &mut Scratch,
-    pixels: &mut [u8],
-    tally: &mut Tally,
-) -> Result<(), AllocError>
-    requires may { MayDraw desk.old b received (length tops.now) }
-    requires picture { length pixels.old ≡ length tops.now }
-    ensures pixels { OnOk result (Changes (has_top_at desk.old.view.w tops.now b)
-        (λ p old. shade_at desk.old.view (list_of desk.old received) tops.now p)
-        pixels.old pixels.new) }
-    ensures counted { OnOk result (CountsExactly
-        (lit_where (is_marked desk.old.view.w tops.now) (layered desk.old.view)
-        (visit b (list_of desk.old received)))
-        (spans_where (is_marked desk.old.view.w tops.now) (layered desk.old.view)
-        (visit b (list_of desk.old received)))
-        tally.old tally.new) }
-    ensures at_most { OnErr result (CountsAtMost
-        (lit_where (is_marked desk.old.view.w tops.now) (layered desk.old.view)
-        (visit b (list_of desk.old received)))
-        (spans_where (is_marked desk.old.view.w tops.now) (layered desk.old.view)
-        (visit b (list_of desk.old received)))
-        tally.old tally.new) }
-{
-    layers_hold();
-    if !has_top(desk.w(), b, tops) {
-        return Ok(());
-    }
-    let traced = desk.trace_held_box(received, b, tally)?;
-    shade_traced(desk, b, received, &traced, tops, scratch, pixels, tally)
+/// A picture of a height map with these tops, which is lit box by box: each column by the list that the
+/// last box on the way to its top sample prunes.
+#[derive(Drop)]
+pub(crate) struct Shader<'a> {
+    /// The tops, row by row.
+    pub tops: &'a [u16],
+    /// The light on them.
+    pub pixels: Vec<u8>,
+    /// Memory for dual numbers.
+    pub scratch: Scratch,
 }
 
-// The number of the list that a box prunes. A box that is outside prunes none: that of the list that it
-// received, which lights nothing, as no top sample lies there.
-#[inline]
-fn pruned_list(outcome: Outcome<usize>, received: usize) -> usize
-    ensures { result ≡ pruned_at received outcome }
-{
-    match outcome {
-        Outcome::Open(pruned) => pruned,
-        Outcome::Inside | Outcome::Outside => received,
-    }
-}
+impl<'a> Visitor for Shader<'a> {
+    ghost use Rattle.normal_shade.specs.Shaders.{shading};
 
-// Whether a box that was traced is split: it is undecided, and no leaf.
-#[inline]
-fn is_split(traced: &TracedBox, b: IndexBox) -> bool
-    ensures { result ≡ (is_none traced.now.decision && is_long_for 8 b) }
-{
-    traced.decision.is_none() && is_long(b, LEAF)
+    type Mark = ();
+
+    ghost meaning = { shading };
+
+    #[inline]
+    fn plan(&self) -> Plan {
+        Plan {
+            leaf: LEAF,
+            traces_leaves: true,
+            prunes_inside: true,
+            border: Border::Nowhere,
+            order: Order::Ascending,
+        }
+    }
+
+    #[inline]
+    fn wants(&self, desk: &Desk, b: IndexBox) -> bool {
+        has_top(desk.w(), b, self.tops)
+    }
+
+    #[inline]
+    fn visit(
+        &mut self,
+        desk: &mut Desk,
+        b: IndexBox,
+        given: usize,
+        found: Found,
+        tally: &mut Tally,
+    ) -> Result<(), AllocError> {
+        let tape = found.tape_or(given);
+        let Shader {
+            tops,
+            pixels,
+            scratch,
+        } = self;
+        light_box(desk, b, tape, tops, scratch, pixels, tally)
+    }
+
+    #[inline]
+    fn open(
+        &mut self,
+        desk: &Desk,
+        b: IndexBox,
+        given: usize,
+        pruned: usize,
+    ) -> Result<Option<()>, AllocError> {
+        Ok(Some(()))
+    }
+
+    #[inline]
+    fn close(&mut self, mark: ()) {}
 }
 
 // Gives each column that has its top sample in a box the light there, by the list of a number. AllocError:
@@ -108,141 +112,5 @@ fn light_box(
     let list = desk.lists.list(at);
     scratch.make_room(list.len() as usize)?;
     light_tops(&desk.places, w, b, &list, tops, scratch, pixels, tally);
-    Ok(())
-}
-
-// Shades a box that was traced, by the list that it prunes: a decided box and a leaf at once, and another
-// one child by child.
-#[cycle(shading)]
-fn shade_traced(
-    desk: &mut Desk,
-    b: IndexBox,
-    received: usize,
-    traced: &TracedBox,
-    tops: &[u16],
-    scratch: &mut Scratch,
-    pixels: &mut [u8],
-    tally: &mut Tally,
-) -> Result<(), AllocError>
-    requires may { MayDraw desk.old b received (length tops.now) }
-    requires picture { length pixels.old ≡ length tops.now }
-    requires decision { traced.now.decision
-        ≡ decision_of (samples desk.old) (list_of desk.old received) b }
-    requires told { seen desk.old.lists traced.now.outcome
-        ≡ asked_outcome (samples desk.old) (list_of desk.old received) (held_box b) }
-    requires hands { HandsOn (length (list_of desk.old received)) desk.old.lists
-        traced.now.outcome }
-    ensures pixels { OnOk result (Changes (has_top_at desk.old.view.w tops.now b)
-        (λ p old. shade_at desk.old.view (list_of desk.old received) tops.now p)
-        pixels.old pixels.new) }
-    ensures counted { OnOk result (CountsExactly
-        (lit_where (is_marked desk.old.view.w tops.now) (layered desk.old.view)
-        (visit b (list_of desk.old received)))
-        (spans_below (is_marked desk.old.view.w tops.now) (layered desk.old.view)
-        (visit b (list_of desk.old received)))
-        tally.old tally.new) }
-    ensures at_most { OnErr result (CountsAtMost
-        (lit_where (is_marked desk.old.view.w tops.now) (layered desk.old.view)
-        (visit b (list_of desk.old received)))
-        (spans_below (is_marked desk.old.view.w tops.now) (layered desk.old.view)
-        (visit b (list_of desk.old received)))
-        tally.old tally.new) }
-    ensures kept { desk.new ≡ desk.old }
-{
-    layers_hold();
-    live_lists_keep_slopes();
-    let pruned = pruned_list(traced.outcome, received);
-    if is_split(traced, b) {
-        shade_children(desk, b, pruned, tops, scratch, pixels, tally)
-    } else {
-        light_box(desk, b, pruned, tops, scratch, pixels, tally)
-    }
-}
-
-// Shades the children of a box that is split. Those in which some column has its top sample are traced
-// together, and the lists that they prune are given up then.
-#[cycle(shading)]
-fn shade_children(
-    desk: &mut Desk,
-    b: IndexBox,
-    pruned: usize,
-    tops: &[u16],
-    scratch: &mut Scratch,
-    pixels: &mut [u8],
-    tally: &mut Tally,
-) -> Result<(), AllocError>
-    requires may { MayDraw desk.old b pruned (length tops.now) }
-    requires whole { IsWhole (list_of desk.old pruned) }
-    requires picture { length pixels.old ≡ length tops.now }
-    requires long { IsTrue (is_long_for 8 b) }
-    ensures pixels { OnOk result (Changes (has_top_at desk.old.view.w tops.now b)
-        (λ p old. shade_at desk.old.view (list_of desk.old pruned) tops.now p)
-        pixels.old pixels.new) }
-    ensures counted { OnOk result (CountsExactly
-        (boxes_points (is_marked desk.old.view.w tops.now) (layered desk.old.view)
-        (list_of desk.old pruned) (halves_of 8 b))
-        (halves_spans_where (is_marked desk.old.view.w tops.now) (layered desk.old.view)
-        (list_of desk.old pruned) (halves_of 8 b))
-        tally.old tally.new) }
-    ensures at_most { OnErr result (CountsAtMost
-        (boxes_points (is_marked desk.old.view.w tops.now) (layered desk.old.view)
-        (list_of desk.old pruned) (halves_of 8 b))
-        (halves_spans_where (is_marked desk.old.view.w tops.now) (layered desk.old.view)
-        (list_of desk.old pruned) (halves_of 8 b))
-        tally.old tally.new) }
-    ensures kept { desk.new ≡ desk.old }
-{
-    layers_hold();
-    let children = split(b, LEAF);
-    let children = children.as_slice();
-    let boxes = boxes_with_tops(desk.w(), children, tops);
-    let count = desk.lists.len();
-    let shaded = shade_boxes(desk, boxes.as_slice(), pruned, tops, scratch, pixels, tally);
-    desk.cut(count);
-    shaded
-}
-
-// Shades boxes in each of which some column has its top sample: all of them are traced, and then
-// shaded one by one. The lists that they prune stay behind the others.
-#[cycle(shading)]
-fn shade_boxes(
-    desk: &mut Desk,
-    boxes: &[IndexBox],
-    received: usize,
-    tops: &[u16],
-    scratch: &mut Scratch,
-    pixels: &mut [u8],
-    tally: &mut Tally,
-) -> Result<(), AllocError>
-    requires placed { All (IsPlaced desk.old (length tops.now)) boxes.now }
-    requires receive { MayReceive desk.old received }
-    requires picture { length pixels.old ≡ length tops.now }
-    requires few { length boxes.now ≤ 8 }
-    requires some { All (λ b. IsTrue (has_some (is_marked desk.old.view.w tops.now) b)) boxes.now }
-    ensures pixels { OnOk result (Changes (some_top_at desk.old.view.w tops.now boxes.now)
-        (λ p old. shade_at desk.old.view (list_of desk.old received) tops.now p)
-        pixels.old pixels.new) }
-    ensures counted { OnOk result (CountsExactly
-        (boxes_points (is_marked desk.old.view.w tops.now) (layered desk.old.view)
-        (list_of desk.old received) boxes.now)
-        (halves_spans_where (is_marked desk.old.view.w tops.now) (layered desk.old.view)
-        (list_of desk.old received) boxes.now)
-        tally.old tally.new) }
-    ensures at_most { OnErr result (CountsAtMost
-        (boxes_points (is_marked desk.old.view.w tops.now) (layered desk.old.view)
-        (list_of desk.old received) boxes.now)
-        (halves_spans_where (is_marked desk.old.view.w tops.now) (layered desk.old.view)
-        (list_of desk.old received) boxes.now)
-        tally.old tally.new) }
-    ensures more { HasMore desk.old desk.new }
-{
-    layers_hold();
-    let traced = desk.trace_held_boxes(received, boxes, tally)?;
-    let traced = traced.as_slice();
-    for n in 0..boxes.len() {
-        shade_traced(
-            desk, boxes[n], received, &traced[n], tops, scratch, pixels, tally,
-        )?;
-    }
     Ok(())
 }

@@ -5,7 +5,6 @@ ghost use Rattle.box_chains.specs.Tested.{has_some};
 ghost use Rattle.height_map.specs.Columns.{IsAmong};
 ghost use Rattle.normal_shade.specs.Marks.{is_marked, is_within, tops_along};
 
-use arrayvec::ArrayVec;
 use box_chains::layers_hold;
 use view_places::IndexBox;
 
@@ -47,20 +46,4 @@ pub fn is_within(b: IndexBox, top: u16) -> bool
 {
     let top = u32::from(top);
     b.z0 < top && top <= b.z1
-}
-
-/// Those of some boxes in which some column has its top sample.
-pub fn boxes_with_tops(w: u32, boxes: &[IndexBox], tops: &[u16]) -> ArrayVec<IndexBox, 8>
-    requires few { length boxes.now ≤ 8 }
-    requires among { All (IsAmong w (length tops.now)) boxes.now }
-    ensures { result.items ≡ filter (has_some (is_marked w tops.now)) boxes.now }
-{
-    let mut kept = ArrayVec::new();
-    for n in 0..boxes.len() {
-        let b = boxes[n];
-        if has_top(w, b, tops) {
-            kept.push(b);
-        }
-    }
-    kept
 }
