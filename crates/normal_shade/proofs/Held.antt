@@ -21,7 +21,7 @@ use Rattle.normal_shade.specs.Laws.{SlopesAreKept}
 use Rattle.normal_shade.specs.Lit.{pruned}
 use Rattle.normal_shade.specs.Marks.{has_top_at, is_marked, is_within, shade_at, some_top_at}
 use Rattle.normal_shade.specs.Shades.{lit}
-use Rattle.normal_shade.proofs.Lit.{Becomes, lit-none, lit-numbers, lit-places}
+use Rattle.normal_shade.proofs.Lit.{Becomes, lit-numbers, lit-places}
 use Rattle.normal_shade.proofs.Sums.{some-of}
 use Rattle.normal_shade.proofs.Visits.{slopes-pruned}
 
@@ -139,11 +139,3 @@ pub lit-halves : (laws : Lawful) (w : ℕ) (tops : List ℕ) (b : Indices) (boxe
     → Becomes (some_top_at w tops boxes) g xs ys → Becomes (has_top_at w tops b) g xs ys
 lit-halves laws w tops b boxes g xs ys is are changed =
     lit-places (some_top_at w tops boxes) (has_top_at w tops b) g xs ys (λ p. ap (λ bs. some_top_at w tops bs p) are ∙ halves-held laws w tops b p is) changed
-
--- a box in which no column has its top sample lights none
-pub lit-dark : (laws : Lawful) (w : ℕ) (tops : List ℕ) (b : Indices) (g : ℕ → ℕ) (xs : List ℕ) → has_some (is_marked w tops) b ≡ false → Becomes (has_top_at w tops b) g xs xs
-lit-dark laws w tops b g xs none = lit-none (has_top_at w tops b) g xs (λ p. by p (has_top_at w tops b p) refl)
-  where
-    by : (p : ℕ) (t : Bool) → has_top_at w tops b p ≡ t → t ≡ false
-    by p false e = refl
-    by p true e = absurd (omega (arith, ap (λ t. cond {A = ℕ} t 1 0) (sym (held-some laws w tops b p e) ∙ none)))

@@ -11,8 +11,6 @@ pub mod Work
 pub mod Rows
 pub mod TopSamples
 pub mod Waiting
-pub mod Longest
-pub mod Descents
 pub mod Pictures
 pub mod Bounds
 mod Examples

@@ -1,10 +1,8 @@
 -- What is counted column by column and row by row, and which boxes of some are kept.
-use Rattle.std.proofs.Common.{◌≡◌, ℕ, ◌+◌, ◌-◌, ◌*◌, ◌<◌, ◌≤◌, Bool, true, false, cond, append-nil, List, [], ◌∷◌, ◌++◌, get_or, length, take, sym, ap, ◌∙◌, arith}
+use Rattle.std.proofs.Common.{◌≡◌, ℕ, ◌+◌, ◌-◌, ◌*◌, ◌<◌, ◌≤◌, Bool, true, false, cond, List, get_or, sym, ap, ◌∙◌, arith}
 use Rattle.std.specs.Prelude.{nat_le, nat_lt}
-use Rattle.std.specs.List.{filter}
 use Rattle.std.proofs.lemmas.Bool.Decides.{nat_tests}
 use Rattle.std.proofs.lemmas.Bool.{and_parts, leb-true, lt-ltb, ltb-true}
-use Rattle.std.proofs.lemmas.List.Elements.{filter_more}
 use Rattle.box_chains.specs.Laws.{Lawful}
 use Rattle.box_chains.specs.Sums.{sum_along}
 use Rattle.box_chains.specs.Tested.{has_some}
@@ -100,18 +98,6 @@ pub rows-lit : (view : Window) (list : List Step) (w : ℕ) (tops : List ℕ) (b
 rows-lit view list w tops b j width is end = ap (lit_to view list tops b) end ∙ sym (lit-by_rows view list w tops b width is)
 
 -- ---- the boxes that pass a test
-
--- one more box that is kept, or left out
-pub one-kept : {X : Type 0} (test : X → Bool) (xs kept : List X) (i : ℕ) (x : X) → i < length xs → x ≡ get_or xs i x → test x ≡ true
-    → kept ≡ filter test (take i xs) → kept ++ x ∷ [] ≡ filter test (take (i + 1) xs)
-one-kept test xs kept i x within read e are =
-    ap (λ l. l ++ x ∷ []) are ∙ ap (λ y. filter test (take i xs) ++ y ∷ []) read
-    ∙ ap (λ t. filter test (take i xs) ++ cond t (get_or xs i x ∷ []) []) (sym e ∙ ap test read) ∙ sym (filter_more test xs i x within)
-
-pub one-left : {X : Type 0} (test : X → Bool) (xs kept : List X) (i : ℕ) (x : X) → i < length xs → x ≡ get_or xs i x → test x ≡ false
-    → kept ≡ filter test (take i xs) → kept ≡ filter test (take (i + 1) xs)
-one-left test xs kept i x within read e are =
-    are ∙ sym (append-nil (filter test (take i xs))) ∙ ap (λ t. filter test (take i xs) ++ cond t (get_or xs i x ∷ []) []) (sym e ∙ ap test read) ∙ sym (filter_more test xs i x within)
 
 -- a top that lies in a box is some top
 pub within-some : (b : Indices) (top : ℕ) → is_within b top ≡ true → (0 < top) × (top ≤ b.z1)

@@ -1,7 +1,7 @@
 -- What a shader does at a box, from what it does at its children.
-use Rattle.std.proofs.Common.{◌≡◌, ℕ, ◌+◌, ◌*◌, ◌<◌, ◌&&◌, ◌||◌, Bool, true, false, cond, List, [], ◌∷◌, length, take, get_or, refl, sym, ap, subst, ◌∙◌, inl, inr, arith}
-use Rattle.std.specs.Prelude.{Option, Some, None, Result, Ok, Err, OnOk, option_map, slice_get}
-use Rattle.std.specs.List.{All, filter, list_any, sum_by}
+use Rattle.std.proofs.Common.{◌≡◌, ℕ, ◌+◌, ◌*◌, ◌<◌, ◌&&◌, Bool, true, false, cond, List, [], ◌∷◌, length, take, refl, sym, ap, subst, ◌∙◌, inl, inr, arith}
+use Rattle.std.specs.Prelude.{Option, Some, None, Result, Ok, Err, OnErr, OnOk, option_map}
+use Rattle.std.specs.List.{All, filter, sum_by}
 use Rattle.std.proofs.lemmas.List.{take_all}
 use Rattle.std.proofs.lemmas.List.Elements.{All-cons, All-filter, All-nil, All-weaker, filter_passes}
 use Rattle.std.proofs.lemmas.List.Sums.{sum_by-cons}
@@ -17,15 +17,14 @@ use Rattle.box_chains.specs.Visits.{IsVisit}
 use Rattle.box_descent.proofs.Groups.{StopsInGroup, one-group, runs-keep, stops-in}
 use Rattle.box_descent.specs.Founds.{IsFound, child_tape, tape_of}
 use Rattle.box_descent.specs.Looked.{MayVisit, looked}
-use Rattle.box_descent.specs.Plans.{goes_on, goes_on_by, is_traced, meets_border}
-use Rattle.box_descent.specs.Runs.{Below, Group, Left, Runs, Stops, StopsBelow}
+use Rattle.box_descent.specs.Plans.{goes_on, goes_on_by, is_traced}
+use Rattle.box_descent.specs.Runs.{Below, Group, Runs, Stops, StopsBelow}
 use Rattle.box_descent.specs.VisitorLaws.{IsSplit, VisitsAreLawful}
 use Rattle.box_descent.specs.declared.found.Found.{Found}
 use Rattle.box_descent.specs.declared.found.Found.TheVariants.{Untraced, Inside, Outside, Ambiguous}
 use Rattle.fixed_ops.specs.Counts.{Counts}
 use Rattle.height_map.specs.Bound.{layered}
 use Rattle.interval_ops.specs.HullCounts.{CountsHulls}
-use Rattle.height_map.specs.Columns.{Changes}
 use Rattle.height_map.specs.Desks.{MayDraw}
 use Rattle.live_clauses.specs.declared.step.Step.{Step}
 use Rattle.view_places.specs.Boxes.{Indices, IsBox, halves_of}
@@ -129,6 +128,7 @@ group-stops d tape a c boxes t u some are h = group-work laws (λ p s. CountsAtM
   where
     wanted : List Indices
     wanted = filter (has_some (test d a)) boxes
+
     by : Stops shading d tape wanted a c t u → CountsAtMost (boxes_points (test d a) d tape wanted) (halves_spans_where (test d a) d tape wanted) t u
     by (inl none) =
         traces-bounded laws (test d a) d tape wanted t u some (All-filter (has_some (test d a)) IsBox boxes are) (filter_passes (has_some (test d a)) boxes)
@@ -145,6 +145,7 @@ goes-split d v goes = by (decision d v) (is_long d.leaf v.box) refl refl goes
   where
     no : {A : Type 0} → false ≡ true → A
     no same = absurd (omega (arith, ap {B = ℕ} (λ (t : Bool). cond t 1 0) same))
+
     by : (t : Option Bool) (l : Bool) → decision d v ≡ t → is_long d.leaf v.box ≡ l → (l && goes_on_by false t) ≡ true → is_split d v ≡ true
     by None true e f g = rw e f
     by None false e f g = no g
@@ -163,17 +164,18 @@ shade-closes d a last v t u split h =
     let is = split.visit_is.box in
     let splits = goes-split d v split.long in
     let done = group-done d (handed_on d v) a last (halves_of 8 v.box) t one.tally (omega (arith, split.leaf)) (subst (λ n. All IsBox (halves_of n v.box)) split.leaf (split-boxes d v (omega (arith, split.leaf)) is)) one.group in
-    let pruned-is = sym (split-pruned d v splits) in
+    let own = sym (split-pruned d v splits) in
     record {
       tops = done.tops;
       pixels = lit-kept d a v split (lit-halves laws d.view.w a.tops.now v.box (filter (has_some (test d a)) (halves_of 8 v.box)) (light d (handed_on d v) a) a.pixels.items last.pixels.items is refl done.pixels);
-      counted = split-work laws (λ p s. CountsExactly p s t u) (test d a) d v (handed_on d v) (omega (arith, split.leaf)) is splits pruned-is
+      counted = split-work laws (λ p s. CountsExactly p s t u) (test d a) d v (handed_on d v) (omega (arith, split.leaf)) is splits own
           (subst (λ n. CountsExactly (boxes_points (test d a) d (handed_on d v) (halves_of n v.box)) (halves_spans_where (test d a) d (handed_on d v) (halves_of n v.box)) t u) (sym split.leaf)
           (after-none t one.tally u _ _ done.counted one.none));
     }
   where
     after-none : (t k u : Counts) (p s : ℕ) → CountsExactly p s t k → CountsHulls 0 k u → CountsExactly p s t u
     after-none t k u p s first none = same-work (λ p s. CountsExactly p s t u) (p + 0) (s + 0) p s (omega arith) (omega arith) (laws.work.sum t k u p s 0 0 first (laws.work.hulls k u 0 none))
+
     lit-kept : (d : Descent) (a : Shader) (v : Visit) → IsSplit shading d a v → {ys : List ℕ} → Becomes (has_top_at d.view.w a.tops.now v.box) (light d (handed_on d v) a) a.pixels.items ys
         → Becomes (has_top_at d.view.w a.tops.now v.box) (light d v.list a) a.pixels.items ys
     lit-kept d a v split {ys} h =
@@ -189,6 +191,7 @@ shade-stops d a last v t u split h =
   where
     boxes : All IsBox (halves_of 8 v.box)
     boxes = subst (λ n. All IsBox (halves_of n v.box)) split.leaf (split-boxes d v (omega (arith, split.leaf)) split.visit_is.box)
+
     by : StopsInGroup shading d v a last t u → CountsAtMost (boxes_points (test d a) d (handed_on d v) (halves_of 8 v.box)) (halves_spans_where (test d a) d (handed_on d v) (halves_of 8 v.box)) t u
     by (inl stops) = group-stops d (handed_on d v) a last (halves_of 8 v.box) t u (omega (arith, split.leaf)) boxes stops
     by (inr after) =
@@ -223,16 +226,22 @@ end-is desk b given found s can may right none = by found right none
   where
     d : Descent
     d = layered desk.view
+
     v : Visit
     v = visit b (list_of desk given)
+
     lattice : desk.lattice ≡ Height
     lattice = ap (λ (e : Descent). e.lattice) can.layers
+
     layers : looked shade_plan desk ≡ d
     layers = can.layers
+
     drawn : (at : ℕ) → MayVisit shade_plan desk b at → MayDraw desk b at (length s.tops.now)
     drawn at m = record { lattice = lattice; visit_is = subst (λ (e : Descent). IsVisit e (visit b (list_of desk at))) layers m.visit_is; tops = can.tops; among = m.among; room = m.room }
+
     decided : (i : Bool) → decision d v ≡ Some i → is_split d v ≡ false
     decided i e = rw e refl
+
     short : (l : Bool) → is_long 8 b ≡ l → cond {A = Option ℕ} l (Some 0) None ≡ None → is_long 8 b ≡ false
     short true e same = absurd (omega (arith, ap (λ (o : Option ℕ). some-number o) same))
       where
@@ -240,8 +249,10 @@ end-is desk b given found s can may right none = by found right none
         some-number None = 0
         some-number (Some n) = 1
     short false e same = e
+
     undecided : decision d v ≡ None → is_long 8 b ≡ false → is_split d v ≡ false
     undecided e long = rw e long
+
     by : (f : Found) → IsFound shade_plan desk b given f → child_tape shade_plan desk b f ≡ None → IsEnd desk b given (tape_of given f) (length s.tops.now)
     by Untraced r n = absurd (omega (arith, ap {B = ℕ} (λ (t : Bool). cond t 1 0) r))
     by (Inside at) r n =
@@ -266,9 +277,15 @@ end-is desk b given found s can may right none = by found right none
       where
         none-pruned : decision d v ≡ None → handed_on d v ≡ pruned d v
         none-pruned e = rw e refl
+
         some-zero : (l : Bool) → cond {A = Option ℕ} l (Some at) None ≡ None → cond {A = Option ℕ} l (Some 0) None ≡ None
         some-zero true same = ap (λ (o : Option ℕ). option_map (λ n. 0) o) same
         some-zero false same = refl
+
+-- what holds of an error holds of what follows from it
+pub on_err-then : {T E : Type 0} (r : Result T E) (P Q : Type 0) → (P → Q) → OnErr r P → OnErr r Q
+on_err-then (Ok x) P Q f p = tt
+on_err-then (Err e) P Q f p = f p
 
 -- an answer that both of two facts of a success give
 pub on_ok-both : {T E : Type 0} (r : Result T E) (P Q R : Type 0) → (P → Q → R) → OnOk r P → OnOk r Q → OnOk r R

@@ -1,5 +1,5 @@
 -- The work of shading a box, from that of its halves.
-use Rattle.std.proofs.Common.{◌≡◌, ℕ, suc, ◌+◌, ◌*◌, ◌<◌, ◌≤◌, Bool, true, false, cond, List, [], ◌∷◌, length, get_or, take, refl, sym, ap, subst, ◌∙◌, arith}
+use Rattle.std.proofs.Common.{◌≡◌, ℕ, suc, ◌+◌, ◌*◌, ◌<◌, Bool, true, false, cond, List, [], ◌∷◌, length, get_or, take, refl, sym, ap, subst, ◌∙◌, arith}
 use Rattle.std.specs.List.{All, Contains, filter, sum_by}
 use Rattle.std.proofs.Math.Nat.{mul-zero}
 use Rattle.std.proofs.lemmas.List.{take_all}
@@ -13,7 +13,6 @@ use Rattle.box_chains.specs.Tallied.{CountsAtMost, CountsExactly}
 use Rattle.box_chains.specs.Tested.{halves_spans_where, has_some, spans_where}
 use Rattle.box_chains.specs.Visits.{sample_point}
 use Rattle.fixed_ops.specs.Counts.{Counts, RisesBy, points_of}
-use Rattle.interval_ops.specs.HullCounts.{CountsHulls}
 use Rattle.live_clauses.specs.declared.step.Step.{Step}
 use Rattle.view_places.specs.Boxes.{Indices, IsBox, halves_of}
 use Rattle.normal_shade.specs.DualWork.{dual_points}
@@ -138,27 +137,6 @@ traced-all laws test d list (b ∷ bs) some are have =
       traced-all laws test d list bs some (All-tail IsBox b bs are) (All-tail (λ h. has_some test h ≡ true) b bs have),
     )
 
--- at first
-pub begun-counted : (laws : Lawful) (test : Sample → Bool) (d : Descent) (list : List Step) (boxes : List Indices) (before after : Counts) → CountsHulls (length boxes * length list) before after
-    → CountsExactly (begun_points test d list boxes 0) (begun_spans test d list boxes 0) before after
-unfolding begun_spans
-begun-counted laws test d list boxes before after h =
-    same-work (λ p s. CountsExactly p s before after) 0 (length boxes * length list) (begun_points test d list boxes 0) (begun_spans test d list boxes 0) (omega arith) (omega arith)
-    (laws.work.hulls before after (length boxes * length list) h)
-
--- one more of them
-pub next-counted : (laws : Lawful) (test : Sample → Bool) (d : Descent) (list : List Step) (boxes : List Indices) (n : ℕ) (b : Indices) (start between end : Counts) → n < length boxes → b ≡ get_or boxes n b
-    → CountsExactly (begun_points test d list boxes n) (begun_spans test d list boxes n) start between
-    → CountsExactly (lit_where test d (visit b list)) (spans_below test d (visit b list)) between end
-    → CountsExactly (begun_points test d list boxes (n + 1)) (begun_spans test d list boxes (n + 1)) start end
-unfolding begun_spans
-next-counted laws test d list boxes n b start between end within read first second =
-    same-work (λ p s. CountsExactly p s start end) (begun_points test d list boxes n + lit_where test d (visit b list)) (begun_spans test d list boxes n + spans_below test d (visit b list))
-    (begun_points test d list boxes (n + 1)) (begun_spans test d list boxes (n + 1))
-    (omega (arith, sum_by_more (λ h. lit_where test d (visit h list)) boxes n b within, ap (λ h. lit_where test d (visit h list)) read))
-    (omega (arith, sum_by_more (below test d list) boxes n b within, ap (below test d list) read))
-    (laws.work.sum start between end (begun_points test d list boxes n) (begun_spans test d list boxes n) (lit_where test d (visit b list)) (spans_below test d (visit b list)) first second)
-
 -- all of them
 pub all-counted : (laws : Lawful) (test : Sample → Bool) (d : Descent) (list : List Step) (boxes : List Indices) (n : ℕ) (start end : Counts) → 0 < d.leaf → All IsBox boxes → All (λ b. has_some test b ≡ true) boxes → n ≡ length boxes
     → CountsExactly (begun_points test d list boxes n) (begun_spans test d list boxes n) start end
@@ -169,13 +147,6 @@ all-counted laws test d list boxes n start end some are have all h =
     same-work (λ p s. CountsExactly p s start end) (begun_points test d list boxes n) (begun_spans test d list boxes n) (boxes_points test d list boxes) (halves_spans_where test d list boxes)
     (ap (boxes_points test d list) whole)
     (ap (λ bs. length boxes * length list + sum_by (below test d list) bs) whole ∙ sym (traced-all laws test d list boxes some are have)) h
-
--- an error on the way leaves no more than that
-begun-below : (laws : Lawful) (test : Sample → Bool) (d : Descent) (list : List Step) (boxes : List Indices) (n : ℕ) → 0 < d.leaf → All IsBox boxes → All (λ b. has_some test b ≡ true) boxes
-    → begun_spans test d list boxes n ≤ halves_spans_where test d list boxes
-unfolding begun_spans
-begun-below laws test d list boxes n some are have =
-    omega (arith, sum_by-take-le (below test d list) boxes n, traced-all laws test d list boxes some are have)
 
 pub traces-bounded : (laws : Lawful) (test : Sample → Bool) (d : Descent) (list : List Step) (boxes : List Indices) (start end : Counts) → 0 < d.leaf → All IsBox boxes → All (λ b. has_some test b ≡ true) boxes
     → CountsAtMost 0 (length boxes * length list) start end → CountsAtMost (boxes_points test d list boxes) (halves_spans_where test d list boxes) start end
@@ -239,26 +210,3 @@ group-work laws Counted test d list boxes kept some are is h =
     (ap (boxes_points test d list) is ∙ kept-points laws test d list boxes are) (ap (halves_spans_where test d list) is ∙ kept-traced laws test d list boxes some are) h
 
 -- ---- one box with its trace
-
-pub box-counted : (laws : Lawful) (test : Sample → Bool) (d : Descent) (v : Visit) (before mid after : Counts) → 0 < d.leaf → IsBox v.box → has_some test v.box ≡ true → CountsHulls (length v.list) before mid
-    → CountsExactly (lit_where test d v) (spans_below test d v) mid after → CountsExactly (lit_where test d v) (spans_where test d v) before after
-box-counted laws test d v before mid after some is e first second =
-    same-work (λ p s. CountsExactly p s before after) (0 + lit_where test d v) (length v.list + spans_below test d v) (lit_where test d v) (spans_where test d v) (omega arith) (sym (traced-own laws test d v some is e))
-    (laws.work.sum before mid after 0 (length v.list) (lit_where test d v) (spans_below test d v) (laws.work.hulls before mid (length v.list) first) second)
-
-pub box-bounded : (laws : Lawful) (test : Sample → Bool) (d : Descent) (v : Visit) (before mid after : Counts) → 0 < d.leaf → IsBox v.box → has_some test v.box ≡ true → CountsHulls (length v.list) before mid
-    → CountsAtMost (lit_where test d v) (spans_below test d v) mid after → CountsAtMost (lit_where test d v) (spans_where test d v) before after
-box-bounded laws test d v before mid after some is e first second =
-    laws.bounds.after before mid after 0 (length v.list) (lit_where test d v) (spans_below test d v) (lit_where test d v) (spans_where test d v) (omega arith)
-    (omega (arith, traced-own laws test d v some is e)) (laws.work.hulls before mid (length v.list) first) second
-
-pub trace-bounded : (laws : Lawful) (test : Sample → Bool) (d : Descent) (v : Visit) (before after : Counts) → 0 < d.leaf → IsBox v.box → has_some test v.box ≡ true → CountsHulls (length v.list) before after
-    → CountsAtMost (lit_where test d v) (spans_where test d v) before after
-trace-bounded laws test d v before after some is e h =
-    laws.bounds.more before after 0 (length v.list) (lit_where test d v) (spans_where test d v) (omega arith)
-    (omega (arith, traced-own laws test d v some is e)) (laws.bounds.hulls before after (length v.list) h)
-
--- a box in which no sample passes takes none
-pub none-counted : (laws : Lawful) (test : Sample → Bool) (d : Descent) (v : Visit) (counts : Counts) → 0 < d.leaf → IsBox v.box → has_some test v.box ≡ false → CountsExactly (lit_where test d v) (spans_where test d v) counts counts
-none-counted laws test d v counts some is e =
-    same-work (λ p s. CountsExactly p s counts counts) 0 0 (lit_where test d v) (spans_where test d v) (sym (lit-nothing laws test d v e)) (sym (traced-none laws test d v some is e)) (laws.work.none counts)

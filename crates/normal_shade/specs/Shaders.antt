@@ -1,5 +1,5 @@
 -- What a shader does at boxes.
-use Rattle.std.specs.Prelude.{⊤, ◌≡◌, ℕ, ◌*◌, List, true, false, length}
+use Rattle.std.specs.Prelude.{⊤, ◌≡◌, ◌*◌, true, length}
 use Rattle.box_chains.specs.Chains.{Descent, Visit}
 use Rattle.box_chains.specs.Tallied.{CountsAtMost, CountsExactly}
 use Rattle.box_chains.specs.Tested.{has_some}

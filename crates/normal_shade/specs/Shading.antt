@@ -6,15 +6,7 @@ use Rattle.view_places.specs.Boxes.{Indices, halves_of}
 use Rattle.box_chains.specs.Chains.{Descent, Visit, half_visit, is_split, sum_over}
 use Rattle.box_chains.specs.Sums.{Sample}
 use Rattle.box_chains.specs.Tested.{spans_where}
-use Rattle.box_chains.specs.declared.outcome.Outcome.{Outcome}
-use Rattle.box_chains.specs.declared.outcome.Outcome.TheVariants.{Inside, Outside, Open}
 use Rattle.normal_shade.specs.Lit.{lit_where}
-
--- the number of the list that a traced box prunes, or else of the one that it received
-abbrev pub pruned_at : ℕ → Outcome ℕ → ℕ
-pruned_at received (Open at) = at
-pruned_at received Inside = received
-pruned_at received Outside = received
 
 -- the evaluations of some boxes that receive a list
 abbrev pub boxes_points : (Sample → Bool) → Descent → List Step → List Indices → ℕ

@@ -1,14 +1,11 @@
-use Rattle.std.proofs.Common.{◌≡◌, ◌*◌, ap, arith, length, refl, replicate, subst, sym, ◌∙◌}
+use Rattle.std.proofs.Common.{◌≡◌, ◌*◌, ap, arith, length, replicate, subst, ◌∙◌}
 use Rattle.std.proofs.lemmas.List.{length-replicate}
 use Rattle.box_chains.proofs.Theorems.{laws}
-use Rattle.box_chains.specs.Desks.{Tracing}
 use Rattle.box_chains.specs.Tallied.{CountsAtMost, CountsExactly}
-use Rattle.box_descent.specs.Looked.{looked}
 use Rattle.view_places.specs.Boxes.{IsBox}
 use Rattle.view_places.specs.Spans.{root_box_of}
 use Rattle.view_places.specs.Window.{IsWindow}
 use Rattle.view_places.specs.declared.lattice.Lattice.TheVariants.{Height}
-use Rattle.normal_shade.specs.Shaders.{CanShade, shade_plan}
 use Rattle.normal_shade.specs.declared.shading.Shader.{Shader}
 use Rattle.normal_shade.specs.Shades.{shade_points, shade_spans}
 use Rattle.normal_shade.proofs.Pictures.{dark-count, map-may, map-shaded, map-work, tops-length}

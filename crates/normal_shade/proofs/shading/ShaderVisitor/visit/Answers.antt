@@ -1,5 +1,4 @@
 use Rattle.std.proofs.Common.{◌≡◌, ◌∙◌, ap, arith, length, subst, sym, refl}
-use Rattle.std.specs.Vec.{with_items}
 use Rattle.std.proofs.lemmas.List.{with_items_is}
 use Rattle.box_chains.specs.Chains.{Descent, visit}
 use Rattle.box_chains.specs.Desks.{list_of}
@@ -11,14 +10,12 @@ use Rattle.box_chains.specs.Visits.{IsVisit}
 use Rattle.height_map.specs.Desks.{MayDraw}
 use Rattle.normal_shade.specs.Lit.{lit_where, pruned}
 use Rattle.normal_shade.specs.Marks.{has_top_at, is_marked, shade_at}
-use Rattle.normal_shade.specs.Shaders.{Shades, shade_plan}
+use Rattle.normal_shade.specs.Shaders.{shade_plan}
 use Rattle.normal_shade.specs.Shading.{spans_below}
-use Rattle.normal_shade.specs.declared.shading.Shader.{Shader}
-use Rattle.normal_shade.proofs.Descents.{on_err-then}
 use Rattle.normal_shade.proofs.Held.{lit-pruned}
 use Rattle.normal_shade.proofs.Lit.{Becomes}
 use Rattle.normal_shade.proofs.Kept.{slopes_kept}
-use Rattle.normal_shade.proofs.ShaderLaws.{IsEnd, end-is, on_ok-both}
+use Rattle.normal_shade.proofs.ShaderLaws.{end-is, on_err-then, on_ok-both}
 use Rattle.normal_shade.proofs.Work.{end-counted}
 use Rattle.normal_shade.proofs.shading.ShaderVisitor.visit.Goals as goal
 
