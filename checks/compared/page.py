@@ -132,8 +132,9 @@ def short(meshes: list[Run]) -> str:
 
 
 def share(values: list[float | None]) -> str:
-    """How many are 0, of how many, and a stroke where none is known."""
-    return f"{values.count(0)} of {len(values)}" if any(it is not None for it in values) else "-"
+    """How many are 0, of how many that are known, and a stroke where none is."""
+    known = [it for it in values if it is not None]
+    return f"{known.count(0)} of {len(known)}" if known else "-"
 
 
 def sides(runs: list[Run]) -> str:
@@ -159,7 +160,7 @@ def _side(runs: list[Run], other: str) -> str:
 
 
 def _versions(versions: dict[str, str], own: str) -> str:
-    rows = [[OURS, "", own, "all of it: meshes by marching tetrahedra, without floating point"]]
+    rows = [[OURS, "-", own, "all of it: meshes by marching tetrahedra, without floating point"]]
     rows += ([it, f"`{PACKAGES[it][0]}`", versions[it], asked] for it, asked in ASKED.items() if it in versions)
     left_out = [name for name in ASKED if name not in versions]
     note = filled(f"Not installed were {listed(left_out)}, which are left out.") + "\n" if left_out else ""
@@ -181,7 +182,7 @@ def fineness(meshes: list[Run]) -> str:
         return ""
     own = dict.fromkeys((it.fine, it.how) for it in meshes if it.by == OURS)
     theirs = {it.fine: it.how for it in meshes if it.by == "OpenSCAD"}
-    return f"Beside {listed([f'{how} stand rounds of {theirs[fine]}' for fine, how in own])}."
+    return f"Rounds of {', and rounds of '.join(f'{theirs[fine]} are set beside {how}' for fine, how in own)}."
 
 
 def reasons(meshes: list[Run], versions: dict[str, str]) -> str:
@@ -228,7 +229,16 @@ def _fields(meshes: list[Run], others: list[str]) -> str:
     off = [it.found["edges"] for it in blocks if "edges" in it.found]
     if off:
         said += f": those of the block by {between(off)} mm, with {blocks[0].how}"
-    return said + ". For a field, numpy evaluates each clause at each corner."
+    return (
+        f"{said}. {OURS} cuts each cell into six tetrahedra: it draws {_times_as_many(meshes, others)} times as many "
+        "triangles as they do. For a field, numpy evaluates each clause at each corner."
+    )
+
+
+def _times_as_many(meshes: list[Run], others: list[str]) -> str:
+    """How many times as many triangles this program draws as others over fields do."""
+    own = {(it.what, it.fine): it.found["triangles"] for it in meshes if it.by == OURS}
+    return between([own[it.what, it.fine] / it.found["triangles"] for it in meshes if it.by in others])
 
 
 def _ours(meshes: list[Run]) -> str:

@@ -7,7 +7,7 @@ import pathlib
 import subprocess
 from dataclasses import dataclass, field
 
-LONG = 10  # seconds of processor time: what takes longer runs once
+LONG = 30  # seconds of processor time: what takes longer runs once
 PACKAGES = {  # what has to be installed; the version is that of the first one
     "OpenSCAD": ("openscad",), "scikit-image": ("python3-skimage",), "VTK": ("python3-vtk9",),
     "numpy": ("python3-numpy",), "POV-Ray": ("povray",), "CGAL": ("libcgal-dev", "g++"),
