@@ -69,6 +69,12 @@ class Page(unittest.TestCase):
         self.assertEqual(page.cells(ours, [ours, theirs], (page.SECONDS, page.EDGES)), ["1.1", "**0.00009**"])
         self.assertEqual(page.cells(theirs, [ours, theirs], (page.SECONDS, page.EDGES)), ["**0.9**", "0.001"])
 
+    def test_rows_of_the_readme_are_those_of_the_page(self) -> None:
+        rows = [it for it in (ROOT / "README.md").read_text().splitlines() if it.startswith("| ")]
+        told = (ROOT / "docs" / "COMPARED.md").read_text().splitlines()
+        self.assertTrue(rows)
+        self.assertEqual([it for it in rows if it not in told], [])
+
     @unittest.skipUnless(shutil.which("time"), "GNU time is not installed")
     def test_it_is_written_where_no_other_program_is_installed(self) -> None:
         with tempfile.TemporaryDirectory() as room:
