@@ -167,9 +167,15 @@ def _versions(versions: dict[str, str], own: str) -> str:
     return table(["Program", "Package", "Version", "What it draws or says"], rows) + ("\n" + note if note else "")
 
 
-def _starts(starts: list[Run]) -> str:
-    before = listed([f"{figure(it.seconds)} s for {it.by}" for it in starts])
-    return f"Those over a field include that Python loads its libraries: {before}." if starts else ""
+def _starts(meshes: list[Run], starts: list[Run]) -> str:
+    """What goes by until Python has loaded its libraries, and whether most of the time of each mesh goes into that."""
+    before = {it.by: it.seconds for it in starts}
+    if not before:
+        return ""
+    told = listed([f"{figure(seconds)} s for {by}" for by, seconds in before.items()])
+    said = f"Those over a field include that Python loads its libraries: {told}"
+    least = min(before[it.by] / it.seconds for it in meshes if it.by in before)
+    return f"{said}. That is most of the time of each of their meshes." if least > 0.5 else f"{said}."
 
 
 def _run(meshes: list[Run], part: parts.Part, by: str) -> Run:
@@ -298,9 +304,9 @@ def page(
     )
     costs = filled(
         "Times are seconds of the processor, the user's and the system's, from the start of a command to its end, the "
-        f"least of {rounds} rounds; what takes more than {LONG} s runs once. {_starts(starts)} Memory is the most that "
-        "was resident at once. Bold is the least of those that draw the same, as finely, with what is within a tenth "
-        f"of it. Lengths up to {figure(TRUE)} mm count as alike. {fineness(meshes)}"
+        f"least of {rounds} rounds; what takes more than {LONG} s runs once. {_starts(meshes, starts)} Memory is the most "
+        "that was resident at once. Bold is the least of those that draw the same, as finely, with what is within a "
+        f"tenth of it. Lengths up to {figure(TRUE)} mm count as alike. {fineness(meshes)}"
     )
     return f"""# Beside other programs
 
