@@ -304,9 +304,9 @@ def page(
     )
     costs = filled(
         "Times are seconds of the processor, the user's and the system's, from the start of a command to its end, the "
-        f"least of {rounds} rounds; what takes more than {LONG} s runs once. {_starts(meshes, starts)} Memory is the most "
-        "that was resident at once. Bold is the least of those that draw the same, as finely, with what is within a "
-        f"tenth of it. Lengths up to {figure(TRUE)} mm count as alike. {fineness(meshes)}"
+        f"least of {rounds} rounds; what takes more than {LONG} s runs once. {_starts(meshes, starts)} Memory is the "
+        "most that was resident at once. Bold is the least of those that draw the same, as finely, with what is within "
+        f"a tenth of it. Lengths up to {figure(TRUE)} mm count as alike. {fineness(meshes)}"
     )
     return f"""# Beside other programs
 
