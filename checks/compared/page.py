@@ -294,7 +294,7 @@ def _pictures(pictures: list[Run]) -> str:
 
 def page(
     meshes: list[Run], pictures: list[Run], starts: list[Run], versions: dict[str, str], own: str, machine: str,
-    rounds: int,
+    rounds: int, shared: bool,
 ) -> str:
     """The page, of what was drawn, and of what goes by before others draw, on a machine by programs of versions."""
     intro = filled(
@@ -302,11 +302,12 @@ def page(
         "and writes this page. Each figure comes from that run, and so does each sentence that says which program is "
         f"better. The machine has {machine}. The others are Debian's packages:"
     )
+    busy = "Other work shared the machine meanwhile. " if shared else ""
     costs = filled(
         "Times are seconds of the processor, the user's and the system's, from the start of a command to its end, the "
-        f"least of {rounds} rounds; what takes more than {LONG} s runs once. {_starts(meshes, starts)} Memory is the "
-        "most that was resident at once. Bold is the least of those that draw the same, as finely, with what is within "
-        f"a tenth of it. Lengths up to {figure(TRUE)} mm count as alike. {fineness(meshes)}"
+        f"least of {rounds} rounds; what takes more than {LONG} s runs once. {_starts(meshes, starts)} {busy}Memory is "
+        "the most that was resident at once. Bold is the least of those that draw the same, as finely, with what is "
+        f"within a tenth of it. Lengths up to {figure(TRUE)} mm count as alike. {fineness(meshes)}"
     )
     return f"""# Beside other programs
 

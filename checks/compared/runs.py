@@ -55,11 +55,13 @@ class Run:
         self.memory = max(self.memory, 1024 * int(told.read_text().split()[-1]))
 
 
-def in_turns(runs: list[Run], rounds: int) -> None:
-    """Runs each once in each round, so that what else loads the machine is felt by all."""
+def in_turns(runs: list[Run], rounds: int) -> bool:
+    """Runs each once in each round, so that what else loads the machine is felt by all. It tells whether anything does:
+    the runs themselves keep one processor busy at a time."""
     for _ in range(rounds):
         for run in runs:
             run.go()
+    return os.getloadavg()[0] > 1.5
 
 
 def versions() -> dict[str, str]:
