@@ -13,7 +13,7 @@ from .runs import Run
 
 TOP = pathlib.Path(__file__).resolve().parents[2]
 PROGRAM = os.path.abspath(os.environ.get("MODELLER", TOP / "crates" / "modeller" / "out" / "modeller"))
-FIELDS = ["/usr/bin/python3", str(TOP / "checks" / "compared" / "fields.py")]  # the Python of Debian's packages
+FIELDS = ["/usr/bin/python3", "-I", str(TOP / "checks" / "compared" / "fields.py")]  # the Python of Debian's packages
 OURS = "modeller"
 OVER_FIELDS = {  # what fields.py is asked for, and what has to be installed
     "scikit-image": ("skimage", "scikit-image"), "VTK": ("vtk", "VTK"), "VTK's flying edges": ("flying", "VTK"),
@@ -26,7 +26,7 @@ class Drawings:
 
     def __init__(self, room: pathlib.Path, installed: set[str], brief: bool) -> None:
         self.room, self.installed = room, installed
-        self.fine = [(Decimal(2), 16)] if brief else [(Decimal("0.5"), 64), (Decimal("0.25"), 256)]  # cells and sides
+        self.fine = [(Decimal(2), 16)] if brief else [(Decimal("0.5"), 64), (Decimal("0.25"), 128)]  # cells and sides
         self.pixels = 32 if brief else 512
         for part in parts.PARTS:
             self.model(part).write_text(clauses_of(part.formulas))
@@ -47,7 +47,7 @@ class Drawings:
         if "OpenSCAD" in self.installed:
             scad, out = name.with_suffix(".scad"), name.with_suffix(".stl")
             scad.write_text(f"$fn = {sides};\n{part.scad}\n")
-            command = ["openscad", "--export-format", "binstl", "-o", str(out), str(scad)]
+            command = ["/usr/bin/openscad", "--export-format", "binstl", "-o", str(out), str(scad)]
             yield Run(part.name, "OpenSCAD", f"{sides} sides", fine, command, out)
         for by, work in self.over_fields():
             out = self.room / f"{part.name}-{fine}-{work}.stl"
@@ -75,7 +75,7 @@ class Drawings:
             out, scene = self.room / "shade.ppm", self.room / "shade.pov"
             scene.write_text(povray.scene(sieve.read_text(), parts.SIEVE.ends, self.pixels, accuracy=0.01))
             words = [f"+I{scene}", f"+O{out}", f"+W{self.pixels}", f"+H{self.pixels}", "+FP", "-D", "-A", "+WT1"]
-            yield Run("sieve, shaded", "POV-Ray", f"{self.pixels} x {self.pixels}", 0, ["povray", *words], out)
+            yield Run("sieve, shaded", "POV-Ray", f"{self.pixels} x {self.pixels}", 0, ["/usr/bin/povray", *words], out)
 
     def by_numpy(
         self, what: str, verb: str, model: pathlib.Path, ends: parts.Ends, counts: list[int], how: str

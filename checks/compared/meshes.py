@@ -60,13 +60,12 @@ def by_cgal(program: pathlib.Path, mesh: pathlib.Path, edges: list[parts.Point])
         file.flush()
         said = subprocess.run([program, mesh, file.name], check=True, capture_output=True, text=True).stdout
     lines, closed, cut, furthest = said.split()
-    closed += f", without {int(lines):,} that are lines" if int(lines) else ""
-    return {"closed": closed, "cut": cut, **({"edges": float(furthest)} if edges else {})}
+    return {"lines": int(lines), "closed": closed, "cut": cut, **({"edges": float(furthest)} if edges else {})}
 
 
 def by_slicer(mesh: pathlib.Path) -> str:
     """Whether PrusaSlicer calls a mesh a manifold."""
-    said = subprocess.run(["prusa-slicer", "--info", mesh], check=True, capture_output=True, text=True).stdout
+    said = subprocess.run(["/usr/bin/prusa-slicer", "--info", mesh], check=True, capture_output=True, text=True).stdout
     return re.search(r"^manifold = (\w+)", said, re.MULTILINE)[1]
 
 
@@ -77,22 +76,30 @@ def measure(drawn: list[Run], room: pathlib.Path, installed: set[str]) -> None:
         part = next(it for it in parts.PARTS if it.name == run.what)
         file = as_stl(run)
         mesh = triangles(file.read_bytes())
-        run.found["triangles"] = len(mesh)
+        run.found["triangles"] = len(mesh) + run.found.get("left out", 0)
         if part is parts.CYLINDER:
             run.found["wall"] = wall(mesh, MARGIN)
         elif part is parts.BLOCK:
             run.found["flats"] = flats(mesh, MARGIN)
         if cgal:
             run.found.update(by_cgal(cgal, file, parts.edges(part)))
+            lines = run.found["lines"] + run.found.get("left out", 0)
+            run.found["closed"] += f", without {lines:,} that are lines" if lines else ""
         if "PrusaSlicer" in installed:
             run.found["manifold"] = by_slicer(file)
 
 
 def as_stl(run: Run) -> pathlib.Path:
-    """The mesh of a run as STL, which is made of a PLY file; how long that takes is kept."""
+    """The mesh of a run as STL, which is made of a PLY file.
+
+    How long that takes is kept, and how many triangles become lines in single precision, which are left out there.
+    """
     if run.out.suffix == ".stl":
         return run.out
     begun, file = time.process_time(), run.out.with_name(f"{run.out.stem}-{run.by}.stl")
-    file.write_bytes(files.stl_of(files.read_ply(run.out.read_bytes())))
+    mesh = files.read_ply(run.out.read_bytes())
+    data = files.stl_of(mesh)
+    file.write_bytes(data)
     run.found["stl"] = time.process_time() - begun
+    run.found["left out"] = len(mesh.faces) - len(triangles(data))
     return file

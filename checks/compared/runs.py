@@ -7,10 +7,11 @@ import pathlib
 import subprocess
 from dataclasses import dataclass, field
 
-LONG = 20  # seconds of processor time: what takes longer runs once
-PACKAGES = {
-    "OpenSCAD": "openscad", "scikit-image": "python3-skimage", "VTK": "python3-vtk9", "numpy": "python3-numpy",
-    "POV-Ray": "povray", "CGAL": "libcgal-dev", "PrusaSlicer": "prusa-slicer",
+LONG = 30  # seconds of processor time: what takes longer runs once
+PACKAGES = {  # what has to be installed; the version is that of the first one
+    "OpenSCAD": ("openscad",), "scikit-image": ("python3-skimage",), "VTK": ("python3-vtk9",),
+    "numpy": ("python3-numpy",), "POV-Ray": ("povray",), "CGAL": ("libcgal-dev", "g++"),
+    "PrusaSlicer": ("prusa-slicer",),
 }
 
 
@@ -47,31 +48,39 @@ class Run:
             process = subprocess.Popen(command, stdin=source, stdout=out, stderr=subprocess.PIPE)
             said = process.stderr.read()
             _, status, used = os.wait4(process.pid, 0)
-        if status or not self.out.stat().st_size:
-            raise SystemExit(f"{self.by}, {self.what}: {said.decode(errors='replace')}")
+            process.returncode = os.waitstatus_to_exitcode(status)
+        if status or not self.out.exists() or not self.out.stat().st_size:
+            raise SystemExit(f"checks/compare: {self.by}, {self.what}: {said.decode(errors='replace')}")
         self.seconds = min(self.seconds, used.ru_utime + used.ru_stime)
         self.memory = max(self.memory, 1024 * int(told.read_text().split()[-1]))
 
 
-def in_turns(runs: list[Run], rounds: int) -> None:
-    """Runs each once in each round, so that what else loads the machine is felt by all."""
+def in_turns(runs: list[Run], rounds: int) -> bool:
+    """Runs each once in each round, so that what else loads the machine is felt by all. It tells whether anything does:
+    the runs themselves keep one processor busy at a time."""
     for _ in range(rounds):
         for run in runs:
             run.go()
+    return os.getloadavg()[0] > 1.5
 
 
 def versions() -> dict[str, str]:
     """The versions of the packages that are installed, by the names of what they have."""
-    found = {}
-    for name, package in PACKAGES.items():
-        words = ["dpkg-query", "-W", "-f", "${db:Status-Status} ${Version}", package]
-        status, _, version = subprocess.run(words, capture_output=True, text=True).stdout.partition(" ")
-        if status == "installed":
-            found[name] = version
-    return found
+    found = {name: [_version(it) for it in packages] for name, packages in PACKAGES.items()}
+    return {name: versions[0] for name, versions in found.items() if all(versions)}
 
 
-def processor() -> str:
-    """The name of the machine's processor."""
-    lines = pathlib.Path("/proc/cpuinfo").read_text().splitlines()
-    return next(line.partition(":")[2].strip() for line in lines if line.startswith("model name"))
+def _version(package: str) -> str:
+    """The version of a package of Debian, and nothing where it is not installed."""
+    words = ["dpkg-query", "-W", "-f", "${db:Status-Status} ${Version}", package]
+    status, _, version = subprocess.run(words, capture_output=True, text=True).stdout.partition(" ")
+    return version if status == "installed" else ""
+
+
+def machine() -> str:
+    """What the machine has: how many processors, their name, and the speed that the system tells."""
+    lines = [line.partition(":") for line in pathlib.Path("/proc/cpuinfo").read_text().splitlines()]
+    names = [value.strip() for key, _, value in lines if key.strip() == "model name"]
+    speeds = [float(value) for key, _, value in lines if key.strip() == "cpu MHz"]
+    speed = f" at {max(speeds) / 1000:.1f} GHz" if speeds else ""
+    return f"{len(names)} processors of the name {names[0]}{speed}"

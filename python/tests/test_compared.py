@@ -16,7 +16,12 @@ from modeller.program import find_program, run
 from tests.support import ROOT, example
 
 sys.path.insert(0, str(ROOT / "checks"))
-from compared import meshes, page, parts, povray  # noqa: E402  what checks/compare is made of
+from compared import meshes, page, parts, povray, runs  # noqa: E402  what checks/compare is made of
+
+
+def drawn(by: str, seconds: float, **found: object) -> runs.Run:
+    """A run that drew the block."""
+    return runs.Run("block", by, "", 0, [], pathlib.Path(), seconds=seconds, found=found)
 
 
 class Parts(unittest.TestCase):
@@ -47,10 +52,28 @@ class Page(unittest.TestCase):
     def test_figures_have_two_digits(self) -> None:
         for value, text in (
             (None, "-"), (math.nan, "-"), (0, "0"), (12, "12"), (31234, "31,234"), (0.00371, "0.0037"), (1.25, "1.2"),
-            (99.6, "100"), (123.4, "123"), (2e-7, "0.000001 or less"),
+            (99.6, "100"), (123.4, "123"), (2e-7, "under 0.000001"),
         ):
             with self.subTest(value):
                 self.assertEqual(page.figure(value), text)
+
+    def test_what_is_better_is_told_by_the_figures(self) -> None:
+        ours = drawn("modeller", seconds=1.05, triangles=9, closed="yes", edges=0.00009)
+        theirs = drawn("OpenSCAD", seconds=1.0, triangles=10, closed="no", edges=0.00001)
+        self.assertEqual(
+            page.sides([ours, theirs]),
+            "- **OpenSCAD** does nothing better. **modeller** draws fewer triangles for the block; alone draws what "
+            "CGAL calls a\n  closed manifold for the block.",
+        )
+        theirs.seconds, theirs.found["edges"] = 0.9, 0.001
+        self.assertEqual(page.cells(ours, [ours, theirs], (page.SECONDS, page.EDGES)), ["1.1", "**0.00009**"])
+        self.assertEqual(page.cells(theirs, [ours, theirs], (page.SECONDS, page.EDGES)), ["**0.9**", "0.001"])
+
+    def test_rows_of_the_readme_are_those_of_the_page(self) -> None:
+        rows = [it for it in (ROOT / "README.md").read_text().splitlines() if it.startswith("| ")]
+        told = (ROOT / "docs" / "COMPARED.md").read_text().splitlines()
+        self.assertTrue(rows)
+        self.assertEqual([it for it in rows if it not in told], [])
 
     @unittest.skipUnless(shutil.which("time"), "GNU time is not installed")
     def test_it_is_written_where_no_other_program_is_installed(self) -> None:
@@ -62,7 +85,8 @@ class Page(unittest.TestCase):
             subprocess.run([ROOT / "checks" / "compare", "--brief", out], env=environment, check=True)
             text = out.read_text()
         self.assertIn("Not installed were OpenSCAD, scikit-image, VTK, numpy, POV-Ray, CGAL and PrusaSlicer", text)
-        self.assertRegex(text, r"(?m)^\| cylinder \| modeller \| cells of 2 mm \| [\d.]+ \| [\d.]+ \| 1,968 \| - \| - \| - \|$")
+        row = r"(?m)^\| cylinder \| modeller \| cells of 2 mm \| [\d.]+ \| [\d.]+ \| 1,968 \| - \| - \| - \|$"
+        self.assertRegex(text, row)
 
 
 if __name__ == "__main__":

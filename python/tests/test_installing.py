@@ -33,7 +33,7 @@ class Version(unittest.TestCase):
 
 
 class Manual(unittest.TestCase):
-    """The manual page has each verb, form and command that docs/VERBS.md has."""
+    """The manual page has each verb, setting, form and command that docs/VERBS.md has."""
 
     def words(self, text: str, first: str) -> list[str]:
         """The names in backquotes of the first cells of a table, whose head begins with a word."""
@@ -44,7 +44,8 @@ class Manual(unittest.TestCase):
         pages = (ROOT / "docs" / "VERBS.md").read_text()
         manual = (ROOT / "docs" / "modeller.1").read_text()
         for section, names in (
-            ("VERBS", re.findall(r"(?m)^## (\w+)$", pages)),
+            ("VERBS", re.findall(r"(?m)^## ([a-z]+)$", pages)),
+            ("SETTINGS", self.words(pages, "Setting")),
             ("SOLIDS", self.words(pages, "Form")),
             ("SCRIPTS", self.words(pages, "Command")),
         ):
