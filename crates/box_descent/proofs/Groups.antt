@@ -70,6 +70,7 @@ stops-in {S} m d v a c t u e (inr h) = by (subst (λ bs. Stops m d (handed_on d 
   where
     first : Group m d (handed_on d v) (filter (m.wanted d a) (halves_of m.plan.leaf v.box)) a h.mid (filter (m.wanted d a) (halves_of m.plan.leaf v.box)) t h.tally
     first = subst (λ bs. Group m d (handed_on d v) (filter (m.wanted d a) bs) a h.mid (filter (m.wanted d a) bs) t h.tally) (first-all m.plan v.box e) h.first
+
     by : Stops m d (handed_on d v) [] h.mid c h.tally u → StopsInGroup m d v a c t u
     by (inl none) = inr (record {
       tally = h.tally;
