@@ -2,19 +2,11 @@
 use Rattle.fixed_ops.proofs.CountLaws.{tallies_add_up_is}
 use Rattle.choice_trace.proofs.Traces.{choices_are_of_steps, choices_are_right, last_held}
 use Rattle.live_clauses.proofs.EqualityLaws.{lists_are_told_apart_is}
-use Rattle.live_clauses.proofs.Keeping.{live_of-meaning}
-use Rattle.live_clauses.proofs.Theorems.{live_lists_are_tapes}
-use Rattle.live_clauses.proofs.ValueLaws.{number_at-reads}
-use Rattle.live_clauses.specs.Laws.{ChoicesKeepTheValue}
-use Rattle.live_clauses.specs.Meanings.{number_at}
+use Rattle.live_clauses.proofs.Theorems.{choices_keep_the_value, live_lists_are_tapes}
 use Rattle.view_places.proofs.BoxLaws.{halves_part_is}
 use Rattle.view_places.proofs.SpanLaws.{ranges, spans}
 use Rattle.box_chains.proofs.LawProofs.{lawful}
 use Rattle.box_chains.specs.Laws.{Lawful, LayersHold}
-
-values_are_kept : ChoicesKeepTheValue
-values_are_kept = λ p steps choices tape choose right.
-    live_of-meaning steps choices tape choose (number_at p) (number_at-reads p) (record { left = right.left; right = right.right })
 
 -- what the layers below promise of boxes, lists and points
 pub layers : LayersHold
@@ -24,7 +16,7 @@ layers = record {
   ranges = ranges;
   spans = spans;
   tapes = live_lists_are_tapes;
-  kept = values_are_kept;
+  kept = choices_keep_the_value;
   held = last_held;
   choices = choices_are_of_steps;
   right = choices_are_right;

@@ -1,5 +1,5 @@
 -- Visitors that are asked once which of the children of a box they want.
-use Rattle.std.proofs.Common.{◌≡◌, ℕ, ◌*◌, Bool, true, false, cond, List, [], ◌∷◌, drop, length, refl, sym, ap, subst, ◌∙◌, ◌⊎◌, inl, inr, take, zero-mul, arith}
+use Rattle.std.proofs.Common.{◌≡◌, ℕ, ◌*◌, Bool, true, false, cond, List, [], ◌∷◌, ◌++◌, drop, length, refl, sym, ap, subst, ◌∙◌, ◌⊎◌, inl, inr, take, zero-mul, arith}
 use Rattle.std.specs.Prelude.{Option, Some, None, slice_get}
 use Rattle.std.specs.List.{filter}
 use Rattle.std.proofs.lemmas.List.{drop_all, take_all}
@@ -22,6 +22,25 @@ pub runs-keep : {S M : Type 0} (m : Meaning S M) (d : Descent) (tape : List Step
     → (a c : S) (boxes : List Indices) (t u : Counts) → P a → Runs m d tape a c boxes t u → P c
 runs-keep m d tape P keeps a c [] t u p h = subst P h.0 p
 runs-keep m d tape P keeps a c (b ∷ bs) t u p h = runs-keep m d tape P keeps h.mid c bs h.tally u (keeps a h.mid b t h.tally p h.first) h.rest
+
+-- boxes that are visited, and then one more
+pub record AreVisitedThen {S M : Type 0} (m : Meaning S M) (d : Descent) (tape : List Step) (a c : S) (boxes : List Indices) (b : Indices) (t u : Counts) : Type 0 where
+  pub mid : S
+  pub tally : Counts
+  pub first : Runs m d tape a mid boxes t tally
+  pub last : m.draws d mid c (visit b tape) tally u
+
+pub runs-last : {S M : Type 0} (m : Meaning S M) (d : Descent) (tape : List Step) (a c : S) (boxes : List Indices) (b : Indices) (t u : Counts) → Runs m d tape a c (boxes ++ b ∷ []) t u
+    → AreVisitedThen m d tape a c boxes b t u
+runs-last {S} m d tape a c [] b t u h = record {
+  mid = a;
+  tally = t;
+  first = (refl, refl);
+  last = subst (λ (s : S). m.draws d a s (visit b tape) t u) h.rest.0 (subst (λ (k : Counts). m.draws d a h.mid (visit b tape) t k) h.rest.1 h.first);
+}
+runs-last m d tape a c (x ∷ xs) b t u h =
+    let rest = runs-last m d tape h.mid c xs b h.tally u h.rest in
+    record { mid = rest.mid; tally = rest.tally; first = record { mid = h.mid; tally = h.tally; first = h.first; rest = rest.first }; last = rest.last }
 
 -- where children are visited in ascending order, the first group has all of them
 first-all : (plan : Plan) (b : Indices) → plan.order ≡ Ascending → first_group plan b ≡ halves_of plan.leaf b

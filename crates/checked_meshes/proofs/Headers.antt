@@ -9,7 +9,8 @@ use Rattle.ply_check.specs.HeaderLines.{element_count, element_said, header_line
 use Rattle.ply_check.specs.Headers.{Opens, header_of, is_comment, said}
 use Rattle.ply_writer.specs.Ply.{ply_header}
 use Rattle.checked_meshes.proofs.Lines.{IsLine, numbered, written}
-use Rattle.checked_meshes.proofs.Numbers.{IsToken, decimal_is_token, decimal_read}
+use Rattle.checked_meshes.proofs.Numbers.{decimal_is_token, decimal_read}
+use Rattle.clause_reader.proofs.WrittenTokens.{IsToken}
 
 -- a line that tells how many elements there are
 abbrev count_line : List ℕ → List ℕ → List (List ℕ)
@@ -68,7 +69,7 @@ header_written vertices faces = header_joined (decimal vertices) (decimal faces)
 word : (token : List ℕ) → nat_lt 0 (length token) && list_all is_token_byte token ≡ true → IsToken token
 word token passes =
     let parts = and_parts (nat_lt 0 (length token)) (list_all is_token_byte token) passes in
-    record { some = ltb-true 0 (length token) parts.0; bytes = parts.1 }
+    (ltb-true 0 (length token) parts.0, parts.1)
 
 abbrev are_words : List (List ℕ) → Bool
 are_words tokens = list_all (λ token. nat_lt 0 (length token) && list_all is_token_byte token) tokens

@@ -1,7 +1,6 @@
 -- Numbers as they are written are tokens, and are read as themselves.
 use Rattle.std.proofs.Common.{◌≡◌, ℕ, zero, suc, ◌+◌, ◌-◌, ◌*◌, ◌/◌, ◌%◌, ◌^◌, ◌<◌, true, false, List, [], ◌∷◌, ◌++◌, length, replicate, refl, ◌∙◌, arith, length-append}
 use Rattle.std.specs.Prelude.{ℤ, pos, negsuc, Some, decimal, ◌==◌}
-use Rattle.std.specs.Char.{digit_value, is_ascii_digit}
 use Rattle.std.specs.Fmt.{digit_glyph, digits, digits_onto}
 use Rattle.std.specs.List.{list_all}
 use Rattle.std.specs.Str.{all_ascii_digits}
@@ -10,15 +9,11 @@ use Rattle.std.proofs.lemmas.Bool.{cond_both, le-leb, lt-ltb}
 use Rattle.std.proofs.lemmas.Bool.Decides.{nat_tests}
 use Rattle.std.proofs.lemmas.Fmt.{decimal_is_IsNumeral, length-decimal-le}
 use Rattle.std.proofs.lemmas.List.Folds.{list_all-append}
-use Rattle.std.proofs.lemmas.Str.Parse.{digit_from_value}
 use Rattle.fixed_ops.specs.NumberTexts.{number_text, size_text, zero_padded}
 use Rattle.fixed_ops.specs.Numerals.{digits_read}
 use Rattle.solid_model.specs.Names.{is_token_byte}
-
--- bytes that may stand in a token, at least one
-pub record IsToken (token : List ℕ) : Type 0 where
-  pub some : 0 < length token
-  pub bytes : list_all is_token_byte token ≡ true
+use Rattle.clause_reader.proofs.WrittenTokens.{IsToken, zeros_in_token}
+use Rattle.fixed_ops.proofs.TextLaws.{passes}
 
 -- ---- tokens
 
@@ -41,23 +36,17 @@ digit_some (suc k) n rest some =
 
 pub decimal_is_token : (n : ℕ) → IsToken (decimal n)
 unfolding digits
-decimal_is_token n = record { some = digit_some 64 n [] (omega arith); bytes = digit_bytes 64 n [] refl }
-
-zeros_in_token : (k : ℕ) → list_all is_token_byte (replicate k 48) ≡ true
-zeros_in_token zero = refl
-zeros_in_token (suc k) = zeros_in_token k
+decimal_is_token n = (digit_some 64 n [] (omega arith), digit_bytes 64 n [] refl)
 
 padded_in_token : (k n : ℕ) → list_all is_token_byte (zero_padded k n) ≡ true
 padded_in_token k n =
     list_all-append is_token_byte (replicate (k - length (decimal n)) 48) (decimal n)
-    ∙ rw (zeros_in_token (k - length (decimal n)), (decimal_is_token n).bytes) refl
+    ∙ rw (zeros_in_token (k - length (decimal n)), (decimal_is_token n).1) refl
 
 -- a token and further bytes of tokens
 followed : (token more : List ℕ) → IsToken token → list_all is_token_byte more ≡ true → IsToken (token ++ more)
-followed token more is all = record {
-  some = let some = is.some in omega (arith, length-append token more, some);
-  bytes = list_all-append is_token_byte token more ∙ rw (is.bytes, all) refl;
-}
+followed token more is all =
+    (omega (arith, length-append token more, is.0), list_all-append is_token_byte token more ∙ rw (is.1, all) refl)
 
 size_is_token : (n : ℕ) → IsToken (size_text n)
 unfolding size_text
@@ -67,18 +56,13 @@ size_is_token n =
 
 pub number_is_token : (v : ℤ) → IsToken (number_text v)
 number_is_token (pos n) = size_is_token n
-number_is_token (negsuc n) = record { some = omega arith; bytes = (size_is_token (suc n)).bytes }
+number_is_token (negsuc n) = (omega arith, (size_is_token (suc n)).1)
 
 -- ---- readings
 
-digit_passes : (c : ℕ) → digit_value c < 10 → is_ascii_digit c ≡ true
-digit_passes c few =
-    let range = digit_from_value c few in
-    grind (arith, nat_tests)
-
 digits_pass : (ds : List ℕ) → AllDigits 10 ds → all_ascii_digits ds ≡ true
 digits_pass [] all = refl
-digits_pass (d ∷ ds) all = rw (digit_passes d all.0) (digits_pass ds all.1)
+digits_pass (d ∷ ds) all = rw (passes d all.0) (digits_pass ds all.1)
 
 -- a count is read as itself
 pub decimal_read : (n : ℕ) → n < 2 ^ 31 → digits_read 10 (decimal n) ≡ Some n

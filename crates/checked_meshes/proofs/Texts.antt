@@ -25,8 +25,10 @@ use Rattle.checked_meshes.specs.Laws.{WrittenMeshesAreRead}
 use Rattle.checked_meshes.specs.Readings.{HasCornersBelow, IsGivenMesh, corners_of}
 use Rattle.checked_meshes.proofs.Headers.{header_is_lines, header_lines, header_opens, header_written}
 use Rattle.checked_meshes.proofs.Lines.{IsLine, given_written, joined, numbered, numbered_all, numbered_append, numbered_length, numbered_map, written}
-use Rattle.checked_meshes.proofs.Numbers.{IsToken, decimal_is_token, decimal_read, number_is_token}
+use Rattle.checked_meshes.proofs.Numbers.{decimal_is_token, decimal_read, number_is_token}
 use Rattle.ply_check.proofs.Exact.{never_both, one_reading}
+use Rattle.model_frames.proofs.SoundTexts.{parts_joined}
+use Rattle.clause_reader.proofs.WrittenTokens.{IsToken}
 
 -- ---- the lines of vertices and of faces
 
@@ -40,14 +42,11 @@ face_tokens f = codes "3" ∷ decimal f.a ∷ decimal f.b ∷ decimal f.c ∷ []
 abbrev text_lines : Window → List Vertex → List Face → List (List (List ℕ))
 text_lines w vertices faces = header_lines (length vertices) (length faces) ++ (map (vertex_tokens w) vertices ++ map face_tokens faces)
 
-six_joined : (a b c d e f : List ℕ) → ((((a ++ b) ++ c) ++ d) ++ e) ++ f ≡ a ++ (b ++ (c ++ (d ++ (e ++ f))))
-six_joined a b c d e f = simp append_assoc
-
 last_joined : (a b c d : List ℕ) → (a ++ (b ++ (c ++ []))) ++ d ≡ a ++ (b ++ (c ++ d))
 last_joined a b c d = simp (append_assoc, append-nil)
 
 three_joined : (x y z : List ℕ) → x ++ codes " " ++ y ++ codes " " ++ z ++ codes "\n" ≡ joined (x ∷ y ∷ z ∷ []) ++ 10 ∷ []
-three_joined x y z = six_joined x (codes " ") y (codes " ") z (codes "\n") ∙ sym (last_joined x (32 ∷ y) (32 ∷ z) (10 ∷ []))
+three_joined x y z = parts_joined x (codes " ") y (codes " ") z (codes "\n") ∙ sym (last_joined x (32 ∷ y) (32 ∷ z) (10 ∷ []))
 
 face_joined : (x y z : List ℕ) → codes "3 " ++ x ++ codes " " ++ y ++ codes " " ++ z ++ codes "\n" ≡ joined (codes "3" ∷ x ∷ y ∷ z ∷ []) ++ 10 ∷ []
 face_joined x y z = ap (λ rest. codes "3 " ++ rest) (three_joined x y z)
@@ -92,7 +91,7 @@ vertex_is_line w v =
 face_is_line : (f : Face) → IsLine (face_tokens f)
 face_is_line f = record {
   some = omega arith;
-  tokens_are = All-cons IsToken (codes "3") (decimal f.a ∷ decimal f.b ∷ decimal f.c ∷ []) (record { some = omega arith; bytes = refl })
+  tokens_are = All-cons IsToken (codes "3") (decimal f.a ∷ decimal f.b ∷ decimal f.c ∷ []) (omega arith, refl)
       (three (decimal f.a) (decimal f.b) (decimal f.c) (decimal_is_token f.a) (decimal_is_token f.b) (decimal_is_token f.c));
 }
 

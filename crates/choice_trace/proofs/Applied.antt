@@ -1,5 +1,5 @@
 -- What the operands of a step stand for, and what they make over a region.
-use Rattle.std.proofs.Common.{◌≡◌, ℕ, zero, suc, ◌<◌, ℤ, pos, List, length, get_or, refl, sym, ap, subst, ◌∙◌, arith}
+use Rattle.std.proofs.Common.{◌≡◌, ℕ, ◌<◌, ℤ, pos, List, length, get_or, refl, sym, ap, subst, ◌∙◌, arith}
 use Rattle.std.proofs.lemmas.List.{get_or_default}
 use Rattle.fixed_ops.specs.Arity.{arity_of}
 use Rattle.fixed_ops.specs.Operations.{op_result}
@@ -12,10 +12,18 @@ use Rattle.interval_ops.specs.Spans.{Interval, all_numbers}
 use Rattle.interval_ops.specs.declared.region.Region.{Region}
 use Rattle.live_clauses.specs.Steps.{IsStepAt, value_after}
 use Rattle.live_clauses.specs.declared.step.Step.{Step}
-use Rattle.choice_trace.specs.Hulls.{AreOperands, hull_in, step_hull}
-use Rattle.choice_trace.specs.Meaning.{AreRead, StandForOperands, StandForPoint}
+use Rattle.choice_trace.specs.Hulls.{hull_after, hull_in, step_hull}
+use Rattle.choice_trace.specs.Meaning.{StandForPoint}
 use Rattle.choice_trace.specs.Operands.{operand_of}
 use Rattle.choice_trace.specs.declared.inputs.Inputs.{Inputs}
+use Rattle.choice_trace.proofs.Elements.{AreRead, StandForOperands}
+
+-- two spans that give the hull and the choice of a step after these hulls of earlier steps
+pub record AreOperands
+    (region : Region) (earlier : List Interval) (step : Step) (a b : Interval) : Type 0 where
+  pub hull : hull_of step.op a b ≡ hull_after region earlier step
+  pub choice : choice_of step.op a b
+      ≡ choice_of step.op (hull_in earlier step.a) (hull_in earlier step.b)
 
 -- the operands stand for those of the step's value
 pub operands-stand : {D : Type 0} (stands_for : D → ℤ → Type 0) (inputs : Inputs D) (constant : D) (regs : List D) (p : Point) (values : List ℤ) (at : ℕ) (step : Step) (a b : D)
@@ -72,22 +80,6 @@ operands-stand {D} stands_for inputs constant regs p values at step a b stands h
     by Div e = binary Div e refl (first Div e) (second Div e)
     by Min e = binary Min e refl (first Min e) (second Min e)
     by Max e = binary Max e refl (first Max e) (second Max e)
-
--- operands stand before the step, and those that it lacks are 0
-pub first-within : (at n : ℕ) (step : Step) → IsStepAt at step → at < n → step.a < n
-first-within at n step is below = by (arity_of step.op) refl
-  where
-    by : (m : ℕ) → arity_of step.op ≡ m → step.a < n
-    by zero e = omega (arith, is.fits.no_first e, below)
-    by (suc m) e = omega (arith, is.fits.first (omega (arith, e)), below)
-
-pub second-within : (at n : ℕ) (step : Step) → IsStepAt at step → at < n → step.b < n
-second-within at n step is below = by (arity_of step.op) refl
-  where
-    by : (m : ℕ) → arity_of step.op ≡ m → step.b < n
-    by zero e = omega (arith, is.fits.no_second (omega (arith, e)), below)
-    by (suc zero) e = omega (arith, is.fits.no_second (omega (arith, e)), below)
-    by (suc (suc m)) e = omega (arith, is.fits.second (omega (arith, e)), below)
 
 -- the ranges of a region, as what a list is evaluated at
 abbrev pub ranges_of : Region → Inputs Interval

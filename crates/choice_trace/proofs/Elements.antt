@@ -4,13 +4,26 @@ use Rattle.std.proofs.lemmas.List.{get_or-set_same, get_or-set_other}
 use Rattle.fixed_ops.specs.Counts.{Counts, RisesWithin, no_counts, plus, times}
 use Rattle.fixed_ops.specs.Points.{Point}
 use Rattle.live_clauses.specs.Steps.{AreSteps, value_after, value_at, values}
-use Rattle.live_clauses.specs.Laws.{ValuesAreOfOperands}
 use Rattle.live_clauses.specs.declared.step.Step.{Step}
-use Rattle.live_clauses.specs.Meanings.{number_at}
-use Rattle.live_clauses.proofs.MeaningLaws.{meaning_at-step}
-use Rattle.live_clauses.proofs.ValueLaws.{number_at-reads}
-use Rattle.choice_trace.specs.Meaning.{AreRead, StandForOperands, StandsForResults}
+use Rattle.live_clauses.proofs.Theorems.{values_are_of_operands}
+use Rattle.choice_trace.specs.Meaning.{StandsForResults}
 use Rattle.fixed_ops.proofs.CountLaws.{tallies_add_up_is}
+use Rattle.fixed_ops.specs.Operations.{op_result}
+use Rattle.fixed_ops.specs.declared.operation.Op.{Op}
+
+-- two elements stand for numbers on which an operation gives this value
+pub record StandForOperands {D : Type 0} (stands_for : D → ℤ → Type 0)
+    (op : Op) (a b : D) (value : ℤ) : Type 0 where
+  pub left : ℤ
+  pub right : ℤ
+  pub for_a : stands_for a left
+  pub for_b : stands_for b right
+  pub is : op_result op left right ≡ value
+
+-- so many elements stand each for the value at its place
+abbrev pub AreRead : {D : Type 0} → (D → ℤ → Type 0) → D → List D → List ℤ → ℕ → Type 0
+AreRead stands_for default elements values count = (place : ℕ) → place < count
+    → stands_for (get_or elements place default) (get_or values place (pos 0))
 
 -- no element is read at first
 pub none_read : {D : Type 0} (stands_for : D → ℤ → Type 0) (default : D) (elements : List D) (values : List ℤ) → AreRead stands_for default elements values 0
@@ -30,10 +43,6 @@ pub read_more : {D : Type 0} (stands_for : D → ℤ → Type 0) (default : D) (
     → AreRead stands_for default (set elements at new) values (at + 1)
 read_more stands_for default elements values at new room read stands =
     each_more (λ k d. stands_for d (get_or values k (pos 0))) elements at new default room read stands
-
--- the value of a step is made of those of its operands
-pub values_are_of_operands : ValuesAreOfOperands
-values_are_of_operands p steps stand place step is = meaning_at-step (number_at p) (number_at-reads p) steps place step stand is
 
 -- what a step makes of its operands stands for its value in the list
 pub step_stands : {D : Type 0} (stands_for : D → ℤ → Type 0) (p : Point) (steps : List Step) (at : ℕ) (step : Step) (a b new : D)

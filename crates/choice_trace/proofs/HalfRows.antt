@@ -1,5 +1,5 @@
 -- Rows that are written lane by lane, and what is so of the lanes of a list's rows then.
-use Rattle.std.proofs.Common.{◌≡◌, ℕ, ◌+◌, ◌-◌, ◌<◌, ◌≤◌, ◌||◌, ◌↔◌, Bool, true, false, List, [], ◌++◌, Some, slice_get, ap, refl, below_more, get_or, get_or-set_other, get_or-set_same, length, length-set, set, sym, take, ◌∙◌, arith}
+use Rattle.std.proofs.Common.{◌≡◌, ℕ, ◌+◌, ◌-◌, ◌<◌, ◌≤◌, ◌||◌, ◌↔◌, Bool, false, List, [], ◌++◌, Some, slice_get, ap, refl, below_more, get_or, get_or-set_other, get_or-set_same, length, length-set, set, sym, take, ◌∙◌, arith}
 use Rattle.std.proofs.lemmas.List.{ext_get_or, get_or-map, get_or-take, get_or_default, get_or_read, length-map, length-take-le, set-append_right}
 use Rattle.interval_ops.specs.Choices.{choice_of}
 use Rattle.interval_ops.specs.Spans.{Interval, all_numbers}
@@ -14,6 +14,7 @@ use Rattle.choice_trace.specs.Halves.{is_made, row_in}
 use Rattle.choice_trace.specs.Hulls.{choices_over, hull_at, hull_in, step_hull}
 use Rattle.choice_trace.proofs.HullLists.{choice_of-same, hull_at-step, step_hull-same}
 use Rattle.choice_trace.proofs.Traces.{choice_there}
+use Rattle.std.proofs.lemmas.Bool.{or_parts}
 
 -- a lane of two rows is read
 pub lane_read : {B : Type 0} (f : Interval → Interval → B) (a b : List Interval) (l : ℕ) (x y : Interval) → l < length a → l < length b
@@ -73,11 +74,6 @@ choice_made region steps at l step rows earlier new stand is front below made =
 abbrev pub AreBoth : ℕ → List Choice → Type 0
 AreBoth count choices = (place : ℕ) → place < count → choice_at choices place ≡ Both
 
--- neither of two flags stands where one of them does not
-neither : (a b : Bool) → (a || b) ≡ false → (a ≡ false) × (b ≡ false)
-neither true b e = (cc)
-neither false b e = (refl, e)
-
 -- a choice of no single operand is of both
 not_made : (choice : Choice) → is_made choice ≡ false → choice ≡ Both
 not_made Left e = (cc)
@@ -88,7 +84,7 @@ not_made Both e = refl
 pub flag_more : (old new : Bool) (choices : List Choice) (at : ℕ) (choice : Choice) → new ≡ (old || is_made choice) → choice ≡ choice_at choices at
     → (old ≡ false) ↔ AreBoth at choices → (new ≡ false) ↔ AreBoth (at + 1) choices
 flag_more old new choices at choice is here both = (
-  λ off. let off_both = neither old (is_made choice) (sym is ∙ off) in
+  λ off. let off_both = or_parts old (is_made choice) (sym is ∙ off) in
       below_more (λ place. choice_at choices place ≡ Both) at (both.0 off_both.0) (sym here ∙ not_made choice off_both.1),
   λ all. is ∙ ap (λ flag. flag || is_made choice) (both.1 (λ place h. all place (omega (arith, h)))) ∙ ap is_made (here ∙ all at (omega arith)),
 )

@@ -4,10 +4,10 @@ use Rattle.std.proofs.lemmas.List.{drop-set-lt, get_or_append_left, set-append_r
 use Rattle.live_clauses.specs.Steps.{AreSteps, value_at, values}
 use Rattle.live_clauses.specs.declared.step.Step.{Step}
 use Rattle.choice_trace.specs.Lanes.{in_lane, lane_value, number_at, point_in}
-use Rattle.choice_trace.specs.Meaning.{AreRead}
 use Rattle.choice_trace.specs.declared.inputs.Inputs.{Inputs}
-use Rattle.choice_trace.proofs.Elements.{read_more, values_are_of_operands}
+use Rattle.choice_trace.proofs.Elements.{AreRead, read_more}
 use Rattle.fixed_ops.proofs.PointLaws.{step_value-same}
+use Rattle.live_clauses.proofs.Theorems.{values_are_of_operands}
 
 -- so many rows have the values of their steps at the point in a lane
 abbrev pub AreRows : ℕ → Inputs (List ℤ) → List (List ℤ) → List Step → ℕ → Type 0

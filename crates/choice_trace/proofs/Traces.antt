@@ -19,13 +19,14 @@ use Rattle.interval_ops.specs.declared.region.Region.{Region}
 use Rattle.live_clauses.specs.Choices.{AreChoices, AreRight, choice_at}
 use Rattle.live_clauses.specs.Steps.{AreSteps, value_at}
 use Rattle.live_clauses.specs.declared.step.Step.{Step}
-use Rattle.choice_trace.specs.Hulls.{AreOperands, IsIn, choice_over, choices_over, hull_after, hull_at, hulls, step_hull}
+use Rattle.choice_trace.specs.Hulls.{IsIn, choice_over, choices_over, hull_after, hull_at, hulls, step_hull}
 use Rattle.choice_trace.specs.Laws.{AreRanges}
 use Rattle.choice_trace.specs.PointLaws.{ChoicesAreOfSteps, ChoicesAreRight, ChosenOperandsWin, EachValueIsHeld, ValuesAreHeld}
 use Rattle.interval_ops.proofs.HullLaws.{IsSpan-hull, hull_of_is_hull}
 use Rattle.interval_laws.proofs.LawProofs.{choice_keeps, chosen_wins, included}
-use Rattle.choice_trace.proofs.Elements.{values_are_of_operands}
 use Rattle.choice_trace.proofs.HullLists.{choice_of-same, hull_after-same, hull_at-step}
+use Rattle.choice_trace.proofs.Applied.{AreOperands}
+use Rattle.live_clauses.proofs.Theorems.{values_are_of_operands}
 
 -- lists with one front agree there
 pub agree : {A : Type 0} (xs ys : List A) (n k : ℕ) (d : A) → take n xs ≡ take n ys → k < n → get_or xs k d ≡ get_or ys k d

@@ -1,16 +1,9 @@
 -- What a domain counts where it counts one evaluation at a point, or one hull, for each step.
-use Rattle.std.proofs.Common.{◌≡◌, ℕ, ap, arith, subst, ◌∙◌}
+use Rattle.std.proofs.Common.{arith, subst}
 use Rattle.fixed_ops.specs.Counts.{Counts, RisesBy, points_of}
 use Rattle.interval_ops.specs.HullCounts.{hulls_of}
 use Rattle.choice_trace.specs.Work.{HullsAreExact, PointsAreExact}
-
--- counts are equal where each of them is
-same_counts : (a b : Counts) → a.points ≡ b.points → a.spans ≡ b.spans → a.corners ≡ b.corners
-    → a ≡ b
-same_counts a b p s c =
-    ap (λ (n : ℕ). record { points = n; spans = a.spans; corners = a.corners }) p
-    ∙ ap (λ (n : ℕ). record { points = b.points; spans = n; corners = a.corners }) s
-    ∙ ap (λ (n : ℕ). record { points = b.points; spans = b.spans; corners = n }) c
+use Rattle.fixed_ops.proofs.CountLaws.{same_counts}
 
 pub points_are_exact : PointsAreExact
 points_are_exact before after n rise =

@@ -1,5 +1,5 @@
 -- The hulls and the choices of a list over a region: each is made from the hulls of its operands.
-use Rattle.std.specs.Prelude.{◌≡◌, ℕ, ◌-◌, ℤ, List, [], ◌∷◌, ◌++◌, length, map, fold, slice_index_or}
+use Rattle.std.specs.Prelude.{ℕ, ◌-◌, ℤ, List, [], ◌∷◌, ◌++◌, length, map, fold, slice_index_or}
 use Rattle.fixed_ops.specs.Points.{Point}
 use Rattle.fixed_ops.specs.declared.operation.Op.{Op}
 use Rattle.fixed_ops.specs.declared.operation.Op.TheVariants.{X, Y, Z, Const}
@@ -55,10 +55,3 @@ choice_over region steps step =
 -- the choices of all steps, in their order
 abbrev pub choices_over : Region → List Step → List Choice
 choices_over region steps = map (choice_over region steps) steps
-
--- two spans that give the hull and the choice of a step after these hulls of earlier steps
-pub record AreOperands
-    (region : Region) (earlier : List Interval) (step : Step) (a b : Interval) : Type 0 where
-  pub hull : hull_of step.op a b ≡ hull_after region earlier step
-  pub choice : choice_of step.op a b
-      ≡ choice_of step.op (hull_in earlier step.a) (hull_in earlier step.b)

@@ -2,7 +2,6 @@ pub mod Halves
 pub mod Hulls
 pub mod Lanes
 pub mod Laws
-pub mod Layers
 pub mod Meaning
 pub mod Operands
 pub mod PointLaws

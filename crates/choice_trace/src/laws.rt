@@ -1,14 +1,7 @@
 // What always holds of the definitions that the contracts cite.
 ghost use Rattle.choice_trace.specs.Laws.{HullsHold, OnlyHullsHold};
 ghost use Rattle.choice_trace.specs.PointLaws.{ChoicesAreOfSteps, ChoicesAreRight, ChosenOperandsWin, EachValueIsHeld, ValuesAreHeld};
-ghost use Rattle.choice_trace.specs.Layers.{Lawful};
 ghost use Rattle.choice_trace.specs.Work.{HullsAreExact, PointsAreExact};
-
-// What the layers below promise of spans and of values, in one place.
-#[inline]
-pub(crate) fn layers_hold()
-    ensures { Lawful }
-{}
 
 /// The hull of each step of a list over a region is the hull of all results on the values of its
 /// operands' hulls, or the range of a coordinate, or the constant alone. No other list of hulls is

@@ -54,7 +54,7 @@ ended-lines_of (byte ∷ next ∷ others) = by (is_feed byte) refl (ended-lines_
     by false e later = ended-onto byte next others (lines_of (next ∷ others)) later
 
 -- bytes up to a line feed are the first line
-lines_of-first : (line rest : List ℕ) → HasNoFeed line → lines_of ((line ++ 10 ∷ []) ++ rest) ≡ line ∷ lines_of rest
+pub lines_of-first : (line rest : List ℕ) → HasNoFeed line → lines_of ((line ++ 10 ∷ []) ++ rest) ≡ line ∷ lines_of rest
 lines_of-first [] rest all = refl
 lines_of-first (byte ∷ line) rest all =
     let other : is_feed byte ≡ false = ne_eqb byte 10 (All-head (λ b. b ≢ 10) byte line all) in

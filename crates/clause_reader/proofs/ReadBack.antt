@@ -29,16 +29,8 @@ use Rattle.clause_reader.proofs.Said.{reads_exactly}
 use Rattle.clause_reader.proofs.WriterLemmas.{name_at_place}
 use Rattle.clause_reader.proofs.WrittenTokens.{IsToken, lines_of-written, name_is_token, no_feed, number_is_token, op_is_token, tokens_of-spaced}
 use Rattle.fixed_ops.proofs.TextLaws.{number_text_reads}
-
--- the test of a name on clauses
-abbrev has : List ℕ → Clause → Bool
-has name c = bytes_eq name c.name
-
--- a front of a list has its first elements
-slice_get-front : (xs ys : List Clause) (at : ℕ) (c : Clause) → slice_get xs at ≡ Some c → slice_get (xs ++ ys) at ≡ Some c
-slice_get-front [] ys at c e = (cc)
-slice_get-front (x ∷ xs) ys zero c e = e
-slice_get-front (x ∷ xs) ys (suc at) c e = slice_get-front xs ys at c e
+use Rattle.fixed_ops.proofs.Lists.{slice_get-front}
+use Rattle.solid_model.proofs.NamedLemmas.{has}
 
 -- and the next one follows it
 slice_get-next : (xs : List Clause) (c : Clause) (ys : List Clause) → slice_get (xs ++ c ∷ ys) (length xs) ≡ Some c

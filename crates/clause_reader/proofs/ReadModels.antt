@@ -1,24 +1,21 @@
 -- What is read is a model: each line adds a clause that may stand behind the others.
-use Rattle.std.proofs.Common.{◌≡◌, ◌≢◌, ℕ, zero, suc, ◌+◌, ◌-◌, ◌^◌, ◌<◌, ◌≤◌, pos, Bool, true, false, cond, not, eqb, ltb, nat_le, List, [], ◌∷◌, ◌++◌, length, ◌⊎◌, inl, inr, Option, None, Some, Result, Ok, Err, slice_get, refl, ap, sym, subst, ◌∙◌, arith}
+use Rattle.std.proofs.Common.{◌≡◌, ◌≢◌, ℕ, zero, suc, ◌+◌, ◌<◌, ◌≤◌, pos, Bool, true, false, cond, not, eqb, nat_le, List, [], ◌∷◌, ◌++◌, length, Option, None, Some, Result, Ok, Err, slice_get, refl, ap, sym, subst, ◌∙◌, arith}
 use Rattle.std.specs.Prelude.{All, IsFalse, map}
 use Rattle.std.specs.List.{list_any, position_or_len}
 use Rattle.std.specs.Option.{unwrap_or}
-use Rattle.std.specs.Str.{bytes_eq}
 use Rattle.std.specs.Str.Parse.{starts_with_minus, without_leading_sign}
-use Rattle.std.specs.Cmp.Lexicographic.{bytes_decides}
 use Rattle.std.proofs.lemmas.Bool.{eqb-true, ne_eqb}
 use Rattle.std.proofs.lemmas.Bool.Decides.{nat_tests}
 use Rattle.std.proofs.lemmas.Int.{ints}
-use Rattle.std.proofs.lemmas.List.{length-append}
 use Rattle.std.proofs.lemmas.List.Elements.{All-cons, All-head, All-nil, All-tail}
 use Rattle.std.proofs.lemmas.List.Quantifiers.{position-Some}
 use Rattle.std.proofs.lemmas.Option.{slice_get_past}
 use Rattle.fixed_ops.specs.declared.operation.Op.{Op}
 use Rattle.fixed_ops.specs.declared.operation.Op.TheVariants.{Const}
-use Rattle.fixed_ops.specs.Numerals.{is_numeral, nearest_raw, numeral_value, unsigned_raw, with_sign}
+use Rattle.fixed_ops.specs.Numerals.{is_numeral, numeral_value, unsigned_raw}
 use Rattle.fixed_ops.specs.Raw.{IsRaw}
 use Rattle.solid_model.specs.declared.clause.Clause.{Clause}
-use Rattle.solid_model.specs.Clauses.{place_of, AreClauses, FitsAt, IsClauseAt, IsModel}
+use Rattle.solid_model.specs.Clauses.{place_of, AreClauses, FitsAt, IsModel}
 use Rattle.solid_model.specs.Names.{is_blank, IsName}
 use Rattle.solid_model.specs.Parts.{IsForm, Parts}
 use Rattle.clause_reader.specs.declared.form_defect.FormDefect.{FormDefect}
@@ -35,6 +32,8 @@ use Rattle.clause_reader.proofs.LineLemmas.{lines_exactly}
 use Rattle.clause_reader.proofs.LineSteps.{named}
 use Rattle.clause_reader.proofs.TokenLemmas.{tokens_exactly}
 use Rattle.clause_reader.proofs.WrittenLemmas.{clauses_with-written}
+use Rattle.fixed_ops.proofs.NumeralLaws.{signed_is_raw, unsigned_is_small}
+use Rattle.solid_model.proofs.ModelLemmas.{AreClauses-nil, AreClauses-push}
 
 -- bytes that are neither blanks nor a line feed may stand in a token
 token-bytes : (token : List ℕ) → HasNoBlank token → HasNoFeed token → AreTokenBytes token
@@ -81,24 +80,11 @@ no-feeds text = ((lines_exactly text (lines_of text)).0 refl).whole
 pub tokens-may-name : TokensMayName
 tokens-may-name text = all-names (lines_of text) (no-feeds text)
 
--- a numeral means a raw number
-nearest-small : (q : ℕ) → nearest_raw q ≤ 2 ^ 62 - 1
-unfolding nearest_raw
-nearest-small q = omega arith
-
-unsigned-small : (body : List ℕ) → unsigned_raw body ≤ 2 ^ 62 - 1
-unfolding unsigned_raw
-unsigned-small body = nearest-small _
-
-sized-raw : (minus : Bool) (size : ℕ) → size ≤ 2 ^ 62 - 1 → IsRaw (with_sign minus size)
-sized-raw true size few = (omega (arith, ints, few), omega (arith, ints, few))
-sized-raw false size few = (omega (arith, ints, few), omega (arith, ints, few))
-
 zero-raw : IsRaw (pos 0)
 zero-raw = (omega (arith, ints), omega (arith, ints))
 
 numeral-raw : (token : List ℕ) → IsRaw (numeral_value token)
-numeral-raw token = sized-raw (starts_with_minus token) (unsigned_raw (without_leading_sign token)) (unsigned-small (without_leading_sign token))
+numeral-raw token = signed_is_raw (starts_with_minus token) (unsigned_raw (without_leading_sign token)) (unsigned_is_small (without_leading_sign token))
 
 number-raw : (tokens : List (List ℕ)) → IsRaw (number_of tokens)
 number-raw [] = zero-raw
@@ -153,19 +139,6 @@ passes-within p (y ∷ ys) (suc i) x e h = by (p y) (passes-within p ys i x e h)
     by true less = omega (arith, less)
     by false less = omega (arith, less)
 
--- where no clause has a name, none at a place has it
-no-clause-named : (clauses : List Clause) (name : List ℕ) (i : ℕ) (clause : Clause) → place_of clauses name ≡ None → slice_get clauses i ≡ Some clause
-    → name ≡ clause.name → ⊥
-no-clause-named clauses name i clause none at same =
-    let less = passes-within (λ (c : Clause). bytes_eq name c.name) clauses i clause at ((bytes_decides name clause.name).1 same) in
-    by (ltb (position_or_len (λ (c : Clause). bytes_eq name c.name) clauses) (length clauses)) refl less none
-  where
-    by : (b : Bool) → ltb (position_or_len (λ (c : Clause). bytes_eq name c.name) clauses) (length clauses) ≡ b
-        → position_or_len (λ (c : Clause). bytes_eq name c.name) clauses < length clauses
-        → cond b (Some (position_or_len (λ (c : Clause). bytes_eq name c.name) clauses)) None ≡ None → ⊥
-    by true is less e = (cc)
-    by false is less e = grind (arith, nat_tests)
-
 -- an operand that is known stands among the clauses
 place-within : (clauses : List Clause) (names : List (List ℕ)) (k : ℕ) → has_unknown clauses names ≡ false → k < length names
     → place_or_zero clauses names k < length clauses
@@ -195,41 +168,6 @@ fits-end clauses form is known = record {
   no_value = is.no_value;
 }
 
--- what stands at a place of a list with one more element
-get-more : {A : Type 0} (xs : List A) (y : A) (k : ℕ) (z : A) → slice_get (xs ++ y ∷ []) k ≡ Some z → (slice_get xs k ≡ Some z) ⊎ ((k ≡ length xs) × (z ≡ y))
-get-more [] y zero z e = inr (refl, (cc))
-get-more [] y (suc k) z e = (cc)
-get-more (x ∷ xs) y zero z e = inl e
-get-more (x ∷ xs) y (suc k) z e = elim (get-more xs y k z e) [ inl old ↦ inl old | inr new ↦ inr (ap suc new.0, new.1) ]
-
--- a clause of a new name that may stand at the end goes there
-clauses-more : (clauses : List Clause) (clause : Clause) → AreClauses clauses → length clauses < 65535 → IsClauseAt (length clauses) clause
-    → place_of clauses clause.name ≡ None → AreClauses (clauses ++ clause ∷ [])
-clauses-more clauses clause are room fits new = record {
-  few = omega (arith, length-append clauses (clause ∷ []));
-  each = λ place c at. elim (get-more clauses clause place c at) [
-    | inl old ↦ are.each place c old
-    | inr last ↦ rw (last.0, last.1) fits
-  ];
-  distinct = λ i j a b at_i at_j same. elim (get-more clauses clause i a at_i) [
-    | inl old_i ↦ elim (get-more clauses clause j b at_j) [
-      | inl old_j ↦ are.distinct i j a b old_i old_j same
-      | inr last_j ↦ absurd (no-clause-named clauses clause.name i a new old_i (cc))
-    ]
-    | inr last_i ↦ elim (get-more clauses clause j b at_j) [
-      | inl old_j ↦ absurd (no-clause-named clauses clause.name j b new old_j (cc))
-      | inr last_j ↦ last_i.0 ∙ sym last_j.0
-    ]
-  ];
-}
-
-none-are : AreClauses []
-none-are = record {
-  few = omega arith;
-  each = λ place clause at. (cc);
-  distinct = λ i j a b at_i at_j same. (cc);
-}
-
 extended-are : (clauses : List Clause) (name : List ℕ) (form : Parts) (new : List Clause) → AreClauses clauses → IsName name → IsForm form
     → extended clauses name (Ok form) ≡ Ok new → AreClauses new
 extended-are clauses name form new are named is e = by (has_unknown clauses form.args) (place_of clauses name) (nat_le 65535 (length clauses)) refl refl refl
@@ -252,7 +190,7 @@ extended-are clauses name form new are named is e = by (has_unknown clauses form
         let got = rw (u, p, f) at e in
         let same : clauses ++ clause ∷ [] ≡ new = cc in
         let room : length clauses < 65535 = grind (arith, nat_tests) in
-        subst AreClauses same (clauses-more clauses clause are room (record { name = named; raw = is.raw; fits = fits-end clauses form is u }) p)
+        subst AreClauses same (AreClauses-push clauses clause are room (record { name = named; raw = is.raw; fits = fits-end clauses form is u }) p)
 
 tokens-are : (clauses : List Clause) (tokens : List (List ℕ)) (new : List Clause) → AreClauses clauses → All MayName tokens → is_clause tokens ≡ true
     → clauses_with clauses tokens ≡ Ok new → AreClauses new
@@ -295,4 +233,4 @@ read-texts-are-models text clauses e = by (lines_read [] 1 (lines_of text)) refl
     by (Ok []) is h = (cc)
     by (Ok (first ∷ others)) is h =
         let same : first ∷ others ≡ clauses = cc in
-        subst IsModel same (record { some = omega arith; clauses_are = lines-are (lines_of text) [] 1 (first ∷ others) none-are (no-feeds text) is })
+        subst IsModel same (record { some = omega arith; clauses_are = lines-are (lines_of text) [] 1 (first ∷ others) AreClauses-nil (no-feeds text) is })

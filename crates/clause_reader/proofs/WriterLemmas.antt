@@ -1,10 +1,11 @@
 -- How the lines of clauses come together.
-use Rattle.std.proofs.Common.{◌≡◌, ℕ, ◌+◌, ◌<◌, zero, suc, List, [], ◌∷◌, ◌++◌, length, take, Some, IfSome, slice_get, inl, inr, ap, subst, sym, ◌∙◌, arith}
+use Rattle.std.proofs.Common.{◌≡◌, ℕ, ◌+◌, ◌<◌, List, [], ◌∷◌, ◌++◌, length, take, Some, IfSome, slice_get, inl, inr, ap, subst, sym, ◌∙◌, arith}
 use Rattle.std.specs.List.{flat_map}
 use Rattle.std.proofs.lemmas.List.{flat_map_more, take_more}
 use Rattle.std.proofs.lemmas.Option.{slice_get_cases}
 use Rattle.solid_model.specs.declared.clause.Clause.{Clause}
 use Rattle.solid_model.specs.Named.{name_at}
+use Rattle.solid_model.proofs.NamedLemmas.{name_at-is}
 
 -- what the lists of the first elements are together, and that of the next
 pub flat_map_next : {X A : Type 0} (f : X → List A) (xs : List X) (at : ℕ) (before after : List A) → at < length xs → before ≡ flat_map f (take at xs)
@@ -20,6 +21,4 @@ flat_map_next f xs at before after within so_far next =
 
 -- the name at a place is that of the clause there
 pub name_at_place : (clauses : List Clause) (place : ℕ) (clause : Clause) → slice_get clauses place ≡ Some clause → name_at clauses place ≡ clause.name
-name_at_place [] place clause at = (cc)
-name_at_place (c ∷ clauses) zero clause at = (cc)
-name_at_place (c ∷ clauses) (suc place) clause at = name_at_place clauses place clause at
+name_at_place clauses place clause at = name_at-is clauses place clause at

@@ -19,7 +19,8 @@ use Rattle.clause_reader.specs.declared.written_form.WrittenForm.{WrittenForm}
 use Rattle.clause_reader.specs.Forms.{with_arguments, with_names}
 use Rattle.clause_reader.specs.Gives.{made}
 use Rattle.clause_reader.specs.Tokens.{IsTokenAt}
-use Rattle.clause_reader.specs.Written.{as_error, as_fault, as_reason, extended, named, names_in, parts_in}
+use Rattle.clause_reader.specs.Written.{as_error, as_fault, as_reason, extended, names_in, parts_in}
+use Rattle.clause_reader.proofs.WrittenLemmas.{named}
 
 defects_of_forms : map as_fault
     (Defect NoOperation ∷ Defect UnknownOperation ∷ Defect WrongArity ∷ Defect BadNumeral ∷ Memory ∷ [])

@@ -1,5 +1,5 @@
 -- What a line says is what its operation and arguments say, before and after names are looked up.
-use Rattle.std.proofs.Common.{◌≡◌, ◌≢◌, IfOk, ap, ◌∙◌, ℕ, Bool, true, false, not, eqb, List, [], ◌∷◌, length, Option, Some, None, Ok, Err, IsOk, refl}
+use Rattle.std.proofs.Common.{Bool, Err, IfOk, IsOk, List, None, Ok, Option, Result, Some, [], ap, eqb, false, length, not, refl, true, ℕ, ◌∙◌, ◌∷◌, ◌≡◌, ◌≢◌}
 use Rattle.std.specs.List.{list_any}
 use Rattle.std.specs.Option.{ok_or}
 use Rattle.fixed_ops.specs.declared.operation.Op.{Op}
@@ -14,7 +14,14 @@ use Rattle.clause_reader.specs.Forms.{operation_of, takes, operands, numerals, i
 use Rattle.clause_reader.specs.Gives.{Gives}
 use Rattle.clause_reader.specs.Lines.{begins_comment}
 use Rattle.clause_reader.specs.Reading.{clauses_with}
-use Rattle.clause_reader.specs.Written.{as_fault, named, extended}
+use Rattle.clause_reader.specs.Written.{as_fault, extended}
+use Rattle.clause_reader.specs.declared.form_fault.FormFault.{FormFault}
+
+-- a form from what its tokens say as one
+abbrev pub named : Result (Option Parts) FormDefect → Result Parts FormFault
+named (Ok (Some parts)) = Ok parts
+named (Ok None) = Err BadName
+named (Err defect) = Err (as_fault (Defect defect))
 
 -- a form is what its tokens say
 pub form_read-named : (tokens : List (List ℕ)) → form_read tokens ≡ named (form_said tokens)

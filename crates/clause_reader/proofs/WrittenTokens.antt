@@ -1,12 +1,11 @@
 -- What is written is made of lines of tokens, which are the lines and the tokens that are read.
-use Rattle.std.proofs.Common.{◌≡◌, ◌≢◌, ℕ, ◌-◌, ◌*◌, ◌/◌, ◌%◌, ◌^◌, ◌<◌, suc, zero, ℤ, pos, negsuc, Bool, true, false, not, ◌&&◌, ◌||◌, List, [], ◌∷◌, ◌++◌, length, map, replicate, decimal, refl, sym, ap, ◌∙◌, arith, eqb}
+use Rattle.std.proofs.Common.{◌≡◌, ◌≢◌, ℕ, ◌-◌, ◌*◌, ◌/◌, ◌%◌, ◌^◌, ◌<◌, suc, zero, ℤ, pos, negsuc, Bool, true, false, not, ◌||◌, List, [], ◌∷◌, ◌++◌, length, map, replicate, decimal, refl, sym, ap, ◌∙◌, arith, eqb}
 use Rattle.std.specs.Prelude.{All, IsTrue, IsFalse}
 use Rattle.std.specs.Char.{digit_value}
 use Rattle.std.specs.List.{flat_map, list_all}
 use Rattle.std.specs.Str.Parse.{AllDigits}
-use Rattle.std.proofs.lemmas.Bool.{eqb-false}
+use Rattle.std.proofs.lemmas.Bool.{and_parts, eqb-false}
 use Rattle.std.proofs.lemmas.Bool.Decides.{nat_tests}
-use Rattle.std.proofs.lemmas.Fmt.{decimal_is_IsNumeral}
 use Rattle.std.proofs.lemmas.Int.{ints}
 use Rattle.std.proofs.lemmas.List.{length-append}
 use Rattle.std.proofs.lemmas.List.Elements.{All-nil, All-cons, All-head, All-tail, All-append}
@@ -23,32 +22,29 @@ use Rattle.clause_reader.specs.LineLaws.{ended, EndsToken, HasNoBlank, HasNoFeed
 use Rattle.clause_reader.specs.ModelText.{spaced}
 use Rattle.clause_reader.proofs.LineLemmas.{lines_of-ended}
 use Rattle.clause_reader.proofs.TokenLemmas.{tokens_exactly}
+use Rattle.solid_model.proofs.TokenBytes.{token_digits}
 
 -- bytes that may stand in a token, at least one
 abbrev pub IsToken : List ℕ → Type 0
 IsToken token = (0 < length token) × (list_all is_token_byte token ≡ true)
 
--- both tests pass
-pub both_pass : (p q : Bool) → (p && q) ≡ true → (p ≡ true) × (q ≡ true)
-both_pass true q e = (refl, e)
-both_pass false q e = (cc)
-
-neither_passes : (p q : Bool) → not (p || q) ≡ true → (p ≡ false) × (q ≡ false)
+-- neither of two tests passes where their disjunction fails
+pub neither_passes : (p q : Bool) → not (p || q) ≡ true → (p ≡ false) × (q ≡ false)
 neither_passes true q e = (cc)
 neither_passes false true e = (cc)
 neither_passes false false e = (refl, refl)
 
 -- a token holds no blank and no line feed
-token_bytes : (bytes : List ℕ) → list_all is_token_byte bytes ≡ true → HasNoBlank bytes × HasNoFeed bytes
+pub token_bytes : (bytes : List ℕ) → list_all is_token_byte bytes ≡ true → HasNoBlank bytes × HasNoFeed bytes
 token_bytes [] e = (All-nil (λ b. IsFalse (is_blank b)), All-nil (λ b. b ≢ 10))
 token_bytes (byte ∷ bytes) e =
-    let both = both_pass (is_token_byte byte) (list_all is_token_byte bytes) e in
+    let both = and_parts (is_token_byte byte) (list_all is_token_byte bytes) e in
     let neither = neither_passes (is_blank byte) (eqb byte 10) both.0 in
     let later = token_bytes bytes both.1 in
     (All-cons (λ b. IsFalse (is_blank b)) byte bytes neither.0 later.0, All-cons (λ b. b ≢ 10) byte bytes (eqb-false byte 10 neither.1) later.1)
 
 -- what follows a token ends it
-spaced_ends : (tokens : List (List ℕ)) → EndsToken (spaced tokens)
+pub spaced_ends : (tokens : List (List ℕ)) → EndsToken (spaced tokens)
 spaced_ends [] = tt
 spaced_ends (token ∷ tokens) = refl
 
@@ -92,6 +88,7 @@ no_feed-spaced (token ∷ tokens) all =
     All-append (λ b. b ≢ 10) (32 ∷ token) (spaced tokens)
     (All-cons (λ b. b ≢ 10) 32 token (omega arith) (token_bytes token is.1).1) (no_feed-spaced tokens (All-tail IsToken token tokens all))
 
+-- a line of tokens holds no line feed
 pub no_feed : (token : List ℕ) (tokens : List (List ℕ)) → IsToken token → All IsToken tokens → HasNoFeed (token ++ spaced tokens)
 no_feed token tokens is all = All-append (λ b. b ≢ 10) token (spaced tokens) (token_bytes token is.1).1 (no_feed-spaced tokens all)
 
@@ -106,7 +103,7 @@ lines_of-written line clauses all = ap lines_of (ended-map line clauses) ∙ lin
 -- a name is a token
 pub name_is_token : (name : List ℕ) → IsName name → IsToken name
 name_is_token [] is = (cc)
-name_is_token (byte ∷ bytes) is = (omega arith, (both_pass (not (eqb byte 35)) (list_all is_token_byte (byte ∷ bytes)) is).1)
+name_is_token (byte ∷ bytes) is = (omega arith, (and_parts (not (eqb byte 35)) (list_all is_token_byte (byte ∷ bytes)) is).1)
 
 -- so is the name of an operation
 pub op_is_token : (op : Op) → IsToken (name_of op)
@@ -127,19 +124,17 @@ digits_in_token : (ds : List ℕ) → AllDigits 10 ds → list_all is_token_byte
 digits_in_token [] all = refl
 digits_in_token (d ∷ ds) all = rw (digit_in_token d all.0) (digits_in_token ds all.1)
 
-zeros_in_token : (k : ℕ) → list_all is_token_byte (replicate k 48) ≡ true
+-- zeros may stand in a token
+pub zeros_in_token : (k : ℕ) → list_all is_token_byte (replicate k 48) ≡ true
 zeros_in_token zero = refl
 zeros_in_token (suc k) = zeros_in_token k
-
-decimal_in_token : (n : ℕ) → n < 2 ^ 64 → list_all is_token_byte (decimal n) ≡ true
-decimal_in_token n small = digits_in_token (decimal n) (decimal_is_IsNumeral n small).0.1
 
 size_in_token : (n : ℕ) → n < 2 ^ 62 → list_all is_token_byte (size_text n) ≡ true
 unfolding size_text
 size_in_token n small =
-    let whole = decimal_in_token (n / 2 ^ 32) (omega arith) in
+    let whole = token_digits (n / 2 ^ 32) (omega arith) in
     let cut = n % 2 ^ 32 * 10 ^ 10 / 2 ^ 32 in
-    let decimals = decimal_in_token cut (omega arith) in
+    let decimals = token_digits cut (omega arith) in
     let padding = replicate (10 - length (decimal cut)) 48 in
     let zeros = zeros_in_token (10 - length (decimal cut)) in
     let padded : list_all is_token_byte (zero_padded 10 cut) ≡ true = list_all-append is_token_byte padding (decimal cut) ∙ rw (zeros, decimals) refl in

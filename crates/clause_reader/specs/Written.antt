@@ -1,5 +1,5 @@
 -- The operation and the arguments of a line, before names are looked up.
-use Rattle.std.specs.Prelude.{ℕ, nat_le, List, [], ◌∷◌, ◌++◌, length, Option, Some, None, is_some, Result, Ok, Err, if◌then◌else◌}
+use Rattle.std.specs.Prelude.{ℕ, nat_le, List, [], ◌∷◌, ◌++◌, length, is_some, Result, Ok, Err, if◌then◌else◌}
 use Rattle.solid_model.specs.declared.clause.Clause.{Clause}
 use Rattle.solid_model.specs.declared.push_fault.PushFault.{PushFault}
 use Rattle.solid_model.specs.declared.push_fault.PushFault.TheVariants as push
@@ -42,12 +42,6 @@ as_reason NoOperation = text.NoOperation
 as_reason UnknownOperation = text.UnknownOperation
 as_reason WrongArity = text.WrongArity
 as_reason BadNumeral = text.BadNumeral
-
--- a form from what its tokens say as one
-abbrev pub named : Result (Option Parts) FormDefect → Result Parts FormFault
-named (Ok (Some parts)) = Ok parts
-named (Ok None) = Err form.BadName
-named (Err defect) = Err (as_fault (Defect defect))
 
 -- why a clause did not go last, as a reason to refuse a text, beside want of memory
 abbrev pub as_error : PushFault → ReadError TextReason

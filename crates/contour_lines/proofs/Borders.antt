@@ -3,7 +3,6 @@ use Rattle.std.proofs.Common.{◌≡◌, ℕ, ◌≤◌, ℤ, Bool, true, false,
 use Rattle.std.specs.Prelude.{pos, ◌==◌, ◌||◌}
 use Rattle.std.specs.Int.{int_max}
 use Rattle.std.proofs.lemmas.Int.{ints}
-use Rattle.std.proofs.lemmas.Bool.Decides.{nat_tests}
 use Rattle.box_chains.specs.Sums.{LiesIn, Sample}
 use Rattle.fixed_ops.specs.Raw.{is_inside}
 use Rattle.kuhn_cells.specs.Triangles.{GridPoint}
@@ -13,6 +12,7 @@ use Rattle.oct_descent.specs.Ways.{Covers}
 use Rattle.view_places.specs.Boxes.{Indices}
 use Rattle.contour_lines.specs.Planes.{is_on_border, within_border}
 use Rattle.contour_lines.specs.Ways.{cell_square, meets_sides, plane}
+use Rattle.oct_descent.proofs.Covered.{axis-apart}
 
 -- no number that is 0 or more is inside
 max-outside : (x : ℤ) → is_inside (int_max x (pos 0)) ≡ false
@@ -24,10 +24,6 @@ bordered-outside n i j v e = rw e (max-outside v)
 pub or-false : (a b : Bool) → (a || b) ≡ false → (a ≡ false) × (b ≡ false)
 or-false true b e = absurd (grind (arith, e))
 or-false false b e = (refl, e)
-
--- a box that does not meet the border covers no point of it
-axis-apart : (n low high i : ℕ) → low ≤ i → i ≤ high → high ≤ n → (low == 0 || high == n) ≡ false → (i == 0 || i == n) ≡ false
-axis-apart n low high i a b c e = grind (arith, nat_tests, e)
 
 border-apart : (n : GridSize) (b : Indices) (p : GridPoint) → b.x1 ≤ n.x → b.y1 ≤ n.y → Covers b p → meets_sides n b ≡ false → is_on_border n p.x p.y ≡ false
 border-apart n b p x y covers e =

@@ -1,8 +1,7 @@
 -- The corners of a cell, one after another.
-use Rattle.std.proofs.Common.{◌≡◌, ℕ, zero, suc, ◌+◌, ◌-◌, ◌/◌, ◌%◌, ◌<◌, ◌≤◌, ℤ, Bool, true, false, refl, sym, ap, subst, ◌∙◌, ◌⊎◌, inl, inr, arith}
-use Rattle.std.specs.Prelude.{Option, Some, None, is_some, nat_lt, not, ◌||◌, unwrap_or}
-use Rattle.std.proofs.lemmas.Bool.{cases_lt, false≢true}
-use Rattle.std.proofs.lemmas.Bool.Decides.{nat_tests}
+use Rattle.std.proofs.Common.{◌≡◌, ℕ, ◌+◌, ◌/◌, ◌%◌, ◌<◌, ◌≤◌, ℤ, Bool, true, false, sym, ap, subst, ◌∙◌, ◌⊎◌, inl, inr, arith}
+use Rattle.std.specs.Prelude.{Option, Some, None, not, unwrap_or}
+use Rattle.std.proofs.lemmas.Bool.{cases_lt, false≢true, not-false, not-true, or_cases, or_parts}
 use Rattle.kuhn_cells.specs.Triangles.{GridPoint, further, point}
 use Rattle.view_places.specs.Boxes.{Indices, IsBox}
 use Rattle.view_places.specs.Spans.{IsInRoot}
@@ -18,31 +17,7 @@ use Rattle.oct_descent.specs.Ways.{Covers}
 use Rattle.contour_lines.specs.Corners.{AllShow, IsSeen, LacksCorner, ShowsCorner, side_seen}
 use Rattle.contour_lines.specs.Ways.{cell_square, floor_of}
 use Rattle.contour_lines.specs.declared.seen.Seen.{Seen}
-use Rattle.contour_lines.proofs.Borders.{or-false}
-
-pub none-is : (o : Option ℤ) (t : Bool) → is_some o ≡ not t → t ≡ true → o ≡ None
-none-is None t told e = refl
-none-is (Some v) t told e = absurd (false≢true (sym (told ∙ ap not e)))
-
-pub known-is : (o : Option ℤ) (t : Bool) → is_some o ≡ not t → t ≡ false → is_known o ≡ true
-known-is None t told e = absurd (false≢true (told ∙ ap not e))
-known-is (Some v) t told e = refl
-
--- a box of one cell
-pub record IsOne (b : Indices) : Type 0 where
-  pub x : b.x1 ≡ b.x0 + 1
-  pub y : b.y1 ≡ b.y0 + 1
-  pub z : b.z1 ≡ b.z0 + 1
-
--- a box of cells none of whose sides is longer than 1 is one cell
-pub short-one : (b : Indices) → IsBox b → is_long 1 b ≡ false → IsOne b
-short-one b is e =
-    let x = or-false (nat_lt 1 (b.x1 - b.x0)) _ e in
-    let yz = or-false (nat_lt 1 (b.y1 - b.y0)) (nat_lt 1 (b.z1 - b.z0)) x.1 in
-    record { x = side b.x0 b.x1 is.x x.0; y = side b.y0 b.y1 is.y yz.0; z = side b.z0 b.z1 is.z yz.1 }
-  where
-    side : (low high : ℕ) → low < high → nat_lt 1 (high - low) ≡ false → high ≡ low + 1
-    side low high some short = grind (arith, nat_tests, some, short)
+use Rattle.oct_descent.proofs.Corners.{IsOne, one-or-two, short-one}
 
 -- a box of the lowest cells, whose floor is the plane
 pub record IsLow (b : Indices) : Type 0 where
@@ -54,13 +29,6 @@ pub record IsCorner (b : Indices) (p : GridPoint) : Type 0 where
   pub mask : ℕ
   pub few : mask < 4
   pub at : further (point b.x0 b.y0 0) mask ≡ p
-
-one-or-two : (low i : ℕ) → low ≤ i → i ≤ low + 1 → (i ≡ low + 0) ⊎ (i ≡ low + 1)
-one-or-two low i a b = by (i - low) refl
-  where
-    by : (n : ℕ) → i - low ≡ n → (i ≡ low + 0) ⊎ (i ≡ low + 1)
-    by zero e = inl (omega (arith, e, a))
-    by (suc n) e = inr (omega (arith, e, a, b))
 
 pub corner-mask : (b : Indices) (p : GridPoint) → IsLow b → Covers (floor_of b) p → IsCorner b p
 corner-mask b p is covers =
@@ -127,18 +95,6 @@ seen-all t p n seen most so = record {
   none_outside = λ e c v few. so.none_outside e c v (omega (arith, few, most));
 }
 
-or-parts : (a b : Bool) → (a || b) ≡ true → (a ≡ true) ⊎ (b ≡ true)
-or-parts true b e = inl refl
-or-parts false b e = inr e
-
-not-true : (a : Bool) → not a ≡ true → a ≡ false
-not-true true e = sym e
-not-true false e = refl
-
-not-false : (a : Bool) → not a ≡ false → a ≡ true
-not-false true e = refl
-not-false false e = sym e
-
 -- and with one more
 pub seen-more : (t : Known) (p : GridPoint) (n : ℕ) (seen : Seen) (o : Option ℤ) → n < 4 → o ≡ t.at (further p n) → IsSeenTo t p n seen → IsSeenTo t p (n + 1) (side_seen seen o)
 seen-more t p n seen None few is so = record {
@@ -161,10 +117,10 @@ seen-more t p n seen None few is so = record {
 seen-more t p n seen (Some v) few is so = record {
   all = λ e c less. by e c less (cases_lt c n);
   lacks = so.lacks;
-  inside = λ e. inner (or-parts seen.inside (is_inside v) e);
-  none_inside = λ e. let parts = or-false seen.inside (is_inside v) e in joins false (so.none_inside parts.0) parts.1;
-  outside = λ e. outer (or-parts seen.outside (not (is_inside v)) e);
-  none_outside = λ e. let parts = or-false seen.outside (not (is_inside v)) e in joins true (so.none_outside parts.0) (not-false (is_inside v) parts.1);
+  inside = λ e. inner (or_cases seen.inside (is_inside v) e);
+  none_inside = λ e. let parts = or_parts seen.inside (is_inside v) e in joins false (so.none_inside parts.0) parts.1;
+  outside = λ e. outer (or_cases seen.outside (not (is_inside v)) e);
+  none_outside = λ e. let parts = or_parts seen.outside (not (is_inside v)) e in joins true (so.none_outside parts.0) (not-false (is_inside v) parts.1);
 }
   where
     by : seen.all ≡ true → (c : ℕ) → c < n + 1 → (c < n) ⊎ (n ≤ c) → is_known (t.at (further p c)) ≡ true

@@ -1,20 +1,17 @@
 -- How points that have no values yet get them, and what that takes.
-use Rattle.std.proofs.Common.{◌≡◌, ◌≢◌, ℕ, suc, ◌+◌, ◌-◌, ◌*◌, ◌<◌, ◌≤◌, ℤ, Bool, true, false, cond, List, [], ◌∷◌, ◌++◌, drop, length, pos, set, take, refl, sym, ap, subst, zero-add, add-one, ◌∙◌, ◌⊎◌, inl, inr, arith}
+use Rattle.std.proofs.Common.{◌≡◌, ◌≢◌, ℕ, suc, ◌+◌, ◌*◌, ◌<◌, ◌≤◌, ℤ, Bool, true, false, cond, List, [], ◌∷◌, ◌++◌, drop, length, take, refl, sym, ap, subst, zero-add, ◌∙◌, ◌⊎◌, inl, inr, arith}
 use Rattle.std.specs.Prelude.{Option, Some, None, ◌||◌, get_or}
 use Rattle.std.specs.List.{All, AllPairs, sum_by}
 use Rattle.std.proofs.Math.Bool.{or_assoc}
 use Rattle.std.proofs.Math.Seq.{take-add}
-use Rattle.std.proofs.lemmas.Grind.{get_or-set_at}
-use Rattle.std.proofs.lemmas.List.Sums.{sum_by-cons}
-use Rattle.std.proofs.lemmas.Bool.{cases_lt, false≢true}
-use Rattle.std.proofs.lemmas.List.{get_or-set_other, length-drop, take_all}
+use Rattle.std.proofs.lemmas.List.Sums.{sum_by-cons, sum_by-le}
+use Rattle.std.proofs.lemmas.Bool.{false≢true, or_from, or_left, or_right}
 use Rattle.std.proofs.lemmas.List.Elements.{All-get_or, All-head, All-push, All-tail, All-weaker}
 use Rattle.std.proofs.lemmas.List.Folds.{list_any-append, list_any_more, list_any_none}
 use Rattle.std.proofs.lemmas.List.Quantifiers.{all_pairs_push}
 use Rattle.box_chains.specs.Laws.{Lawful}
 use Rattle.box_chains.specs.Sums.{LiesIn}
 use Rattle.fixed_ops.specs.Counts.{Counts, RisesBy, points_of}
-use Rattle.fixed_ops.specs.Laws.{TalliesAddUp}
 use Rattle.kuhn_cells.specs.Sizes.{SameSize}
 use Rattle.kuhn_cells.specs.Triangles.{GridPoint, further, point}
 use Rattle.live_clauses.specs.declared.step.Step.{Step}
@@ -30,6 +27,8 @@ use Rattle.oct_descent.specs.Tables.{is_known, same_point}
 use Rattle.oct_descent.specs.Ways.{Covers}
 use Rattle.contour_lines.specs.declared.gap.Gap.{Gap}
 use Rattle.contour_lines.proofs.Corners.{IsLow, all-known, floor-covers, mask-covered}
+use Rattle.fixed_ops.proofs.Lists.{sum_by-least}
+use Rattle.oct_descent.proofs.GapLaws.{cases-last}
 
 -- ---- tests
 
@@ -39,23 +38,6 @@ differs laws p q other = by (same_point q p) refl
     by : (t : Bool) → same_point q p ≡ t → same_point q p ≡ false
     by true e = absurd (other (sym (laws.work.same q p e)))
     by false e = e
-
-neither : (a b : Bool) → a ≡ false → b ≡ false → (a || b) ≡ false
-neither a b e h = ap (λ t. t || b) e ∙ h
-
-true-either : (a b : Bool) → b ≡ true → (a || b) ≡ true
-true-either true b e = refl
-true-either false b e = e
-
-first-true : (a b : Bool) → a ≡ true → (a || b) ≡ true
-first-true a b e = ap (λ t. t || b) e
-
-cases-last : (k c : ℕ) → k < c + 1 → (k < c) ⊎ (k ≡ c)
-cases-last k c less = by (cases_lt k c)
-  where
-    by : (k < c) ⊎ (c ≤ k) → (k < c) ⊎ (k ≡ c)
-    by (inl below) = inl below
-    by (inr above) = inr (omega (arith, less, above))
 
 -- different corners of a cell are different points
 further-apart : (p : GridPoint) (a b : ℕ) → a < b → b < 4 → further p a ≡ further p b → ⊥
@@ -69,15 +51,6 @@ has-gap laws P (gap ∷ rest) q all e = by (has-gap laws P rest q (All-tail (λ 
     by : (has_gap rest q ≡ true → P q) → (t : Bool) → same_point (spot gap) q ≡ t → P q
     by next true is = subst P (laws.work.same (spot gap) q is) (All-head (λ (a : Gap). P (spot a)) gap rest all)
     by next false is = next (sym (ap (λ t. t || has_gap rest q) is) ∙ e)
-
--- one more number of a row is the one at its place
-pub row-set : (row : List ℤ) (at : ℕ → ℤ) (lane : ℕ) (v : ℤ) → lane < length row → ((n : ℕ) → n < lane → get_or row n (pos 0) ≡ at n) → v ≡ at lane
-    → (n : ℕ) → n < lane + 1 → get_or (set row lane v) n (pos 0) ≡ at n
-row-set row at lane v within before here n less = by (cases-last n lane less)
-  where
-    by : (n < lane) ⊎ (n ≡ lane) → get_or (set row lane v) n (pos 0) ≡ at n
-    by (inl below) = get_or-set_other row lane n v (pos 0) (λ e. omega (arith, below, e)) ∙ before n below
-    by (inr same) = ap (λ m. get_or (set row lane v) m (pos 0)) same ∙ get_or-set_at row lane lane v (pos 0) refl within ∙ here ∙ ap at (sym same)
 
 -- ---- filling
 
@@ -136,22 +109,12 @@ fills-one laws g n v gaps before mid after within value first sets = record {
         sets.each q
         ∙ ap (λ t. cond t (Some v) (mid.at q)) e
         ∙ ap Some (value ∙ ap g (laws.work.same p q e))
-        ∙ sym (ap (λ t. cond t (Some (g q)) (before.at q)) (more q ∙ true-either (has_gap (take n gaps) q) (same_point p q) e))
+        ∙ sym (ap (λ t. cond t (Some (g q)) (before.at q)) (more q ∙ or_right (has_gap (take n gaps) q) (same_point p q) e))
     by q false e =
         sets.each q
         ∙ ap (λ t. cond t (Some v) (mid.at q)) e
         ∙ first.each q
         ∙ sym (ap (λ t. cond t (Some (g q)) (before.at q)) (more q ∙ ap (λ t. has_gap (take n gaps) q || t) e ∙ or-no (has_gap (take n gaps) q)))
-
--- what stands behind a place
-pub rest-is : (gaps : List Gap) (at : ℕ) → take (length gaps - at) (drop at gaps) ≡ drop at gaps
-rest-is gaps at = take_all (length gaps - at) (drop at gaps) (omega (arith, length-drop at gaps))
-
--- so many more are counted
-pub lanes-counted : TalliesAddUp → (before mid after : Counts) (at more len : ℕ) → RisesBy before mid (points_of (at * len)) → RisesBy mid after (points_of (more * len)) → RisesBy before after (points_of ((at + more) * len))
-lanes-counted tallies before mid after at more len first second =
-    let both : at * len + more * len ≡ (at + more) * len = grind arith in
-    subst (λ n. RisesBy before after (points_of n)) both (tallies.sum before mid after (points_of (at * len)) (points_of (more * len)) first second)
 
 -- points that are a table's are those of one as large
 pub stands-kept : (before after : Known) (gap : Gap) → SameSize after.n before.n → StandsIn before gap → StandsIn after gap
@@ -182,7 +145,7 @@ gaps-known t p c gaps known are = record {
 
     by : (k : ℕ) → (k < c) ⊎ (k ≡ c) → (has_gap gaps (further p k) || is_known (t.at (further p k))) ≡ true
     by k (inl before) = are.all k before
-    by k (inr same) = true-either (has_gap gaps (further p k)) (is_known (t.at (further p k))) (ap (λ n. is_known (t.at (further p n))) same ∙ known)
+    by k (inr same) = or_right (has_gap gaps (further p k)) (is_known (t.at (further p k))) (ap (λ n. is_known (t.at (further p n))) same ∙ known)
 
 -- the next corner gets a gap
 pub gaps-more : (laws : LawsOf plane) (t : Known) (p : GridPoint) (c : ℕ) (gaps : List Gap) (gap : Gap) → c < 4 → spot gap ≡ further p c → StandsIn t gap
@@ -213,8 +176,8 @@ gaps-more laws t p c gaps gap few is stands unknown are = record {
     by k (inr last) =
         let q = further p k in
         let at : spot gap ≡ q = is ∙ ap (further p) (sym last) in
-        first-true (has_gap (gaps ++ gap ∷ []) q) (is_known (t.at q))
-        (joined q ∙ true-either (has_gap gaps q) (has_gap (gap ∷ []) q) (first-true (same_point (spot gap) q) false (ap (same_point (spot gap)) (sym at) ∙ laws.work.itself (spot gap))))
+        or_left (has_gap (gaps ++ gap ∷ []) q) (is_known (t.at q))
+        (joined q ∙ or_right (has_gap gaps q) (has_gap (gap ∷ []) q) (or_left (same_point (spot gap) q) false (ap (same_point (spot gap)) (sym at) ∙ laws.work.itself (spot gap))))
 
 -- ---- what that takes
 
@@ -237,7 +200,7 @@ gaps-left laws f t (gap ∷ rest) stand unknown apart =
     list_any_none (λ (a : Gap). same_point (spot a) p) rest (All-weaker (λ (a : Gap). p ≢ spot a) (λ a. same_point (spot a) p ≡ false) (λ a other. differs laws p (spot a) other) rest first) in
     let lies : LiesIn (points_of_plane t.n) (sample_of p) = record { x = (omega arith, omega (arith, here.x)); y = (omega arith, omega (arith, here.y)); z = (omega arith, omega arith) } in
     let more = laws.work.one f p (points_of_plane t.n) (λ q. has_gap rest q || is_known (k.at q)) (λ q. has_gap (gap ∷ rest) q || is_known (k.at q)) lies
-    (neither (has_gap rest p) (is_known (k.at p)) others (ap is_known none)) (λ q. or_assoc (same_point p q) (has_gap rest q) (is_known (k.at q))) in
+    (or_from (has_gap rest p) (is_known (k.at p)) others (ap is_known none)) (λ q. or_assoc (same_point p q) (has_gap rest q) (is_known (k.at q))) in
     omega (arith, sum_by-cons (λ (a : Gap). f (spot a)) gap rest, more, gaps-left laws f t rest (All-tail (StandsIn k) gap rest stand) (All-tail (λ (a : Gap). k.at (spot a) ≡ None) gap rest unknown) later)
 
 filled-left : (lawful : Lawful) (laws : LawsOf plane) (f : GridPoint → ℕ) (g : GridPoint → ℤ) (gaps : List Gap) (before after : PlaneValues) → Fills g gaps (known_of before) (known_of after)
@@ -247,33 +210,6 @@ filled-left lawful laws f g gaps before after fills =
     ∙ lawful.sums.same (points_of_plane before.n) (λ s. cond (is_known ((known_of after).at (point s.i s.j s.k))) 0 (f (point s.i s.j s.k)))
     (λ s. cond (has_gap gaps (point s.i s.j s.k) || is_known ((known_of before).at (point s.i s.j s.k))) 0 (f (point s.i s.j s.k)))
     (λ s lies. ap (λ t. cond {A = ℕ} t 0 (f (point s.i s.j s.k))) (filled-known g gaps (known_of before) (known_of after) (point s.i s.j s.k) fills))
-
-times-more : (n len : ℕ) → suc n * len ≡ n * len + len
-times-more n len =
-    let more : (n + 1) * len ≡ n * len + len = grind arith in
-    ap (λ m. m * len) (sym (add-one n)) ∙ more
-
-sum-least : (f : GridPoint → ℕ) (len : ℕ) (gaps : List Gap) → All (λ gap. len ≤ f (spot gap)) gaps → length gaps * len ≤ sum_by (λ gap. f (spot gap)) gaps
-sum-least f len [] all = omega arith
-sum-least f len (gap ∷ rest) all =
-    omega (
-      arith,
-      times-more (length rest) len,
-      sum_by-cons (λ (a : Gap). f (spot a)) gap rest,
-      All-head (λ (a : Gap). len ≤ f (spot a)) gap rest all,
-      sum-least f len rest (All-tail (λ (a : Gap). len ≤ f (spot a)) gap rest all),
-    )
-
-sum-most : (f : GridPoint → ℕ) (len : ℕ) (gaps : List Gap) → All (λ gap. f (spot gap) ≤ len) gaps → sum_by (λ gap. f (spot gap)) gaps ≤ length gaps * len
-sum-most f len [] all = omega arith
-sum-most f len (gap ∷ rest) all =
-    omega (
-      arith,
-      times-more (length rest) len,
-      sum_by-cons (λ (a : Gap). f (spot a)) gap rest,
-      All-head (λ (a : Gap). f (spot a) ≤ len) gap rest all,
-      sum-most f len rest (All-tail (λ (a : Gap). f (spot a) ≤ len) gap rest all),
-    )
 
 -- the corners of a cell are filled
 pub record AreFilled (g : GridPoint → ℤ) (b : Indices) (gaps : List Gap) (before after : PlaneValues) : Type 0 where
@@ -296,7 +232,7 @@ gaps-charged lawful laws f g b len gaps before after told now are enough rises =
     let all = All-weaker (λ (gap : Gap). Covers (floor_of b) (spot gap)) (λ gap. len ≤ f (spot gap)) (λ gap covers. enough (spot gap) covers) gaps (covered-all b gaps are.low gaps_are.corners) in
     record {
       points = length gaps * len;
-      enough = omega (arith, sum-least f len gaps all, gaps-left laws f before gaps gaps_are.stand gaps_are.unknown gaps_are.apart, filled-left lawful laws f g gaps before after are.fills);
+      enough = omega (arith, sum_by-least (λ (a : Gap). f (spot a)) len gaps all, gaps-left laws f before gaps gaps_are.stand gaps_are.unknown gaps_are.apart, filled-left lawful laws f g gaps before after are.fills);
       counts = lawful.bounds.points told now (length gaps * len) rises;
     }
 
@@ -307,7 +243,7 @@ gaps-paid lawful laws f g b len gaps before after told now are due rises =
     let all = All-weaker (λ (gap : Gap). Covers (floor_of b) (spot gap)) (λ gap. f (spot gap) ≤ len) (λ gap covers. due (spot gap) covers) gaps (covered-all b gaps are.low gaps_are.corners) in
     record {
       points = length gaps * len;
-      due = omega (arith, sum-most f len gaps all, gaps-left laws f before gaps gaps_are.stand gaps_are.unknown gaps_are.apart, filled-left lawful laws f g gaps before after are.fills);
+      due = omega (arith, sum_by-le (λ (a : Gap). f (spot a)) len gaps all, gaps-left laws f before gaps gaps_are.stand gaps_are.unknown gaps_are.apart, filled-left lawful laws f g gaps before after are.fills);
       counts = record { by = points_of (length gaps * len); many = omega arith; rises = rises };
     }
 

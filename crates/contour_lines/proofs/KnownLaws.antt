@@ -1,13 +1,13 @@
 -- What is known of the points of a plane grid, row by row.
-use Rattle.std.proofs.Common.{◌≡◌, ◌≢◌, ℕ, zero, suc, ◌+◌, ◌*◌, ◌<◌, ◌≤◌, ℤ, pos, Bool, true, false, cond, length, get_or, set, refl, sym, ap, ◌∙◌, ◌⊎◌, inl, inr, arith}
-use Rattle.std.specs.Prelude.{Option, Some, None, ◌==◌, nat_le, replicate}
+use Rattle.std.proofs.Common.{◌≡◌, ◌≢◌, ℕ, ◌+◌, ◌*◌, ◌<◌, ◌≤◌, ℤ, pos, Bool, true, false, cond, length, get_or, set, refl, sym, ap, ◌∙◌, ◌⊎◌, inl, inr, arith}
+use Rattle.std.specs.Prelude.{Option, Some, None, ◌==◌, nat_le}
 use Rattle.std.proofs.lemmas.Bool.{and_parts, cases_order, eqb-true, false≢true, le-leb, leb-true}
 use Rattle.std.proofs.lemmas.Grind.{get_or-set_at}
 use Rattle.std.proofs.lemmas.List.{get_or-set_other}
 use Rattle.kuhn_cells.specs.Triangles.{GridPoint, point}
 use Rattle.oct_descent.specs.GridLaws.{LawsOf}
 use Rattle.oct_descent.specs.Known.{Sets}
-use Rattle.oct_descent.specs.Tables.{Marks, read, same_point}
+use Rattle.oct_descent.specs.Tables.{read, same_point}
 use Rattle.contour_lines.specs.Tables.{PlaneValues, is_in_plane, known_at, known_of}
 use Rattle.contour_lines.specs.Ways.{plane}
 use Rattle.contour_lines.proofs.RowLaws.{row-before}
@@ -86,15 +86,3 @@ plane-sets laws t x y v at wide high is known values = record { n = (refl, (refl
         ap (λ b. cond b (read after.kept (place t q)) None) within ∙ set-other (place t q) (differ q e within) ∙ sym (ap (λ b. cond b (read t.kept (place t q)) None) within)
     by q false e false without =
         ap (λ b. cond b (read after.kept (place t q)) None) without ∙ sym (ap (λ b. cond b (read t.kept (place t q)) None) without)
-
-pub replicate-none : (n k : ℕ) → get_or (replicate n false) k false ≡ false
-replicate-none zero k = refl
-replicate-none (suc n) zero = refl
-replicate-none (suc n) (suc k) = replicate-none n k
-
--- what has no mark is not known
-pub read-unmarked : (b : Marks) (at : ℕ) → get_or b.known at false ≡ false → read b at ≡ None
-read-unmarked b at e = rw e refl
-
-pub read-marked : (b : Marks) (at : ℕ) → get_or b.known at false ≡ true → read b at ≡ Some (get_or b.values at (pos 0))
-read-marked b at e = rw e refl

@@ -1,7 +1,6 @@
 -- Cells that are looked into, and flags.
-use Rattle.std.proofs.Common.{◌≡◌, ℕ, ◌<◌, ◌≤◌, ℤ, Bool, true, false, cond, Result, Ok, Err, inl, inr, refl, sym, ◌∙◌, arith}
-use mir.Val.{bool_byte}
-use Rattle.std.specs.Prelude.{OnOk, not}
+use Rattle.std.proofs.Common.{◌≡◌, ℕ, ◌<◌, ℤ, Bool, true, false, inl, inr, refl, sym, ◌∙◌}
+use Rattle.std.specs.Prelude.{not}
 use Rattle.std.proofs.lemmas.Bool.{false≢true}
 use Rattle.box_chains.specs.Chains.{Visit, is_long}
 use Rattle.box_chains.specs.Visits.{IsVisit}
@@ -15,11 +14,8 @@ use Rattle.view_places.specs.Window.{Window}
 use Rattle.contour_lines.specs.declared.seen.Seen.{Seen}
 use Rattle.contour_lines.specs.Corners.{AllShow, IsSeen, IsShown, ShowsCorner}
 use Rattle.contour_lines.specs.Ways.{cell_square, flat_value, floor_of, planar, plane}
-use Rattle.contour_lines.proofs.Corners.{IsLow, IsOne, floor-square, mask-covered, square-floor}
-
-pub on_ok-then : {T E : Type 0} (r : Result T E) (P Q : Type 0) → (P → Q) → OnOk r P → OnOk r Q
-on_ok-then (Ok x) P Q f p = f p
-on_ok-then (Err e) P Q f p = tt
+use Rattle.contour_lines.proofs.Corners.{IsLow, floor-square, mask-covered, square-floor}
+use Rattle.oct_descent.proofs.Corners.{IsOne}
 
 -- two known corners on either side show that a cell stays open
 pub sides-open : (laws : LawsOf plane) (view : Window) (v : Visit) (t : Known) → IsVisit (planar view).boxes v → is_long 1 v.box ≡ false → IsLow v.box
@@ -56,12 +52,3 @@ shown-sides t p seen is lacks (inr sides) = (by true seen.inside seen.inside ref
     by : (inside told side : Bool) → told ≡ side → ShowsCorner t p inside → (told ≡ false → AllShow t p 4 (not inside)) → told ≡ true
     by inside told true e shows none = e
     by inside told false e shows none = absurd (unlike inside (sym shows.side ∙ none e shows.corner shows.value shows.few shows.known))
-
--- a flag as a number
-pub byte-is : (b : Bool) → bool_byte b ≡ cond b 1 0
-byte-is true = refl
-byte-is false = refl
-
-pub byte-most : (b : Bool) → bool_byte b ≤ 1
-byte-most true = omega arith
-byte-most false = omega arith

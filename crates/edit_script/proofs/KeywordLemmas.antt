@@ -1,11 +1,10 @@
 -- What is written as a keyword names it, and nothing else does.
-use Rattle.std.proofs.Common.{◌≡◌, ◌≢◌, ℕ, Bool, true, false, List, Option, Some, None, refl, sym}
+use Rattle.std.proofs.Common.{◌≡◌, ◌≢◌, ℕ, List, Option, Some, None, refl, sym}
 use Rattle.std.specs.Prelude.{IfSome, IfNone}
-use Rattle.std.specs.Str.{bytes_eq}
-use Rattle.std.proofs.lemmas.Slice.Eq.{bytes_eq-Decides}
 use Rattle.edit_script.specs.declared.keyword.Keyword.{Keyword}
 use Rattle.edit_script.specs.declared.keyword.Keyword.TheVariants.{Set, Add, Put, Cut, Undo, Render, Height, Mesh, Text, Cost}
 use Rattle.edit_script.specs.Keywords.{keyword_named, keyword_text}
+use Rattle.fixed_ops.proofs.Lists.{told_apart}
 
 keyword_named-written : (keyword : Keyword) → keyword_named (keyword_text keyword) ≡ Some keyword
 keyword_named-written Set = refl
@@ -18,14 +17,6 @@ keyword_named-written Height = refl
 keyword_named-written Mesh = refl
 keyword_named-written Text = refl
 keyword_named-written Cost = refl
-
--- a word that differs from another is told apart
-told_apart : (word other : List ℕ) → word ≢ other → bytes_eq word other ≡ false
-told_apart word other apart = by (bytes_eq word other) refl
-  where
-    by : (b : Bool) → bytes_eq word other ≡ b → b ≡ false
-    by true e = absurd (apart ((bytes_eq-Decides word other).0 e))
-    by false e = refl
 
 -- what the search for a keyword gives
 pub keyword_found : (word : List ℕ) (found : Option Keyword) → IfSome found (λ keyword. word ≡ keyword_text keyword)

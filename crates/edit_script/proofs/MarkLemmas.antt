@@ -11,7 +11,7 @@ use Rattle.clause_reader.specs.Lines.{is_feed, line_of, lines_of, onto_first, to
 use Rattle.clause_reader.specs.Scan.{after_line, line_tokens}
 use Rattle.edit_script.specs.Marks.{begins_other, is_mark, mark_place}
 use Rattle.edit_script.proofs.LineStarts.{from_line, from_line-next, from_line-zero}
-use Rattle.clause_reader.proofs.LineSplits.{texts-begin-with-lines}
+use Rattle.clause_reader.proofs.LineSplits.{none-left, texts-begin-with-lines}
 
 abbrev marks : List ℕ → Bool
 marks line = is_mark (tokens_of line)
@@ -54,10 +54,6 @@ passed-mark input n rest passed some mark =
     let place : position_or_len marks (lines_of input) ≡ n = omega (arith, passed.place, here) in
     let within : position_or_len marks (lines_of input) < length (lines_of input) = omega (arith, passed.total, place, ap length split) in
     sym (place_some (position_or_len marks (lines_of input)) (length (lines_of input)) within ∙ ap Some place)
-
-none-left : (rest : List ℕ) → length rest ≡ 0 → lines_of rest ≡ []
-none-left [] none = refl
-none-left (byte ∷ rest) none = absurd (omega arith)
 
 -- and none, where nothing is left
 pub passed-all : (input : List ℕ) (n : ℕ) (rest : List ℕ) → Passed input n rest → length rest ≡ 0 → None ≡ mark_place input

@@ -10,6 +10,10 @@ use Rattle.solid_model.specs.declared.clause.Clause.{Clause}
 use Rattle.solid_model.specs.Edited.{Edited}
 use Rattle.view_places.specs.Window.{Window}
 use Rattle.edit_session.specs.Sessions.{Cost, State, after_frame}
+use Rattle.model_frames.proofs.WorkLaws.{done-joined, plain-joined, within-joined}
+
+-- what a tally of its own counts is counted by one that takes it in
+pub ruleset counted_apart = (done-joined, within-joined, plain-joined)
 
 -- the image stands, with the numbers that its own tally tells
 pub session-drawn : (s : State) (view : Window) (given : List Clause) (model : Edited) (image before : Option Drawing) (mesh : Option Gridding) (cost : Cost) (tree : Drawing) (points spans : ℕ)

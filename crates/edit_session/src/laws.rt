@@ -1,17 +1,12 @@
 // What always holds of what a session takes, and of what it was opened with.
 ghost use Rattle.edit_session.specs.Laws.{FramesTakeNoMore, OpeningStands, RefusalsBeginAnew};
 
-use oct_descent::meshes_after_add_up;
-use quad_descent::frame_work_is_bounded;
-
 /// After an image or a mesh that was refused, the next one of its kind takes exactly what a fresh one does,
 /// and the next one of the other kind what it would have taken without it. A height map or a text that was
 /// refused leaves the session as it was.
 pub fn refusals_begin_anew()
     ensures { RefusalsBeginAnew }
-{
-    frame_work_is_bounded();
-}
+{}
 
 /// Frames, edits and edits that are taken back leave what a session was opened with. Once no edit is left
 /// to be taken back, that is its model.
@@ -23,7 +18,4 @@ pub fn opening_stands()
 /// edits came since: at least, at most, and where it is refused.
 pub fn frames_take_no_more()
     ensures { FramesTakeNoMore }
-{
-    frame_work_is_bounded();
-    meshes_after_add_up();
-}
+{}

@@ -17,9 +17,7 @@ use clause_reader::write_model;
 use fixed_ops::Tally;
 use grid_text::TextRoom;
 use live_clauses::RootRoom;
-use model_frames::{
-    frames_add_up, height_text, image_text, mesh_text_in, redraw_image, redraw_mesh,
-};
+use model_frames::{height_text, image_text, mesh_text_in, redraw_image, redraw_mesh};
 use oct_descent::OctTree;
 use quad_descent::{QuadTree, RowSource, rows};
 use solid_model::{Edit, EditFault, EditRef, EditedModel, Model};
@@ -181,6 +179,7 @@ impl Session {
     /// where one of this very view stands, and else the work of a fresh image. It stands as the last
     /// image then, with that cost. AllocError: memory was refused, after some of that work perhaps. No
     /// last image stands then, and all else stands.
+    #[tactic(auto, using(crate::proofs::Drawn::counted_apart))]
     pub fn draw_raster(&mut self, view: &View, tally: &mut Tally) -> Result<(), AllocError>
         ensures text { OnOk result
             (drawn_text self.new.image ≡ image_of view.now self.old.clauses) }
@@ -193,7 +192,6 @@ impl Session {
         ensures plain { PointsRiseAtMost tally.old tally.new
             (plain_points view.now (length self.old.clauses)) }
     {
-        frames_add_up();
         let before = self.image.take();
         // The caller's tally may stand at its end, so the work is counted apart first.
         let mut own = Tally::new();

@@ -5,7 +5,7 @@ use Rattle.fixed_ops.specs.Counts.{Counts, no_counts, plus, joined, RisesBy, IsA
 use Rattle.fixed_ops.specs.Laws.{TalliesAddUp}
 
 -- counts are equal where each of them is
-same_counts : (a b : Counts) → a.points ≡ b.points → a.spans ≡ b.spans → a.corners ≡ b.corners
+pub same_counts : (a b : Counts) → a.points ≡ b.points → a.spans ≡ b.spans → a.corners ≡ b.corners
     → a ≡ b
 same_counts a b p s c =
     ap (λ (n : ℕ). record { points = n; spans = a.spans; corners = a.corners }) p
@@ -42,16 +42,16 @@ RisesBy-then before mid after a b first second =
     second ∙ ap (λ (counts : Counts). joined counts b) first ∙ joined-joined before a b
 
 -- each count is at most itself
-IsAtMost-refl : (counts : Counts) → IsAtMost counts counts
+pub IsAtMost-refl : (counts : Counts) → IsAtMost counts counts
 IsAtMost-refl counts = record { points = omega arith; spans = omega arith; corners = omega arith }
 
 -- what is at most some counts is at most greater ones
-IsAtMost-trans : (a b c : Counts) → IsAtMost a b → IsAtMost b c → IsAtMost a c
+pub IsAtMost-trans : (a b c : Counts) → IsAtMost a b → IsAtMost b c → IsAtMost a c
 IsAtMost-trans a b c p q =
     record { points = omega arith; spans = omega arith; corners = omega arith }
 
 -- sums of counts are at most the sums of greater ones
-IsAtMost-plus : (a b c d : Counts) → IsAtMost a c → IsAtMost b d
+pub IsAtMost-plus : (a b c d : Counts) → IsAtMost a c → IsAtMost b d
     → IsAtMost (plus a b) (plus c d)
 IsAtMost-plus a b c d p q =
     record { points = omega arith; spans = omega arith; corners = omega arith }

@@ -12,7 +12,7 @@ use Rattle.std.proofs.lemmas.Str.Parse.{tells_all_ascii_digits, numerals_by_valu
 use Rattle.std.proofs.lemmas.Nat.{div-mul-add, pow-add}
 use Rattle.std.proofs.lemmas.List.{length-append}
 use Rattle.std.proofs.Math.Logic.{⊎_elim}
-use Rattle.std.proofs.lemmas.Bool.{cases_lt}
+use Rattle.std.proofs.lemmas.Bool.{and_parts, cases_lt}
 use Rattle.std.proofs.Math.Numerals.{one-add}
 use Rattle.fixed_ops.specs.Numerals.{front_digits, point_digits, starts_with_point, is_short}
 use Rattle.fixed_ops.specs.declared.digits.TheConstants.{TOO_GREAT}
@@ -97,16 +97,11 @@ number_append xs ys = number_after_append 0 xs ys ∙ number_after_front (digits
 pub number_take : (xs ys : List ℕ) → AllDigits 10 ys → digits_value 10 (xs ++ ys) / 10 ^ length ys ≡ digits_value 10 xs
 number_take xs ys h = ap (λ (x : ℕ). x / 10 ^ length ys) (number_append xs ys) ∙ div-mul-add (digits_value 10 xs) (10 ^ length ys) (digits_value 10 ys) (digits_value-lt 10 ys h)
 
--- both parts of a test that holds
-pub both_true : (a b : Bool) → (a && b) ≡ true → (a ≡ true) × (b ≡ true)
-both_true true b h = (refl, h)
-both_true false b h = cc
-
 -- a short run is digits, at most so many
 pub short_is : (most : ℕ) (ds : List ℕ) → is_short most ds ≡ true → AllDigits 10 ds × (length ds ≤ most)
 short_is most ds h =
-    let rest = both_true (nat_lt 0 (length ds)) (nat_le (length ds) most && all_ascii_digits ds) h in
-    let last = both_true (nat_le (length ds) most) (all_ascii_digits ds) rest.1 in
+    let rest = and_parts (nat_lt 0 (length ds)) (nat_le (length ds) most && all_ascii_digits ds) h in
+    let last = and_parts (nat_le (length ds) most) (all_ascii_digits ds) rest.1 in
     let few = last.0 in
     (digits_from_test ds last.1, grind (arith, nat_tests))
 

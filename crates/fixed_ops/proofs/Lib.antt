@@ -1,6 +1,7 @@
 pub mod CountLaws
 pub mod DigitLaws
 mod Examples
+pub mod Lists
 pub mod NumeralLaws
 pub mod PairLaws
 pub mod PartLaws

@@ -1,16 +1,17 @@
 -- What the magnitude of a numeral comes to.
-use Rattle.std.proofs.Common.{◌≡◌, ◌+◌, ◌-◌, ◌*◌, ◌/◌, ◌^◌, ◌<◌, ◌≤◌, ℕ, zero, suc, min, List, ◌++◌, length, take, drop, refl, sym, ap, ◌∙◌, arith, ⊎_elim, append_assoc, length-drop, length-take}
+use Rattle.std.proofs.Common.{List, ap, append_assoc, arith, drop, length, length-drop, length-take, min, refl, subst, suc, sym, take, zero, ℕ, ⊎_elim, ◌*◌, ◌++◌, ◌+◌, ◌-◌, ◌/◌, ◌<◌, ◌^◌, ◌∙◌, ◌≡◌, ◌≤◌}
 use Rattle.std.proofs.Math.Nat.{pow-le-pow_right, mul-le-mul_left, mul-le-mul_right, mul-div-mul_right, mul-div_cancel, mul-add-div_right, div-div-eq-div-mul, le_of_lt}
 use Rattle.std.proofs.lemmas.Bool.{cases_lt}
 use Rattle.std.proofs.lemmas.List.{take-append-drop}
 use Rattle.std.proofs.lemmas.Int.Digits.{digits_value-lt}
 use Rattle.std.proofs.lemmas.Nat.{pow-add, pow_pos, mul-pow, div_below}
 use Rattle.std.specs.Prelude.{ℤ, pos, negsuc, neg_ℤ, ◌+ℤ◌, ◌-ℤ◌, ◌≤ℤ◌, ◌<ℤ◌, unsigned_abs, Bool, true, false, nat_lt, cond, Some, None}
-use Rattle.std.specs.Str.Parse.{AllDigits, digits_value, signed_digits_value}
+use Rattle.std.specs.Str.Parse.{AllDigits, digits_value, signed_digits_value, starts_with_minus, without_leading_sign}
 use Rattle.std.proofs.lemmas.Int.{ints}
-use Rattle.fixed_ops.specs.Numerals.{times_power, cut_magnitude, nearest_raw, whole_part, fraction_part, exponent_part, is_exponent, is_unsigned_numeral, unsigned_raw}
+use Rattle.fixed_ops.specs.Numerals.{cut_magnitude, exponent_part, fraction_part, is_exponent, is_numeral, is_unsigned_numeral, nearest_raw, numeral, times_power, unsigned_raw, whole_part, with_sign}
 use Rattle.fixed_ops.specs.declared.digits.TheConstants.{TOO_GREAT}
 use Rattle.fixed_ops.proofs.DigitLaws.{number_append, number_take, drop_digits}
+use Rattle.fixed_ops.specs.Raw.{IsRaw}
 
 -- a power of ten is not 0
 pub ten_power : (k : ℕ) → 0 < 10 ^ k
@@ -160,11 +161,6 @@ nearest_capped x =
     (λ (le : TOO_GREAT ≤ x). let e : min x TOO_GREAT ≡ TOO_GREAT = omega arith in rw e (omega arith))
     (cases_lt x TOO_GREAT)
 
--- a choice that is a value
-pub chosen_some : {A : Type 0} → (b : Bool) (y x : A) → cond b (Some y) None ≡ Some x → (b ≡ true) × (y ≡ x)
-chosen_some true y x h = (refl, cc)
-chosen_some false y x h = cc
-
 -- a choice that is none
 pub chosen_none : {A : Type 0} → (b : Bool) (y : A) → cond b (Some y) None ≡ None → b ≡ false
 chosen_none true y h = cc
@@ -227,3 +223,33 @@ short_size_is whole fraction h =
     let v = digits_value 10 (whole ++ fraction) in
     let cut : cut_magnitude whole fraction (pos 0) ≡ v * 10 ^ (28 - f) = cut_up whole fraction (pos 0) 28 refl ∙ scale_up v 28 f h in
     ap nearest_raw cut ∙ short_nearest v f h ∙ ap (λ (x : ℕ). min ((2 * x * 2 ^ 32 + 10 ^ f) / (2 * 10 ^ f)) (2 ^ 62 - 1)) (number_append whole fraction) ∙ ap (λ (x : ℕ). min x (2 ^ 62 - 1)) (short_parts (digits_value 10 whole) (digits_value 10 fraction) f)
+
+-- ---- numerals are raw numbers
+
+-- what a magnitude is nearest to is no greater than the greatest raw number
+pub nearest_is_small : (q : ℕ) → nearest_raw q ≤ 2 ^ 62 - 1
+unfolding nearest_raw
+nearest_is_small q = omega arith
+
+-- nor is what a numeral without its sign is nearest to
+pub unsigned_is_small : (body : List ℕ) → unsigned_raw body ≤ 2 ^ 62 - 1
+unfolding unsigned_raw
+unsigned_is_small body = nearest_is_small _
+
+-- with a sign it is a raw number
+pub signed_is_raw : (minus : Bool) (size : ℕ) → size ≤ 2 ^ 62 - 1 → IsRaw (with_sign minus size)
+signed_is_raw true size few = (omega (arith, ints, few), omega (arith, ints, few))
+signed_is_raw false size few = (omega (arith, ints, few), omega (arith, ints, few))
+
+-- so what a numeral means is one
+pub numeral_is_raw : (text : List ℕ) (v : ℤ) → numeral text ≡ Some v → IsRaw v
+numeral_is_raw text v e = by (is_numeral text) e
+  where
+    size : ℕ
+    size = unsigned_raw (without_leading_sign text)
+
+    by : (t : Bool) → cond t (Some (with_sign (starts_with_minus text) size)) None ≡ Some v → IsRaw v
+    by true same =
+        let is : with_sign (starts_with_minus text) size ≡ v = cc in
+        subst IsRaw is (signed_is_raw (starts_with_minus text) size (unsigned_is_small (without_leading_sign text)))
+    by false same = absurd cc

@@ -1,6 +1,6 @@
 -- What is spelled by parts is a numeral, and a numeral is spelled by parts.
 use Rattle.std.proofs.Common.{◌≡◌, ◌<◌, ℕ, List, [], ◌∷◌, ◌++◌, length, drop, refl, sym, ap, ◌∙◌, arith, eqb, inl, inr}
-use Rattle.std.specs.Prelude.{ℤ, Bool, true, false, cond, ◌||◌, Some, None, nat_lt, ◌⊎◌, ◌↔◌, Result, Ok, Err, IsOk}
+use Rattle.std.specs.Prelude.{ℤ, Bool, true, false, cond, ◌||◌, Some, None, nat_lt, ◌↔◌, Result, Ok, Err, IsOk}
 use Rattle.std.specs.Char.{is_ascii_digit}
 use Rattle.std.specs.List.{prefix_len}
 use Rattle.std.specs.Result.{result_ok}
@@ -10,9 +10,10 @@ use Rattle.std.proofs.lemmas.Bool.Decides.{nat_tests}
 use Rattle.std.proofs.lemmas.List.{take-append-drop}
 use Rattle.fixed_ops.specs.Numerals.{unsigned_raw, front_digits, after_digits, starts_with_point, point_digits, after_point_digits, whole_part, fraction_part, exponent_part, is_exponent, is_short, is_unsigned_numeral, is_numeral, numeral, numeral_value, with_sign}
 use Rattle.fixed_ops.specs.Spelling.{Spelling, IsSpelling, IsSign, IsDot, spelled, is_minus, exponent_of, spelling_value}
-use Rattle.fixed_ops.proofs.DigitLaws.{front_are_digits, point_are_digits, both_true}
+use Rattle.fixed_ops.proofs.DigitLaws.{front_are_digits, point_are_digits}
 use Rattle.fixed_ops.proofs.NumeralLaws.{some_digit, raw_by_parts}
 use Rattle.fixed_ops.proofs.TextLaws.{passes, digit_first}
+use Rattle.std.proofs.lemmas.Bool.{and_parts, or_cases}
 
 -- a text that begins with no digit
 abbrev Stops : List ℕ → Type 0
@@ -23,29 +24,24 @@ front_stops : (ds bs : List ℕ) → AllDigits 10 ds → Stops bs → prefix_len
 front_stops [] bs h s = s
 front_stops (d ∷ ds) bs h s = rw (passes d h.0) (omega (arith, front_stops ds bs h.1 s))
 
--- one of two tests that hold together
-either_true : (a b : Bool) → (a || b) ≡ true → (a ≡ true) ⊎ (b ≡ true)
-either_true true b h = inl refl
-either_true false b h = inr h
-
 -- the mark of an exponent is no digit and no point
 mark_is_else : (c : ℕ) → (eqb c 101 || eqb c 69) ≡ true → (is_ascii_digit c ≡ false) × (eqb c 46 ≡ false)
 mark_is_else c h =
-    let cases = either_true (eqb c 101) (eqb c 69) h in
+    let cases = or_cases (eqb c 101) (eqb c 69) h in
     (grind (arith, nat_tests), grind (arith, nat_tests))
 
 -- an exponent begins with no digit
 exponent_stops : (bs : List ℕ) → is_exponent bs ≡ true → Stops bs
 exponent_stops [] h = refl
 exponent_stops (c ∷ cs) h =
-    let mark = both_true (eqb c 101 || eqb c 69) (is_short 3 (without_leading_sign cs)) h in
+    let mark = and_parts (eqb c 101 || eqb c 69) (is_short 3 (without_leading_sign cs)) h in
     rw ((mark_is_else c mark.0).0) refl
 
 -- an exponent begins with no point
 exponent_no_point : (bs : List ℕ) → is_exponent bs ≡ true → starts_with_point bs ≡ false
 exponent_no_point [] h = refl
 exponent_no_point (c ∷ cs) h =
-    let mark = both_true (eqb c 101 || eqb c 69) (is_short 3 (without_leading_sign cs)) h in
+    let mark = and_parts (eqb c 101 || eqb c 69) (is_short 3 (without_leading_sign cs)) h in
     (mark_is_else c mark.0).1
 
 -- what follows the whole digits of a spelling
@@ -182,7 +178,7 @@ point_split (c ∷ cs) = point_by_first c cs (eqb c 46) refl
 -- a numeral without a sign has a digit, and its end is an exponent
 numeral_parts : (body : List ℕ) → is_unsigned_numeral body ≡ true → (nat_lt 0 (length (whole_part body ++ fraction_part body)) ≡ true) × (is_exponent (exponent_part body) ≡ true)
 unfolding is_unsigned_numeral
-numeral_parts body h = both_true (nat_lt 0 (length (whole_part body ++ fraction_part body))) (is_exponent (exponent_part body)) h
+numeral_parts body h = and_parts (nat_lt 0 (length (whole_part body ++ fraction_part body))) (is_exponent (exponent_part body)) h
 
 -- a numeral is spelled
 pub numeral_is_spelled : (token : List ℕ) → is_numeral token ≡ true → (s : Spelling) × IsSpelling s × (spelled s ≡ token)

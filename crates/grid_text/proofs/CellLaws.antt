@@ -1,13 +1,11 @@
 -- The cells behind places and sides, one after another.
-use Rattle.std.proofs.Common.{◌≡◌, ℕ, zero, suc, ◌+◌, ◌*◌, ◌<◌, ◌≤◌, ℤ, Bool, true, false, List, [], ◌∷◌, ◌++◌, get_or, length, map, take, drop, refl, subst, sym, ap, ◌∙◌, arith, append-nil, append_assoc, length-append}
-use Rattle.std.specs.Prelude.{All, flat_map, if◌then◌else◌, max, min, pos, unsigned_abs, ◌/◌, ◌-◌}
+use Rattle.std.proofs.Common.{◌≡◌, ℕ, zero, suc, ◌+◌, ◌<◌, ◌≤◌, true, List, [], ◌∷◌, ◌++◌, get_or, length, map, take, drop, refl, subst, sym, ap, ◌∙◌, arith, append-nil, append_assoc, length-append}
+use Rattle.std.specs.Prelude.{All, flat_map, pos, ◌-◌}
 use Rattle.std.specs.List.{range_with_len}
-use Rattle.std.proofs.lemmas.List.{drop-drop, drop-map, drop_more, ext_get_or, get_or-map, get_or_default, length-map, length-drop, map-append, take-append-drop, take-map, take_all, take_more}
+use Rattle.std.proofs.lemmas.List.{drop-drop, drop-map, drop_more, ext_get_or, get_or-map, get_or_default, length-map, map-append, take-append-drop, take-map, take_more, take_rest}
 use Rattle.std.proofs.lemmas.List.Concat.{flat_map-append, flat_map-cons}
 use Rattle.std.proofs.lemmas.List.Elements.{All-drop, All-filter, All-map, All-take}
 use Rattle.std.proofs.lemmas.List.FromFn.{get_or-range_with_len}
-use Rattle.fixed_ops.specs.Cut.{cut_of}
-use Rattle.fixed_ops.specs.Raw.{is_inside}
 use Rattle.kuhn_cells.specs.declared.cell_list.CellValues.{CellValues}
 use Rattle.kuhn_cells.specs.Arrangement.{differ}
 use Rattle.kuhn_cells.specs.Cells.{IsCellOf, cell_at, directions_of, has_inside, is_mixed_cell}
@@ -16,7 +14,6 @@ use Rattle.kuhn_cells.specs.Grids.{grid_size}
 use Rattle.kuhn_cells.specs.Sizes.{IsBounded}
 use Rattle.kuhn_cells.specs.Triangles.{point}
 use Rattle.live_clauses.specs.declared.step.Step.{Step}
-use Rattle.mesh_laws.specs.Places.{way_up}
 use Rattle.oct_descent.specs.GridValues.{list_grid}
 use Rattle.ply_writer.specs.Ply.{face_line, ply_header, ply_of, vertex_line}
 use Rattle.tetra_mesh.specs.declared.sided_cell.SidedCell.{SidedCell}
@@ -30,6 +27,7 @@ use Rattle.grid_text.specs.Texts.{AreCellsOf, cells_of, lines_left, text_of}
 use Rattle.kuhn_cells.proofs.CellLaws.{cells_are_of_the_grid}
 use Rattle.tetra_mesh.proofs.GridLaws.{cells_of_grid, mesh_of_cells}
 use Rattle.oct_descent.proofs.Blocks.{grids_are_bordered_is}
+use Rattle.mesh_laws.proofs.Lattice.{way_is_share}
 
 -- ---- one cell
 
@@ -109,22 +107,6 @@ found_mixed view list cells i s is = ap is_mixed_cell (found view list cells i s
 
 -- ---- its vertices
 
-cut_least : (q : ℕ) → 1 ≤ max 1 (min 65535 q)
-cut_least q = omega arith
-
-cut_most : (q : ℕ) → max 1 (min 65535 q) ≤ 65535
-cut_most q = omega arith
-
-turned : (t : Bool) (s r : ℕ) → 1 ≤ s → s ≤ 65535 → 1 ≤ r → r ≤ 65535 → let way = if t then s else 65536 - r in (1 ≤ way) × (way ≤ 65535)
-turned true s r some few least most = (some, few)
-turned false s r some few least most = (omega (arith, most), omega (arith, least))
-
-way_within : (a b : ℤ) → (1 ≤ way_up a b) × (way_up a b ≤ 65535)
-way_within a b =
-    let m = unsigned_abs a in
-    let n = unsigned_abs b in
-    turned (is_inside a) (cut_of a b) (cut_of b a) (cut_least (65536 * m / (m + n))) (cut_most (65536 * m / (m + n))) (cut_least (65536 * n / (n + m))) (cut_most (65536 * n / (n + m)))
-
 directions_near : (c : CellValues) → All (λ d. (1 ≤ d) × (d ≤ 7)) (directions_of c)
 unfolding directions_of
 directions_near c =
@@ -137,7 +119,7 @@ placed view list c own =
     All-map (IsPlaced view) (vertex_on c) (directions_of c) (λ k e within.
     let d = get_or (directions_of c) k e in
     let near = directions_near c k e within in
-    let way = way_within (get_or c.values 0 (pos 0)) (get_or c.values d (pos 0)) in
+    let way = way_is_share (get_or c.values 0 (pos 0)) (get_or c.values d (pos 0)) in
     record {
       direction = record { some = near.0; within = near.1 };
       upper_end = record {
@@ -145,8 +127,8 @@ placed view list c own =
         y = omega (arith, own.y, grid_y view list);
         z = omega (arith, own.z, grid_z view list);
       };
-      some = way.0;
-      few = way.1;
+      some = way.some;
+      few = way.few;
     })
 
 -- ---- one cell after another
@@ -195,18 +177,14 @@ same_cells view list cells others sided are too =
     ∙ sym (found view list cells k (get_or sided k d) is) ∙ found view list others k (get_or sided k d) it
     ∙ it.here ∙ get_or_default others k it.cell no_cell it.within)
 
--- what lies behind the first ones
-pub next_whole : {A : Type 0} (from : ℕ) (xs : List A) → take (length xs - from) (drop from xs) ≡ drop from xs
-next_whole from xs = take_all (length xs - from) (drop from xs) (omega (arith, length-drop from xs))
-
 pub next_sides : (cells : List CellValues) (sided : List SidedCell) (from : ℕ) → sided ≡ map sided_of cells → take (length sided - from) (drop from sided) ≡ map sided_of (drop from cells)
-next_sides cells sided from same = next_whole from sided ∙ ap (drop from) same ∙ drop-map sided_of from cells
+next_sides cells sided from same = take_rest sided from ∙ ap (drop from) same ∙ drop-map sided_of from cells
 
 -- and some of those
 pub slice_part : (view : Window) (list : List Step) (cells : List CellValues) (sided : List SidedCell) (from count : ℕ) → AreCellsOf view list cells sided
     → AreCellsOf view list (take count (drop from cells)) (take count (take (length sided - from) (drop from sided)))
 slice_part view list cells sided from count are =
-    subst (AreCellsOf view list (take count (drop from cells))) (sym (ap (take count) (next_whole from sided))) (part view list cells sided from count are)
+    subst (AreCellsOf view list (take count (drop from cells))) (sym (ap (take count) (take_rest sided from))) (part view list cells sided from count are)
 
 -- the lines of a part of the cells, and of those behind it
 pub lines_parted : (line : Vertex → List ℕ) (cells : List CellValues) (from count : ℕ) (new old : List ℕ) → old ≡ [] → new ≡ flat_map line (flat_map vertices_on (take count (drop from cells))) ++ old

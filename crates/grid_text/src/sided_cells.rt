@@ -6,7 +6,7 @@ ghost use Rattle.tetra_mesh.specs.Sides.{sided_of};
 ghost use Rattle.grid_text.specs.Texts.{cells_of};
 
 use kuhn_cells::CellValues;
-use oct_descent::{CellGrid, layers_have_the_cells};
+use oct_descent::CellGrid;
 use std::alloc::{AllocError, Global};
 use tetra_mesh::SidedCell;
 
@@ -16,7 +16,6 @@ pub fn sided_cells(alloc: Global, grid: &CellGrid) -> Result<Vec<SidedCell>, All
     ensures { IfOk result (λ sided. sided.items
         ≡ map sided_of (cells_of grid.now.view grid.now.list)) }
 {
-    layers_have_the_cells();
     let mut row = Vec::new(alloc);
     let mut sided = Vec::new(alloc);
     for z in 0..grid.n().z {

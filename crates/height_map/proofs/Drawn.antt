@@ -1,12 +1,11 @@
 -- What drawing a box leaves.
-use Rattle.std.proofs.Common.{◌≡◌, ℕ, ◌+◌, ◌*◌, ◌/◌, ◌%◌, ◌<◌, ◌≤◌, Bool, true, false, List, length, get_or, refl, sym, ap, subst, ◌∙◌, Result, Ok, Err, arith}
-use Rattle.std.specs.Prelude.{Option, Some, None, nat_le, OnErr, OnOk}
+use Rattle.std.proofs.Common.{◌≡◌, ℕ, ◌+◌, ◌*◌, ◌/◌, ◌%◌, ◌<◌, ◌≤◌, Bool, true, false, List, length, get_or, refl, sym, ap, subst, ◌∙◌, arith}
+use Rattle.std.specs.Prelude.{Option, Some, None, nat_le}
 use Rattle.std.proofs.Math.Nat.{mul-le-mul_right}
 use Rattle.std.proofs.lemmas.Bool.{le-leb, lt-ltb}
 use Rattle.std.proofs.lemmas.Nat.{div-mul-add, mod-mul-add}
 use Rattle.std.specs.List.{All}
 use Rattle.std.proofs.lemmas.List.Elements.{All-drop, All-take, All-weaker}
-use Rattle.box_chains.specs.Desks.{HasMore, Tracing, list_of}
 use Rattle.box_chains.specs.Chains.{Visit, decision, handed_on, is_long, visit}
 use Rattle.box_chains.specs.Parts.{IsPart}
 use Rattle.box_chains.specs.Sums.{LiesIn, Sample, sum_in}
@@ -30,21 +29,10 @@ use Rattle.height_map.proofs.Beside.{far-dropped, far-taken, farther-below, halv
 use Rattle.height_map.specs.Beside.{beside_top, farther, nearer}
 use Rattle.box_chains.specs.Opened.{sampling}
 use Rattle.height_map.specs.Opened.{outcome_top}
-use Rattle.height_map.specs.Desks.{IsPlaced, MayDraw, MayReceive}
 use Rattle.box_chains.specs.Outcomes.{outcome_by, outcome_of}
 use Rattle.box_chains.specs.declared.outcome.Outcome.{Outcome}
 use Rattle.box_chains.specs.declared.outcome.Outcome.TheVariants.{Outside as AllOutside}
-use Rattle.live_clauses.specs.Steps.{IsTape}
 use Rattle.height_map.proofs.TopLaws.{best, best-all, best-empty, best-none, best-same, lifted-nothing, open-same}
-
--- an error says what holds anyway
-pub on_err : {T E : Type 0} (r : Result T E) (P : Type 0) → P → OnErr r P
-on_err (Ok x) P p = tt
-on_err (Err e) P p = p
-
-pub on_ok-then : {T E : Type 0} (r : Result T E) (P Q : Type 0) → (P → Q) → OnOk r P → OnOk r Q
-on_ok-then (Ok x) P Q f p = f p
-on_ok-then (Err e) P Q f p = tt
 
 -- a sample of a column of a box
 sample-lies : (b : Indices) (i j k : ℕ) → (b.x0 ≤ i) × (i < b.x1) → (b.y0 ≤ j) × (j < b.y1) → b.z0 ≤ k → k < b.z1 → LiesIn b (record { i = i; j = j; k = k })
@@ -197,50 +185,3 @@ columns-there view b w len window within width all =
     let rows : b.y1 * view.w ≤ view.h * view.w = mul-le-mul_right view.w within.y in
     let same : b.y1 * w ≡ b.y1 * view.w = ap (λ n. b.y1 * n) width in
     record { columns = omega (arith, width, within.x); rows = omega (arith, rows, same, all); few = omega (arith, width, window.w.few) }
-
--- a half of a box of the map is one
-pub half-placed : (laws : Lawful) (desk : Tracing) (b half : Indices) (at : ℕ) (len : ℕ) → IsPart 8 b half → MayDraw desk b at len → IsPlaced desk len half
-half-placed laws desk b half at len part may = record {
-  lattice = may.lattice;
-  window = may.visit_is.window;
-  box = laws.parts.box 8 b half part;
-  within = record { x = omega (arith, part.x.below, may.visit_is.within.x); y = omega (arith, part.y.below, may.visit_is.within.y); z = omega (arith, part.z.below, may.visit_is.within.z) };
-  tops = may.tops;
-}
-
--- a box of the map is on the way with any list that can be evaluated, and drawing may be called of it where there is
--- room for the list
-pub placed-visit : (desk : Tracing) (b : Indices) (list : List Step) (len : ℕ) → IsPlaced desk len b → IsTape list → IsVisit (layered desk.view) (visit b list)
-placed-visit desk b list len placed tape = record { window = placed.window; box = placed.box; within = placed.within; tape = tape }
-
-pub placed-may : (desk : Tracing) (b : Indices) (at : ℕ) (len : ℕ) → IsPlaced desk len b → MayReceive desk at → MayDraw desk b at len
-placed-may desk b at len placed room = record {
-  lattice = placed.lattice;
-  visit_is = placed-visit desk b (list_of desk at) len placed room.tape;
-  tops = placed.tops;
-  among = room.room.among;
-  room = room.room.room;
-}
-
--- what is so of a desk stays so
-pub placed-kept : (before after : Tracing) (len other : ℕ) (b : Indices) → after ≡ before → other ≡ len → IsPlaced before len b → IsPlaced after other b
-placed-kept before after len other b kept same placed = record {
-  lattice = ap (λ d. d.lattice) kept ∙ placed.lattice;
-  window = subst (λ d. IsWindow d.view) (sym kept) placed.window;
-  box = placed.box;
-  within = subst (λ d. IsInRoot d.view Height b) (sym kept) placed.within;
-  tops = same ∙ placed.tops ∙ ap (λ d. d.view.h * d.view.w) (sym kept);
-}
-
--- and so does most where lists are put behind
-pub placed-more : (before after : Tracing) (len other : ℕ) (b : Indices) → HasMore before after → other ≡ len → IsPlaced before len b → IsPlaced after other b
-placed-more before after len other b more same placed = record {
-  lattice = more.lattice ∙ placed.lattice;
-  window = subst (λ v. IsWindow v) (sym more.view) placed.window;
-  box = placed.box;
-  within = subst (λ v. IsInRoot v Height b) (sym more.view) placed.within;
-  tops = same ∙ placed.tops ∙ ap (λ v. v.h * v.w) (sym more.view);
-}
-
-pub room-kept : (before after : Tracing) (at : ℕ) → after ≡ before → MayReceive before at → MayReceive after at
-room-kept before after at kept may = subst (λ d. MayReceive d at) (sym kept) may

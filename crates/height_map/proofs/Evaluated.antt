@@ -3,7 +3,7 @@ use Rattle.std.proofs.Common.{◌≡◌, ℕ, zero, suc, ◌+◌, ◌*◌, ◌<�
 use Rattle.std.specs.Prelude.{Option, Some, None, nat_le, ◌==◌, ◌&&◌}
 use Rattle.std.proofs.lemmas.Bool.{ne_eqb}
 use Rattle.box_chains.specs.Chains.{Descent, Visit, decision, handed_on, is_long, visit}
-use Rattle.box_chains.specs.Counts.{cost, end_cost}
+use Rattle.box_chains.specs.Counts.{end_cost}
 use Rattle.box_chains.specs.Sums.{LiesIn, Sample, sum_in}
 use Rattle.box_chains.specs.Visits.{IsVisit}
 use Rattle.box_chains.specs.Laws.{Lawful}
@@ -59,13 +59,6 @@ covered-closed view list b w tops width among covered s lies =
     let there = place-within view.w (length tops) s.i s.j b among lies.x.1 lies.y.1 in
     let some = covered p there (ap (λ n. covers n b p) width ∙ here) in
     ap (λ t. t && nat_le (top_among view list b.z0 b.z1 s.i s.j) (s.k + 1)) (ne_eqb (get_or tops p 0) 0 (λ e. omega (arith, some, e)))
-
--- so it takes no evaluation
-pub points-covered : (laws : Lawful) (view : Window) (list : List Step) (b : Indices) (w : ℕ) (tops : List ℕ) (counts : Counts) → w ≡ view.w → IsAmong view.w (length tops) b
-    → ((p : ℕ) → p < length tops → covers w b p ≡ true → 0 < get_or tops p 0)
-    → CountsPoints (points_where (is_open view list b tops) (layered view) (visit b list)) counts counts
-points-covered laws view list b w tops counts width among covered =
-    points-none counts _ (points-closed laws (is_open view list b tops) (layered view) (visit b list) (covered-closed view list b w tops width among covered))
 
 -- the same samples are open by the list that is handed on
 pub handed-open : (laws : Lawful) (view : Window) (list live : List Step) (b : Indices) (tops : List ℕ) → IsVisit (layered view) (visit b list) → live ≡ handed_on (layered view) (visit b list)

@@ -1,12 +1,12 @@
 -- Which boxes have a column with no top, and what is drawn of those alone.
-use Rattle.std.proofs.Common.{◌≡◌, ℕ, zero, suc, ◌+◌, ◌<◌, ◌≤◌, Bool, true, false, cond, List, [], ◌∷◌, ◌++◌, append-nil, zero-add, length, get_or, take, refl, sym, ap, ◌∙◌, arith}
+use Rattle.std.proofs.Common.{◌≡◌, ℕ, zero, suc, ◌+◌, ◌<◌, ◌≤◌, Bool, true, false, cond, List, [], ◌∷◌, zero-add, length, get_or, refl, sym, ap, ◌∙◌, arith, not}
 use Rattle.std.specs.Prelude.{◌==◌, ◌&&◌}
 use Rattle.std.specs.List.{All, count_by, filter, range_with_len, sum_by}
 use Rattle.std.proofs.lemmas.Bool.{and_from, and_parts, eq-eqb, eqb-true, ne_eqb}
-use Rattle.std.proofs.lemmas.List.Elements.{All-from_get_or, All-head, All-tail, filter_more}
+use Rattle.std.proofs.lemmas.List.Elements.{All-from_get_or, All-head, All-tail}
 use Rattle.std.proofs.lemmas.List.Folds.{Any-from_list_any, list_any_at, list_any_none}
 use Rattle.std.proofs.lemmas.List.FromFn.{get_or-range_with_len, length-range_with_len}
-use Rattle.std.proofs.lemmas.List.Sums.{count_by-le-length, length-filter, sum_by-cons}
+use Rattle.std.proofs.lemmas.List.Sums.{sum_by-cons}
 use Rattle.live_clauses.specs.declared.step.Step.{Step}
 use Rattle.view_places.specs.Boxes.{Indices}
 use Rattle.view_places.specs.Window.{Window}
@@ -64,17 +64,11 @@ told-covered w b tops e p within covered = by (get_or tops p 0) refl
 
 -- ---- the boxes that pass a test
 
--- one more box that is kept, or left out
-pub one-kept : {X : Type 0} (test : X → Bool) (xs kept : List X) (i : ℕ) (x : X) → i < length xs → x ≡ get_or xs i x → test x ≡ true
-    → kept ≡ filter test (take i xs) → kept ++ x ∷ [] ≡ filter test (take (i + 1) xs)
-one-kept test xs kept i x within read e are =
-    ap (λ l. l ++ x ∷ []) are ∙ ap (λ y. filter test (take i xs) ++ y ∷ []) read
-    ∙ ap (λ t. filter test (take i xs) ++ cond t (get_or xs i x ∷ []) []) (sym e ∙ ap test read) ∙ sym (filter_more test xs i x within)
-
-pub one-left : {X : Type 0} (test : X → Bool) (xs kept : List X) (i : ℕ) (x : X) → i < length xs → x ≡ get_or xs i x → test x ≡ false
-    → kept ≡ filter test (take i xs) → kept ≡ filter test (take (i + 1) xs)
-one-left test xs kept i x within read e are =
-    are ∙ sym (append-nil (filter test (take i xs))) ∙ ap (λ t. filter test (take i xs) ++ cond t (get_or xs i x ∷ []) []) (sym e ∙ ap test read) ∙ sym (filter_more test xs i x within)
+-- so a test that tells of each column whether all have a top tells whether one has none
+pub open-is : (covered : Bool) (w : ℕ) (b : Indices) (tops : List ℕ) → ((p : ℕ) → covered ≡ true → p < length tops → covers w b p ≡ true → 0 < get_or tops p 0)
+    → (covered ≡ false → HasOpen w b tops) → not covered ≡ has_open w tops b
+open-is true w b tops all some = sym (covered-told w b tops (λ p within e. all p refl within e))
+open-is false w b tops all some = sym (open-told w b tops (some refl))
 
 -- a sum over all of them, where the others add nothing
 pub sum-kept : {X : Type 0} (f : X → ℕ) (test : X → Bool) (xs : List X) → All (λ x. test x ≡ false → f x ≡ 0) xs → sum_by f (filter test xs) ≡ sum_by f xs
@@ -96,9 +90,6 @@ sum-kept_below f test (x ∷ xs) = by (test x) (sum-kept_below f test xs)
     by : (t : Bool) → sum_by f (filter test xs) ≤ sum_by f xs → sum_by f (cond t (x ∷ filter test xs) (filter test xs)) ≤ sum_by f (x ∷ xs)
     by true rest = omega (arith, rest, sum_by-cons f x xs, sum_by-cons f x (filter test xs))
     by false rest = omega (arith, rest, sum_by-cons f x xs)
-
-pub few-kept : {X : Type 0} (test : X → Bool) (xs : List X) → length (filter test xs) ≤ length xs
-few-kept test xs = omega (arith, length-filter test xs, count_by-le-length test xs)
 
 pub kept-beside : (w : ℕ) (test : Indices → Bool) (boxes : List Indices) → LieBeside w boxes → LieBeside w (filter test boxes)
 kept-beside w test boxes apart p = omega (arith, sum-kept_below (λ b. cond (covers w b p) 1 0) test boxes, apart p)

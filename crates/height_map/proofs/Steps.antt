@@ -1,20 +1,16 @@
 -- What is left and counted, once boxes are traced together and some of them are drawn.
-use Rattle.std.proofs.Common.{◌≡◌, ℕ, zero, suc, ◌+◌, ◌-◌, ◌*◌, ◌/◌, ◌%◌, ◌<◌, ◌≤◌, Bool, true, false, cond, List, [], ◌∷◌, length, get_or, map, drop, take, refl, sym, ap, subst, ◌∙◌, arith}
+use Rattle.std.proofs.Common.{◌≡◌, ℕ, zero, suc, ◌+◌, ◌-◌, ◌*◌, ◌/◌, ◌%◌, ◌<◌, ◌≤◌, Bool, true, false, cond, List, [], ◌∷◌, length, get_or, drop, take, refl, sym, ap, subst, ◌∙◌, arith}
 use Rattle.std.specs.Prelude.{Some, None, Option, nat_le, ◌==◌, ◌&&◌}
 use Rattle.std.specs.List.{All, filter, sum_by}
 use Rattle.std.proofs.lemmas.List.{drop_all, drop_more, get_or-map, length-drop, take_all}
-use Rattle.std.proofs.lemmas.List.Elements.{All-get_or, All-head, All-tail, All-weaker}
+use Rattle.std.proofs.lemmas.List.Elements.{All-head, All-tail, All-weaker}
 use Rattle.std.proofs.lemmas.List.Sums.{sum_by-append, sum_by-cons}
-use Rattle.box_chains.specs.Desks.{HasMore, Tracing, list_of, samples}
-use Rattle.box_chains.specs.Chains.{Descent, Visit, decision, handed_on, is_long, sides, visit}
+use Rattle.box_chains.specs.Chains.{Descent, Visit, decision, handed_on, visit}
 use Rattle.box_chains.specs.Counts.{halves_spans, spans_in}
-use Rattle.box_chains.specs.Parts.{IsPart}
 use Rattle.box_chains.specs.Placing.{Sampling}
 use Rattle.box_chains.specs.declared.outcome.Outcome.TheVariants.{Inside as AllInside, Outside as AllOutside, Open}
-use Rattle.live_clauses.specs.Steps.{IsTape}
 use Rattle.view_places.specs.declared.lattice.Lattice.TheVariants.{Height}
-use Rattle.height_map.specs.Desks.{IsPlaced, MayDraw, MayOpen}
-use Rattle.box_chains.specs.Outcomes.{HandsOn, IsHandedOn, outcome_by, outcome_of, outcomes_of, all_seen, seen}
+use Rattle.box_chains.specs.Outcomes.{outcome_by, outcome_of, outcomes_of}
 use Rattle.box_chains.specs.Sums.{LiesIn, Sample}
 use Rattle.box_chains.specs.Tallied.{CountsAtMost}
 use Rattle.box_chains.specs.Visits.{IsVisit}
@@ -32,10 +28,9 @@ use Rattle.height_map.specs.Columns.{Changes, IsAmong, covers, has_open, is_open
 use Rattle.box_chains.specs.Opened.{outcome_spans, sampling}
 use Rattle.height_map.specs.Opened.{outcome_points, outcome_top, outcome_traced}
 use Rattle.height_map.specs.Tops.{top_among}
-use Rattle.box_chains.specs.Sums.{maximum}
 use Rattle.height_map.proofs.Beside.{halves-parts}
 use Rattle.height_map.proofs.ChangeLaws.{covers-place, lifted-some, place-within}
-use Rattle.height_map.proofs.Drawn.{IsDrawnTo, half-open, columns-there, farther-drawn, half-placed, nearer-drawn, outcome-drawn, placed-kept, placed-more, placed-visit}
+use Rattle.height_map.proofs.Drawn.{IsDrawnTo, half-open, outcome-drawn}
 use Rattle.height_map.proofs.Evaluated.{covered-closed, points-are, points-closed, points-hulls, points-outcome, points-then}
 use Rattle.height_map.proofs.Opens.{kept-top, rest-none, sum-kept, sum-kept_below, told-covered, told-open, untouched}
 use Rattle.height_map.proofs.Traced.{open-some, some-same, spans-are, spans-hulls, spans-then, traced-closed, traced-outcome}
@@ -46,9 +41,6 @@ sum_by-equal : {X : Type 0} (f g : X → ℕ) (xs : List X) → All (λ x. f x �
 sum_by-equal f g [] same = refl
 sum_by-equal f g (x ∷ xs) same =
     omega (arith, sum_by-cons f x xs, sum_by-cons g x xs, All-head (λ y. f y ≡ g y) x xs same, sum_by-equal f g xs (All-tail (λ y. f y ≡ g y) x xs same))
-
-box-has_sides : (b : Indices) → IsBox b → 0 < sides b
-box-has_sides b is = omega (arith, is.x)
 
 -- ---- one box
 
@@ -68,36 +60,6 @@ spans-outcome laws view list b is = by (decision d v) refl
     by (Some false) e = omega (arith, spans-decided laws d v false (omega arith) is e)
     by None e = spans-open laws d v (omega arith) is e
 
--- a box that is traced, and then drawn by its outcome
-pub box-bounded : (laws : Lawful) (view : Window) (list : List Step) (b : Indices) (o : Outcome (List Step)) (tops : List ℕ) (before mid after : Counts) → IsVisit (layered view) (visit b list)
-    → o ≡ outcome_of (sampling (layered view)) list b → CountsHulls (length list) before mid → CountsAtMost (outcome_points view tops b o) (outcome_spans (layered view) b o) mid after
-    → CountsAtMost (points_where (is_open view list b tops) (layered view) (visit b list)) (spans_in (layered view) (visit b list)) before after
-box-bounded laws view list b o tops before mid after is told h below =
-    laws.bounds.sum before mid after 0 (length list) (outcome_points view tops b o) (outcome_spans (layered view) b o)
-    (points_where (is_open view list b tops) (layered view) (visit b list)) (spans_in (layered view) (visit b list))
-    (omega (arith, points-outcome laws view list b tops is, ap (outcome_points view tops b) told))
-    (omega (arith, spans-outcome laws view list b is.box, ap (outcome_spans (layered view) b) told)) (laws.bounds.hulls before mid (length list) h) below
-
--- a trace alone is among its work
-pub trace-bounded : (laws : Lawful) (view : Window) (list : List Step) (b : Indices) (points : ℕ) (before after : Counts) → IsBox b → CountsHulls (length list) before after
-    → CountsAtMost points (spans_in (layered view) (visit b list)) before after
-trace-bounded laws view list b points before after is h =
-    laws.bounds.more before after 0 (length list) points (spans_in (layered view) (visit b list)) (omega arith) (omega (arith, spans-outcome laws view list b is)) (laws.bounds.hulls before after (length list) h)
-
-pub box-points : (laws : Lawful) (view : Window) (list : List Step) (b : Indices) (o : Outcome (List Step)) (tops : List ℕ) (before mid after : Counts) → IsVisit (layered view) (visit b list)
-    → o ≡ outcome_of (sampling (layered view)) list b → CountsHulls (length list) before mid → CountsPoints (outcome_points view tops b o) mid after
-    → CountsPoints (points_where (is_open view list b tops) (layered view) (visit b list)) before after
-box-points laws view list b o tops before mid after is told h below =
-    points-then before mid after 0 (outcome_points view tops b o) (points_where (is_open view list b tops) (layered view) (visit b list))
-    (omega (arith, points-outcome laws view list b tops is, ap (outcome_points view tops b) told)) (points-hulls before mid (length list) h) below
-
-pub box-traced : (laws : Lawful) (view : Window) (list : List Step) (b : Indices) (o : Outcome (List Step)) (tops : List ℕ) (before mid after : Counts) → IsVisit (layered view) (visit b list)
-    → has_some (is_open view list b tops) b ≡ true → o ≡ outcome_of (sampling (layered view)) list b → CountsHulls (length list) before mid → CountsSpans (outcome_traced view tops b o) mid after
-    → CountsSpans (spans_where (is_open view list b tops) (layered view) (visit b list)) before after
-box-traced laws view list b o tops before mid after is some told h below =
-    spans-then before mid after (length list) (outcome_traced view tops b o) (spans_where (is_open view list b tops) (layered view) (visit b list))
-    (omega (arith, traced-outcome laws view list b tops is some, ap (outcome_traced view tops b) told)) (spans-hulls before mid (length list) h) below
-
 -- what is told over the places of a height map
 pub told-by : (places : Sampling) (list : List Step) (b : Indices) (o : Outcome (List Step)) → places.lattice ≡ Height → o ≡ outcome_of places list b → o ≡ outcome_of (sampling (layered places.view)) list b
 told-by places list b o is are = are ∙ ap (λ lattice. outcome_of (record { view = places.view; lattice = lattice }) list b) is
@@ -107,49 +69,6 @@ abbrev opened : Outcome (List Step) → List Step
 opened (Open list) = list
 opened AllInside = []
 opened AllOutside = []
-
-abbrev is_opened : Outcome (List Step) → ℕ
-is_opened (Open list) = 1
-is_opened AllInside = 0
-is_opened AllOutside = 0
-
-other-in : (live : List Step) → AllInside ≡ Open live → ⊥
-other-in live e = absurd (omega (arith, ap is_opened e))
-
-other-out : (live : List Step) → AllOutside ≡ Open live → ⊥
-other-out live e = absurd (omega (arith, ap is_opened e))
-
--- what an outcome that was read stands for
-pub seen-read : (lists : List (List Step)) (outcomes : List (Outcome ℕ)) (i : ℕ) (d : Outcome ℕ) → i < length outcomes
-    → seen lists (get_or outcomes i d) ≡ get_or (all_seen lists outcomes) i (seen lists (get_or outcomes i d))
-seen-read lists outcomes i d within = sym (get_or-map (seen lists) outcomes i d (seen lists (get_or outcomes i d)) within)
-
--- what a box hands on can be drawn
-pub may-open : (laws : Lawful) (before desk : Tracing) (list : List Step) (b : Indices) (o : Outcome ℕ) (len other : ℕ) → HasMore before desk → other ≡ len → IsPlaced before len b → IsTape list
-    → length list ≤ before.room → seen desk.lists o ≡ outcome_of (sampling (layered before.view)) list b → HandsOn (length list) desk.lists o → MayOpen desk b o other
-may-open laws before desk list b o len other more same placed tape room told hands = record {
-  placed = placed-more before desk len other b more same placed;
-  hands = λ at is.
-      let on : IsHandedOn (length list) desk.lists at = subst (HandsOn (length list) desk.lists) is hands in
-      record {
-        tape = handed (list_of desk at) (sym told ∙ ap (seen desk.lists) is);
-        room = record { among = on.among; room = omega (arith, on.few, room, more.room); whole = on.whole };
-      };
-}
-  where
-    v : Visit
-    v = visit b list
-
-    d : Descent
-    d = layered before.view
-
-    handed : (live : List Step) → outcome_of (sampling (layered before.view)) list b ≡ Open live → IsTape live
-    handed live = by (decision d v)
-      where
-        by : (t : Option Bool) → outcome_by t (handed_on d v) ≡ Open live → IsTape live
-        by (Some true) e = absurd (other-in live e)
-        by (Some false) e = absurd (other-out live e)
-        by None e = subst IsTape (ap opened e) (laws.visits.handed d v (placed-visit before b list len placed tape)).0
 
 -- ---- one more of some boxes that lie beside each other
 
@@ -314,25 +233,6 @@ traces-bounded laws view list boxes old start end are h =
     laws.bounds.more start end 0 (length boxes * length list) (beside_points view list old boxes) (halves_spans (layered view) list boxes) (omega arith)
     (omega (arith, rest-below laws view list boxes (length boxes) are (omega arith))) h
 
--- the next box of some of the map, of a list that there is room for
-pub next-of : (desk : Tracing) (list : List Step) (boxes : List Indices) (outcomes : List (Outcome (List Step))) (old mid : List ℕ) (n : ℕ) (b : Indices) (o : Outcome (List Step)) → 0 < n → n ≤ length boxes
-    → b ≡ get_or boxes (n - 1) b → o ≡ get_or outcomes (n - 1) o → outcomes ≡ outcomes_of (samples desk) list boxes → LieBeside desk.view.w boxes
-    → All (IsPlaced desk (length old)) boxes → IsTape list → Changes (λ p. true) (beside_top desk.view list (drop n boxes)) old mid
-    → IsNext desk.view list boxes old mid (n - 1) b o
-next-of desk list boxes outcomes old mid n b o some few read there are apart placed tape changed =
-    next-is view list boxes outcomes old mid n (n - 1) b o (omega (arith, some)) within read there
-    (are ∙ ap (λ lattice. outcomes_of (record { view = view; lattice = lattice }) list boxes) here.lattice) apart
-    (placed-visit desk b list (length old) here tape) (columns-there view b view.w (length old) here.window here.within refl here.tops) changed
-  where
-    view : Window
-    view = desk.view
-
-    within : n - 1 < length boxes
-    within = omega (arith, some, few)
-
-    here : IsPlaced desk (length old) b
-    here = subst (IsPlaced desk (length old)) (sym read) (All-get_or (IsPlaced desk (length old)) boxes (n - 1) b within placed)
-
 -- before any box is drawn
 pub begun-top : (view : Window) (list : List Step) (boxes : List Indices) (tops : List ℕ) (n : ℕ) → n ≡ length boxes → Changes (λ p. true) (beside_top view list (drop n boxes)) tops tops
 begun-top view list boxes tops n all = record { same = refl; each = λ p h. sym (ap (λ bs. beside_top view list bs p (get_or tops p 0)) (drop_all n boxes (omega (arith, all)))) }
@@ -370,13 +270,6 @@ pub record IsOver (view : Window) (w : ℕ) (tops : List ℕ) (b : Indices) : Ty
 left-closed : (view : Window) (list : List Step) (w : ℕ) (tops : List ℕ) (b : Indices) → IsOver view w tops b → has_open w tops b ≡ false
     → (s : Sample) → LiesIn b s → is_open view list b tops s ≡ false
 left-closed view list w tops b over e = covered-closed view list b w tops over.width over.among (told-covered w b tops e)
-
-pub placed-over : (desk : Tracing) (tops : List ℕ) (b : Indices) → IsPlaced desk (length tops) b → IsOver desk.view desk.view.w tops b
-placed-over desk tops b placed = record {
-  width = refl;
-  box = placed.box;
-  among = columns-there desk.view b desk.view.w (length tops) placed.window placed.within refl placed.tops;
-}
 
 -- what those leave that have one is what all leave
 pub kept-drawn : (view : Window) (list : List Step) (w : ℕ) (old new : List ℕ) (boxes kept : List Indices) → All (IsOver view w old) boxes → LieBeside view.w boxes → kept ≡ filter (has_open w old) boxes
@@ -426,26 +319,6 @@ kept-bounded laws view list w tops boxes kept start end over are h =
 
 -- ---- the longest of some boxes
 
-abbrev pub longest : List Indices → ℕ
-longest boxes = maximum (map sides boxes)
-
-pub longest-at : (boxes : List Indices) (i : ℕ) (b : Indices) → i < length boxes → b ≡ get_or boxes i b → sides b ≤ longest boxes
-longest-at [] i b within read = absurd (omega (arith, within))
-longest-at (c ∷ cs) zero b within read = omega (arith, ap sides read)
-longest-at (c ∷ cs) (suc i) b within read = omega (arith, longest-at cs i b (omega (arith, within)) read)
-
-pub longest-kept : (test : Indices → Bool) (boxes : List Indices) → longest (filter test boxes) ≤ longest boxes
-longest-kept test [] = omega arith
-longest-kept test (c ∷ cs) = by (test c) (longest-kept test cs)
-  where
-    by : (t : Bool) → longest (filter test cs) ≤ longest cs → longest (cond t (c ∷ filter test cs) (filter test cs)) ≤ longest (c ∷ cs)
-    by true rest = omega (arith, rest)
-    by false rest = omega (arith, rest)
-
-pub longest-below : (n : ℕ) (boxes : List Indices) → 0 < n → All (λ b. sides b < n) boxes → longest boxes < n
-longest-below n [] some are = some
-longest-below n (c ∷ cs) some are = omega (arith, All-head (λ b. sides b < n) c cs are, longest-below n cs some (All-tail (λ b. sides b < n) c cs are))
-
 -- ---- the halves of a box
 
 halves-sum : (f : Indices → ℕ) (b : Indices) → sum_by f (halves_of 8 b) ≡ sum_by f (nearer 8 b) + sum_by f (farther 8 b)
@@ -480,29 +353,11 @@ group-traced laws view list b old mid hs among are =
 pub rest-is : {X : Type 0} (xs : List X) (n : ℕ) → take (length xs - n) (drop n xs) ≡ drop n xs
 rest-is xs n = take_all (length xs - n) (drop n xs) (omega (arith, length-drop n xs))
 
--- parts of a box that is split are shorter
-pub group-shorter : (laws : Lawful) (b : Indices) (hs : List Indices) → IsBox b → is_long 8 b ≡ true → All (IsPart 8 b) hs → longest hs < sides b
-group-shorter laws b hs is long parts =
-    longest-below (sides b) hs (box-has_sides b is) (All-weaker (IsPart 8 b) (λ h. sides h < sides b) (λ h part. laws.parts.shorter 8 b h long part) hs parts)
-
-pub group-placed : (laws : Lawful) (before after : Tracing) (b : Indices) (hs : List Indices) (at : ℕ) (len other : ℕ) → after ≡ before → other ≡ len → MayDraw before b at len
-    → All (IsPart 8 b) hs → All (IsPlaced after other) hs
-group-placed laws before after b hs at len other kept same may parts =
-    All-weaker (IsPart 8 b) (IsPlaced after other) (λ h part. placed-kept before after len other h kept same (half-placed laws before b h at len part may)) hs parts
-
 -- the two groups, one after the other
 pub record AreGroups (view : Window) (list : List Step) (b : Indices) (old mid : List ℕ) : Type 0 where
   pub among : IsAmong view.w (length old) b
   pub near : All (IsDrawnTo view list b old old) (nearer 8 b)
   pub far : All (IsDrawnTo view list b old mid) (farther 8 b)
-
-pub groups-are : (laws : Lawful) (desk : Tracing) (at : ℕ) (b : Indices) (old mid : List ℕ) → MayDraw desk b at (length old) → Changes (λ p. true) (beside_top desk.view (list_of desk at) (nearer 8 b)) old mid
-    → AreGroups desk.view (list_of desk at) b old mid
-groups-are laws desk at b old mid may first = record {
-  among = columns-there desk.view b desk.view.w (length old) may.visit_is.window may.visit_is.within refl may.tops;
-  near = nearer-drawn laws desk.view (list_of desk at) b old may.visit_is.box;
-  far = farther-drawn laws desk.view (list_of desk at) b old mid may.visit_is.box first;
-}
 
 pub groups-points : (laws : Lawful) (view : Window) (list : List Step) (b : Indices) (old mid : List ℕ) (start between end : Counts) → AreGroups view list b old mid
     → CountsPoints (beside_points view list old (nearer 8 b)) start between → CountsPoints (beside_points view list mid (farther 8 b)) between end

@@ -1,14 +1,9 @@
 -- The steps that are traced for a map are exactly those of the boxes that have a sample that does not lie behind a top.
-use Rattle.std.proofs.Common.{◌≡◌, ℕ, zero, suc, ◌+◌, ◌-◌, ◌*◌, ◌/◌, ◌%◌, ◌<◌, ◌≤◌, Bool, true, false, cond, List, [], ◌∷◌, length, get_or, replicate, refl, sym, ap, subst, ◌∙◌, mul-zero, zero-add, arith}
-use Rattle.std.specs.Prelude.{Option, Some, None, nat_le, nat_lt, ◌==◌, ◌&&◌}
-use Rattle.std.specs.List.{Contains, sum_by}
+use Rattle.std.proofs.Common.{◌≡◌, ℕ, ◌+◌, ◌-◌, ◌*◌, ◌/◌, ◌%◌, ◌<◌, ◌≤◌, Bool, true, false, cond, List, length, get_or, replicate, refl, sym, ap, subst, ◌∙◌, arith}
+use Rattle.std.specs.Prelude.{Option, Some, None, nat_le, nat_lt, ◌==◌}
 use Rattle.std.proofs.lemmas.Bool.{and_from, eq-eqb, le-leb, lt-ltb}
-use Rattle.std.proofs.lemmas.List.Elements.{All-contains_itself, All-weaker}
-use Rattle.std.proofs.lemmas.List.Sums.{sum_by-cons}
-use Rattle.box_chains.specs.Chains.{Descent, Visit, chain, decision, half_visit, handed_on, is_long, is_split, next_visit, sides, visit}
-use Rattle.box_chains.specs.Counts.{is_first}
-use Rattle.box_chains.specs.Parts.{IsPart}
-use Rattle.box_chains.specs.Sums.{LiesIn, Sample, size, sum_along, sum_in}
+use Rattle.box_chains.specs.Chains.{Descent, Visit, decision, handed_on, is_long, is_split, visit}
+use Rattle.box_chains.specs.Sums.{LiesIn, Sample, sum_along, sum_in}
 use Rattle.box_chains.specs.Visits.{IsVisit}
 use Rattle.box_chains.specs.Laws.{Lawful}
 use Rattle.fixed_ops.specs.Counts.{Counts, RisesBy, points_of, risen}
@@ -22,12 +17,12 @@ use Rattle.box_chains.specs.Outcomes.{outcome_by, outcome_of}
 use Rattle.box_chains.specs.Opened.{sampling}
 use Rattle.height_map.specs.Opened.{outcome_traced}
 use Rattle.height_map.specs.Bound.{CountsSpans, is_near, layered, near_spans, layers_root}
-use Rattle.box_chains.specs.Tested.{halves_spans_where, has_some, lengths_where, open_spans_where, spans_where}
-use Rattle.height_map.specs.Columns.{HasOpen, IsAmong, covers, is_open}
+use Rattle.box_chains.specs.Tested.{halves_spans_where, has_some, open_spans_where, spans_where}
+use Rattle.height_map.specs.Columns.{HasOpen, covers, is_open}
 use Rattle.height_map.specs.Tops.{inside, top_among}
 use Rattle.height_map.proofs.ChangeLaws.{IsCell, cell-of}
-use Rattle.height_map.proofs.Evaluated.{covered-closed, handed-open, map-open}
-use Rattle.height_map.proofs.Leaves.{along-one, sum-nothing}
+use Rattle.height_map.proofs.Evaluated.{handed-open, map-open}
+use Rattle.height_map.proofs.Leaves.{along-one}
 use Rattle.height_map.proofs.TopLaws.{best-le}
 use Rattle.height_map.proofs.WorkLaws.{decided-split, open-split}
 
@@ -113,7 +108,7 @@ open-some laws view list b w tops width is open' = lt-ltb 0 (sum_in b passed) (o
 -- ---- what is counted
 
 -- no hull
-spans-none : (counts : Counts) (n : ℕ) → n ≡ 0 → CountsSpans n counts counts
+pub spans-none : (counts : Counts) (n : ℕ) → n ≡ 0 → CountsSpans n counts counts
 spans-none counts n none = omega (arith, none)
 
 -- the same number of them
@@ -126,13 +121,6 @@ spans-then before mid after m n k same first second = omega (arith, same, first,
 
 pub spans-hulls : (before after : Counts) (n : ℕ) → CountsHulls n before after → CountsSpans n before after
 spans-hulls before after n h = ap (λ (c : Counts). c.spans) h.rises
-
--- a box whose columns all have tops takes none
-pub traced-covered : (laws : Lawful) (view : Window) (list : List Step) (b : Indices) (w : ℕ) (tops : List ℕ) (counts : Counts) → w ≡ view.w → IsAmong view.w (length tops) b → IsBox b
-    → ((p : ℕ) → p < length tops → covers w b p ≡ true → 0 < get_or tops p 0)
-    → CountsSpans (spans_where (is_open view list b tops) (layered view) (visit b list)) counts counts
-traced-covered laws view list b w tops counts width among is covered =
-    spans-none counts _ (traced-closed laws (is_open view list b tops) (layered view) (visit b list) (omega arith) is (covered-closed view list b w tops width among covered))
 
 -- another one takes its own trace, and those below it
 pub traced-outcome : (laws : Lawful) (view : Window) (list : List Step) (b : Indices) (tops : List ℕ) → IsVisit (layered view) (visit b list) → has_some (is_open view list b tops) b ≡ true

@@ -1,8 +1,7 @@
 -- The evaluations of samples that pass a test, from those of the halves of a box.
-use Rattle.std.proofs.Common.{◌≡◌, ℕ, zero, suc, ◌+◌, ◌<◌, ◌≤◌, Bool, true, false, cond, List, [], ◌∷◌, length, get_or, drop, refl, ap, ◌∙◌, arith}
+use Rattle.std.proofs.Common.{◌≡◌, ℕ, zero, suc, ◌+◌, ◌<◌, ◌≤◌, Bool, true, false, cond, List, [], ◌∷◌, length, drop, refl, ap, ◌∙◌, arith}
 use Rattle.std.specs.Prelude.{Some, None}
 use Rattle.std.specs.List.{sum_by}
-use Rattle.std.proofs.lemmas.List.{drop_more}
 use Rattle.std.proofs.lemmas.List.Sums.{sum_by-cons}
 use Rattle.box_chains.specs.Chains.{Descent, Visit, decision, handed_on, is_long, is_split}
 use Rattle.box_chains.specs.Counts.{end_cost, halves_spans, open_spans, spans_in}
@@ -55,10 +54,6 @@ spans-open laws d v some is e = by (is_long d.leaf v.box) refl
 -- What a decided box takes is its trace.
 pub spans-decided : (laws : Lawful) (d : Descent) (v : Visit) (inside : Bool) → 0 < d.leaf → IsBox v.box → decision d v ≡ Some inside → spans_in d v ≡ length v.list
 spans-decided laws d v inside some is e = omega (arith, spans-end laws d v some is (decided-split d v inside e))
-
--- a sum over a part of a list, and over all of it
-pub sum-drop : {X : Type 0} (f : X → ℕ) (xs : List X) (i : ℕ) (x : X) → i < length xs → sum_by f (drop i xs) ≡ f (get_or xs i x) + sum_by f (drop (i + 1) xs)
-sum-drop f xs i x within = ap (sum_by f) (drop_more xs i x within) ∙ sum_by-cons f (get_or xs i x) (drop (i + 1) xs)
 
 pub sum-drop_below : {X : Type 0} (f : X → ℕ) (xs : List X) (i : ℕ) → sum_by f (drop i xs) ≤ sum_by f xs
 sum-drop_below f [] zero = omega arith

@@ -4,6 +4,7 @@ pub mod Columns
 pub mod Desks
 pub mod Laws
 pub mod Layers
+pub mod Mappers
 pub mod Opened
 pub mod TopMaps
 pub mod Tops

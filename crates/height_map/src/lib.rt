@@ -5,7 +5,6 @@
 mod column;
 mod columns;
 mod drawing;
-mod halves;
 mod laws;
 mod layer;
 mod leaf;

@@ -5,8 +5,9 @@ ghost use Rattle.box_chains.specs.Tallied.{CountsAtMost};
 ghost use Rattle.height_map.specs.Bound.{CountsPoints, CountsSpans, height_points, height_spans, near_spans};
 ghost use Rattle.height_map.specs.Tops.{tops_of};
 
-use crate::drawing::draw_box;
-use box_chains::{Desk, layers_hold};
+use crate::drawing::Mapper;
+use box_chains::Desk;
+use box_descent::descend;
 use fixed_ops::Tally;
 use live_clauses::Tape;
 use std::alloc::{AllocError, Global};
@@ -56,18 +57,19 @@ pub fn heights(
     ensures hulls { OnOk result
         (CountsSpans (near_spans view.now list.now) tally.old tally.new) }
 {
-    layers_hold();
     // A list can be evaluated.
     let _len = list.len();
     let mut desk = Desk::new(alloc, view, Lattice::Height, list)?;
     let root = desk.root();
-    let mut tops = vec![in alloc; 0u16; view.w as usize * view.h as usize]?;
+    let mut mapper = Mapper {
+        tops: vec![in alloc; 0u16; view.w as usize * view.h as usize]?,
+    };
     // The list that the desk was made with has the number 0.
-    draw_box(&mut desk, root, 0, &mut tops, tally)?;
+    descend(&mut desk, 0, &[root], &mut mapper, tally)?;
     Ok(TopMap {
         w: view.w,
         h: view.h,
         d: view.d,
-        tops,
+        tops: mapper.tops,
     })
 }

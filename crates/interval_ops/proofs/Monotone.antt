@@ -4,8 +4,7 @@ use Rattle.std.specs.Prelude.{negsuc, ◌≤ℤ◌}
 use Rattle.std.proofs.lemmas.Bool.{cases_lt}
 use Rattle.std.proofs.lemmas.Int.{ints, clamps}
 use Rattle.std.proofs.lemmas.Nat.{le-div}
-use Rattle.std.proofs.Math.Nat.{mul-le-mul, mul-le-mul_right, div-mul-le_self}
-use borrow.Author.Differences.{up, down}
+use Rattle.std.proofs.Math.Nat.{mul-le-mul, div-mul-le_self}
 use Rattle.fixed_ops.specs.Operations.{op_result, square_root_of}
 use Rattle.fixed_ops.specs.Raw.{clamp, floor_div}
 use Rattle.fixed_ops.specs.Root.{floor_root}
@@ -13,12 +12,7 @@ use Rattle.fixed_ops.specs.declared.operation.Op.{Op}
 use Rattle.fixed_ops.specs.declared.operation.Op.TheVariants.{Square, Sqrt, Abs, Floor, Add, Sub, Min, Max}
 use Rattle.interval_ops.specs.Shapes.{IsRising, IsEven}
 use Rattle.fixed_ops.proofs.ResultLaws.{floor_root_is_root}
-
--- products with a natural number keep the order
-pub product_le : (a b : ℤ) (d : ℕ) → a ≤ℤ b → (a *ℤ pos d) ≤ℤ (b *ℤ pos d)
-product_le a b d h =
-    let e : (up a + down b) * d ≤ (up b + down a) * d = mul-le-mul_right d (omega (arith, ints)) in
-    omega (arith, ints, e)
+use Rattle.fixed_ops.proofs.RoundingLaws.{product_le}
 
 pub clamp_le : (s t : ℤ) → s ≤ℤ t → clamp s ≤ℤ clamp t
 clamp_le s t h = omega (arith, ints, clamps)

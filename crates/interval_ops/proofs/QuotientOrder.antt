@@ -6,8 +6,9 @@ use Rattle.std.proofs.Math.Nat.{div-le_self}
 use Rattle.fixed_ops.specs.Quotient.{quotient_of}
 use Rattle.fixed_ops.specs.Raw.{floor_div, is_inside}
 use Rattle.interval_ops.specs.Hulls.{hull_above, hull_below}
-use Rattle.interval_ops.proofs.Monotone.{clamp_le, div_ge, floor_div_le, product_le}
+use Rattle.interval_ops.proofs.Monotone.{clamp_le, div_ge, floor_div_le}
 use Rattle.interval_ops.specs.Spans.{Interval, Holds}
+use Rattle.fixed_ops.proofs.RoundingLaws.{product_le}
 
 -- a greater divisor takes a dividend from 0 up towards 0
 floor_falls : (t : ℤ) (d e : ℕ) → pos 0 ≤ℤ t → d ≤ e → floor_div t (suc e) ≤ℤ floor_div t (suc d)

@@ -39,7 +39,7 @@ pub(crate) fn by_sign(of: Fx, below: Fx, otherwise: Fx) -> Fx
 
 // The span from the result on one pair of numbers to the result on another.
 #[inline]
-#[tactic(auto, using(crate::proofs::CountLemmas::two_corners))]
+#[tactic(auto, using(crate::proofs::CountLemmas::rise_by_two_corners))]
 pub(crate) fn from_to(op: Op, low: (Fx, Fx), high: (Fx, Fx), tally: &mut Tally) -> Span
     requires { op_result op low.0 low.1 ≤ℤ op_result op high.0 high.1 }
     ensures value { result ≡ between (op_result op low.0 low.1) (op_result op high.0 high.1) }

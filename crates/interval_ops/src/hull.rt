@@ -15,7 +15,7 @@ use fixed_ops::{Fx, Op, Tally, corner, count_span, is_inside, lt};
 /// a coordinate or a constant. Counted as one hull and the corners that it takes: two, but four for
 /// a product, and none for a coordinate, a constant or a division whose divisor may be 0.
 #[inline(always)]
-#[tactic(auto, using(crate::proofs::HullLaws::hull_is, crate::proofs::CountLemmas::hull_counted, crate::proofs::CountLemmas::hull_few))]
+#[tactic(auto, using(crate::proofs::HullLaws::hull_is, crate::proofs::CountLemmas::rise_by_hull_and_corners, crate::proofs::CountLemmas::one_hull_is_counted))]
 pub fn span_apply(op: Op, a: Span, b: Span, tally: &mut Tally) -> Span
     ensures value { result ≡ hull_of op a b }
     ensures hull { IsHull op a b result }
@@ -28,7 +28,7 @@ pub fn span_apply(op: Op, a: Span, b: Span, tally: &mut Tally) -> Span
 
 // The hull of an operation, with its corners counted.
 #[inline(always)]
-#[tactic(auto, using(crate::proofs::CountLemmas::no_corners, crate::proofs::CountLemmas::none_few, crate::proofs::CountLemmas::two_few, crate::proofs::CountLemmas::four_few))]
+#[tactic(auto, using(crate::proofs::CountLemmas::rise_by_no_corner, crate::proofs::CountLemmas::no_corner_is_at_most_four, crate::proofs::CountLemmas::two_corners_are_at_most_four, crate::proofs::CountLemmas::four_corners_are_at_most_four))]
 fn hull(op: Op, a: Span, b: Span, tally: &mut Tally) -> Span
     ensures value { result ≡ hull_of op a b }
     ensures counted { RisesBy tally.old tally.new (corners_of (hull_corners op a b)) }
@@ -84,7 +84,7 @@ fn difference(a: Span, b: Span, tally: &mut Tally) -> Span
 // The hull of an operation that is as great on either side of 0, rises away from it, and is 0
 // there.
 #[inline]
-#[tactic(auto, using(crate::proofs::Monotone::even_above, crate::proofs::CountLemmas::two_corners))]
+#[tactic(auto, using(crate::proofs::Monotone::even_above, crate::proofs::CountLemmas::rise_by_two_corners))]
 fn even(op: Op, a: Span, tally: &mut Tally) -> Span
     requires { IsEven op }
     ensures value { result ≡ hull_of_even a (op_result op a.lo a.lo) (op_result op a.hi a.hi) }
@@ -121,7 +121,7 @@ fn least_of_even(a: Span, first: Fx, last: Fx) -> Fx
 
 // The hull of a product, whose ends are products of ends.
 #[inline]
-#[tactic(auto, using(crate::proofs::CountLemmas::four_corners))]
+#[tactic(auto, using(crate::proofs::CountLemmas::rise_by_four_corners))]
 fn product(a: Span, b: Span, tally: &mut Tally) -> Span
     ensures value { result ≡ hull_of Op.Mul a b }
     ensures counted { RisesBy tally.old tally.new (corners_of 4) }
@@ -135,7 +135,7 @@ fn product(a: Span, b: Span, tally: &mut Tally) -> Span
 
 // The hull of a quotient: all numbers where the divisor may be 0.
 #[inline]
-#[tactic(auto, using(crate::proofs::CountLemmas::no_corners, crate::proofs::CountLemmas::two_below, crate::proofs::CountLemmas::none_few, crate::proofs::CountLemmas::two_few))]
+#[tactic(auto, using(crate::proofs::CountLemmas::rise_by_no_corner, crate::proofs::CountLemmas::negative_divisor_takes_two_corners, crate::proofs::CountLemmas::no_corner_is_at_most_four, crate::proofs::CountLemmas::two_corners_are_at_most_four))]
 fn quotient(a: Span, b: Span, tally: &mut Tally) -> Span
     ensures value { result ≡ hull_of Op.Div a b }
     ensures counted { RisesBy tally.old tally.new (corners_of (hull_corners Op.Div a b)) }

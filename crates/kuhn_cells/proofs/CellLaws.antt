@@ -1,11 +1,10 @@
 -- The mixed cells of a grid have all of its mesh.
-use Rattle.std.proofs.Common.{◌≡◌, ℕ, zero, suc, ◌+◌, ◌*◌, ◌/◌, ◌%◌, ◌<◌, ◌≤◌, Bool, true, false, List, [], ◌∷◌, ◌++◌, refl, arith, ◌∙◌, ap, subst, sym, inl, inr, add-zero, cond}
+use Rattle.std.proofs.Common.{◌≡◌, ℕ, zero, suc, ◌+◌, ◌*◌, ◌/◌, ◌%◌, ◌<◌, ◌≤◌, Bool, true, false, List, [], ◌∷◌, refl, arith, ◌∙◌, ap, subst, sym, inl, inr, add-zero, cond}
 use Rattle.std.specs.Prelude.{◌⊎◌, ◌||◌, ◌==◌, not, pos, map, filter, flat_map, get_or, length, All, AllPairs, Contains}
 use Rattle.std.specs.List.{list_any, range_with_len}
 use Rattle.std.proofs.lemmas.Bool.{and_cases, and_parts, eq-eqb, leb-true, le-leb, and_from, not-false, or_left, or_right, or_parts}
-use Rattle.std.proofs.lemmas.List.{append-nil, length-append}
-use Rattle.std.proofs.lemmas.List.Concat.{flat_map-append}
-use Rattle.std.proofs.lemmas.List.Elements.{All-cons, All-filter, All-head, All-map, All-nil, All-same, All-tail, All-weaker, Contains-append_cases, filter-append, filter_passes}
+use Rattle.std.proofs.lemmas.List.{append-nil}
+use Rattle.std.proofs.lemmas.List.Elements.{All-cons, All-filter, All-map, All-nil, All-same, All-weaker, filter_passes}
 use Rattle.std.proofs.lemmas.List.Kept.{AllPairs-filter}
 use Rattle.fixed_ops.specs.Raw.{is_inside}
 use Rattle.kuhn_cells.specs.declared.cell_list.CellValues.{CellValues}
@@ -18,33 +17,11 @@ use Rattle.kuhn_cells.specs.Grids.{Grid, is_inside_at, is_mixed, is_point, lower
 use Rattle.kuhn_cells.specs.Laws.{CellsAreFew, CellsAreOfTheGrid, CellsHaveTriangles, CellsHaveVertices, CellsRise, EdgesHaveCells, IsCellBefore, OfEdges}
 use Rattle.kuhn_cells.specs.Triangles.{GridPoint, edge_from, further, point, triangles_by}
 use Rattle.kuhn_cells.proofs.EdgeLaws.{IsParting, all_tetrahedra}
-use Rattle.kuhn_cells.proofs.OrderLaws.{in_order}
 use Rattle.kuhn_cells.proofs.FaceLaws.{all_in_block, vertex_of}
-use Rattle.kuhn_cells.proofs.VertexLaws.{all_flat, head_or_tail, in_head, in_tail, in_vertices, not_in_none}
+use Rattle.kuhn_cells.proofs.VertexLaws.{in_vertices}
+use Rattle.fixed_ops.proofs.Lists.{all_flat, all_kept, filter_flat, filter_length, filter_of_map, flat_flat, flat_last, flat_length, flat_none, flat_same, from_flat, from_map, in_order, none_left}
 
--- ---- lists joined end to end
-
--- equal lists, joined
-flat_same : {A : Type 0} (f h : ℕ → List A) (a n : ℕ) → ((k : ℕ) → k < a + n → f k ≡ h k) → flat_map f (range_with_len a n) ≡ flat_map h (range_with_len a n)
-flat_same f h a zero same = refl
-flat_same f h a (suc n) same =
-    let first = same a (omega arith) in
-    let others = flat_same f h (a + 1) n (λ k few. same k (omega (arith, few))) in
-    cc
-
--- empty lists, joined
-flat_none : {A : Type 0} (f : ℕ → List A) (a n : ℕ) → ((k : ℕ) → k < a + n → f k ≡ []) → flat_map f (range_with_len a n) ≡ []
-flat_none f a zero none = refl
-flat_none f a (suc n) none = rw (none a (omega arith)) (flat_none f (a + 1) n (λ k few. none k (omega (arith, few))))
-
--- an empty last list is left out
-flat_last : {A : Type 0} (f : ℕ → List A) (a n : ℕ) → f (a + n) ≡ [] → flat_map f (range_with_len a (n + 1)) ≡ flat_map f (range_with_len a n)
-flat_last f a zero none = let e = rw (add-zero a) at none in rw e refl
-flat_last f a (suc n) none =
-    let e : (a + 1) + n ≡ a + suc n = omega arith in
-    let last : f ((a + 1) + n) ≡ [] = rw e none in
-    let longer : suc n + 1 ≡ suc (n + 1) = omega arith in
-    rw longer (ap (λ xs. f a ++ xs) (flat_last f (a + 1) n last))
+-- ---- blocks of lists
 
 -- what a block of lists is where those of its last layers are empty
 trimmed : {A : Type 0} (nx ny nz : ℕ) (at : GridPoint → List A) → ((x y z : ℕ) → x ≤ nx → y ≤ ny → z ≤ nz → (x ≡ nx) ⊎ ((y ≡ ny) ⊎ (z ≡ nz)) → at (point x y z) ≡ []) → over_block (nx + 1) (ny + 1) (nz + 1) at ≡ over_block nx ny nz at
@@ -60,18 +37,10 @@ block_same nx ny nz at by same =
 
 -- ---- a filter of a block
 
-filter_flat : {X A : Type 0} (p : A → Bool) (f : X → List A) (xs : List X) → filter p (flat_map f xs) ≡ flat_map (λ x. filter p (f x)) xs
-filter_flat p f [] = refl
-filter_flat p f (x ∷ xs) = rw (filter-append p (f x) (flat_map f xs)) (ap (λ ys. filter p (f x) ++ ys) (filter_flat p f xs))
-
 filter_block : {A : Type 0} (p : A → Bool) (nx ny nz : ℕ) (at : GridPoint → List A) → filter p (over_block nx ny nz at) ≡ over_block nx ny nz (λ q. filter p (at q))
 filter_block p nx ny nz at =
     filter_flat p _ (range_with_len 0 nz)
     ∙ flat_same _ _ 0 nz (λ z fz. filter_flat p _ (range_with_len 0 ny) ∙ flat_same _ _ 0 ny (λ y fy. filter_flat p _ (range_with_len 0 nx)))
-
-flat_flat : {X Y A : Type 0} (h : Y → List A) (f : X → List Y) (xs : List X) → flat_map h (flat_map f xs) ≡ flat_map (λ x. flat_map h (f x)) xs
-flat_flat h f [] = refl
-flat_flat h f (x ∷ xs) = rw (flat_map-append h (f x) (flat_map f xs)) (ap (λ ys. flat_map h (f x) ++ ys) (flat_flat h f xs))
 
 flat_block : {A B : Type 0} (h : A → List B) (nx ny nz : ℕ) (at : GridPoint → List A) → flat_map h (over_block nx ny nz at) ≡ over_block nx ny nz (λ q. flat_map h (at q))
 flat_block h nx ny nz at =
@@ -114,7 +83,8 @@ agree c k h within = by (and_cases (list_any is_inside c.values) (list_any (λ v
     by (inr none) =
         not-false _ (passes_none (λ v. not (is_inside v)) c.values k (pos 0) none within) ∙ sym (not-false _ (passes_none (λ v. not (is_inside v)) c.values 0 (pos 0) none (omega (arith, within))))
 
-same_side : (b c : Bool) → c ≡ b → differ b c ≡ false
+-- signs that are equal do not differ
+pub same_side : (b c : Bool) → c ≡ b → differ b c ≡ false
 same_side true c e = rw e refl
 same_side false c e = e
 
@@ -158,30 +128,6 @@ cells_have_triangles g =
 
 -- ---- the vertices
 
--- ---- the vertices
-
-none_left : {A : Type 0} (p q : A → Bool) (xs : List A) → All (λ x. q x ≡ true → p x ≡ false) xs → filter p (filter q xs) ≡ []
-none_left p q [] h = refl
-none_left p q (x ∷ xs) h =
-    by (q x) (All-head (λ x. q x ≡ true → p x ≡ false) x xs h) (none_left p q xs (All-tail (λ x. q x ≡ true → p x ≡ false) x xs h))
-  where
-    by : (b : Bool) → (b ≡ true → p x ≡ false) → filter p (filter q xs) ≡ [] → filter p (cond b (x ∷ filter q xs) (filter q xs)) ≡ []
-    by true fails rest = rw (fails refl) rest
-    by false fails rest = rest
-
-all_kept : {A : Type 0} (q : A → Bool) (xs : List A) → All (λ x. q x ≡ true) xs → filter q xs ≡ xs
-all_kept q [] h = refl
-all_kept q (x ∷ xs) h =
-    rw (All-head (λ x. q x ≡ true) x xs h) (ap (λ ys. x ∷ ys) (all_kept q xs (All-tail (λ x. q x ≡ true) x xs h)))
-
-filter_map : {X A : Type 0} (q : A → Bool) (f : X → A) (xs : List X) → filter q (map f xs) ≡ map f (filter (λ x. q (f x)) xs)
-filter_map q f [] = refl
-filter_map q f (x ∷ xs) = by (q (f x)) (filter_map q f xs)
-  where
-    by : (b : Bool) → filter q (map f xs) ≡ map f (filter (λ x. q (f x)) xs) → cond b (f x ∷ filter q (map f xs)) (filter q (map f xs)) ≡ map f (cond b (x ∷ filter (λ x. q (f x)) xs) (filter (λ x. q (f x)) xs))
-    by true rest = ap (λ ys. f x ∷ ys) rest
-    by false rest = rest
-
 -- a point whose last index along some axis is the last one
 is_last : (g : Grid) (p : GridPoint) → (p.x ≡ g.x) ⊎ ((p.y ≡ g.y) ⊎ (p.z ≡ g.z)) → is_outermost g p ≡ true
 is_last g p (inl e) = or_left (p.x == 0 || p.x == g.x) ((p.y == 0 || p.y == g.y) || (p.z == 0 || p.z == g.z)) (or_right (p.x == 0) (p.x == g.x) (eq-eqb p.x g.x e))
@@ -217,7 +163,8 @@ none_from_last g border x y z fx fy fz last =
     let p = point x y z in
     none_left (is_mixed (is_inside_at g)) (λ e. is_point g (upper e)) (map (edge_from p) (range_with_len 1 7)) (All-map (λ e. is_point g (upper e) ≡ true → is_mixed (is_inside_at g) e ≡ false) (edge_from p) (range_with_len 1 7) (λ k d within. outer_edge g border p (get_or (range_with_len 1 7) k d) fx fy fz last))
 
-starts : (p : GridPoint) → further p 0 ≡ p
+-- no step leads away
+pub starts : (p : GridPoint) → further p 0 ≡ p
 starts p = rw (add-zero p.x, add-zero p.y, add-zero p.z) refl
 
 sides : (f : ℕ → Bool) (b c : Bool) → b ≡ c → filter (λ d. differ b (f d)) (range_with_len 1 7) ≡ filter (λ d. differ c (f d)) (range_with_len 1 7)
@@ -237,7 +184,7 @@ own_in_cell g x y z fx fy fz =
     let p = point x y z in
     let within : (dir : ℕ) → is_point g (further p dir) ≡ true = λ dir. and_from _ _ (le-leb (x + along_x dir) g.x (one_more dir g.x x fx)) (and_from _ _ (le-leb (y + along_y dir) g.y (one_more (dir / 2) g.y y fy)) (le-leb (z + along_z dir) g.z (one_more (dir / 4) g.z z fz))) in
     ap (filter (is_mixed (is_inside_at g))) (all_kept (λ e. is_point g (upper e)) (map (edge_from p) (range_with_len 1 7)) (All-map (λ e. is_point g (upper e) ≡ true) (edge_from p) (range_with_len 1 7) (λ k d few. within (get_or (range_with_len 1 7) k d))))
-    ∙ filter_map (is_mixed (is_inside_at g)) (edge_from p) (range_with_len 1 7)
+    ∙ filter_of_map (is_mixed (is_inside_at g)) (edge_from p) (range_with_len 1 7)
     ∙ ap (map (edge_from p)) (cell_directions g p)
 
 pub cells_have_vertices : CellsHaveVertices
@@ -299,19 +246,6 @@ pub cells_rise : CellsRise
 unfolding mixed_cells
 cells_rise g = AllPairs-filter IsCellBefore is_mixed_cell (over_block g.x g.y g.z (λ p. cell_at g p ∷ [])) (cell_order g)
 
-flat_length : {A : Type 0} (f : ℕ → List A) (a n size : ℕ) → ((k : ℕ) → length (f k) ≡ size) → length (flat_map f (range_with_len a n)) ≡ n * size
-flat_length f a zero size each = omega arith
-flat_length f a (suc n) size each =
-    omega (arith, length-append (f a) (flat_map f (range_with_len (a + 1) n)), each a, flat_length f (a + 1) n size each)
-
-filter_length : {A : Type 0} (q : A → Bool) (xs : List A) → length (filter q xs) ≤ length xs
-filter_length q [] = omega arith
-filter_length q (x ∷ xs) = by (q x) (filter_length q xs)
-  where
-    by : (b : Bool) → length (filter q xs) ≤ length xs → length (cond b (x ∷ filter q xs) (filter q xs)) ≤ suc (length xs)
-    by true h = omega (arith, h)
-    by false h = omega (arith, h)
-
 pub cells_are_few : CellsAreFew
 unfolding mixed_cells
 cells_are_few g =
@@ -321,22 +255,6 @@ cells_are_few g =
     omega (arith, filter_length is_mixed_cell all, whole, same)
 
 -- ---- the cells of edges
-
-from_flat : {X A : Type 0} (f : X → List A) (xs : List X) (a : A) → Contains (flat_map f xs) a → (x : X) × Contains xs x × Contains (f x) a
-from_flat {X = X} {A = A} f [] a h = absurd (not_in_none a h)
-from_flat {X = X} {A = A} f (x ∷ xs) a h = by (Contains-append_cases (f x) (flat_map f xs) a h) (λ later. from_flat f xs a later)
-  where
-    by : Contains (f x) a ⊎ Contains (flat_map f xs) a → (Contains (flat_map f xs) a → (y : X) × Contains xs y × Contains (f y) a) → (y : X) × Contains (x ∷ xs) y × Contains (f y) a
-    by (inl here) next = (x, in_head xs x, here)
-    by (inr later) next = let r = next later in (r.0, in_tail x xs r.0 r.1, r.2)
-
-from_map : {X A : Type 0} (f : X → A) (xs : List X) (a : A) → Contains (map f xs) a → (x : X) × Contains xs x × (f x ≡ a)
-from_map {X = X} {A = A} f [] a h = absurd (not_in_none a h)
-from_map {X = X} {A = A} f (x ∷ xs) a h = by (head_or_tail (f x) (map f xs) a h) (λ later. from_map f xs a later)
-  where
-    by : (f x ≡ a) ⊎ Contains (map f xs) a → (Contains (map f xs) a → (y : X) × Contains xs y × (f y ≡ a)) → (y : X) × Contains (x ∷ xs) y × (f y ≡ a)
-    by (inl here) next = (x, in_head xs x, here)
-    by (inr later) next = let r = next later in (r.0, in_tail x xs r.0 r.1, r.2)
 
 moved : {A : Type 0} (xs ys : List A) (x y : A) → xs ≡ ys → x ≡ y → Contains xs x → Contains ys y
 moved {A} xs ys x y same equal h =

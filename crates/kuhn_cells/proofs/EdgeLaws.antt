@@ -13,11 +13,13 @@ use Rattle.kuhn_cells.specs.Laws.{EdgesAreMixed, EdgesHaveDirections, IsDirectio
 use Rattle.kuhn_cells.specs.Triangles.{GridPoint, edge_between, further, triangles_among, triangles_in}
 use Rattle.kuhn_cells.proofs.Checks.{both_at, every, every_at}
 
-implied : (a b : Bool) → (not a || b) ≡ true → a ≡ true → b ≡ true
+-- what a test implies passes where that test does
+pub implied : (a b : Bool) → (not a || b) ≡ true → a ≡ true → b ≡ true
 implied true b h e = h
 implied false b h e = absurd (false≢true e)
 
-implied_or : (a b : Bool) → (a || b) ≡ true → a ≡ false → b ≡ true
+-- of two tests, the other one passes where the first fails
+pub implied_or : (a b : Bool) → (a || b) ≡ true → a ≡ false → b ≡ true
 implied_or true b h e = absurd (true≢false e)
 implied_or false b h e = h
 

@@ -1,9 +1,8 @@
 -- The edges of triangles are vertices, and their numbers are the places at which they stand.
-use Rattle.std.proofs.Common.{◌≡◌, ℕ, zero, suc, ◌+◌, ◌<◌, ◌≤◌, true, List, refl, arith, sym, inl, inr}
-use Rattle.std.specs.Prelude.{◌⊎◌, flat_map, get_or, length, All, Contains}
-use Rattle.std.specs.List.{range_with_len}
+use Rattle.std.proofs.Common.{◌≡◌, ℕ, ◌<◌, ◌≤◌, true, List, refl, arith, sym, inl, inr}
+use Rattle.std.specs.Prelude.{◌⊎◌, get_or, length, All, Contains}
 use Rattle.std.proofs.lemmas.Bool.{and_from, and_parts, both_ways, cases_lt, eq-eqb, eqb-true, le-leb}
-use Rattle.std.proofs.lemmas.List.Elements.{All-append, All-nil, All-weaker}
+use Rattle.std.proofs.lemmas.List.Elements.{All-weaker}
 use Rattle.std.proofs.lemmas.List.Sums.{fails_before_first, passes_at_first}
 use Rattle.kuhn_cells.specs.declared.edge_key.EdgeKey.{EdgeKey}
 use Rattle.kuhn_cells.specs.Faces.{all_triangles, cell_triangles, number_among, same_edge}
@@ -12,15 +11,9 @@ use Rattle.kuhn_cells.specs.Laws.{IsVertex, NumbersArePlaces, OfEdges, Triangles
 use Rattle.kuhn_cells.specs.Triangles.{GridPoint, point}
 use Rattle.kuhn_cells.proofs.EdgeLaws.{IsParting, all_tetrahedra}
 use Rattle.kuhn_cells.proofs.VertexLaws.{in_vertices}
+use Rattle.fixed_ops.proofs.Lists.{all_within}
 
 -- ---- the triangles of a grid
-
-pub all_within : {A : Type 0} (P : A → Type 0) (f : ℕ → List A) (a n : ℕ)
-    → ((k : ℕ) → k < a + n → All P (f k)) → All P (flat_map f (range_with_len a n))
-all_within P f a zero each = All-nil P
-all_within P f a (suc n) each =
-    All-append P (f a) (flat_map f (range_with_len (a + 1) n)) (each a (omega arith))
-    (all_within P f (a + 1) n (λ k few. each k (omega (arith, few))))
 
 pub all_in_block : {A : Type 0} (P : A → Type 0) (nx ny nz : ℕ) (at : GridPoint → List A)
     → ((p : GridPoint) → p.x < nx → p.y < ny → p.z < nz → All P (at p))

@@ -1,59 +1,16 @@
 -- The vertices stand in the order of their keys.
-use Rattle.std.proofs.Common.{◌≡◌, ℕ, zero, suc, ◌+◌, ◌<◌, List, [], ◌∷◌, ◌++◌, refl, arith, inl, inr}
-use Rattle.std.specs.Prelude.{map, flat_map, get_or, All, AllPairs}
+use Rattle.std.proofs.Common.{◌≡◌, ℕ, ◌+◌, List, refl, arith, inl, inr}
+use Rattle.std.specs.Prelude.{map, flat_map, All, AllPairs}
 use Rattle.std.specs.List.{range_with_len}
-use Rattle.std.proofs.lemmas.List.Elements.{All-append, All-head, All-map, All-nil, All-tail}
+use Rattle.std.proofs.lemmas.List.Elements.{All-map}
 use Rattle.std.proofs.lemmas.List.FromFn.{get_or-map-range_with_len}
-use Rattle.std.proofs.lemmas.List.Kept.{AllPairs-cons, AllPairs-filter}
+use Rattle.std.proofs.lemmas.List.Kept.{AllPairs-filter}
 use Rattle.kuhn_cells.specs.declared.edge_key.EdgeKey.{EdgeKey}
 use Rattle.kuhn_cells.specs.Grids.{Grid, edges, is_inside_at, is_mixed, is_point, upper, vertices}
 use Rattle.kuhn_cells.specs.Laws.{IsBefore, VerticesRise}
 use Rattle.kuhn_cells.specs.Triangles.{GridPoint, edge_from, point}
-use Rattle.kuhn_cells.proofs.VertexLaws.{all_edges, all_flat}
-
--- ---- lists put behind one another
-
-pub first_before : {A : Type 0} (R : A → A → Type 0) (x : A) (xs : List A) → AllPairs R (x ∷ xs)
-    → All (R x) xs
-first_before R x xs h k d within = h 0 (suc k) d (omega arith) (omega (arith, within))
-
-pub rest_in_order : {A : Type 0} (R : A → A → Type 0) (x : A) (xs : List A) → AllPairs R (x ∷ xs)
-    → AllPairs R xs
-rest_in_order R x xs h i j d less within =
-    h (suc i) (suc j) d (omega (arith, less)) (omega (arith, within))
-
-pairs_append : {A : Type 0} (R : A → A → Type 0) (xs ys : List A) → AllPairs R xs → AllPairs R ys
-    → All (λ x. All (R x) ys) xs → AllPairs R (xs ++ ys)
-pairs_append R [] ys h k across = k
-pairs_append R (x ∷ xs) ys h k across =
-    AllPairs-cons R x (xs ++ ys) (All-append (R x) xs ys (first_before R x xs h)
-    (All-head (λ x. All (R x) ys) x xs across)) (pairs_append R xs ys (rest_in_order R x xs h) k
-    (All-tail (λ x. All (R x) ys) x xs across))
-
--- what one list has and what another has puts the one before the other
-across : {A : Type 0} (R : A → A → Type 0) (P Q : A → Type 0) (xs ys : List A)
-    → ((x y : A) → P x → Q y → R x y) → All P xs → All Q ys → All (λ x. All (R x) ys) xs
-across R P Q xs ys before h k i d within j e inside = before _ _ (h i d within) (k j e inside)
-
-later : {A : Type 0} (R : A → A → Type 0) (f : ℕ → List A) (P : ℕ → A → Type 0)
-    → ((i : ℕ) → All (P i) (f i)) → ((i j : ℕ) (x y : A) → i < j → P i x → P j y → R x y)
-    → (i a n : ℕ) → i < a → All (λ x. All (R x) (flat_map f (range_with_len a n))) (f i)
-later R f P each before i a zero less k d within = All-nil (R (get_or (f i) k d))
-later R f P each before i a (suc n) less k d within =
-    All-append (R (get_or (f i) k d)) (f a) (flat_map f (range_with_len (a + 1) n))
-    (across R (P i) (P a) (f i) (f a) (λ x y. before i a x y less) (each i) (each a) k d within)
-    (later R f P each before i (a + 1) n (omega (arith, less)) k d within)
-
--- a block of lists, each in order, and each before the later ones
-pub in_order : {A : Type 0} (R : A → A → Type 0) (f : ℕ → List A) (P : ℕ → A → Type 0)
-    → ((i : ℕ) → AllPairs R (f i)) → ((i : ℕ) → All (P i) (f i))
-    → ((i j : ℕ) (x y : A) → i < j → P i x → P j y → R x y) → (a n : ℕ)
-    → AllPairs R (flat_map f (range_with_len a n))
-in_order R f P one each before a zero = λ i j d less within. absurd (omega (arith, within))
-in_order R f P one each before a (suc n) =
-    pairs_append R (f a) (flat_map f (range_with_len (a + 1) n)) (one a)
-    (in_order R f P one each before (a + 1) n) (later R f P each before a (a + 1) n
-    (omega arith))
+use Rattle.kuhn_cells.proofs.VertexLaws.{all_edges}
+use Rattle.fixed_ops.proofs.Lists.{all_flat, in_order}
 
 -- ---- the edges of a grid
 

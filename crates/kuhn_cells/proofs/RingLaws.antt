@@ -1,5 +1,5 @@
 -- A list of tetrahedra goes round an edge: a test that computes.
-use Rattle.std.proofs.Common.{◌≡◌, ℕ, zero, suc, ◌+◌, ◌<◌, ◌≤◌, Bool, true, false, List, [], ◌∷◌, refl, arith, sym, subst, ◌∙◌, inl, inr}
+use Rattle.std.proofs.Common.{◌≡◌, ℕ, zero, suc, ◌+◌, ◌<◌, ◌≤◌, Bool, true, List, [], ◌∷◌, refl, arith, sym, subst, ◌∙◌, inl, inr}
 use Rattle.std.specs.Prelude.{◌==◌, ◌&&◌, ◌||◌, ◌⊎◌, not, nat_le, nat_lt, map, get_or, AllPairs, Contains}
 use Rattle.std.specs.List.{list_all, list_any}
 use Rattle.std.specs.Ordering.{int_eq}
@@ -12,7 +12,8 @@ use Rattle.kuhn_cells.specs.Arrangement.{positions}
 use Rattle.kuhn_cells.specs.Corners.{corner}
 use Rattle.kuhn_cells.specs.Rings.{HasEdge, IsRing, in_turn, sides}
 use Rattle.kuhn_cells.specs.Vectors.{Vector}
-use Rattle.kuhn_cells.proofs.VertexLaws.{head_or_tail, not_in_none}
+use Rattle.fixed_ops.proofs.Lists.{head_or_tail, not_in_none}
+use Rattle.kuhn_cells.proofs.EdgeLaws.{implied}
 
 -- ---- elements of a list
 
@@ -101,10 +102,6 @@ corner_is tetra (suc (suc zero)) d few = refl
 corner_is tetra (suc (suc (suc zero))) d few = refl
 corner_is tetra (suc (suc (suc (suc k)))) d few = absurd (omega (arith, few))
 
-when_so : (a b : Bool) → (not a || b) ≡ true → a ≡ true → b ≡ true
-when_so true b h e = h
-when_so false b h e = absurd (false≢true e)
-
 all_of : (dir : ℕ) (ms : List (ℕ × ℕ)) → agree_below (λ tetra. agree_below (is_listed dir ms tetra) yes 4) yes 6 ≡ true → (m : ℕ × ℕ) → HasEdge dir m → Contains ms m
 all_of dir ms h m edge =
     let k = edge.start.0 in
@@ -113,7 +110,7 @@ all_of dir ms h m edge =
     let checked = agree_below_at (is_listed dir ms m.1) yes 4 k (agree_below_at (λ tetra. agree_below (is_listed dir ms tetra) yes 4) yes 6 m.1 h edge.few) few in
     let ends : list_any (same_number (corner m.1 k + dir)) (map (corner m.1) positions) ≡ true =
     subst (λ (c : ℕ). list_any (same_number (c + dir)) (map (corner m.1) positions) ≡ true) (sym at) (listed same_number number_itself (m.0 + dir) (map (corner m.1) positions) edge.end) in
-    let found = contained same_pair pair_tells (corner m.1 k, m.1) ms (when_so _ _ checked ends) in
+    let found = contained same_pair pair_tells (corner m.1 k, m.1) ms (implied _ _ checked ends) in
     subst (λ (c : ℕ). Contains ms (c, m.1)) at found
 
 apart_of : (ms : List (ℕ × ℕ)) → are_apart ms ≡ true → AllPairs (λ m n. m ≡ n → ⊥) ms

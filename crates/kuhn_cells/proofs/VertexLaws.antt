@@ -1,22 +1,18 @@
 -- The vertices are all edges with exactly one inside end.
-use Rattle.std.proofs.Common.{◌≡◌, ℕ, zero, suc, ◌+◌, ◌<◌, ◌≤◌, Bool, true, false, List, [], ◌∷◌, ◌++◌, refl, arith, inl, inr}
-use Rattle.std.specs.Prelude.{◌⊎◌, map, filter, flat_map, get_or, length, All, Contains, cond}
+use Rattle.std.proofs.Common.{◌≡◌, ℕ, ◌+◌, ◌<◌, true, List, arith}
+use Rattle.std.specs.Prelude.{map, All, Contains}
 use Rattle.std.specs.List.{range_with_len}
-use Rattle.std.proofs.lemmas.Bool.{and_parts, leb-true, cases_order}
-use Rattle.std.proofs.lemmas.List.Elements.{All-append, All-contains, All-filter, All-map, All-nil, Contains-append_left, Contains-append_right, filter_passes}
+use Rattle.std.proofs.lemmas.Bool.{and_parts, leb-true}
+use Rattle.std.proofs.lemmas.List.Elements.{All-contains, All-filter, All-map, filter_passes}
 use Rattle.std.proofs.lemmas.List.FromFn.{get_or-range_with_len}
 use Rattle.kuhn_cells.specs.declared.edge_key.EdgeKey.{EdgeKey}
 use Rattle.kuhn_cells.specs.Corners.{along_x, along_y, along_z}
 use Rattle.kuhn_cells.specs.Grids.{Grid, edges, is_inside_at, is_mixed, is_point, lower, over_block, upper, vertices}
 use Rattle.kuhn_cells.specs.Laws.{IsDirection, IsVertex, VerticesAreMixedEdges}
 use Rattle.kuhn_cells.specs.Triangles.{GridPoint, edge_from, point}
+use Rattle.fixed_ops.proofs.Lists.{all_flat, in_filter, in_flat, in_map, in_range}
 
 -- ---- all elements of a block
-
-pub all_flat : {X A : Type 0} (P : A → Type 0) (f : X → List A) → ((x : X) → All P (f x))
-    → (xs : List X) → All P (flat_map f xs)
-all_flat P f each [] = All-nil P
-all_flat P f each (x ∷ xs) = All-append P (f x) (flat_map f xs) (each x) (all_flat P f each xs)
 
 pub all_block : {A : Type 0} (P : A → Type 0) (nx ny nz : ℕ) (at : GridPoint → List A)
     → ((p : GridPoint) → All P (at p)) → All P (over_block nx ny nz at)
@@ -25,70 +21,6 @@ all_block P nx ny nz at each =
     (range_with_len 0 nx)) (range_with_len 0 ny)) (range_with_len 0 nz)
 
 -- ---- an element of a block
-
-pub in_tail : {A : Type 0} (y : A) (xs : List A) (x : A) → Contains xs x → Contains (y ∷ xs) x
-in_tail y xs x h = Contains-append_right (y ∷ []) xs x h
-
-pub in_head : {A : Type 0} (xs : List A) (x : A) → Contains (x ∷ xs) x
-in_head xs x = (0, omega arith, refl)
-
-pub not_in_none : {A : Type 0} (x : A) → Contains [] x → ⊥
-not_in_none x h = omega (arith, h.1)
-
-pub head_or_tail : {A : Type 0} (y : A) (ys : List A) (x : A) → Contains (y ∷ ys) x
-    → (y ≡ x) ⊎ Contains ys x
-head_or_tail {A} y ys x h = at h.0 h.1 h.2
-  where
-    at : (k : ℕ) → k < length (y ∷ ys) → get_or (y ∷ ys) k x ≡ x → (y ≡ x) ⊎ Contains ys x
-    at zero within e = inl e
-    at (suc k) within e = inr (k, omega (arith, within), e)
-
-pub in_range : (a n k : ℕ) → a ≤ k → k < a + n → Contains (range_with_len a n) k
-in_range a zero k low high = absurd (omega (arith, low, high))
-in_range a (suc n) k low high =
-    by (cases_order a k) (λ less. in_range (a + 1) n k (omega (arith, less)) (omega (arith, high)))
-  where
-    by : (a ≡ k) ⊎ ((a < k) ⊎ (k < a)) → (a < k → Contains (range_with_len (a + 1) n) k)
-        → Contains (a ∷ range_with_len (a + 1) n) k
-    by (inl same) next = rw same (in_head (range_with_len (k + 1) n) k)
-    by (inr (inl less)) next = in_tail a (range_with_len (a + 1) n) k (next less)
-    by (inr (inr more)) next = absurd (omega (arith, low, more))
-
-pub in_flat : {X A : Type 0} (f : X → List A) (ys : List X) (y : X) (x : A) → Contains ys y
-    → Contains (f y) x → Contains (flat_map f ys) x
-in_flat f [] y x h k = absurd (not_in_none y h)
-in_flat f (z ∷ zs) y x h k = by (head_or_tail z zs y h) (λ later. in_flat f zs y x later k)
-  where
-    by : (z ≡ y) ⊎ Contains zs y → (Contains zs y → Contains (flat_map f zs) x)
-        → Contains (f z ++ flat_map f zs) x
-    by (inl same) next = Contains-append_left (f z) (flat_map f zs) x (rw same k)
-    by (inr later) next = Contains-append_right (f z) (flat_map f zs) x (next later)
-
-pub in_map : {X A : Type 0} (f : X → A) (ys : List X) (y : X) → Contains ys y
-    → Contains (map f ys) (f y)
-in_map f [] y h = absurd (not_in_none y h)
-in_map f (z ∷ zs) y h = by (head_or_tail z zs y h) (λ later. in_map f zs y later)
-  where
-    by : (z ≡ y) ⊎ Contains zs y → (Contains zs y → Contains (map f zs) (f y))
-        → Contains (f z ∷ map f zs) (f y)
-    by (inl same) next = rw same (in_head (map f zs) (f y))
-    by (inr later) next = in_tail (f z) (map f zs) (f y) (next later)
-
-pub in_filter : {A : Type 0} (p : A → Bool) (ys : List A) (x : A) → Contains ys x → p x ≡ true
-    → Contains (filter p ys) x
-in_filter p [] x h passes = absurd (not_in_none x h)
-in_filter p (y ∷ ys) x h passes =
-    by (head_or_tail y ys x h) (λ later. in_filter p ys x later passes)
-  where
-    kept : (b : Bool) → Contains (filter p ys) x → Contains
-        (cond b (y ∷ filter p ys) (filter p ys)) x
-    kept true k = in_tail y (filter p ys) x k
-    kept false k = k
-
-    by : (y ≡ x) ⊎ Contains ys x → (Contains ys x → Contains (filter p ys) x)
-        → Contains (cond (p y) (y ∷ filter p ys) (filter p ys)) x
-    by (inl same) next = rw (same, passes) (in_head (filter p ys) x)
-    by (inr later) next = kept (p y) (next later)
 
 pub in_block : {A : Type 0} (nx ny nz : ℕ) (at : GridPoint → List A) (p : GridPoint) (e : A)
     → p.x < nx → p.y < ny → p.z < nz → Contains (at p) e → Contains (over_block nx ny nz at) e

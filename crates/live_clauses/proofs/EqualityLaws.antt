@@ -11,7 +11,7 @@ use Rattle.fixed_ops.specs.declared.operation.Op.TheVariants.{X, Y, Z, Const, Ne
 use Rattle.live_clauses.specs.Equality.{same_list, same_step}
 use Rattle.live_clauses.specs.Laws.{ListsAreToldApart}
 use Rattle.live_clauses.specs.declared.step.Step.{Step}
-use Rattle.live_clauses.proofs.Joined.{both_true, true_both}
+use Rattle.std.proofs.lemmas.Bool.{and_from, and_parts}
 
 -- the operation of a name
 abbrev named : List ℕ → Option Op
@@ -41,16 +41,16 @@ same_fields s t op first second value =
 steps_decide : (s t : Step) → Decides (same_step s t) (s ≡ t)
 steps_decide s t = (
   λ all.
-      let ops = both_true _ _ all in
-      let firsts = both_true _ _ ops.1 in
-      let seconds = both_true _ _ firsts.1 in
+      let ops = and_parts _ _ all in
+      let firsts = and_parts _ _ ops.1 in
+      let seconds = and_parts _ _ firsts.1 in
       same_fields s t (one_name s.op t.op ((bytes_decides (name_of s.op) (name_of t.op)).0 ops.0))
       ((Decides-eqb s.a t.a).0 firsts.0) ((Decides-eqb s.b t.b).0 seconds.0)
       ((Decides-int_eq s.value t.value).0 seconds.1),
-  λ alike. true_both _ _
+  λ alike. and_from _ _
       ((bytes_decides (name_of s.op) (name_of t.op)).1 (ap (λ x. name_of x.op) alike))
-      (true_both _ _ ((Decides-eqb s.a t.a).1 (ap (λ x. x.a) alike))
-      (true_both _ _ ((Decides-eqb s.b t.b).1 (ap (λ x. x.b) alike))
+      (and_from _ _ ((Decides-eqb s.a t.a).1 (ap (λ x. x.a) alike))
+      (and_from _ _ ((Decides-eqb s.b t.b).1 (ap (λ x. x.b) alike))
       ((Decides-int_eq s.value t.value).1 (ap (λ x. x.value) alike)))),
 )
 

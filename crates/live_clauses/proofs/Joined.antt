@@ -1,14 +1,6 @@
 -- Tests that are joined, and what they say.
-use Rattle.std.proofs.Common.{◌≡◌, Bool, true, false, ◌&&◌, ◌||◌, ◌⊎◌, inl, inr, refl, sym}
+use Rattle.std.proofs.Common.{◌≡◌, Bool, true, false, ◌||◌, ◌⊎◌, inl, inr, refl, sym}
 use Rattle.std.proofs.lemmas.Bool.{false≢true}
-
-pub both_true : (x y : Bool) → x && y ≡ true → (x ≡ true) × (y ≡ true)
-both_true true y h = (refl, h)
-both_true false y h = absurd (false≢true h)
-
-pub true_both : (x y : Bool) → x ≡ true → y ≡ true → x && y ≡ true
-true_both true y h k = k
-true_both false y h k = h
 
 pub one_true : (x y : Bool) → x || y ≡ true → (x ≡ true) ⊎ (y ≡ true)
 one_true true y h = inl refl
@@ -17,10 +9,6 @@ one_true false y h = inr h
 pub true_left : (x y : Bool) → x ≡ true → x || y ≡ true
 true_left true y h = refl
 true_left false y h = absurd (false≢true h)
-
-pub true_right : (x y : Bool) → y ≡ true → x || y ≡ true
-true_right true y h = refl
-true_right false y h = h
 
 -- two tests that follow from one another are the same
 pub same_tests : (x y : Bool) → (x ≡ true → y ≡ true) → (y ≡ true → x ≡ true) → x ≡ y

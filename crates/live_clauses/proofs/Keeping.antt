@@ -11,9 +11,9 @@ use Rattle.live_clauses.specs.Choices.{step_at, AreChoices, AreRight}
 use Rattle.live_clauses.specs.Live.{representative, IsLive, is_needed, is_kept, kept_below, new_place, renumbered, live_below, live_of}
 use Rattle.live_clauses.specs.Live.IsLive.{Last, First, Second}
 use Rattle.live_clauses.proofs.MeaningLaws.{meaning_at-step, step-same}
-use Rattle.live_clauses.specs.Meanings.{Meaning, MeanTheirChoices, ReadsItsOperands, meaning_at, number_at, tape_meaning}
+use Rattle.live_clauses.specs.Meanings.{Meaning, MeanTheirChoices, ReadsItsOperands, meaning_at, tape_meaning}
 use Rattle.live_clauses.specs.Steps.{IsStepAt, AreSteps, IsTape, tape_value}
-use Rattle.live_clauses.proofs.ValueLaws.{number_at-reads}
+use Rattle.live_clauses.proofs.ValueLaws.{number_at, number_at-reads}
 use Rattle.live_clauses.proofs.Representatives.{slice_get-step_at, step_at-stands, representative-le, representative_holds}
 use Rattle.live_clauses.proofs.Needs.{Keeps, needed_on, needed_last, hands_on_first, hands_on_second, kept_keeps, keeps_kept, representative_keeps, kept_live, live_keeps}
 use Rattle.live_clauses.proofs.Kept.{kept_below-kept, kept_below-dropped, kept_below-less, kept_below-le, length-live_below, live_below-at, kept_at, renumbered-fits}

@@ -9,12 +9,7 @@ use Rattle.live_clauses.specs.declared.step.Step.{Step}
 use Rattle.live_clauses.specs.Choices.{step_at}
 use Rattle.live_clauses.specs.Live.{is_kept, kept_below, new_place, renumbered, live_below}
 use Rattle.live_clauses.specs.Steps.{IsStepAt}
-
--- an element of a longer list
-slice_get-front : {A : Type 0} (xs ys : List A) (k : ℕ) (x : A) → slice_get xs k ≡ Some x → slice_get (xs ++ ys) k ≡ Some x
-slice_get-front [] ys k x at = (cc)
-slice_get-front (y ∷ xs) ys zero x at = at
-slice_get-front (y ∷ xs) ys (suc k) x at = slice_get-front xs ys k x at
+use Rattle.fixed_ops.proofs.Lists.{slice_get-front}
 
 slice_get-last : {A : Type 0} (xs : List A) (k : ℕ) (x : A) → length xs ≡ k → slice_get (xs ++ x ∷ []) k ≡ Some x
 slice_get-last [] zero x is = refl

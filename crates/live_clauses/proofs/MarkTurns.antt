@@ -6,9 +6,14 @@ use Rattle.interval_ops.specs.declared.choice.Choice.{Choice}
 use Rattle.live_clauses.specs.declared.step.Step.{Step}
 use Rattle.live_clauses.specs.Choices.{step_at, choice_at, has_bit}
 use Rattle.live_clauses.specs.Live.{hands_on, needed_after}
-use Rattle.live_clauses.specs.Marks.{is_marked, AreMarks, Marks, AreMarksAfter}
+use Rattle.live_clauses.specs.Marks.{is_marked, AreMarks, Marks}
 use Rattle.live_clauses.specs.Steps.{IsStepAt}
 use Rattle.live_clauses.proofs.Bits.{has_bit-zero, or_false}
+
+-- the marked steps are those that are needed after so many turns from the last step down
+abbrev pub AreMarksAfter : ℕ → ℕ → List Step → List Choice → List ℕ → Type 0
+AreMarksAfter l turns steps choices marks = (place : ℕ) → place < length steps
+    → is_marked l marks place ≡ needed_after turns steps choices place
 
 -- operands lie in each memory that the step lies in
 pub first_within : (at bound : ℕ) (step : Step) → IsStepAt at step → at < bound → step.a < bound
@@ -17,6 +22,7 @@ first_within at bound step stands less = elim (cases_lt 0 (arity_of step.op)) [
   | inr none ↦ omega (arith, stands.fits.no_first (omega (arith, none)), less)
 ]
 
+-- and so does the second one
 pub second_within : (at bound : ℕ) (step : Step) → IsStepAt at step → at < bound → step.b < bound
 second_within at bound step stands less = elim (cases_lt 1 (arity_of step.op)) [
   | inl has ↦ omega (arith, stands.fits.second has, less)

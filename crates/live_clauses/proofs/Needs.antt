@@ -1,6 +1,6 @@
 -- Going down from the last step finds the needed steps, and the live ones are exactly those of them that stand for themselves.
 use Rattle.std.proofs.Common.{◌≡◌, ℕ, zero, suc, ◌-◌, ◌<◌, ◌≤◌, Bool, true, ◌&&◌, ◌⊎◌, eqb, ltb, List, length, inl, inr, refl, ap, sym, subst, ◌∙◌, arith}
-use Rattle.std.proofs.lemmas.Bool.{false≢true, cases_lt}
+use Rattle.std.proofs.lemmas.Bool.{and_from, and_parts, cases_lt, false≢true, or_right}
 use Rattle.std.proofs.lemmas.Bool.Decides.{Decides-eqb, Decides-ltb}
 use Rattle.fixed_ops.specs.Arity.{arity_of}
 use Rattle.interval_ops.specs.declared.choice.Choice.{Choice}
@@ -11,17 +11,17 @@ use Rattle.live_clauses.specs.Live.{representative, IsLive, reads, hands_on, nee
 use Rattle.live_clauses.specs.Live.IsLive.{Last, First, Second}
 use Rattle.live_clauses.specs.Steps.{AreSteps}
 use Rattle.live_clauses.proofs.Representatives.{choice_cases, chosen_left, chosen_right, chosen_both, left_chooses, right_chooses, step_at-stands, choosing_operands, representative_left, representative_right, representative_both, representative_holds, representative-both}
-use Rattle.live_clauses.proofs.Joined.{both_true, true_both, one_true, true_left, true_right, same_tests}
+use Rattle.live_clauses.proofs.Joined.{one_true, true_left, same_tests}
 
 reads_cases : (step : Step) (place : ℕ) → reads step place ≡ true
     → ((0 < arity_of step.op) × (place ≡ step.a)) ⊎ ((1 < arity_of step.op) × (place ≡ step.b))
 reads_cases step place read =
     elim (one_true (ltb 0 (arity_of step.op) && eqb place step.a) _ read) [
       | inl first ↦
-          let parts = both_true (ltb 0 (arity_of step.op)) (eqb place step.a) first in
+          let parts = and_parts (ltb 0 (arity_of step.op)) (eqb place step.a) first in
           inl ((Decides-ltb 0 (arity_of step.op)).0 parts.0, (Decides-eqb place step.a).0 parts.1)
       | inr second ↦
-          let parts = both_true (ltb 1 (arity_of step.op)) (eqb place step.b) second in
+          let parts = and_parts (ltb 1 (arity_of step.op)) (eqb place step.b) second in
           inr ((Decides-ltb 1 (arity_of step.op)).0 parts.0, (Decides-eqb place step.b).0 parts.1)
     ]
 
@@ -34,11 +34,11 @@ hands_on_right step choice is = chosen_right choice _ _ _ is ∙ (Decides-eqb st
 
 pub hands_on_first : (step : Step) (choice : Choice) → choice ≡ Both → 0 < arity_of step.op → hands_on step choice step.a ≡ true
 hands_on_first step choice is has =
-    chosen_both choice _ _ _ is ∙ true_left _ _ (true_both _ _ ((Decides-ltb 0 (arity_of step.op)).1 has) ((Decides-eqb step.a step.a).1 refl))
+    chosen_both choice _ _ _ is ∙ true_left _ _ (and_from _ _ ((Decides-ltb 0 (arity_of step.op)).1 has) ((Decides-eqb step.a step.a).1 refl))
 
 pub hands_on_second : (step : Step) (choice : Choice) → choice ≡ Both → 1 < arity_of step.op → hands_on step choice step.b ≡ true
 hands_on_second step choice is has =
-    chosen_both choice _ _ _ is ∙ true_right _ _ (true_both _ _ ((Decides-ltb 1 (arity_of step.op)).1 has) ((Decides-eqb step.b step.b).1 refl))
+    chosen_both choice _ _ _ is ∙ or_right _ _ (and_from _ _ ((Decides-ltb 1 (arity_of step.op)).1 has) ((Decides-eqb step.b step.b).1 refl))
 
 -- each way in which a step needs another
 abbrev Ways : Step → Choice → ℕ → Type 0
@@ -95,7 +95,7 @@ module _ (steps : List Step) (choices : List Choice) (some : 0 < length steps) (
         | inl more ↦ let is : suc n ≡ length steps - 1 - place = omega arith in subst (λ k. needed_after k steps choices place ≡ true) is needed
         | inr fewer ↦ elim (one_true (needed_after n steps choices place) _ needed) [
           | inl sooner ↦ needed_stays n place within fewer sooner
-          | inr now ↦ absurd (omega (arith, hands_on-before (length steps - 1 - n) place (omega arith) (both_true (needed_after n steps choices (length steps - 1 - n)) _ now).1))
+          | inr now ↦ absurd (omega (arith, hands_on-before (length steps - 1 - n) place (omega arith) (and_parts (needed_after n steps choices (length steps - 1 - n)) _ now).1))
         ]
       ]
 
@@ -115,8 +115,8 @@ module _ (steps : List Step) (choices : List Choice) (some : 0 < length steps) (
       let there : length steps - 1 - turn ≡ at = omega arith in
       let settled = needed_stays (length steps) at within (omega arith) needed in
       let here : needed_after turn steps choices (length steps - 1 - turn) && hands (length steps - 1 - turn) place ≡ true =
-      subst (λ k. needed_after turn steps choices k && hands k place ≡ true) (sym there) (true_both _ _ settled handed) in
-      needed_later (suc turn) (length steps) place (omega arith) (true_right (needed_after turn steps choices place) _ here)
+      subst (λ k. needed_after turn steps choices k && hands k place ≡ true) (sym there) (and_from _ _ settled handed) in
+      needed_later (suc turn) (length steps) place (omega arith) (or_right (needed_after turn steps choices place) _ here)
 
   -- and nothing past the end
   pub needed_within : (n place : ℕ) → needed_after n steps choices place ≡ true → place < length steps
@@ -124,7 +124,7 @@ module _ (steps : List Step) (choices : List Choice) (some : 0 < length steps) (
   needed_within (suc n) place needed =
       elim (one_true (needed_after n steps choices place) _ needed) [
         | inl sooner ↦ needed_within n place sooner
-        | inr now ↦ omega (arith, hands_on-before (length steps - 1 - n) place (omega arith) (both_true (needed_after n steps choices (length steps - 1 - n)) _ now).1)
+        | inr now ↦ omega (arith, hands_on-before (length steps - 1 - n) place (omega arith) (and_parts (needed_after n steps choices (length steps - 1 - n)) _ now).1)
       ]
 
   -- the representative of a needed step is live
@@ -136,7 +136,7 @@ module _ (steps : List Step) (choices : List Choice) (some : 0 < length steps) (
         | inl sooner ↦ needed_live n place sooner
         | inr now ↦
             let at = length steps - 1 - n in
-            let parts = both_true (needed_after n steps choices at) (hands at place) now in
+            let parts = and_parts (needed_after n steps choices at) (hands at place) now in
             live_on at place (omega arith) (needed_live n at parts.0) parts.1
       ]
     where
@@ -170,11 +170,11 @@ module _ (steps : List Step) (choices : List Choice) (some : 0 < length steps) (
 
   pub kept_keeps : (place : ℕ) → is_kept steps choices place ≡ true → Keeps place
   kept_keeps place kept =
-      let parts = both_true (is_needed steps choices place) _ kept in
+      let parts = and_parts (is_needed steps choices place) _ kept in
       record { within = needed_within (length steps) place parts.0; needed = parts.0; both = is_both_Both _ parts.1 }
 
   pub keeps_kept : (place : ℕ) → Keeps place → is_kept steps choices place ≡ true
-  keeps_kept place keeps = true_both _ _ keeps.needed (ap is_both keeps.both)
+  keeps_kept place keeps = and_from _ _ keeps.needed (ap is_both keeps.both)
 
   pub representative_keeps : (place : ℕ) → place < length steps → is_needed steps choices place ≡ true → Keeps (representative steps choices place)
   representative_keeps place within needed =

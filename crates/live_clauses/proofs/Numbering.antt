@@ -10,13 +10,26 @@ use Rattle.live_clauses.specs.declared.packed_step.PackedStep.{PackedStep}
 use Rattle.live_clauses.specs.declared.step.Step.{Step}
 use Rattle.live_clauses.specs.Choices.{step_at, choice_at, AreChoices}
 use Rattle.live_clauses.specs.Live.{chosen, is_needed, is_both, is_kept, kept_below, new_place, renumbered, live_below}
-use Rattle.live_clauses.specs.Marks.{AreNumbers, IsCopied}
 use Rattle.live_clauses.specs.Packed.{first_of, is_constant, unpacked}
 use Rattle.live_clauses.specs.Steps.{IsTape}
 use Rattle.live_clauses.proofs.Representatives.{choice_cases, chosen_left, chosen_right, chosen_both, step_at-stands, choosing_operands, left_chooses, right_chooses, representative_left, representative_right, representative_both}
 use Rattle.live_clauses.proofs.Needs.{needed_on, hands_on_left, hands_on_right, hands_on_first, hands_on_second}
 use Rattle.live_clauses.proofs.Kept.{kept_below-dropped, live_below-dropped}
 use Rattle.live_clauses.proofs.Stored.{chosen-first, constant-both, step_at-unpacked}
+
+-- the needed steps before a place have their new numbers
+abbrev pub AreNumbers : ℕ → List Step → List Choice → List ℕ → Type 0
+AreNumbers upto steps choices numbers = (place : ℕ) → place < upto
+    → is_needed steps choices place ≡ true
+    → slice_index numbers place ≡ new_place steps choices place
+
+-- What a walk up a list has done before a place: the needed steps there have their numbers, and the
+-- live ones stand at the front of the new list, so many of them.
+pub record IsCopied (constants : List ℤ) (at : ℕ) (steps : List Step) (choices : List Choice)
+    (numbers : List ℕ) (new : List PackedStep) (count : ℕ) : Type 0 where
+  pub numbered : AreNumbers at steps choices numbers
+  pub counted : count ≡ kept_below steps choices at
+  pub copied : map (unpacked constants) (take count new) ≡ live_below steps choices at
 
 -- new numbers count only where an operand is
 renumbered-same : (step : Step) (f g : ℕ → ℕ) → (0 < arity_of step.op → f step.a ≡ g step.a) → (1 < arity_of step.op → f step.b ≡ g step.b) → renumbered f step ≡ renumbered g step

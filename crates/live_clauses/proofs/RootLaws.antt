@@ -14,9 +14,9 @@ use Rattle.live_clauses.specs.Choices.{choice_at, AreChoices}
 use Rattle.live_clauses.specs.Live.{live_of, root_of}
 use Rattle.live_clauses.specs.Packed.{unpacked}
 use Rattle.live_clauses.specs.Steps.{IsStepAt, AreSteps, IsTape, value_after, tape_value, step_of, steps_of}
-use Rattle.live_clauses.specs.Meanings.{Meaning, number_at, MeanTheirChoices, ReadsItsOperands, tape_meaning}
+use Rattle.live_clauses.specs.Meanings.{Meaning, MeanTheirChoices, ReadsItsOperands, tape_meaning}
 use Rattle.live_clauses.proofs.Keeping.{live_of-meaning, live_of-tape}
-use Rattle.live_clauses.proofs.ValueLaws.{number_at-reads}
+use Rattle.live_clauses.proofs.ValueLaws.{number_at, number_at-reads}
 use Rattle.live_clauses.proofs.Representatives.{left_chooses, right_chooses}
 
 -- the clause that a step comes from

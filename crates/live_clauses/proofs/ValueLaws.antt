@@ -1,10 +1,15 @@
 -- The values of a list are the numbers that its steps mean at a point.
-use Rattle.std.proofs.Common.{◌≡◌, ◌≤◌, ℤ, refl, arith}
+use Rattle.std.proofs.Common.{arith, pos, refl, ℤ, ◌≡◌, ◌≤◌}
 use Rattle.fixed_ops.specs.declared.operation.Op.{Op}
 use Rattle.fixed_ops.specs.declared.operation.Op.TheVariants.{X, Y, Z, Const, Add, Sub, Mul, Div, Min, Max}
 use Rattle.fixed_ops.specs.Arity.{arity_of}
 use Rattle.fixed_ops.specs.Points.{Point, step_value}
-use Rattle.live_clauses.specs.Meanings.{ReadsItsOperands, number_at}
+use Rattle.live_clauses.specs.Meanings.{Meaning, ReadsItsOperands}
+
+-- the numbers that steps mean at a point, which are their values there
+abbrev pub number_at : Point → Meaning ℤ
+number_at p =
+    record { step = λ op constant a b. step_value op p constant a b; absent = pos 0 }
 
 -- what has no operand reads none
 no_first : (p : Point) (op : Op) (constant a b other : ℤ) → arity_of op ≡ 0

@@ -1,7 +1,7 @@
 -- What the steps of a list mean, whatever a step means: a number at a point, or one with its slopes.
-use Rattle.std.specs.Prelude.{◌≡◌, ℕ, ◌≤◌, ◌-◌, ℤ, pos, List, [], ◌∷◌, ◌++◌, length, fold, slice_get, slice_index_or, Some}
+use Rattle.std.specs.Prelude.{◌≡◌, ℕ, ◌≤◌, ◌-◌, ℤ, List, [], ◌∷◌, ◌++◌, length, fold, slice_get, slice_index_or, Some}
 use Rattle.fixed_ops.specs.Arity.{arity_of}
-use Rattle.fixed_ops.specs.Points.{Point, step_value}
+use Rattle.fixed_ops.specs.Points.{Point}
 use Rattle.fixed_ops.specs.Slopes.{Sloped, flat, step_sloped}
 use Rattle.fixed_ops.specs.declared.operation.Op.{Op}
 use Rattle.interval_ops.specs.declared.choice.Choice.{Choice}
@@ -48,11 +48,6 @@ pub record MeanTheirChoices {D : Type 0} (m : Meaning D)
       → choice_at choices place ≡ Left → meaning_at m steps place ≡ meaning_at m steps step.a
   pub right : (place : ℕ) (step : Step) → slice_get steps place ≡ Some step
       → choice_at choices place ≡ Right → meaning_at m steps place ≡ meaning_at m steps step.b
-
--- the numbers that steps mean at a point, which are their values there
-abbrev pub number_at : Point → Meaning ℤ
-number_at p =
-    record { step = λ op constant a b. step_value op p constant a b; absent = pos 0 }
 
 -- the numbers with their slopes that steps mean at a point
 abbrev pub sloped_at : Point → Meaning Sloped

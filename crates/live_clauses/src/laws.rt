@@ -1,8 +1,6 @@
 // What always holds of the definitions that the contracts cite.
 ghost use Rattle.live_clauses.specs.Laws.{RepresentativesAreChosen, LiveStepsAreKept, LiveListsAreTapes, ChoicesKeepTheMeaning, ChoicesKeepTheValue, ListsAreToldApart, MeaningsAreOfOperands, RootHasTheMeaning, RootHasTheSlopes, RootHasTheValue, LiveListsAreWhole, RootListsAreWhole, SlopesAreOfOperands, SlopesStandByValues, ValuesAreOfOperands, WholeListsNeedEachStep, WholeListsStand};
 
-use fixed_ops::Fx;
-
 /// The representative of a step is that of its chosen operand, or the step itself. The steps that a
 /// live list keeps are exactly the least set that holds the representative of the last step and,
 /// with each step, the representatives of its operands.
@@ -35,24 +33,18 @@ pub fn live_lists_keep_meanings<D>()
 #[inline]
 pub fn values_are_of_operands()
     ensures { ValuesAreOfOperands }
-{
-    live_lists_keep_meanings::<Fx>();
-}
+{}
 
 /// At each point where the choices are right, a live list has the value of the list that it comes
 /// from.
 pub fn choices_keep_the_value()
     ensures { ChoicesKeepTheValue }
-{
-    live_lists_keep_meanings::<Fx>();
-}
+{}
 
 /// At each point a root list has the value of the solid, evaluated whole.
 pub fn root_has_the_value()
     ensures { RootHasTheValue }
-{
-    live_lists_keep_meanings::<Fx>();
-}
+{}
 
 /// At each point values with their slopes are a meaning of steps, which reads only the operands that
 /// an operation has. The value of each is the step's value. A root list has the value and the slopes

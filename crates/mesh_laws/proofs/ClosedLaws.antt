@@ -12,14 +12,13 @@ use Rattle.kuhn_cells.specs.Faces.{all_triangles, face_among, faces, number_amon
 use Rattle.kuhn_cells.specs.Grids.{Grid, vertices}
 use Rattle.kuhn_cells.specs.Laws.{IsVertex, OfEdges}
 use Rattle.kuhn_cells.proofs.FaceLaws.{numbers_are_places, triangles_have_vertices}
-use Rattle.kuhn_cells.proofs.OrderLaws.{first_before, rest_in_order}
-use Rattle.kuhn_cells.proofs.VertexLaws.{head_or_tail, in_map, not_in_none}
 use Rattle.mesh_laws.specs.Closed.{IsTriangle, directed_edges, directed_edges_of, goes, occurrences}
 use Rattle.mesh_laws.specs.Laws.{EdgesArePaired}
 use Rattle.mesh_laws.proofs.Lists.{Differ, all_of_flat, flat_of_maps}
 use Rattle.mesh_laws.proofs.Partners.{all_made_back, pair_same}
 use Rattle.mesh_laws.proofs.Single.{all_differ, all_part}
 use Rattle.mesh_laws.proofs.Turns.{all_turns, turns_are_all, turns_of}
+use Rattle.fixed_ops.proofs.Lists.{first_before, head_or_tail, in_map, not_in_none, rest_in_order}
 
 -- ---- an edge of a list without repetition occurs once
 

@@ -12,14 +12,16 @@ use Rattle.kuhn_cells.specs.Vectors.{Vector, determinant}
 unfoldable pub diff : ℕ → ℕ → ℤ
 diff a b = pos a -ℤ pos b
 
-diff_is : (a b : ℕ) → up (diff a b) + b ≡ down (diff a b) + a
+-- a difference by its two parts
+pub diff_is : (a b : ℕ) → up (diff a b) + b ≡ down (diff a b) + a
 unfolding diff
 diff_is a b = omega (arith, ints)
 
 diff_add : (a b c d : ℕ) → diff a b +ℤ diff c d ≡ diff (a + c) (b + d)
 diff_add a b c d = omega (arith, ints, diff_is a b, diff_is c d, diff_is (a + c) (b + d))
 
-diff_sub : (a b c d : ℕ) → diff a b -ℤ diff c d ≡ diff (a + d) (b + c)
+-- the difference of two
+pub diff_sub : (a b c d : ℕ) → diff a b -ℤ diff c d ≡ diff (a + d) (b + c)
 diff_sub a b c d = omega (arith, ints, diff_is a b, diff_is c d, diff_is (a + d) (b + c))
 
 pub diff_same : (a b c d : ℕ) → a + d ≡ c + b → diff a b ≡ diff c d
@@ -28,7 +30,8 @@ diff_same a b c d h = omega (arith, ints, h, diff_is a b, diff_is c d)
 diff_below : (a b : ℕ) → a < b → diff a b <ℤ pos 0
 diff_below a b h = omega (arith, ints, h, diff_is a b)
 
-diff_mul : (a b c d : ℕ) → diff a b *ℤ diff c d ≡ diff (a * c + b * d) (a * d + b * c)
+-- the product of two
+pub diff_mul : (a b c d : ℕ) → diff a b *ℤ diff c d ≡ diff (a * c + b * d) (a * d + b * c)
 diff_mul a b c d =
     let x = diff a b in
     let y = diff c d in

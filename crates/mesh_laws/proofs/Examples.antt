@@ -12,7 +12,6 @@ use Rattle.kuhn_cells.specs.Grids.{Grid, edges, value_at, vertices}
 use Rattle.kuhn_cells.specs.Triangles.{GridPoint, point}
 use Rattle.kuhn_cells.specs.Vectors.{determinant_at}
 use Rattle.kuhn_cells.specs.declared.edge_key.EdgeKey.{EdgeKey}
-use Rattle.kuhn_cells.proofs.VertexLaws.{in_map, not_in_none}
 use Rattle.mesh_laws.specs.Closed.{IsClosed, IsTriangle, directed_edges, occurrences}
 use Rattle.mesh_laws.specs.Frames.{IsFramed, IsOuter}
 use Rattle.mesh_laws.specs.Manifold.{HasFan, IsManifold, arcs, arcs_on, cycle_arcs}
@@ -27,6 +26,7 @@ use Rattle.std.proofs.lemmas.Int.{ints}
 use Rattle.std.proofs.lemmas.List.{get_or-replicate, get_or_past, length-replicate}
 use Rattle.std.proofs.lemmas.List.Elements.{All-cons, All-contains, All-head, All-map, All-nil, All-tail, All-weaker, Contains-get_or}
 use Rattle.std.proofs.lemmas.List.Sums.{AllPass-from_list_all}
+use Rattle.fixed_ops.proofs.Lists.{in_map, not_in_none}
 
 -- ---- a test of closed meshes
 

@@ -11,12 +11,13 @@ use Rattle.kuhn_cells.specs.Faces.{all_triangles, cell_triangles, face_among, fa
 use Rattle.kuhn_cells.specs.Grids.{Grid, is_inside_at, lower, upper, value_at, vertices}
 use Rattle.kuhn_cells.specs.Triangles.{GridPoint, further, point, triangles_in}
 use Rattle.kuhn_cells.specs.Vectors.{Vector, determinant, determinant_at}
-use Rattle.kuhn_cells.proofs.FaceLaws.{all_in_block, all_within, numbers_are_places, triangles_have_vertices}
+use Rattle.kuhn_cells.proofs.FaceLaws.{all_in_block, numbers_are_places, triangles_have_vertices}
 use Rattle.mesh_laws.specs.Places.{inner_end, inner_of, lattice_place, point_place, share, share_between}
 use Rattle.mesh_laws.specs.Separating.{FacesOut, HasInsideBehind, IsBehind}
 use Rattle.mesh_laws.proofs.Determinants.{IsLow, IsWeight, arrow, below_zero, between, diff, diff_same, from_last, low_between, vector, weighed}
 use Rattle.mesh_laws.proofs.Sides.{AreEnds, HasEnds, IsOut, all_out, ends_low, is_behind, less_at, some_less, to_end}
 use Rattle.mesh_laws.proofs.Turns.{Way, key_of, pattern_at, triangles_of_tetrahedron, triple_of, ways_in}
+use Rattle.fixed_ops.proofs.Lists.{all_within}
 
 -- ---- the place of a vertex between the ends of its edge
 

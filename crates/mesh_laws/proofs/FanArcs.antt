@@ -14,18 +14,20 @@ use Rattle.kuhn_cells.specs.Faces.{all_triangles, cell_triangles, face_among, fa
 use Rattle.kuhn_cells.specs.Grids.{Grid, is_inside_at, lower, upper, vertices}
 use Rattle.kuhn_cells.specs.Laws.{IsDirection, IsVertex, OfEdges}
 use Rattle.kuhn_cells.specs.Triangles.{GridPoint, further, point, triangles_in}
-use Rattle.kuhn_cells.proofs.FaceLaws.{all_in_block, all_within, triangles_have_vertices}
-use Rattle.kuhn_cells.proofs.VertexLaws.{in_block, in_flat, in_map, in_range}
+use Rattle.kuhn_cells.proofs.FaceLaws.{all_in_block, triangles_have_vertices}
+use Rattle.kuhn_cells.proofs.VertexLaws.{in_block}
 use Rattle.mesh_laws.specs.Frames.{IsFramed}
 use Rattle.mesh_laws.specs.Manifold.{arcs, arcs_at}
 use Rattle.mesh_laws.proofs.ClosedLaws.{number, one_vertex}
 use Rattle.mesh_laws.proofs.Fans.{IsBack, both_by, cell_back, key_is, key_near, number_is, number_near, own_key, own_number, pattern_is, same_arcs, same_test, spot}
 use Rattle.mesh_laws.proofs.Lists.{all_of_flat}
 use Rattle.mesh_laws.proofs.Owners.{direction, low}
-use Rattle.mesh_laws.proofs.Partners.{IsInner, inner, or_then}
+use Rattle.mesh_laws.proofs.Partners.{IsInner, inner}
 use Rattle.mesh_laws.proofs.Rings.{always_near, always_round, arcs_in, are_near, edge_number, has_arc, is_near, is_point_of, is_round, offset, pattern_in, points, ring, ring_arcs}
 use Rattle.mesh_laws.proofs.Sides.{HasEnds, IsOut, all_out}
 use Rattle.mesh_laws.proofs.Turns.{Way, key_of, pattern_at, triangles_of_tetrahedron, triple_of, ways_in}
+use Rattle.fixed_ops.proofs.Lists.{all_within, in_flat, in_map, in_range}
+use Rattle.kuhn_cells.proofs.EdgeLaws.{implied_or}
 
 -- ---- the tetrahedra round an edge
 
@@ -226,7 +228,7 @@ unfolding is_round
 lies_round tetra w few fi fo apart =
     let i = w.inner in
     let h = agree_below_at (is_round tetra i) (λ _. true) 4 w.outer (agree_below_at (λ i. agree_below (is_round tetra i) (λ _. true) 4) (λ _. true) 4 i (agree_below_at (λ t. agree_below (λ i. agree_below (is_round t i) (λ _. true) 4) (λ _. true) 4) (λ _. true) 6 tetra always_round few) fi) fo in
-    arc_found (ring (direction tetra w)) (low tetra w, tetra) (and_parts _ _ (or_then _ _ h apart)).0
+    arc_found (ring (direction tetra w)) (low tetra w, tetra) (and_parts _ _ (implied_or _ _ h apart)).0
 
 gone_back : (c m : ℕ) → (c + m) - m ≡ c
 gone_back c m = omega arith

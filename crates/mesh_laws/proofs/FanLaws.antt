@@ -1,9 +1,9 @@
 -- The mesh of each grid is a manifold.
 use Rattle.std.proofs.Common.{◌≡◌, ℕ, zero, suc, ◌+◌, ◌-◌, ◌<◌, ◌≤◌, Bool, true, false, cond, List, [], ◌∷◌, length, refl, arith, ap, sym, subst, ◌∙◌, inl, inr}
-use Rattle.std.specs.Prelude.{◌==◌, ◌||◌, ◌⊎◌, not, map, flat_map, get_or, All, AllPairs, Contains, if◌then◌else◌}
+use Rattle.std.specs.Prelude.{◌==◌, ◌⊎◌, map, flat_map, get_or, All, AllPairs, Contains, if◌then◌else◌}
 use Rattle.std.specs.List.{list_all}
-use Rattle.std.proofs.lemmas.Bool.{agree_below_at, and_from, and_parts, cases_order, eq-eqb, eqb-true, false≢true, leb-true}
-use Rattle.std.proofs.lemmas.List.{length-map}
+use Rattle.std.proofs.lemmas.Bool.{agree_below_at, and_parts, cases_order, eqb-true, leb-true}
+use Rattle.std.proofs.lemmas.List.{length-map, map-id}
 use Rattle.std.proofs.lemmas.List.Elements.{All-cons, All-contains, All-head, All-map, All-nil, All-tail, All-weaker, Contains-append_right, Contains-get_or}
 use Rattle.std.proofs.lemmas.List.Kept.{AllPairs-cons}
 use Rattle.std.proofs.lemmas.List.Sums.{AllPass-from_list_all, sum_by-append, sum_by-cons}
@@ -14,8 +14,8 @@ use Rattle.kuhn_cells.specs.Grids.{Grid, is_inside_at, lower, upper, vertices}
 use Rattle.kuhn_cells.specs.Laws.{IsBefore, IsDirection, IsVertex}
 use Rattle.kuhn_cells.specs.Triangles.{GridPoint, further}
 use Rattle.kuhn_cells.proofs.FaceLaws.{numbers_are_places}
-use Rattle.kuhn_cells.proofs.OrderLaws.{first_before, rest_in_order, vertices_rise}
-use Rattle.kuhn_cells.proofs.VertexLaws.{head_or_tail, in_map, not_in_none, vertices_are_mixed_edges}
+use Rattle.kuhn_cells.proofs.OrderLaws.{vertices_rise}
+use Rattle.kuhn_cells.proofs.VertexLaws.{vertices_are_mixed_edges}
 use Rattle.mesh_laws.specs.Closed.{directed_edges, directed_edges_of, goes, occurrences}
 use Rattle.mesh_laws.specs.Frames.{IsFramed}
 use Rattle.mesh_laws.specs.Laws.{HaveOneCycle}
@@ -25,6 +25,8 @@ use Rattle.mesh_laws.proofs.FanArcs.{IsNearVertex, arc_found, arcs_are, arcs_are
 use Rattle.mesh_laws.proofs.Fans.{both_by, cell_back, key_near, number_near, own_spot, sign_is, spot, spot_is}
 use Rattle.mesh_laws.proofs.Lists.{Differ, differ_by, distinct}
 use Rattle.mesh_laws.proofs.Rings.{all_signs_at, always_fan, cycle_of, fans_round, has_arc, has_fan, is_fan, offset, points, sign_in}
+use Rattle.fixed_ops.proofs.Lists.{first_before, head_or_tail, in_map, not_in_none, rest_in_order}
+use Rattle.kuhn_cells.proofs.EdgeLaws.{implied}
 
 -- ---- how often arcs occur
 
@@ -112,10 +114,6 @@ differ_from f [] h = λ i j d less within. absurd (omega (arith, within))
 differ_from f (x ∷ xs) h =
     AllPairs-cons Differ x xs (All-weaker (λ y. Differ (f x) (f y)) (Differ x) (λ y differ same. differ (ap f same)) xs (unmapped (Differ (f x)) f xs (first_before Differ (f x) (map f xs) h))) (differ_from f xs (rest_in_order Differ (f x) (map f xs) h))
 
-map_same : (xs : List ℕ) → map (λ x. x) xs ≡ xs
-map_same [] = refl
-map_same (x ∷ xs) = ap (λ ys. x ∷ ys) (map_same xs)
-
 -- ---- the fan of a vertex
 
 no_way : (l : GridPoint) → cell_back l 0 ≡ l
@@ -129,10 +127,6 @@ fans_at : (dir : ℕ) → IsDirection dir → fans_round (points dir) dir ≡ tr
 fans_at zero h = let some = h.some in absurd (omega (arith, some))
 fans_at (suc k) h = let few = h.within in agree_below_at (λ k. fans_round (points (suc k)) (suc k)) (λ _. true) 7 k always_fan (omega (arith, few))
 
-parted_fan : (d fan : Bool) → (not d || fan) ≡ true → d ≡ true → fan ≡ true
-parted_fan true fan h e = h
-parted_fan false fan h e = absurd (false≢true e)
-
 fan_at : (g : Grid) (e : EdgeKey) → IsVertex g e → is_fan (near_arcs g e) ≡ true
 unfolding fans_round has_fan
 fan_at g e v =
@@ -142,7 +136,7 @@ fan_at g e v =
     let ends = ends_are_points e.dir v.direction in
     let low = sign_is os s 13 ends.0 ∙ ap (is_inside_at g) (own_spot (lower e)) in
     let high = sign_is os s (offset 0 e.dir) ends.1 ∙ ap (is_inside_at g) (upper_spot e) in
-    parted_fan (differ (sign_in os (map s os) 13) (sign_in os (map s os) (offset 0 e.dir))) (is_fan (near_arcs g e)) h (rw (low, high) v.mixed)
+    implied (differ (sign_in os (map s os) 13) (sign_in os (map s os) (offset 0 e.dir))) (is_fan (near_arcs g e)) h (rw (low, high) v.mixed)
 
 has_all : (es fs : List (ℕ × ℕ)) → list_all (has_arc es) fs ≡ true → All (Contains es) fs
 has_all es fs h = All-weaker (λ a. has_arc es a ≡ true) (Contains es) (λ a k. arc_found es a k) fs (AllPass-from_list_all (has_arc es) fs h)
@@ -163,7 +157,7 @@ cycle_at es h =
     let third = and_parts _ _ second.1 in
     record {
       long = leb-true _ _ first.0;
-      differ = differ_by (λ k. k) c (ap distinct (map_same c) ∙ second.0);
+      differ = differ_by (λ k. k) c (ap distinct (map-id c) ∙ second.0);
       all = has_all (cycle_arcs c) es third.0;
       only = has_all es (cycle_arcs c) third.1;
     }

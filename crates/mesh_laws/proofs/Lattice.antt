@@ -5,10 +5,11 @@ use Rattle.std.proofs.lemmas.Int.{ints}
 use Rattle.fixed_ops.specs.Cut.{cut_of}
 use Rattle.kuhn_cells.specs.declared.edge_key.EdgeKey.{EdgeKey}
 use Rattle.kuhn_cells.specs.Corners.{along_x, along_y, along_z}
-use Rattle.kuhn_cells.specs.Grids.{Grid, is_inside_at, lower, upper, value_at}
+use Rattle.kuhn_cells.specs.Grids.{Grid, lower, upper, value_at}
 use Rattle.kuhn_cells.specs.Laws.{IsDirection}
 use Rattle.kuhn_cells.specs.Vectors.{Vector}
-use Rattle.mesh_laws.specs.Places.{lattice_place, share}
+use Rattle.mesh_laws.specs.Places.{lattice_place, share, way_up}
+use Rattle.fixed_ops.specs.Raw.{is_inside}
 
 pub record IsShare (t : ℕ) : Type 0 where
   pub some : 1 ≤ t
@@ -20,11 +21,14 @@ cut_is_share a b = record { some = omega arith; few = omega arith }
 rest_is_share : (a b : ℤ) → IsShare (65536 - cut_of a b)
 rest_is_share a b = record { some = omega arith; few = omega arith }
 
+-- a mesh cuts an edge between its ends, whatever their values
+pub way_is_share : (low high : ℤ) → IsShare (way_up low high)
+way_is_share low high =
+    cond_both (is_inside low) (cut_of low high) (65536 - cut_of high low) IsShare (λ _. cut_is_share low high) (λ _. rest_is_share high low)
+
+-- so the share of an edge is one
 pub share_is_share : (g : Grid) (e : EdgeKey) → IsShare (share g e)
-share_is_share g e =
-    let low = value_at g (lower e) in
-    let high = value_at g (upper e) in
-    cond_both (is_inside_at g (lower e)) (cut_of low high) (65536 - cut_of high low) IsShare (λ _. cut_is_share low high) (λ _. rest_is_share high low)
+share_is_share g e = way_is_share (value_at g (lower e)) (value_at g (upper e))
 
 -- ---- edges are known by their lower ends and their steps
 

@@ -1,5 +1,5 @@
 -- Lines of different raw places differ.
-use Rattle.std.proofs.Common.{◌≡◌, ℕ, zero, suc, ◌-◌, ◌*◌, ◌/◌, ◌%◌, ◌^◌, ◌<◌, ℤ, pos, negsuc, Bool, true, false, not, List, [], ◌∷◌, ◌++◌, length, replicate, decimal, eqb, refl, arith, ap, ◌∙◌}
+use Rattle.std.proofs.Common.{◌≡◌, ℕ, zero, suc, ◌-◌, ◌*◌, ◌/◌, ◌%◌, ◌^◌, ◌<◌, ℤ, pos, negsuc, Bool, true, false, not, List, [], ◌∷◌, ◌++◌, length, replicate, decimal, eqb, refl, arith, ◌∙◌}
 use Rattle.std.specs.Prelude.{◌==◌}
 use Rattle.std.specs.Char.{digit_value}
 use Rattle.std.specs.List.{list_all}
@@ -11,11 +11,10 @@ use Rattle.std.proofs.lemmas.Int.{ints}
 use Rattle.std.proofs.lemmas.List.{same_from_push}
 use Rattle.std.proofs.lemmas.List.Folds.{list_all-append}
 use Rattle.std.proofs.lemmas.Str.Parse.{digit_from_value}
-use Rattle.fixed_ops.specs.Numerals.{numeral}
 use Rattle.fixed_ops.specs.NumberTexts.{number_text, size_text, zero_padded}
 use Rattle.fixed_ops.specs.Raw.{IsRaw}
 use Rattle.kuhn_cells.specs.Vectors.{Vector}
-use Rattle.fixed_ops.proofs.TextLaws.{number_text_reads}
+use Rattle.fixed_ops.proofs.TextLaws.{number_text_tells}
 use Rattle.mesh_laws.specs.Places.{place_line}
 
 -- ---- number texts have no space
@@ -79,13 +78,6 @@ up_to_space (x ∷ xs) (u ∷ us) ys vs p q e =
     let rest = up_to_space xs us ys vs (and_parts _ _ p).1 (and_parts _ _ q).1 tail in
     (rw (head, rest.0) refl, rest.1)
 
-text_tells : (v w : ℤ) → IsRaw v → IsRaw w → number_text v ≡ number_text w → v ≡ w
-text_tells v w h k e =
-    let one = number_text_reads v h in
-    let other = number_text_reads w k in
-    let same : numeral (number_text v) ≡ numeral (number_text w) = ap numeral e in
-    cc
-
 pub record IsRawPlace (v : Vector) : Type 0 where
   pub x : IsRaw v.x
   pub y : IsRaw v.y
@@ -96,4 +88,4 @@ line_tells v w p q e =
     let first = up_to_space (number_text v.x) (number_text w.x) (number_text v.y ++ 32 ∷ (number_text v.z ++ 10 ∷ [])) (number_text w.y ++ 32 ∷ (number_text w.z ++ 10 ∷ [])) (text_has_none v.x p.x) (text_has_none w.x q.x) e in
     let second = up_to_space (number_text v.y) (number_text w.y) (number_text v.z ++ 10 ∷ []) (number_text w.z ++ 10 ∷ []) (text_has_none v.y p.y) (text_has_none w.y q.y) first.1 in
     let third = same_from_push (number_text v.z) (number_text w.z) 10 10 second.1 in
-    rw (text_tells v.x w.x p.x q.x first.0, text_tells v.y w.y p.y q.y second.0, text_tells v.z w.z p.z q.z third.0) refl
+    rw (number_text_tells w.x v.x q.x p.x first.0, number_text_tells w.y v.y q.y p.y second.0, number_text_tells w.z v.z q.z p.z third.0) refl

@@ -4,15 +4,10 @@ use Rattle.std.specs.Prelude.{◌==◌, ◌&&◌, not, map, flat_map, All, AllPa
 use Rattle.std.specs.List.{list_all}
 use Rattle.std.proofs.lemmas.Bool.{and_parts, both_ways, eq-eqb, not-true}
 use Rattle.std.proofs.lemmas.List.{map-append}
-use Rattle.std.proofs.lemmas.List.Concat.{flat_map-append}
 use Rattle.std.proofs.lemmas.List.Elements.{All-append, All-cons, All-nil, All-head, All-tail}
 use Rattle.std.proofs.lemmas.List.Kept.{AllPairs-cons}
 
 -- ---- lists of lists
-
-pub flat_in_flat : {X Y Z : Type 0} (f : Y → List Z) (g : X → List Y) (xs : List X) → flat_map f (flat_map g xs) ≡ flat_map (λ x. flat_map f (g x)) xs
-flat_in_flat f g [] = refl
-flat_in_flat f g (x ∷ xs) = flat_map-append f (g x) (flat_map g xs) ∙ ap (λ ys. flat_map f (g x) ++ ys) (flat_in_flat f g xs)
 
 pub flat_same : {X Y : Type 0} (f g : X → List Y) → ((x : X) → f x ≡ g x) → (xs : List X) → flat_map f xs ≡ flat_map g xs
 flat_same f g same [] = refl
@@ -47,7 +42,3 @@ differ_by n [] h = λ i j d less within. absurd (omega (arith, within))
 differ_by n (y ∷ ys) h =
     let parts = and_parts _ _ h in
     AllPairs-cons Differ y ys (none_same n y ys parts.0) (differ_by n ys parts.1)
-
-pub same_numbers : {A B : Type 0} (f : A → B) (m : B → ℕ) (n : A → ℕ) (xs : List A) → All (λ x. m (f x) ≡ n x) xs → map m (map f xs) ≡ map n xs
-same_numbers f m n [] h = refl
-same_numbers f m n (x ∷ xs) h = rw (All-head (λ x. m (f x) ≡ n x) x xs h, same_numbers f m n xs (All-tail (λ x. m (f x) ≡ n x) x xs h)) refl

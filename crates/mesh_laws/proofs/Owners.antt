@@ -12,8 +12,9 @@ use Rattle.kuhn_cells.specs.Grids.{lower}
 use Rattle.kuhn_cells.specs.Triangles.{GridPoint, further}
 use Rattle.kuhn_cells.proofs.Checks.{every, every_at}
 use Rattle.kuhn_cells.proofs.EdgeLaws.{pattern_at as pattern_is}
-use Rattle.mesh_laws.proofs.Lists.{Differ, differ_by, distinct, same_numbers}
+use Rattle.mesh_laws.proofs.Lists.{Differ, differ_by, distinct}
 use Rattle.mesh_laws.proofs.Turns.{Way, keys_of, pattern_at, turns_at, turns_in, ways_in}
+use Rattle.fixed_ops.proofs.Lists.{map_map}
 
 -- ---- a number for each turn of the tetrahedra near a place
 
@@ -220,4 +221,4 @@ one_differ inside cell tetra few =
     let turns = turns_in (is_negative tetra) pattern in
     let all = All-weaker (IsPlaced inside cell tetra) (λ t. key_code inside (keys_of cell tetra t) ≡ turn_code tetra t) (λ t h. h.number) turns (all_placed inside cell tetra few) in
     let numbers = (and_parts _ _ (good_turns tetra (at 0) (at 1) (at 2) (at 3) few)).1 in
-    differ_by (key_code inside) (turns_at inside cell tetra) (ap distinct (same_numbers (keys_of cell tetra) (key_code inside) (turn_code tetra) turns all) ∙ numbers)
+    differ_by (key_code inside) (turns_at inside cell tetra) (ap distinct (map_map (key_code inside) (keys_of cell tetra) (turn_code tetra) turns all) ∙ numbers)

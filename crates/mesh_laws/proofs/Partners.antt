@@ -12,13 +12,14 @@ use Rattle.kuhn_cells.specs.Corners.{along_x, along_y, along_z, corner, is_negat
 use Rattle.kuhn_cells.specs.Grids.{Grid, is_inside_at, is_point, lower}
 use Rattle.kuhn_cells.specs.Triangles.{GridPoint, further}
 use Rattle.kuhn_cells.proofs.Checks.{both, both_at, every, every_at}
-use Rattle.kuhn_cells.proofs.EdgeLaws.{pattern_at as pattern_is}
-use Rattle.kuhn_cells.proofs.FaceLaws.{all_in_block, all_within}
-use Rattle.kuhn_cells.proofs.VertexLaws.{in_block, in_flat, in_map, in_range}
+use Rattle.kuhn_cells.proofs.EdgeLaws.{implied_or, pattern_at as pattern_is}
+use Rattle.kuhn_cells.proofs.FaceLaws.{all_in_block}
+use Rattle.kuhn_cells.proofs.VertexLaws.{in_block}
 use Rattle.mesh_laws.specs.Frames.{IsFramed, IsOuter}
 use Rattle.mesh_laws.proofs.Neighbours.{ahead, always_beyond, always_met, are_met, back, beyond, fits, has, has_turn, is_beyond, is_met, missing, missing_of, moved, opposite, pattern_beyond, same_flag, same_way, sign_beyond, touches, turn_beyond, way_beyond, yes}
 use Rattle.mesh_laws.proofs.Owners.{IsPlaced, all_placed}
 use Rattle.mesh_laws.proofs.Turns.{Way, all_turns, cell_turns, key_of, keys_of, pattern_at, turns_at, turns_in, way}
+use Rattle.fixed_ops.proofs.Lists.{all_within, in_flat, in_map, in_range}
 
 -- ---- inside points lie within the outermost layer
 
@@ -138,10 +139,6 @@ or_second true b c h p q = absurd (true≢false p)
 or_second false true c h p q = absurd (true≢false q)
 or_second false false c h p q = h
 
-pub or_then : (a b : Bool) → (a || b) ≡ true → a ≡ false → b ≡ true
-or_then true b h p = absurd (true≢false p)
-or_then false b h p = h
-
 key_beyond : (tetra out : ℕ) (cell : GridPoint) (w : Way) → IsThere tetra out cell → fits tetra out w.inner w.outer ≡ true → (w.inner == out) ≡ false → (w.outer == out) ≡ false → key_of (cell_beyond tetra out cell) (beyond out tetra) (way_beyond out w) ≡ key_of cell tetra w
 unfolding fits
 key_beyond tetra out cell w there h i j =
@@ -218,7 +215,7 @@ across_face g cell tetra t framed in_grid_now placed fo met =
     let a2 = or_parts _ _ a1.1 in
     let lit = sym (pattern_is (λ k. inside (further cell k)) tetra t.0.inner placed.inner) ∙ placed.lit in
     let n = inner g framed (further cell c) (one_further cell.x g.x c in_grid_now.x) (one_further cell.y g.y (c / 2) in_grid_now.y) (one_further cell.z g.z (c / 4) in_grid_now.z) lit in
-    let near = or_then _ _ (b.near t.0.inner placed.inner) a0.0 in
+    let near = implied_or _ _ (b.near t.0.inner placed.inner) a0.0 in
     let nx = and_parts _ _ near in
     let nyz = and_parts _ _ nx.1 in
     let x = and_parts _ _ nx.0 in

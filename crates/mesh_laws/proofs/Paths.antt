@@ -12,8 +12,9 @@ use Rattle.kuhn_cells.specs.Grids.{Grid, edges, is_inside_at, is_mixed, lower, u
 use Rattle.kuhn_cells.specs.Triangles.{GridPoint}
 use Rattle.kuhn_cells.proofs.EdgeLaws.{differ_symmetric}
 use Rattle.kuhn_cells.proofs.FaceLaws.{same_as_itself, same_is_equal}
-use Rattle.kuhn_cells.proofs.VertexLaws.{head_or_tail, in_filter, not_in_none, vertices_are_mixed_edges}
+use Rattle.kuhn_cells.proofs.VertexLaws.{vertices_are_mixed_edges}
 use Rattle.mesh_laws.specs.Separating.{IsParted, IsPath, passed}
+use Rattle.fixed_ops.proofs.Lists.{head_or_tail, in_filter, not_in_none}
 
 -- ---- an edge of a grid holds a vertex where its ends differ
 

@@ -7,12 +7,11 @@ use Rattle.std.proofs.lemmas.List.Elements.{All-nil, All-weaker}
 use Rattle.kuhn_cells.specs.declared.edge_key.EdgeKey.{EdgeKey}
 use Rattle.kuhn_cells.specs.Grids.{Grid, is_inside_at}
 use Rattle.kuhn_cells.specs.Triangles.{GridPoint, point}
-use Rattle.kuhn_cells.proofs.FaceLaws.{all_within}
-use Rattle.kuhn_cells.proofs.OrderLaws.{in_order}
-use Rattle.kuhn_cells.proofs.VertexLaws.{all_block, all_flat}
+use Rattle.kuhn_cells.proofs.VertexLaws.{all_block}
 use Rattle.mesh_laws.proofs.Lists.{Differ}
 use Rattle.mesh_laws.proofs.Owners.{IsAtHome, all_at_home, home_tetra, home_x, home_y, home_z, one_differ}
 use Rattle.mesh_laws.proofs.Turns.{all_turns, cell_turns, turns_at}
+use Rattle.fixed_ops.proofs.Lists.{all_flat, all_within, in_order}
 
 -- two things that a number tells apart differ
 pub apart : {A : Type 0} (n : A → ℕ) (i j : ℕ) (x y : A) → i < j → n x ≡ i → n y ≡ j → Differ x y

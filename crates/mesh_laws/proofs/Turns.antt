@@ -11,7 +11,8 @@ use Rattle.kuhn_cells.specs.Faces.{all_triangles, cell_triangles}
 use Rattle.kuhn_cells.specs.Grids.{Grid, is_inside_at, over_block}
 use Rattle.kuhn_cells.specs.Triangles.{GridPoint, edge_between, further, point, triangles_among, triangles_in}
 use Rattle.kuhn_cells.proofs.EdgeLaws.{corner_at}
-use Rattle.mesh_laws.proofs.Lists.{flat_in_flat, flat_of_maps, flat_same}
+use Rattle.mesh_laws.proofs.Lists.{flat_of_maps, flat_same}
+use Rattle.fixed_ops.proofs.Lists.{flat_flat}
 
 -- the pairs in which three things follow each other, round and round
 abbrev pub round : {A : Type 0} → A → A → A → List (A × A)
@@ -119,14 +120,14 @@ turns_of_tetrahedron inside cell tetra =
 
 pub turns_of_cell : (inside : GridPoint → Bool) (cell : GridPoint) → flat_map turns_of (cell_triangles inside cell) ≡ cell_turns inside cell
 turns_of_cell inside cell =
-    flat_in_flat turns_of (λ tetra. triangles_in cell tetra (λ c. inside (further cell c))) (range_with_len 0 6)
+    flat_flat turns_of (λ tetra. triangles_in cell tetra (λ c. inside (further cell c))) (range_with_len 0 6)
     ∙ flat_same (λ tetra. flat_map turns_of (triangles_in cell tetra (λ c. inside (further cell c)))) (turns_at inside cell) (turns_of_tetrahedron inside cell) (range_with_len 0 6)
 
 flat_block : {A B : Type 0} (f : A → List B) (nx ny nz : ℕ) (at : GridPoint → List A) (to : GridPoint → List B) → ((p : GridPoint) → flat_map f (at p) ≡ to p) → flat_map f (over_block nx ny nz at) ≡ over_block nx ny nz to
 flat_block f nx ny nz at to same =
-    flat_in_flat f _ (range_with_len 0 nz) ∙ flat_same _ _ (λ z.
-    flat_in_flat f _ (range_with_len 0 ny) ∙ flat_same _ _ (λ y.
-    flat_in_flat f _ (range_with_len 0 nx) ∙ flat_same _ _ (λ x. same (point x y z)) (range_with_len 0 nx)) (range_with_len 0 ny)) (range_with_len 0 nz)
+    flat_flat f _ (range_with_len 0 nz) ∙ flat_same _ _ (λ z.
+    flat_flat f _ (range_with_len 0 ny) ∙ flat_same _ _ (λ y.
+    flat_flat f _ (range_with_len 0 nx) ∙ flat_same _ _ (λ x. same (point x y z)) (range_with_len 0 nx)) (range_with_len 0 ny)) (range_with_len 0 nz)
 
 pub turns_are_all : (g : Grid) → flat_map turns_of (all_triangles g) ≡ all_turns g
 unfolding all_triangles all_turns

@@ -1,21 +1,16 @@
 -- Names in their order are new.
-use Rattle.std.proofs.Common.{◌≡◌, ℕ, zero, suc, ◌+◌, ◌*◌, ◌<◌, ◌≤◌, ◌^◌, false, List, [], ◌∷◌, ◌++◌, length, drop, get_or, inl, inr, ◌⊎◌, Option, None, Some, ap, sym, refl, ◌∙◌, length-append, arith, nat_le}
+use Rattle.std.proofs.Common.{◌≡◌, ℕ, zero, suc, ◌+◌, ◌*◌, ◌<◌, ◌≤◌, ◌^◌, false, List, [], ◌∷◌, ◌++◌, length, drop, get_or, inl, inr, ◌⊎◌, Option, None, Some, ap, refl, ◌∙◌, length-append, arith, nat_le}
 use Rattle.std.specs.Prelude.{decimal}
 use Rattle.std.specs.Str.{bytes_eq}
-use Rattle.std.specs.Str.Parse.{digits_value}
 use Rattle.std.specs.Cmp.Lexicographic.{bytes_decides}
 use Rattle.std.proofs.lemmas.Bool.{lt-leb}
-use Rattle.std.proofs.lemmas.Fmt.{decimal_is_IsNumeral, decimal_nonempty}
+use Rattle.std.proofs.lemmas.Fmt.{decimal_injective, decimal_nonempty}
 use Rattle.std.proofs.lemmas.List.Elements.{All-append}
 use Rattle.std.proofs.lemmas.List.Quantifiers.{position-Some}
 use Rattle.solid_model.specs.declared.clause.Clause.{Clause}
 use Rattle.solid_model.specs.Clauses.{place_of}
 use Rattle.solid_model.specs.Pushing.{push_fault}
 use Rattle.model_forge.specs.Fresh.{IsBefore, IsNext, TakesFrom}
-
--- a number has one text
-same_number : (m n : ℕ) → m < 2 ^ 64 → n < 2 ^ 64 → decimal m ≡ decimal n → m ≡ n
-same_number m n few_m few_n e = sym (decimal_is_IsNumeral m few_m).1 ∙ ap (digits_value 10) e ∙ (decimal_is_IsNumeral n few_n).1
 
 -- a name that comes before another is another one
 differs : (name : List ℕ) (letter disc : ℕ) → disc < 2 ^ 32 → IsBefore letter disc name → letter ∷ decimal disc ≡ name → ⊥
@@ -32,7 +27,7 @@ differs name letter disc few (inr earlier) e =
     by : (earlier.own_disc < disc) ⊎ ((earlier.own_disc ≡ disc) × (earlier.own_letter < letter)) → letter ≡ earlier.own_letter
         → decimal disc ≡ decimal earlier.own_disc → ⊥
     by (inl less) same_letter same_digits =
-        let same = same_number disc earlier.own_disc (omega (arith, few)) (omega (arith, few, less)) same_digits in
+        let same = decimal_injective disc earlier.own_disc (omega (arith, few)) (omega (arith, few, less)) same_digits in
         omega (arith, same, less)
     by (inr same) same_letter same_digits = let less = same.1 in omega (arith, less, same_letter)
 

@@ -1,11 +1,13 @@
 -- Clauses by names, where others follow.
-use Rattle.std.proofs.Common.{◌≡◌, ℕ, zero, suc, ◌+◌, ◌<◌, List, [], ◌∷◌, ◌++◌, length, map, take, get_or, Some, slice_get, refl, ap, ◌∙◌, arith}
+use Rattle.std.proofs.Common.{◌≡◌, ℕ, ◌+◌, ◌<◌, List, [], ◌++◌, length, map, get_or, Some, slice_get, ap, ◌∙◌, arith}
 use Rattle.std.proofs.lemmas.List.{length-map, map-append, get_or_append_left, get_or-append-add}
 use Rattle.std.proofs.lemmas.Option.{slice_get_within}
 use Rattle.fixed_ops.specs.Arity.{arity_of}
 use Rattle.solid_model.specs.declared.clause.Clause.{Clause}
 use Rattle.solid_model.specs.Clauses.{names_of, AreInOrder}
 use Rattle.solid_model.specs.Named.{name_at, by_name, named_of}
+use Rattle.fixed_ops.proofs.Lists.{same_front}
+use Rattle.solid_model.proofs.NamePlaces.{map-alike}
 
 -- the names of clauses stay, and those of the others follow
 pub name_front : (xs ys : List Clause) (k : ℕ) → k < length xs → name_at (xs ++ ys) k ≡ name_at xs k
@@ -21,27 +23,16 @@ name_behind xs ys n k e =
     ∙ ap (λ j. get_or (names_of xs ++ names_of ys) j []) place
     ∙ get_or-append-add (names_of xs) (names_of ys) n []
 
--- as many names as there are operands
-same_operands : (n : ℕ) (x y v w : List ℕ) → (0 < n → x ≡ v) → (1 < n → y ≡ w) → take n (x ∷ y ∷ []) ≡ take n (v ∷ w ∷ [])
-same_operands zero x y v w first second = refl
-same_operands (suc zero) x y v w first second = ap (λ l. l ∷ []) (first (omega arith))
-same_operands (suc (suc n)) x y v w first second =
-    ap (λ l. l ∷ take (suc n) (y ∷ [])) (first (omega arith)) ∙ ap (λ l. v ∷ take (suc n) (l ∷ [])) (second (omega arith))
-
-same_map : {X Y : Type 0} (f g : X → Y) (xs : List X) → ((k : ℕ) (x : X) → slice_get xs k ≡ Some x → f x ≡ g x) → map f xs ≡ map g xs
-same_map f g [] same = refl
-same_map f g (x ∷ xs) same = ap (λ y. y ∷ map f xs) (same 0 x refl) ∙ ap (λ l. g x ∷ l) (same_map f g xs (λ k y is. same (suc k) y is))
-
 -- clauses by names stay
 named_front : (xs ys : List Clause) → AreInOrder xs → map (λ c. by_name (xs ++ ys) c) xs ≡ named_of xs
-named_front xs ys ordered = same_map (λ c. by_name (xs ++ ys) c) (λ c. by_name xs c) xs each
+named_front xs ys ordered = map-alike (λ c. by_name (xs ++ ys) c) (λ c. by_name xs c) xs each
   where
     each : (k : ℕ) (c : Clause) → slice_get xs k ≡ Some c → by_name (xs ++ ys) c ≡ by_name xs c
     each k c is =
         let stands = ordered k c is in
         let within = slice_get_within xs k c is in
         ap (λ args. record { name = c.name; form = record { op = c.op; args = args; value = c.value } })
-        (same_operands (arity_of c.op) (name_at (xs ++ ys) c.a) (name_at (xs ++ ys) c.b) (name_at xs c.a) (name_at xs c.b)
+        (same_front (arity_of c.op) (name_at (xs ++ ys) c.a) (name_at (xs ++ ys) c.b) (name_at xs c.a) (name_at xs c.b)
         (λ some. name_front xs ys c.a (let less = stands.fits.first some in omega (arith, less, within)))
         (λ two. name_front xs ys c.b (let less = stands.fits.second two in omega (arith, less, within))))
 

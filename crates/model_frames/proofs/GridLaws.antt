@@ -1,10 +1,9 @@
 -- The grid of a view has the values of its points.
-use Rattle.std.proofs.Common.{◌≡◌, ℕ, zero, suc, ◌+◌, ◌*◌, ◌<◌, ◌≤◌, false, List, [], ◌∷◌, ◌++◌, length, get_or, refl, ap, ◌∙◌, arith, zero-add}
+use Rattle.std.proofs.Common.{◌≡◌, ℕ, zero, suc, ◌+◌, ◌*◌, ◌<◌, ◌≤◌, false, [], ◌∷◌, length, get_or, refl, ap, ◌∙◌, arith, zero-add}
 use Rattle.std.specs.Prelude.{ℤ, pos, negsuc, flat_map, if◌then◌else◌}
 use Rattle.std.specs.Int.{int_max}
 use Rattle.std.specs.List.{range_with_len}
 use Rattle.std.proofs.lemmas.Bool.{and_parts, le-leb, le-ltb, leb-true}
-use Rattle.std.proofs.lemmas.List.{get_or-append-add, get_or_append_left, length-append}
 use Rattle.std.proofs.lemmas.Nat.{mul-add-lt}
 use Rattle.fixed_ops.specs.Points.{Point}
 use Rattle.fixed_ops.specs.Raw.{is_inside}
@@ -15,30 +14,7 @@ use Rattle.view_places.specs.Places.{point_of}
 use Rattle.view_places.specs.Window.{Window}
 use Rattle.view_places.specs.declared.lattice.Lattice.TheVariants as lattices
 use Rattle.model_frames.specs.Meshes.{grid_of, grid_value}
-
--- ---- pieces of one length, joined end to end
-
-pub flat_length : {A : Type 0} (f : ℕ → List A) (a n size : ℕ) → ((k : ℕ) → length (f k) ≡ size) → length (flat_map f (range_with_len a n)) ≡ n * size
-flat_length f a zero size each = omega arith
-flat_length f a (suc n) size each =
-    omega (arith, length-append (f a) (flat_map f (range_with_len (a + 1) n)), each a, flat_length f (a + 1) n size each)
-
-pub flat_item : {A : Type 0} (f : ℕ → List A) (a n size k i : ℕ) (d : A) → ((k : ℕ) → length (f k) ≡ size) → k < n → i < size
-    → get_or (flat_map f (range_with_len a n)) (k * size + i) d ≡ get_or (f (a + k)) i d
-flat_item f a zero size k i d each few within = absurd (omega (arith, few))
-flat_item f a (suc n) size zero i d each few within =
-    let first = each a in
-    let here : 0 * size + i ≡ i = omega arith in
-    let at : a + 0 ≡ a = omega arith in
-    rw (here, at) (get_or_append_left (f a) (flat_map f (range_with_len (a + 1) n)) d i (omega (arith, first, within)))
-flat_item f a (suc n) size (suc k) i d each few within =
-    let first = each a in
-    let there : suc k * size + i ≡ length (f a) + (k * size + i) = omega (arith, first) in
-    let at : (a + 1) + k ≡ a + suc k = omega arith in
-    ap (λ m. get_or (f a ++ flat_map f (range_with_len (a + 1) n)) m d) there
-    ∙ get_or-append-add (f a) (flat_map f (range_with_len (a + 1) n)) (k * size + i) d
-    ∙ flat_item f (a + 1) n size k i d each (omega (arith, few)) within
-    ∙ ap (λ m. get_or (f m) i d) at
+use Rattle.fixed_ops.proofs.Lists.{flat_item, flat_length}
 
 -- ---- the values of a grid
 
@@ -76,6 +52,7 @@ border_outside (pos zero) = refl
 border_outside (pos (suc n)) = rw (le-leb 1 (suc n) (omega arith), le-ltb (suc n) 0 (omega arith)) refl
 border_outside (negsuc n) = refl
 
+-- the outermost layer of each grid is outside
 pub grid_bordered : (view : Window) (value : Point → ℤ) → IsBordered (grid_of view value)
 unfolding grid_of
 grid_bordered view value = record {

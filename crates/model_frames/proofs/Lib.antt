@@ -3,12 +3,13 @@ mod ContourExamples
 mod ContourLeast
 mod ContourWork
 mod Depths
+pub mod DescentLaws
 mod Examples
-mod Frames
-mod GridLaws
+pub mod Frames
+pub mod GridLaws
 mod GridWork
 mod LeastWork
-mod MeshLaws
+pub mod MeshLaws
 mod MeshesAfter
 pub mod SoundTexts
 mod Shades

@@ -1,13 +1,11 @@
 -- The mesh of a grid may be written, and that of a solid is the one of its root list.
-use Rattle.std.proofs.Common.{◌≡◌, ℕ, zero, suc, Ok, Err, sym, ◌+◌, ◌-◌, ◌*◌, ◌/◌, ◌^◌, ◌<◌, ◌≤◌, Bool, true, false, List, [], ◌∷◌, length, get_or, map, refl, subst, arith, mul-le-mul, if◌then◌else◌}
-use Rattle.std.specs.Prelude.{ℤ, ◌==◌, ◌&&◌, nat_le, unsigned_abs, All, IfOk, Result, cond, filter, flat_map, max, min}
+use Rattle.std.proofs.Common.{◌≡◌, ℕ, zero, suc, Ok, Err, sym, ◌+◌, ◌*◌, ◌^◌, ◌<◌, ◌≤◌, Bool, true, false, List, [], ◌∷◌, length, get_or, map, refl, subst, arith, mul-le-mul, if◌then◌else◌}
+use Rattle.std.specs.Prelude.{ℤ, ◌==◌, ◌&&◌, nat_le, All, IfOk, Result, flat_map}
 use Rattle.std.specs.List.{range_with_len}
 use Rattle.std.proofs.lemmas.Bool.{and_parts, leb-true}
 use Rattle.std.proofs.lemmas.List.{get_or_default, length-append, length-map}
 use Rattle.std.proofs.lemmas.List.Elements.{All-map}
-use Rattle.fixed_ops.specs.Cut.{cut_of}
 use Rattle.fixed_ops.specs.Points.{Point}
-use Rattle.fixed_ops.specs.Raw.{is_inside}
 use Rattle.kuhn_cells.specs.declared.edge_key.EdgeKey.{EdgeKey}
 use Rattle.kuhn_cells.specs.declared.triple.Triple.{Triple}
 use Rattle.kuhn_cells.specs.Arrangement.{arrangement, inside_count, pattern_of}
@@ -21,13 +19,13 @@ use Rattle.ply_writer.specs.Ply.{ply_of}
 use Rattle.solid_model.specs.Values.{solid_value}
 use Rattle.solid_model.specs.declared.clause.Clause.{Clause}
 use Rattle.tetra_mesh.specs.Cuts.{mesh_of, vertex_of}
-use Rattle.mesh_laws.specs.Places.{way_up}
 use Rattle.tetra_mesh.specs.Meshes.{Triangulation}
 use Rattle.tetra_mesh.specs.Places.{IsPlaced}
 use Rattle.view_places.specs.Window.{IsWindow, Window}
 use Rattle.model_frames.specs.Meshes.{grid_of, mesh_text}
-use Rattle.model_frames.proofs.GridLaws.{flat_length}
 use Rattle.kuhn_cells.proofs.VertexLaws.{vertices_are_mixed_edges}
+use Rattle.mesh_laws.proofs.Lattice.{way_is_share}
+use Rattle.fixed_ops.proofs.Lists.{filter_length, flat_length}
 
 -- ---- counts
 
@@ -35,14 +33,6 @@ flat_most : {A : Type 0} (f : ℕ → List A) (a n size : ℕ) → ((k : ℕ) �
 flat_most f a zero size each = omega arith
 flat_most f a (suc n) size each =
     omega (arith, length-append (f a) (flat_map f (range_with_len (a + 1) n)), each a, flat_most f (a + 1) n size each)
-
-filter_most : {A : Type 0} (q : A → Bool) (xs : List A) → length (filter q xs) ≤ length xs
-filter_most q [] = omega arith
-filter_most q (x ∷ xs) = by (q x) (filter_most q xs)
-  where
-    by : (b : Bool) → length (filter q xs) ≤ length xs → length (cond b (x ∷ filter q xs) (filter q xs)) ≤ suc (length xs)
-    by true h = omega (arith, h)
-    by false h = omega (arith, h)
 
 -- no more than so many things at each place of a small block
 block_most : (n x y z size len : ℕ) → x ≤ n → y ≤ n → z ≤ n → len ≤ z * (y * (x * size)) → len ≤ n * (n * (n * size))
@@ -61,8 +51,8 @@ few_vertices g fx fy fz =
     let all = over_block (g.x + 1) (g.y + 1) (g.z + 1) at in
     let whole : length all ≡ (g.z + 1) * ((g.y + 1) * ((g.x + 1) * 7)) =
     flat_length _ 0 (g.z + 1) ((g.y + 1) * ((g.x + 1) * 7)) (λ z. flat_length _ 0 (g.y + 1) ((g.x + 1) * 7) (λ y. flat_length (λ x. at (point x y z)) 0 (g.x + 1) 7 (λ x. refl))) in
-    let kept = filter_most (λ e. is_point g (upper e)) all in
-    let mixed = filter_most (is_mixed (is_inside_at g)) (edges g) in
+    let kept = filter_length (λ e. is_point g (upper e)) all in
+    let mixed = filter_length (is_mixed (is_inside_at g)) (edges g) in
     let made = length-map (vertices g) (vertex_of g) in
     let most = block_most 513 (g.x + 1) (g.y + 1) (g.z + 1) 7 (length (vertices g)) (omega (arith, fx)) (omega (arith, fy)) (omega (arith, fz)) (omega (arith, whole, kept, mixed)) in
     omega (arith, made, most)
@@ -103,32 +93,12 @@ few_faces g fx fy fz =
 
 -- ---- places
 
-cut_some : (q : ℕ) → 1 ≤ max 1 (min 65535 q)
-cut_some q = omega arith
-
-cut_few : (q : ℕ) → max 1 (min 65535 q) ≤ 65535
-cut_few q = omega arith
-
-cut_least : (a b : ℤ) → 1 ≤ cut_of a b
-cut_least a b = let m = unsigned_abs a in let n = unsigned_abs b in cut_some (65536 * m / (m + n))
-
-cut_greatest : (a b : ℤ) → cut_of a b ≤ 65535
-cut_greatest a b = let m = unsigned_abs a in let n = unsigned_abs b in cut_few (65536 * m / (m + n))
-
-turned_within : (t : Bool) (s r : ℕ) → 1 ≤ s → s ≤ 65535 → 1 ≤ r → r ≤ 65535 → let way = if t then s else 65536 - r in (1 ≤ way) × (way ≤ 65535)
-turned_within true s r some few least most = (some, few)
-turned_within false s r some few least most = (omega (arith, most), omega (arith, least))
-
--- the surface cuts an edge between its ends
-way_within : (a b : ℤ) → (1 ≤ way_up a b) × (way_up a b ≤ 65535)
-way_within a b = turned_within (is_inside a) (cut_of a b) (cut_of b a) (cut_least a b) (cut_greatest a b) (cut_least b a) (cut_greatest b a)
-
 placed : (view : Window) (g : Grid) (e : EdgeKey) → g.x ≡ view.nx → g.y ≡ view.ny → g.z ≡ view.nz → IsVertex g e → IsPlaced view (vertex_of g e)
 placed view g e sx sy sz v =
     let p = upper e in
     let x = and_parts (nat_le p.x g.x) (nat_le p.y g.y && nat_le p.z g.z) v.within in
     let yz = and_parts (nat_le p.y g.y) (nat_le p.z g.z) x.1 in
-    let way = way_within (value_at g (lower e)) (value_at g (upper e)) in
+    let way = way_is_share (value_at g (lower e)) (value_at g (upper e)) in
     record {
       direction = v.direction;
       upper_end = record {
@@ -136,8 +106,8 @@ placed view g e sx sy sz v =
         y = omega (arith, leb-true p.y g.y yz.0, sy);
         z = omega (arith, leb-true p.z g.z yz.1, sz);
       };
-      some = way.0;
-      few = way.1;
+      some = way.some;
+      few = way.few;
     }
 
 -- each vertex of the mesh of a view's grid lies in that grid
@@ -177,10 +147,12 @@ pub solid_placed : (view : Window) (value : Point → ℤ) → All (IsPlaced vie
 unfolding grid_of
 solid_placed view value = all_placed view (grid_of view value) refl refl refl
 
+-- so it is of the grid of each view
 pub solid_vertices : (view : Window) (value : Point → ℤ) → IsWindow view → length (mesh_of (grid_of view value)).vertices < 2 ^ 31
 unfolding grid_of
 solid_vertices view value window = few_vertices (grid_of view value) window.nx.few window.ny.few window.nz.few
 
+-- and of its faces
 pub solid_faces : (view : Window) (value : Point → ℤ) → IsWindow view → length (mesh_of (grid_of view value)).faces < 2 ^ 31
 unfolding grid_of
 solid_faces view value window = few_faces (grid_of view value) window.nx.few window.ny.few window.nz.few

@@ -19,7 +19,7 @@ use Rattle.model_frames.proofs.GridLaws.{grid_bordered}
 use Rattle.tetra_mesh.proofs.SoundLaws.{grid_meshes_are_sound, grid_meshes_lie_apart}
 
 -- the line of a vertex is that of its raw place
-parts_joined : (a s b t c e : List ℕ) → ((((a ++ s) ++ b) ++ t) ++ c) ++ e ≡ a ++ (s ++ (b ++ (t ++ (c ++ e))))
+pub parts_joined : (a s b t c e : List ℕ) → ((((a ++ s) ++ b) ++ t) ++ c) ++ e ≡ a ++ (s ++ (b ++ (t ++ (c ++ e))))
 parts_joined a s b t c e = simp append_assoc
 
 line_same : (view : Window) (v : Vertex) → vertex_line view v ≡ place_line (raw_of view v)

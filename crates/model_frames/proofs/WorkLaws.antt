@@ -3,16 +3,7 @@ use Rattle.std.proofs.Common.{◌≡◌, ℕ, ◌+◌, ◌^◌, ◌<◌, ◌≤�
 use Rattle.fixed_ops.specs.Counts.{Counts, IsAtMost, RisesBy, no_counts, plus, risen}
 use Rattle.model_frames.specs.Laws.{FramesAddUp}
 use Rattle.model_frames.specs.Work.{CountsWithin, CountsWork, FitsCounts, PointsRiseAtMost, Work, both, exactly, no_work}
-use Rattle.fixed_ops.proofs.CountLaws.{tallies_add_up_is}
-
--- counts that are at most greater ones
-at_most-trans : (a b c : Counts) → IsAtMost a b → IsAtMost b c → IsAtMost a c
-at_most-trans a b c p q =
-    record { points = omega arith; spans = omega arith; corners = omega arith }
-
-at_most-plus : (a b c d : Counts) → IsAtMost a c → IsAtMost b d → IsAtMost (plus a b) (plus c d)
-at_most-plus a b c d p q =
-    record { points = omega arith; spans = omega arith; corners = omega arith }
+use Rattle.fixed_ops.proofs.CountLaws.{IsAtMost-plus, IsAtMost-trans, tallies_add_up_is}
 
 -- no work is exactly none, and within any
 work-none : (counts : Counts) → CountsWork counts counts no_work
@@ -41,7 +32,7 @@ within-done : (before after : Counts) (work : Work) → IsAtMost work.most work.
 unfolding CountsWork CountsWithin
 within-done before after work less h = record {
   by = h.by;
-  within = at_most-trans h.by work.most work.bound h.within less;
+  within = IsAtMost-trans h.by work.most work.bound h.within less;
   rises = h.rises;
 }
 
@@ -50,8 +41,8 @@ done-then : (before mid after : Counts) (a b : Work) → CountsWork before mid a
 unfolding CountsWork
 done-then before mid after a b first next = record {
   by = plus first.by next.by;
-  enough = at_most-plus a.least b.least first.by next.by first.enough next.enough;
-  within = at_most-plus first.by next.by a.most b.most first.within next.within;
+  enough = IsAtMost-plus a.least b.least first.by next.by first.enough next.enough;
+  within = IsAtMost-plus first.by next.by a.most b.most first.within next.within;
   rises = tallies_add_up_is.sum before mid after first.by next.by first.rises next.rises;
 }
 
@@ -80,7 +71,7 @@ plain-more before after m n rise =
     record { by = rise.by; few = omega (arith, rise.few); rises = rise.rises }
 
 -- what another tally has counted from nothing
-done-joined : (before after counts : Counts) (work : Work) → CountsWork no_counts counts work → RisesBy before after counts → CountsWork before after work
+pub done-joined : (before after counts : Counts) (work : Work) → CountsWork no_counts counts work → RisesBy before after counts → CountsWork before after work
 unfolding CountsWork
 done-joined before after counts work h joined = record {
   by = h.by;
@@ -89,7 +80,8 @@ done-joined before after counts work h joined = record {
   rises = tallies_add_up_is.joined before after counts h.by h.rises joined;
 }
 
-within-joined : (before after counts : Counts) (work : Work) → CountsWithin no_counts counts work → RisesBy before after counts → CountsWithin before after work
+-- the same of what is within some work
+pub within-joined : (before after counts : Counts) (work : Work) → CountsWithin no_counts counts work → RisesBy before after counts → CountsWithin before after work
 unfolding CountsWithin
 within-joined before after counts work h joined = record {
   by = h.by;
@@ -101,7 +93,8 @@ within-joined before after counts work h joined = record {
 risen-joined : (before count by : ℕ) → count ≡ risen 0 by → risen before count ≡ risen before by
 risen-joined before count by rises = omega (arith, rises)
 
-plain-joined : (before after counts : Counts) (most : ℕ) → PointsRiseAtMost no_counts counts most → RisesBy before after counts → PointsRiseAtMost before after most
+-- and of plain evaluations
+pub plain-joined : (before after counts : Counts) (most : ℕ) → PointsRiseAtMost no_counts counts most → RisesBy before after counts → PointsRiseAtMost before after most
 plain-joined before after counts most h joined = record {
   by = h.by;
   few = h.few;
@@ -113,7 +106,7 @@ risen-alone : (count by n : ℕ) → count ≡ risen 0 by → n ≤ by → by �
 risen-alone count by n rises enough within fits = omega (arith, rises, enough, within, fits)
 
 -- so a tally that began with nothing tells the numbers of exact work
-told-exactly : (counts : Counts) (points spans plain : ℕ) → FitsCounts (exactly points spans plain) → CountsWork no_counts counts (exactly points spans plain)
+pub told-exactly : (counts : Counts) (points spans plain : ℕ) → FitsCounts (exactly points spans plain) → CountsWork no_counts counts (exactly points spans plain)
     → (counts.points ≡ points) × (counts.spans ≡ spans)
 unfolding CountsWork
 told-exactly counts points spans plain fits h = (

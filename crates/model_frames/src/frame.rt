@@ -2,7 +2,6 @@
 
 use crate::drawn::Drawn;
 use crate::height::height_text;
-use crate::laws::frames_add_up;
 use crate::mesh::solid_grid;
 use crate::paths::contour_paths;
 use crate::render::draw_image;

@@ -6,7 +6,7 @@ ghost use Rattle.model_frames.specs.Work.{CountsWithin, CountsWork, PointsRiseAt
 
 use crate::render::window_holds;
 use fixed_ops::Tally;
-use height_map::{TopMap, height_work_is_bounded, heights};
+use height_map::{TopMap, heights};
 use live_clauses::root_tape;
 use raster_pgm::samples_text;
 use solid_model::Model;
@@ -55,7 +55,6 @@ fn top_map(
     ensures plain { PointsRiseAtMost tally.old tally.new
         (plain_depths view.now (length model.now)) }
 {
-    height_work_is_bounded();
     window_holds(view);
     let list = root_tape(alloc, model)?;
     heights(alloc, &list, view, tally)

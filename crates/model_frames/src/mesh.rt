@@ -18,7 +18,7 @@ use crate::render::window_holds;
 use fixed_ops::Tally;
 use kuhn_cells::CellList;
 use live_clauses::{Tape, root_tape};
-use oct_descent::{CellGrid, cell_grid, cell_list, grid_work_is_bounded};
+use oct_descent::{CellGrid, cell_grid, cell_list};
 use solid_model::Model;
 use std::alloc::{AllocError, Global};
 use tetra_mesh::{Mesh, build_from};
@@ -40,7 +40,6 @@ pub(crate) fn solid_grid(
     ensures at_most { CountsWithin tally.old tally.new (mesh_work view.now model.now) }
     ensures plain { PointsRiseAtMost tally.old tally.new (plain_grid view.now (length model.now)) }
 {
-    grid_work_is_bounded();
     window_holds(view);
     let list = root_tape(alloc, model)?;
     cell_grid(alloc, &list, view, tally)
@@ -68,7 +67,6 @@ pub fn solid_mesh(
     ensures at_most { CountsWithin tally.old tally.new (mesh_work view.now model.now) }
     ensures plain { PointsRiseAtMost tally.old tally.new (plain_grid view.now (length model.now)) }
 {
-    grid_work_is_bounded();
     window_holds(view);
     let list = root_tape(alloc, model)?;
     let cells = mixed_cells(alloc, &list, view, tally)?;

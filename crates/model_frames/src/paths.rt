@@ -5,9 +5,8 @@ ghost use Rattle.model_frames.specs.Work.{CountsWithin, CountsWork, PointsRiseAt
 ghost use Rattle.model_frames.specs.ClosedTexts.{IsClosedText};
 ghost use Rattle.model_frames.specs.Contours.{contour_text, contour_work, plain_contour};
 
-use crate::laws::frames_add_up;
 use crate::render::window_holds;
-use contour_lines::{contour, contour_work_is_bounded};
+use contour_lines::contour;
 use fixed_ops::Tally;
 use live_clauses::root_tape;
 use path_writer::path_text;
@@ -33,7 +32,6 @@ pub fn contour_paths(
     ensures plain { PointsRiseAtMost tally.old tally.new
         (plain_contour view.now (length model.now)) }
 {
-    contour_work_is_bounded();
     window_holds(view);
     let list = root_tape(alloc, model)?;
     let loops = contour(alloc, &list, view, tally)?;

@@ -13,7 +13,7 @@ ghost use Rattle.model_frames.specs.Work.{CountsWithin, CountsWork, FitsCounts, 
 use crate::render::window_holds;
 use fixed_ops::Tally;
 use live_clauses::{RootRoom, Tape};
-use quad_descent::{QuadTree, draw, frame_work_is_bounded, fresh_work_is_bounded, redraw};
+use quad_descent::{QuadTree, draw, redraw};
 use solid_model::Model;
 use std::alloc::{AllocError, Global};
 use view_places::View;
@@ -41,8 +41,6 @@ pub fn redraw_image(
     ensures plain { PointsRiseAtMost tally.old tally.new
         (plain_points view.now (length model.now)) }
 {
-    fresh_work_is_bounded();
-    frame_work_is_bounded();
     window_holds(view);
     let list = root_after(room, model, &before)?;
     draw_after(alloc, &list, view, before, tally)
@@ -80,7 +78,6 @@ fn draw_after(
         (CountsAtMost (frame_points view.now (list_before before view.now) list.now)
         (frame_spans view.now (list_before before view.now) list.now) tally.old tally.new) }
 {
-    frame_work_is_bounded();
     match before {
         Some(tree) => {
             if is_same(tree.view(), view) {

@@ -13,7 +13,7 @@ use crate::render::window_holds;
 use fixed_ops::Tally;
 use grid_text::{TextRoom, grid_text_in};
 use live_clauses::{RootRoom, Tape};
-use oct_descent::{OctTree, cells, grid_work_is_bounded, meshes_after_add_up, recells};
+use oct_descent::{OctTree, cells, recells};
 use solid_model::Model;
 use std::alloc::{AllocError, Global};
 use view_places::View;
@@ -42,8 +42,6 @@ pub fn redraw_mesh(
     ensures plain { PointsRiseAtMost tally.old tally.new
         (plain_grid view.now (length model.now)) }
 {
-    grid_work_is_bounded();
-    meshes_after_add_up();
     window_holds(view);
     let list = root_after(room, model, &before)?;
     look_after(alloc, &list, view, before, tally)

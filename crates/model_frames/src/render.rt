@@ -10,7 +10,7 @@ ghost use Rattle.model_frames.specs.Work.{CountsWithin, CountsWork, FitsCounts, 
 
 use fixed_ops::Tally;
 use live_clauses::root_tape;
-use quad_descent::{Picture, draw_picture, fresh_work_is_bounded, image};
+use quad_descent::{Picture, draw_picture, image};
 use raster_pgm::pgm_text;
 use solid_model::Model;
 use std::alloc::{AllocError, Global};
@@ -36,7 +36,6 @@ pub fn draw_image(
     ensures plain { PointsRiseAtMost tally.old tally.new
         (plain_points view.now (length model.now)) }
 {
-    fresh_work_is_bounded();
     window_holds(view);
     let list = root_tape(alloc, model)?;
     draw_picture(alloc, &list, view, tally)

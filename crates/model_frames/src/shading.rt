@@ -5,12 +5,11 @@ ghost use Rattle.view_places.specs.Window.{FitsHeight};
 ghost use Rattle.model_frames.specs.Shades.{plain_shades, solid_shades};
 ghost use Rattle.model_frames.specs.Work.{CountsWithin, CountsWork, PointsRiseAtMost, shade_work};
 
-use crate::laws::frames_add_up;
 use crate::render::window_holds;
 use fixed_ops::Tally;
-use height_map::{height_work_is_bounded, heights};
+use height_map::heights;
 use live_clauses::root_tape;
-use normal_shade::{shade, shade_work_is_bounded};
+use normal_shade::shade;
 use solid_model::Model;
 use std::alloc::{AllocError, Global};
 use view_places::View;
@@ -32,8 +31,6 @@ pub fn shade_pixels(
     ensures plain { PointsRiseAtMost tally.old tally.new
         (plain_shades view.now (length model.now)) }
 {
-    height_work_is_bounded();
-    shade_work_is_bounded();
     window_holds(view);
     model_holds(model);
     let list = root_tape(alloc, model)?;

@@ -1,5 +1,5 @@
 -- What follows from the run of a call.
-use Rattle.std.proofs.Common.{◌≡◌, ◌≢◌, ◌⊎◌, ℕ, List, [], Bool, true, false, Option, Some, None, Result, Ok, Err, IfSome, inl, inr, refl, sym, ap, subst, ◌∙◌, arith}
+use Rattle.std.proofs.Common.{◌≡◌, ◌≢◌, ◌⊎◌, ℕ, List, [], Bool, true, false, Some, Result, Ok, Err, IfSome, inl, inr, refl, sym, ap, subst, ◌∙◌, arith}
 use Rattle.std.specs.Prelude.{if◌then◌else◌}
 use Rattle.fixed_ops.specs.Counts.{Counts, no_counts}
 use Rattle.modeller_io.specs.Held.{Extends}
@@ -21,6 +21,7 @@ use Rattle.modeller_c.specs.Gathering.{Gathering, nothing_yet}
 use Rattle.modeller_c.specs.Rooms.{IsHandedOver}
 use Rattle.modeller_c.specs.Words.{words_in}
 use Rattle.modeller_c.specs.declared.ran.Ran.{Ran}
+use Rattle.modeller_cmd.proofs.Outcomes.{some_follows}
 
 -- that a run from these begins, and leaves this
 abbrev pub IsRunOf : SureSourceView → Gathering → Gathering → Counts → Status → List (List ℕ) → SureSourceView → Gathering → Gathering → Counts → Type 0
@@ -81,10 +82,6 @@ number_done statuses.ReadFault is = absurd (omega (arith, is))
 number_done statuses.WriteFault is = absurd (omega (arith, is))
 number_done statuses.NoMemory is = absurd (omega (arith, is))
 
-weaken : {A : Type 0} (o : Option A) (P Q : A → Type 0) → ((x : A) → P x → Q x) → IfSome o P → IfSome o Q
-weaken None P Q follows p = tt
-weaken (Some x) P Q follows p = follows x p
-
 module _ (line input out out_after note note_after : List ℕ) (ran : Ran) (was : WasRun line input out out_after note note_after ran) where
   abbrev run : Run SureSourceView Gathering Gathering
   run = run_on line input was.source was.written was.noted was.last was.status
@@ -98,7 +95,7 @@ module _ (line input out out_after note note_after : List ℕ) (ran : Ran) (was 
       let is = was.run.done (number_done was.status (sym was.number ∙ zero)) in
       let written : was.written.held ≡ bytes_of_parts (output_of words input).parts = of_input words input
       (λ o. Extends (Some []) (Some was.written.held) (bytes_of_parts o.parts)) (asks_nothing words) refl
-      (weaken (input_of run) _ _ (λ it p. p.1) is.output) in
+      (some_follows (input_of run) _ _ (λ it p. p.1) is.output) in
       subst (λ bytes. IsHandedOver bytes out out_after ran.out) written was.output
 
   -- the notes of a refusal took its line
@@ -111,7 +108,7 @@ module _ (line input out out_after note note_after : List ℕ) (ran : Ran) (was 
     -- the output is that of the refusal
     because : {A : Type 0} (part : Output → A) → part (output_of words input) ≡ part (output_as (Err is.why))
     because part = of_input words input (λ o. part o ≡ part (output_as (Err is.why))) (asks_nothing words) refl
-        (weaken (input_of run) _ _ (λ it refused. ap (λ o. part (output_as o)) refused) is.outcome)
+        (some_follows (input_of run) _ _ (λ it refused. ap (λ o. part (output_as o)) refused) is.outcome)
 
     handed : IsHandedOver [] out out_after ran.out × IsHandedOver (output_of words input).note note note_after ran.note
     handed = (
@@ -147,7 +144,7 @@ module _ (line input out out_after note note_after : List ℕ) (ran : Ran) (was 
       by statuses.Done at =
           let is = was.run.done at in
           let status = of_input words input (λ o. o.status ≡ statuses.Done) (asks_nothing words) refl
-          (weaken (input_of run) _ _ (λ it p. p.0) is.output) in
+          (some_follows (input_of run) _ _ (λ it p. p.0) is.output) in
           inl (was.number ∙ ap number_of (at ∙ sym status))
       by statuses.Usage at = inl (answered (was.run.refused (rw at tt)))
       by statuses.BadModel at = inl (answered (was.run.refused (rw at tt)))

@@ -8,6 +8,7 @@ use Rattle.std.proofs.lemmas.List.Folds.{list_all-append}
 use Rattle.std.proofs.lemmas.Str.{IsUtf8-from_is_utf8, is_utf8-from_IsUtf8}
 use Rattle.clause_reader.specs.Scan.{line_tokens}
 use Rattle.modeller_c.specs.Words.{words_in}
+use Rattle.std.proofs.lemmas.Bool.{false_from_ne_true}
 
 -- these words, which are texts, and then these tokens are those of the line
 pub record Takes (line : List ℕ) (words tokens : List (List ℕ)) : Type 0 where
@@ -34,17 +35,13 @@ and-false : (b : Bool) → (b && false) ≡ false
 and-false true = refl
 and-false false = refl
 
-untrue : (b : Bool) → (b ≡ true → ⊥) → b ≡ false
-untrue true never = absurd (never refl)
-untrue false never = refl
-
 -- where a token is no text, the line has no words
 pub takes-none : (line : List ℕ) (words : List (List ℕ)) (token : List ℕ) (tokens rest : List (List ℕ)) → Takes line words tokens
     → tokens ≡ token ∷ rest → ¬ (IsUtf8 token) → [] ≡ words_in line
 takes-none line words token tokens rest takes is never = by (line_tokens line) (takes.parts ∙ rw is refl)
   where
     other : is_utf8 token ≡ false
-    other = untrue (is_utf8 token) (λ yes. never (IsUtf8-from_is_utf8 token yes))
+    other = false_from_ne_true (is_utf8 token) (λ yes. never (IsUtf8-from_is_utf8 token yes))
 
     some : list_all is_utf8 (words ++ token ∷ rest) ≡ false
     some = list_all-append is_utf8 words (token ∷ rest) ∙ rw other (and-false (list_all is_utf8 words))

@@ -1,5 +1,5 @@
 -- Rows of an image, one after the other, are rows of it, and all of them are its pixels.
-use Rattle.std.proofs.Common.{◌≡◌, ℕ, zero, suc, ◌+◌, ◌-◌, ◌*◌, ◌/◌, ◌%◌, ◌<◌, ◌≤◌, Bool, cond, List, [], ◌∷◌, ◌++◌, length, take, drop, add-zero, zero-add, append-nil, append_assoc, length-append, refl, sym, ap, subst, ◌∙◌, arith}
+use Rattle.std.proofs.Common.{◌≡◌, ℕ, zero, suc, ◌+◌, ◌-◌, ◌*◌, ◌/◌, ◌%◌, ◌<◌, ◌≤◌, Bool, cond, List, [], ◌++◌, length, take, drop, zero-add, append-nil, append_assoc, length-append, sym, ap, subst, ◌∙◌, arith}
 use Rattle.std.specs.Prelude.{Option, Some, None, count_by}
 use Rattle.std.specs.List.{flat_map, range_with_len}
 use Rattle.std.proofs.Math.Nat.{mul-div_cancel, mul-mod_left}
@@ -17,14 +17,7 @@ use Rattle.quad_descent.specs.Rows.{AreRows, IsOver, rows_at}
 use Rattle.raster_pgm.specs.Pgm.{pgm_header_of}
 use Rattle.view_places.specs.Window.{Window}
 use Rattle.modeller_cmd.proofs.Gaining.{Extends-none, GainsProperPrefix-after}
-
--- numbers from one on, and more behind them
-range-parts : (low m n : ℕ) → range_with_len low (m + n) ≡ range_with_len low m ++ range_with_len (low + m) n
-range-parts low zero n = rw (zero-add n, add-zero low) refl
-range-parts low (suc m) n =
-    let count : suc m + n ≡ suc (m + n) = omega arith in
-    let from : low + 1 + m ≡ low + suc m = omega arith in
-    rw count (ap (λ l. low ∷ l) (range-parts (low + 1) m n ∙ ap (λ k. range_with_len (low + 1) m ++ range_with_len k n) from))
+use Rattle.fixed_ops.proofs.Lists.{range_append}
 
 -- so many bytes of whole rows are so many rows
 count-rows : (image : Drawing) (view : Window) (n : ℕ) → image.view ≡ view → 0 < view.w → n * view.w / image.view.w ≡ n
@@ -43,7 +36,7 @@ rows-then None view row m n is some = absurd is
 rows-then (Some image) view row m n is some =
     ap (λ k. rows row k ++ rows_at (Some image) (row + m) (n * view.w)) (count-rows image view m is some)
     ∙ ap (λ k. rows row m ++ rows (row + m) k) (count-rows image view n is some)
-    ∙ sym (ap (flat_map (row_at image.view image.list)) (range-parts row m n) ∙ flat_map-append (row_at image.view image.list) (range_with_len row m) (range_with_len (row + m) n))
+    ∙ sym (ap (flat_map (row_at image.view image.list)) (range_append row m n) ∙ flat_map-append (row_at image.view image.list) (range_with_len row m) (range_with_len (row + m) n))
     ∙ sym (ap (rows row) (count-rows image view (m + n) is some))
   where
     rows : ℕ → ℕ → List ℕ

@@ -1,28 +1,18 @@
 -- The lines of a solid that is forged: how many clauses it has, and how many pixels of its image are inside.
-use Rattle.std.proofs.Common.{◌≡◌, ℕ, ◌==◌, ◌++◌, length, map, if◌then◌else◌, ap, ◌∙◌}
+use Rattle.std.proofs.Common.{◌≡◌, ℕ, ◌==◌, ◌++◌, length, ap, ◌∙◌}
 use Rattle.std.specs.Prelude.{codes, count_by, decimal}
-use Rattle.std.specs.List.{flat_map, range_with_len}
-use Rattle.model_frames.specs.Images.{solid_pixels}
 use Rattle.fixed_ops.specs.Points.{Point}
-use Rattle.fixed_ops.specs.Raw.{is_inside}
 use Rattle.live_clauses.specs.Live.{root_of}
 use Rattle.live_clauses.specs.Steps.{tape_value}
-use Rattle.live_clauses.specs.declared.step.Step.{Step}
 use Rattle.quad_descent.specs.Pixels.{pixels_of as drawn_pixels}
 use Rattle.quad_descent.specs.Raster.{Drawing}
 use Rattle.solid_model.specs.Values.{solid_value}
 use Rattle.solid_model.specs.declared.clause.Clause.{Clause}
 use Rattle.std.specs.Prelude.{List}
-use Rattle.view_places.specs.Places.{raster_point}
 use Rattle.view_places.specs.Window.{Window}
 use Rattle.modeller_cmd.specs.CountTexts.{count_text}
 use Rattle.modeller_cmd.specs.Forging.{forge_text, inside_of}
-
--- where a list of steps has the value of a solid, its image is that of the solid
-pixels-same : (view : Window) (clauses : List Clause) (list : List Step) → ((p : Point) → tape_value p list ≡ solid_value p clauses)
-    → drawn_pixels view list ≡ solid_pixels view clauses
-pixels-same view clauses list same =
-    λ k. flat_map (λ j. map (λ i. if is_inside (same (raster_point view i j) k) then 255 else 0) (range_with_len 0 view.w)) (range_with_len 0 view.h)
+use Rattle.model_frames.proofs.Frames.{pixels-same}
 
 -- and so are the pixels that are inside
 pub inside-same : (view : Window) (clauses : List Clause) (picture : Drawing) (inside : ℕ) → picture ≡ record { view = view; list = root_of clauses }

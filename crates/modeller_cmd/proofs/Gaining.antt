@@ -1,22 +1,16 @@
 -- What writes do to the bytes that a sink holds, one after the other.
-use Rattle.std.proofs.Common.{◌≡◌, ℕ, ◌+◌, List, [], ◌++◌, length, take, Option, Some, None, Result, Ok, Err, sym, ap, subst, ◌∙◌, append_assoc, append-nil, length-append, arith}
+use Rattle.std.proofs.Common.{◌≡◌, ℕ, ◌+◌, List, [], ◌++◌, length, take, Option, Some, None, Result, Ok, Err, sym, ap, subst, ◌∙◌, append-nil, length-append, arith}
 use Rattle.std.specs.Prelude.{OnErr, OnOk}
 use Rattle.std.proofs.Math.Seq.{take-append-add}
 use Rattle.std.proofs.lemmas.List.{take-append-le}
 use Rattle.modeller_io.specs.Count.{RoseBy, Stands, raised}
 use Rattle.modeller_io.specs.Held.{Extends, Gains, GainsProperPrefix, Grew}
+use Rattle.modeller_io.proofs.Gains.{Extends-append}
 
 -- a sink that stands grew by no bytes
 pub Extends-none : (a : Option (List ℕ)) → Extends a a []
 Extends-none None = tt
 Extends-none (Some x) = sym (append-nil x)
-
-pub Extends-append : (a b c : Option (List ℕ)) (xs ys : List ℕ) → Extends a b xs → Extends b c ys → Extends a c (xs ++ ys)
-Extends-append a b None xs ys p q = tt
-Extends-append a None (Some z) xs ys p q = absurd q
-Extends-append None (Some y) (Some z) xs ys p q = absurd p
-Extends-append (Some x) (Some y) (Some z) xs ys p q =
-    q ∙ ap (λ l. l ++ ys) p ∙ append_assoc x xs ys
 
 pub Gains-then : {K : Type 0} (held : K → Option (List ℕ)) (a b c : K) (xs ys : List ℕ) → Gains held a b xs → Gains held b c ys → Gains held a c (xs ++ ys)
 Gains-then held a b c xs ys p q = Extends-append (held a) (held b) (held c) xs ys p q

@@ -33,11 +33,6 @@ pub too_long_outcome : (words : List (List ℕ)) (job : Job) (input : List ℕ) 
 too_long_outcome words job input asks reads long =
     asked_made words job input asks ∙ made_long job input reads long
 
--- a job for which reading may fail reads its input
-pub reads-some : (nothing : Bool) → (nothing ≡ true → ⊥) → nothing ≡ false
-reads-some true never = absurd (never refl)
-reads-some false never = refl
-
 -- a source that stands lost nothing
 consumes_none : (a : Option (List ℕ)) → Consumes a a []
 consumes_none None = tt

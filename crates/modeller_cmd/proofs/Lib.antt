@@ -10,7 +10,7 @@ mod Forging
 mod Gaining
 mod Halting
 mod Inputs
-mod Outcomes
+pub mod Outcomes
 mod ReplayLaws
 mod RunExamples
 mod Running

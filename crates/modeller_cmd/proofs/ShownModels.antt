@@ -23,11 +23,11 @@ use Rattle.modeller_cmd.specs.Undoing.{HasFrame}
 use Rattle.modeller_cmd.specs.declared.status.Status.TheVariants.{Done}
 use Rattle.modeller_cmd.proofs.Outcomes.{few_of, outcome_of, solid_read}
 use Rattle.modeller_cmd.proofs.Undoing.{accepted-next, first, frames-show, others, refused-next, standing-append, undos-lead-back}
-use Rattle.modeller_cmd.proofs.WorkSums.{All-left, All-right}
 use Rattle.edit_script.proofs.CommandLaws.{read-scripts-are-commands}
 use Rattle.solid_model.proofs.SurgeryModels.{edits-models}
 use Rattle.solid_model.proofs.InverseLemmas.{taken-back}
 use Rattle.clause_reader.proofs.ReadModels.{read-texts-are-models}
+use Rattle.fixed_ops.proofs.Lists.{all_left, all_right}
 
 -- the parts of a run of a script are those of its commands
 script-parts : (words : List (List ℕ)) (input : List ℕ) (clauses : List Clause) (commands : List Command) → asked words ≡ Ok Replay
@@ -85,9 +85,9 @@ undos-bring-frames-back words input clauses before there back after frame draw b
     let stood = standing opened before in
     let left = draw ∷ after in
     let all : All IsCommand (before ++ there ++ back ++ left) = subst (λ r. IfOk r (All IsCommand)) says (read-scripts-are-commands input) in
-    let edits_are = All-left IsCommand (before ++ there) back (All-left IsCommand (before ++ there ++ back) left all) in
-    let before_are = All-left IsCommand before there edits_are in
-    let there_are = All-right IsCommand before there edits_are in
+    let edits_are = all_left IsCommand (before ++ there) back (all_left IsCommand (before ++ there ++ back) left all) in
+    let before_are = all_left IsCommand before there edits_are in
+    let there_are = all_right IsCommand before there edits_are in
     let model = model-stands stood.clauses stood.undo (stands-standing opened before before_are (read-texts-are-models (before_mark input) clauses reads)) in
     let again : model_of (standing opened (before ++ there ++ back)) ≡ model_of stood =
     ap (λ commands. model_of (standing opened commands)) (append_assoc before there back) ∙ ap model_of (standing-append opened before (there ++ back))

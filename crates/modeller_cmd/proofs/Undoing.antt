@@ -19,9 +19,10 @@ use Rattle.solid_model.specs.declared.edit.EditFault.{EditFault}
 use Rattle.modeller_cmd.specs.Replays.{after_undo, framed, replayed, standing, state_after}
 use Rattle.modeller_cmd.specs.Undoing.{edits_among, edits_at, undos_among, FramesShowWhatStands, HasFrame, UndosLeadBack}
 use Rattle.modeller_cmd.proofs.ReplayLaws.{replayed-between}
-use Rattle.modeller_cmd.proofs.WorkSums.{All-between, All-right}
+use Rattle.modeller_cmd.proofs.WorkSums.{All-between}
 use Rattle.solid_model.proofs.SurgeryModels.{edits-models}
 use Rattle.solid_model.proofs.InverseLemmas.{taken-back}
+use Rattle.fixed_ops.proofs.Lists.{all_right}
 
 -- edits after others are made of what those give
 edits-append : (clauses : List Clause) (xs ys : List Edit) → after_edits clauses (xs ++ ys) ≡ after_edits (after_edits clauses xs) ys
@@ -112,7 +113,7 @@ pub first : (x : Command) (xs : List Command) → All IsCommand (x ∷ xs) → I
 first x xs are = All-between IsCommand [] x xs are
 
 pub others : (x : Command) (xs : List Command) → All IsCommand (x ∷ xs) → All IsCommand xs
-others x xs are = All-right IsCommand (x ∷ []) xs are
+others x xs are = all_right IsCommand (x ∷ []) xs are
 
 made-edits : (state : State) (there : List Command) → IsModel state.clauses → All IsCommand there → undos_among there ≡ 0
     → LeadBack state (standing state there) (edits_among state there)

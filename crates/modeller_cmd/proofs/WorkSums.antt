@@ -1,11 +1,11 @@
 -- The work of parts, one after the other.
-use Rattle.std.proofs.Common.{◌≡◌, ◌+◌, List, [], ◌∷◌, ◌++◌, length, refl, sym, ap, subst, ◌∙◌, append_assoc, length-append, arith}
+use Rattle.std.proofs.Common.{◌≡◌, ◌+◌, List, [], ◌∷◌, ◌++◌, refl, sym, ap, ◌∙◌, append_assoc, arith}
 use Rattle.std.specs.Prelude.{All}
-use Rattle.std.proofs.lemmas.List.{get_or-append-add, get_or_append_left}
 use Rattle.model_frames.specs.Work.{Work, both, no_work}
 use Rattle.fixed_ops.specs.Counts.{Counts, no_counts, plus}
 use Rattle.model_frames.specs.Frames.{Part}
 use Rattle.modeller_cmd.specs.Parts.{bytes_of_parts, work_of_parts}
+use Rattle.fixed_ops.proofs.Lists.{all_right}
 
 -- the bytes of some parts and of others
 pub bytes-append : (ps qs : List Part) → bytes_of_parts (ps ++ qs) ≡ bytes_of_parts ps ++ bytes_of_parts qs
@@ -62,14 +62,5 @@ work-append [] qs = sym (none-both (work_of_parts qs))
 work-append (p ∷ ps) qs =
     ap (both p.work) (work-append ps qs) ∙ sym (both-both p.work (work_of_parts ps) (work_of_parts qs))
 
--- an item between others has what all have
-pub All-right : {X : Type 0} (P : X → Type 0) (xs ys : List X) → All P (xs ++ ys) → All P ys
-All-right P xs ys all k d less =
-    subst P (get_or-append-add xs ys k d) (all (length xs + k) d (omega (arith, less, length-append xs ys)))
-
-pub All-left : {X : Type 0} (P : X → Type 0) (xs ys : List X) → All P (xs ++ ys) → All P xs
-All-left P xs ys all k d less =
-    subst P (get_or_append_left xs ys d k less) (all k d (omega (arith, less, length-append xs ys)))
-
 pub All-between : {X : Type 0} (P : X → Type 0) (xs : List X) (x : X) (ys : List X) → All P (xs ++ x ∷ ys) → P x
-All-between P xs x ys all = All-right P xs (x ∷ ys) all 0 x (omega arith)
+All-between P xs x ys all = all_right P xs (x ∷ ys) all 0 x (omega arith)

@@ -10,7 +10,7 @@ use crate::send::send;
 use crate::stop::Stop;
 use clause_reader::read_model;
 use fixed_ops::Tally;
-use model_frames::{Drawn, draw_image, frames_add_up};
+use model_frames::{Drawn, draw_image};
 use modeller_io::Sink;
 use solid_model::Model;
 use std::alloc::{AllocError, Global};
@@ -35,6 +35,7 @@ pub fn count<K: Sink>(
 
 // The work that a fresh image of a model over a view takes, as text: the image is drawn, and no
 // pixel of it is written. What the tally counted before is not told.
+#[tactic(auto, using(crate::proofs::Counting::counted_apart))]
 fn count_image(
     alloc: Global,
     model: &Model,
@@ -47,7 +48,6 @@ fn count_image(
     ensures plain { PointsRiseAtMost tally.old tally.new
         (plain_points_of view.now (length model.now)) }
 {
-    frames_add_up();
     let mut frame = Tally::new();
     let drawn = draw_image(alloc, model, view, &mut frame);
     tally.join(&frame);

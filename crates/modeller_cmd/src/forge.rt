@@ -16,7 +16,7 @@ use crate::send::send;
 use crate::stop::Stop;
 use fixed_ops::Tally;
 use model_forge::forge_model;
-use model_frames::{Drawn, draw_image, frames_add_up};
+use model_frames::{Drawn, draw_image};
 use modeller_io::Sink;
 use quad_descent::Picture;
 use solid_model::Model;
@@ -59,6 +59,7 @@ fn forge_text(alloc: Global, wanted: &Forge, tally: &mut Tally) -> Result<Vec<u8
 
 // The five lines of a model and of its image over a view. The image is a fresh one: what the tally
 // counted before is not told.
+#[tactic(auto, using(crate::proofs::Counting::counted_apart))]
 fn draw_lines(
     alloc: Global,
     model: &Model,
@@ -71,7 +72,6 @@ fn draw_lines(
     ensures plain { PointsRiseAtMost tally.old tally.new
         (plain_points_of view.now (length model.now)) }
 {
-    frames_add_up();
     let mut frame = Tally::new();
     let drawn = draw_image(alloc, model, view, &mut frame);
     tally.join(&frame);

@@ -1,11 +1,11 @@
 -- Laws of what writes do to the bytes that a sink holds.
-use Rattle.std.proofs.Common.{ℕ, ◌+◌, List, ◌++◌, length, take, drop, Option, Some, None, ap, ◌∙◌, append_assoc}
+use Rattle.std.proofs.Common.{ℕ, ◌+◌, List, ◌++◌, take, drop, Option, Some, None, ap, ◌∙◌, append_assoc}
 use Rattle.std.proofs.Math.Seq.{take-add}
 use Rattle.std.proofs.lemmas.List.{take_rest, length-drop}
 use Rattle.modeller_io.specs.Held.{Extends}
 
 -- one write after another
-Extends-append : (a b c : Option (List ℕ)) (xs ys : List ℕ) → Extends a b xs → Extends b c ys → Extends a c (xs ++ ys)
+pub Extends-append : (a b c : Option (List ℕ)) (xs ys : List ℕ) → Extends a b xs → Extends b c ys → Extends a c (xs ++ ys)
 Extends-append a b None xs ys p q = tt
 Extends-append a None (Some z) xs ys p q = absurd q
 Extends-append None (Some y) (Some z) xs ys p q = absurd p

@@ -18,12 +18,12 @@ use Rattle.interval_ops.specs.declared.choice.Choice.TheVariants.{Left, Right, B
 use Rattle.live_clauses.specs.Choices.{AreChoices, choice_at, step_at}
 use Rattle.live_clauses.specs.Live.{is_needed}
 use Rattle.live_clauses.specs.Marks.{AreMarks}
-use Rattle.live_clauses.specs.Meanings.{meaning_at, number_at, sloped_at, tape_meaning}
+use Rattle.live_clauses.specs.Meanings.{meaning_at, sloped_at, tape_meaning}
 use Rattle.live_clauses.specs.Steps.{IsTape, value_at}
 use Rattle.live_clauses.specs.declared.step.Step.{Step}
 use Rattle.live_clauses.proofs.MeaningLaws.{meaning_at-step}
 use Rattle.live_clauses.proofs.SlopeLaws.{sloped_at-reads, slopes_stand_by_values}
-use Rattle.live_clauses.proofs.ValueLaws.{number_at-reads}
+use Rattle.live_clauses.proofs.ValueLaws.{number_at, number_at-reads}
 use Rattle.live_clauses.proofs.MarkTurns.{first_within, second_within}
 use Rattle.live_clauses.proofs.Representatives.{slice_get-step_at}
 use Rattle.live_clauses.proofs.Needs.{hands_on_first, hands_on_left, hands_on_right, hands_on_second, needed_last, needed_on}

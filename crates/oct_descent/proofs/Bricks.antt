@@ -26,10 +26,10 @@ replicate-none (suc n) zero = refl
 replicate-none (suc n) (suc k) = replicate-none n k
 
 -- what has no mark is not known
-read-unmarked : (b : Marks) (at : ℕ) → get_or b.known at false ≡ false → read b at ≡ None
+pub read-unmarked : (b : Marks) (at : ℕ) → get_or b.known at false ≡ false → read b at ≡ None
 read-unmarked b at e = rw e refl
 
-read-marked : (b : Marks) (at : ℕ) → get_or b.known at false ≡ true → read b at ≡ Some (get_or b.values at (pos 0))
+pub read-marked : (b : Marks) (at : ℕ) → get_or b.known at false ≡ true → read b at ≡ Some (get_or b.values at (pos 0))
 read-marked b at e = rw e refl
 
 -- a place that is written is known, and all others stay

@@ -98,7 +98,7 @@ inside-uniform laws k holds view v s is lies e apart = record {
 -- ---- the grids of meshes
 
 -- a box that covers no point of the outermost layer covers none
-axis-apart : (n low high i : ℕ) → low ≤ i → i ≤ high → high ≤ n → (low == 0 || high == n) ≡ false → (i == 0 || i == n) ≡ false
+pub axis-apart : (n low high i : ℕ) → low ≤ i → i ≤ high → high ≤ n → (low == 0 || high == n) ≡ false → (i == 0 || i == n) ≡ false
 axis-apart n low high i a b c e = grind (arith, nat_tests, e)
 
 pub or-false : (a b : Bool) → (a || b) ≡ false → (a ≡ false) × (b ≡ false)

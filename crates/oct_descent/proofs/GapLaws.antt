@@ -1,13 +1,13 @@
 -- How points that have no values yet get them, and what that takes.
-use Rattle.std.proofs.Common.{◌≡◌, ◌≢◌, ℕ, suc, ◌+◌, ◌-◌, ◌*◌, ◌<◌, ◌≤◌, ℤ, Bool, true, false, cond, List, [], ◌∷◌, ◌++◌, drop, length, pos, set, take, refl, sym, ap, subst, zero-add, add-one, ◌∙◌, ◌⊎◌, inl, inr, arith}
+use Rattle.std.proofs.Common.{◌≡◌, ◌≢◌, ℕ, suc, ◌+◌, ◌*◌, ◌<◌, ◌≤◌, ℤ, Bool, true, false, cond, List, [], ◌∷◌, ◌++◌, drop, length, pos, set, take, refl, sym, ap, subst, zero-add, ◌∙◌, ◌⊎◌, inl, inr, arith}
 use Rattle.std.specs.Prelude.{Option, Some, None, ◌||◌, get_or}
 use Rattle.std.specs.List.{All, AllPairs, sum_by}
 use Rattle.std.proofs.Math.Bool.{or_assoc}
 use Rattle.std.proofs.Math.Seq.{take-add}
 use Rattle.std.proofs.lemmas.Grind.{get_or-set_at}
-use Rattle.std.proofs.lemmas.List.Sums.{sum_by-cons}
-use Rattle.std.proofs.lemmas.Bool.{cases_lt, false≢true}
-use Rattle.std.proofs.lemmas.List.{get_or-set_other, length-drop, take_all}
+use Rattle.std.proofs.lemmas.List.Sums.{sum_by-cons, sum_by-le}
+use Rattle.std.proofs.lemmas.Bool.{cases_lt, false≢true, or_from, or_left, or_right}
+use Rattle.std.proofs.lemmas.List.{get_or-set_other}
 use Rattle.std.proofs.lemmas.List.Elements.{All-get_or, All-head, All-nil, All-push, All-tail, All-weaker}
 use Rattle.std.proofs.lemmas.List.Folds.{list_any-append, list_any_more, list_any_none}
 use Rattle.std.proofs.lemmas.List.Quantifiers.{all_pairs_push}
@@ -31,6 +31,7 @@ use Rattle.oct_descent.specs.GridLaws.{unmet}
 use Rattle.oct_descent.specs.Kinds.{known_of}
 use Rattle.oct_descent.specs.Known.{left, AllKnown, Charges, Grows, IsNew, Pays, Sets}
 use Rattle.box_chains.specs.Sums.{LiesIn}
+use Rattle.fixed_ops.proofs.Lists.{sum_by-least}
 
 -- ---- tests
 
@@ -41,17 +42,8 @@ differs p q other = by (same_point q p) refl
     by true e = absurd (other (sym (same-is q p e)))
     by false e = e
 
-neither : (a b : Bool) → a ≡ false → b ≡ false → (a || b) ≡ false
-neither a b e h = ap (λ t. t || b) e ∙ h
-
-true-either : (a b : Bool) → b ≡ true → (a || b) ≡ true
-true-either true b e = refl
-true-either false b e = e
-
-first-true : (a b : Bool) → a ≡ true → (a || b) ≡ true
-first-true a b e = ap (λ t. t || b) e
-
-cases-last : (k c : ℕ) → k < c + 1 → (k < c) ⊎ (k ≡ c)
+-- what lies below the next number lies below this one, or is it
+pub cases-last : (k c : ℕ) → k < c + 1 → (k < c) ⊎ (k ≡ c)
 cases-last k c less = by (cases_lt k c)
   where
     by : (k < c) ⊎ (c ≤ k) → (k < c) ⊎ (k ≡ c)
@@ -140,16 +132,12 @@ fills-one g n v gaps before mid after within value first sets = record {
         sets.each q
         ∙ ap (λ t. cond t (Some v) (known_at mid q)) e
         ∙ ap Some (value ∙ ap g (same-is p q e))
-        ∙ sym (ap (λ t. cond t (Some (g q)) (known_at before q)) (more q ∙ true-either (has_gap (take n gaps) q) (same_point p q) e))
+        ∙ sym (ap (λ t. cond t (Some (g q)) (known_at before q)) (more q ∙ or_right (has_gap (take n gaps) q) (same_point p q) e))
     by q false e =
         sets.each q
         ∙ ap (λ t. cond t (Some v) (known_at mid q)) e
         ∙ first.each q
         ∙ sym (ap (λ t. cond t (Some (g q)) (known_at before q)) (more q ∙ ap (λ t. has_gap (take n gaps) q || t) e ∙ or-no (has_gap (take n gaps) q)))
-
--- what stands behind a place
-pub rest-is : (gaps : List Gap) (at : ℕ) → take (length gaps - at) (drop at gaps) ≡ drop at gaps
-rest-is gaps at = take_all (length gaps - at) (drop at gaps) (omega (arith, length-drop at gaps))
 
 -- so many more are counted
 pub lanes-counted : TalliesAddUp → (before mid after : Counts) (at more len : ℕ) → RisesBy before mid (points_of (at * len)) → RisesBy mid after (points_of (more * len)) → RisesBy before after (points_of ((at + more) * len))
@@ -208,7 +196,7 @@ gaps-known t p c gaps known are = record {
 
     by : (k : ℕ) → (k < c) ⊎ (k ≡ c) → (has_gap gaps (further p k) || is_known (known_at t (further p k))) ≡ true
     by k (inl before) = are.all k before
-    by k (inr same) = true-either (has_gap gaps (further p k)) (is_known (known_at t (further p k))) (ap (λ n. is_known (known_at t (further p n))) same ∙ known)
+    by k (inr same) = or_right (has_gap gaps (further p k)) (is_known (known_at t (further p k))) (ap (λ n. is_known (known_at t (further p n))) same ∙ known)
 
 -- the next corner gets a gap
 pub gaps-more : (t after : PointValues) (p : GridPoint) (c : ℕ) (gaps : List Gap) (gap : Gap) → c < 8 → KeepsPlaces t after → IsSame t after → spot gap ≡ further p c → StandsIn after gap
@@ -241,8 +229,8 @@ gaps-more t after p c gaps gap few keeps same is stands unknown are = record {
     by k (inr last) =
         let q = further p k in
         let at : spot gap ≡ q = is ∙ ap (further p) (sym last) in
-        first-true (has_gap (gaps ++ gap ∷ []) q) (is_known (known_at after q))
-        (joined q ∙ true-either (has_gap gaps q) (has_gap (gap ∷ []) q) (first-true (same_point (spot gap) q) false (ap (same_point (spot gap)) (sym at) ∙ same-self (spot gap))))
+        or_left (has_gap (gaps ++ gap ∷ []) q) (is_known (known_at after q))
+        (joined q ∙ or_right (has_gap gaps q) (has_gap (gap ∷ []) q) (or_left (same_point (spot gap) q) false (ap (same_point (spot gap)) (sym at) ∙ same-self (spot gap))))
 
 -- ---- what that takes
 
@@ -290,7 +278,7 @@ gaps-left laws f t (gap ∷ rest) stand unknown apart =
     list_any_none (λ (a : Gap). same_point (spot a) p) rest (All-weaker (λ (a : Gap). p ≢ spot a) (λ a. same_point (spot a) p ≡ false) (λ a other. differs p (spot a) other) rest first) in
     let lies : LiesIn (points_of_grid t.n) (sample_of p) = record { x = (omega arith, omega (arith, here.x)); y = (omega arith, omega (arith, here.y)); z = (omega arith, omega (arith, here.z)) } in
     let more = unmet-one laws f p (points_of_grid t.n) (λ q. has_gap rest q || is_known (known_at t q)) (λ q. has_gap (gap ∷ rest) q || is_known (known_at t q)) lies
-    (neither (has_gap rest p) (is_known (known_at t p)) others (ap is_known none)) (λ q. or_assoc (same_point p q) (has_gap rest q) (is_known (known_at t q))) in
+    (or_from (has_gap rest p) (is_known (known_at t p)) others (ap is_known none)) (λ q. or_assoc (same_point p q) (has_gap rest q) (is_known (known_at t q))) in
     omega (arith, sum_by-cons (λ (a : Gap). f (spot a)) gap rest, more, gaps-left laws f t rest (All-tail (StandsIn t) gap rest stand) (All-tail (λ (a : Gap). known_at t (spot a) ≡ None) gap rest unknown) later)
 
 filled-left : (laws : Lawful) (f : GridPoint → ℕ) (g : GridPoint → ℤ) (gaps : List Gap) (before after : PointValues) → Fills g gaps before after
@@ -300,33 +288,6 @@ filled-left laws f g gaps before after fills =
     ∙ laws.sums.same (points_of_grid before.n) (λ s. cond (is_known (known_at after (point s.i s.j s.k))) 0 (f (point s.i s.j s.k)))
     (λ s. cond (has_gap gaps (point s.i s.j s.k) || is_known (known_at before (point s.i s.j s.k))) 0 (f (point s.i s.j s.k)))
     (λ s lies. ap (λ t. cond {A = ℕ} t 0 (f (point s.i s.j s.k))) (filled-known g gaps before after (point s.i s.j s.k) fills))
-
-times-more : (n len : ℕ) → suc n * len ≡ n * len + len
-times-more n len =
-    let more : (n + 1) * len ≡ n * len + len = grind arith in
-    ap (λ m. m * len) (sym (add-one n)) ∙ more
-
-sum-least : (f : GridPoint → ℕ) (len : ℕ) (gaps : List Gap) → All (λ gap. len ≤ f (spot gap)) gaps → length gaps * len ≤ sum_by (λ gap. f (spot gap)) gaps
-sum-least f len [] all = omega arith
-sum-least f len (gap ∷ rest) all =
-    omega (
-      arith,
-      times-more (length rest) len,
-      sum_by-cons (λ (a : Gap). f (spot a)) gap rest,
-      All-head (λ (a : Gap). len ≤ f (spot a)) gap rest all,
-      sum-least f len rest (All-tail (λ (a : Gap). len ≤ f (spot a)) gap rest all),
-    )
-
-sum-most : (f : GridPoint → ℕ) (len : ℕ) (gaps : List Gap) → All (λ gap. f (spot gap) ≤ len) gaps → sum_by (λ gap. f (spot gap)) gaps ≤ length gaps * len
-sum-most f len [] all = omega arith
-sum-most f len (gap ∷ rest) all =
-    omega (
-      arith,
-      times-more (length rest) len,
-      sum_by-cons (λ (a : Gap). f (spot a)) gap rest,
-      All-head (λ (a : Gap). f (spot a) ≤ len) gap rest all,
-      sum-most f len rest (All-tail (λ (a : Gap). f (spot a) ≤ len) gap rest all),
-    )
 
 -- the corners of a cell are filled
 pub record AreFilled (g : GridPoint → ℤ) (b : Indices) (gaps : List Gap) (old before after : PointValues) : Type 0 where
@@ -351,7 +312,7 @@ gaps-charged laws f g b len gaps old before after told now are enough rises =
     let all = All-weaker (λ (gap : Gap). Covers b (spot gap)) (λ gap. len ≤ f (spot gap)) (λ gap covers. enough (spot gap) covers) gaps (covered-all b gaps are.one gaps_are.corners) in
     record {
       points = length gaps * len;
-      enough = omega (arith, sum-least f len gaps all, gaps-left laws f before gaps gaps_are.stand gaps_are.unknown gaps_are.apart, filled-left laws f g gaps before after are.fills, same-left laws f old before are.same);
+      enough = omega (arith, sum_by-least (λ (a : Gap). f (spot a)) len gaps all, gaps-left laws f before gaps gaps_are.stand gaps_are.unknown gaps_are.apart, filled-left laws f g gaps before after are.fills, same-left laws f old before are.same);
       counts = laws.bounds.points told now (length gaps * len) rises;
     }
 
@@ -362,7 +323,7 @@ gaps-paid laws f g b len gaps old before after told now are due rises =
     let all = All-weaker (λ (gap : Gap). Covers b (spot gap)) (λ gap. f (spot gap) ≤ len) (λ gap covers. due (spot gap) covers) gaps (covered-all b gaps are.one gaps_are.corners) in
     record {
       points = length gaps * len;
-      due = omega (arith, sum-most f len gaps all, gaps-left laws f before gaps gaps_are.stand gaps_are.unknown gaps_are.apart, filled-left laws f g gaps before after are.fills, same-left laws f old before are.same);
+      due = omega (arith, sum_by-le (λ (a : Gap). f (spot a)) len gaps all, gaps-left laws f before gaps gaps_are.stand gaps_are.unknown gaps_are.apart, filled-left laws f g gaps before after are.fills, same-left laws f old before are.same);
       counts = record { by = points_of (length gaps * len); many = omega arith; rises = rises };
     }
 

@@ -23,7 +23,6 @@ use Rattle.view_places.specs.declared.lattice.Axis.TheVariants.{Z}
 use Rattle.view_places.specs.declared.lattice.Lattice.TheVariants.{Grid}
 use Rattle.view_places.specs.Places.{sample_place}
 use Rattle.view_places.specs.Window.{FitsContour, FitsMesh, IsWindow, Window}
-use Rattle.kuhn_cells.proofs.VertexLaws.{in_map}
 use Rattle.mesh_laws.proofs.Lattice.{few_steps}
 use Rattle.tetra_mesh.proofs.SoundLaws.{grid_meshes_are_sound, grid_meshes_lie_apart, lattice_axis}
 use Rattle.path_writer.specs.Apart.{ContoursLieApart, LieApart, raw_of}
@@ -31,6 +30,7 @@ use Rattle.path_writer.specs.Paths.{place_text}
 use Rattle.path_writer.proofs.Contours.{HasSteps, steps_over}
 use Rattle.path_writer.proofs.Layers.{IsMixed, layered, layered_bordered, lower_value, no_step, raised, raised_listed, upper_value}
 use Rattle.path_writer.proofs.Order.{edges_differ}
+use Rattle.fixed_ops.proofs.Lists.{in_map}
 
 -- ---- lists
 

@@ -1,21 +1,19 @@
 -- The contours of grids have paths.
-use Rattle.std.proofs.Common.{◌≡◌, ℕ, suc, ◌+◌, ◌-◌, ◌*◌, ◌/◌, ◌<◌, ◌≤◌, ℤ, Bool, true, false, List, [], ◌∷◌, ◌++◌, length, map, sym, subst, length-append, arith}
-use Rattle.std.specs.Prelude.{All, flat_map, get_or, if◌then◌else◌, max, min, nat_le, unsigned_abs}
+use Rattle.std.proofs.Common.{◌≡◌, ℕ, suc, ◌+◌, ◌<◌, ◌≤◌, true, List, [], ◌∷◌, ◌++◌, length, map, sym, subst, length-append, arith}
+use Rattle.std.specs.Prelude.{All, flat_map, get_or, nat_le}
 use Rattle.std.specs.List.{concat, range_with_len}
 use Rattle.std.proofs.lemmas.Bool.{and_parts, leb-true}
 use Rattle.std.proofs.lemmas.List.{length-map}
 use Rattle.std.proofs.lemmas.List.Elements.{All-cons, All-filter, All-map, All-nil, filter_passes}
-use Rattle.fixed_ops.specs.Cut.{cut_of}
-use Rattle.fixed_ops.specs.Raw.{is_inside}
 use Rattle.kuhn_cells.specs.Corners.{along_x, along_y}
-use Rattle.kuhn_cells.proofs.VertexLaws.{all_flat}
-use Rattle.mesh_laws.specs.Places.{way_up}
 use Rattle.plane_loops.specs.Contours.{AreJoined, AreLoops, StartsLowest, ends_from}
 use Rattle.plane_loops.specs.Planes.{PlaneEdge, PlaneGrid, PlanePoint, directions, edge_from, edges, is_inside_at, is_mixed, is_point, mixed_edges, over_square, point, upper, value_at, lower, vertex_on}
 use Rattle.plane_loops.proofs.Closing.{loops_with}
 use Rattle.view_places.specs.Window.{Window}
 use Rattle.path_writer.specs.Laws.{ContoursHavePaths, HasItsPaths}
 use Rattle.path_writer.specs.Written.{ArePiecesTo, IsInPlane}
+use Rattle.fixed_ops.proofs.Lists.{all_flat}
+use Rattle.mesh_laws.proofs.Lattice.{way_is_share}
 
 -- ---- the loops are pieces of the order
 
@@ -35,22 +33,6 @@ ends_are n (loop ∷ loops) lowest =
 
 -- ---- the vertices lie in the plane
 
-cut_least : (q : ℕ) → 1 ≤ max 1 (min 65535 q)
-cut_least q = omega arith
-
-cut_most : (q : ℕ) → max 1 (min 65535 q) ≤ 65535
-cut_most q = omega arith
-
-turned : (t : Bool) (s r : ℕ) → 1 ≤ s → s ≤ 65535 → 1 ≤ r → r ≤ 65535 → let way = if t then s else 65536 - r in (1 ≤ way) × (way ≤ 65535)
-turned true s r some few least most = (some, few)
-turned false s r some few least most = (omega (arith, most), omega (arith, least))
-
-way_within : (a b : ℤ) → (1 ≤ way_up a b) × (way_up a b ≤ 65535)
-way_within a b =
-    let m = unsigned_abs a in
-    let n = unsigned_abs b in
-    turned (is_inside a) (cut_of a b) (cut_of b a) (cut_least (65536 * m / (m + n))) (cut_most (65536 * m / (m + n))) (cut_least (65536 * n / (n + m))) (cut_most (65536 * n / (n + m)))
-
 abbrev pub HasSteps : PlaneEdge → Type 0
 HasSteps e = (1 ≤ e.dir) × (e.dir ≤ 3)
 
@@ -69,14 +51,14 @@ steps_over n =
 in_plane : (w : Window) (g : PlaneGrid) (e : PlaneEdge) → g.n ≡ w.nx → g.n ≡ w.ny → HasSteps e → is_point g (upper e) ≡ true → IsInPlane w (vertex_on g e)
 in_plane w g e across along steps point =
     let ends = and_parts (nat_le (e.x + along_x e.dir) g.n) (nat_le (e.y + along_y e.dir) g.n) point in
-    let way = way_within (value_at g (lower e)) (value_at g (upper e)) in
+    let way = way_is_share (value_at g (lower e)) (value_at g (upper e)) in
     record {
       some_steps = steps.0;
       few_steps = steps.1;
       x = subst (λ n. e.x + along_x e.dir ≤ n) across (leb-true (e.x + along_x e.dir) g.n ends.0);
       y = subst (λ n. e.y + along_y e.dir ≤ n) along (leb-true (e.y + along_y e.dir) g.n ends.1);
-      some = way.0;
-      few = way.1;
+      some = way.some;
+      few = way.few;
     }
 
 placed : (w : Window) (g : PlaneGrid) → g.n ≡ w.nx → g.n ≡ w.ny → All (λ e. IsInPlane w (vertex_on g e)) (mixed_edges g)

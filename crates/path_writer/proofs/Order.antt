@@ -5,10 +5,9 @@ use Rattle.std.specs.List.{range_with_len}
 use Rattle.std.proofs.lemmas.List.Elements.{All-cons, All-nil}
 use Rattle.std.proofs.lemmas.List.Kept.{AllPairs-cons, AllPairs-filter}
 use Rattle.plane_loops.specs.Planes.{PlaneEdge, PlaneGrid, PlanePoint, directions, edge_from, edges, is_inside_at, is_mixed, is_point, mixed_edges, over_square, point, upper}
-use Rattle.kuhn_cells.proofs.OrderLaws.{in_order}
-use Rattle.kuhn_cells.proofs.VertexLaws.{all_flat}
 use Rattle.mesh_laws.proofs.Lists.{Differ}
 use Rattle.mesh_laws.proofs.Single.{apart}
+use Rattle.fixed_ops.proofs.Lists.{all_flat, in_order}
 
 from : PlanePoint → List PlaneEdge
 from p = map (edge_from p) directions

@@ -10,11 +10,12 @@ use Rattle.plane_loops.specs.Segments.{Segment, cell_segments, edge_between, seg
 use Rattle.plane_loops.proofs.GridLaws.{IsVertex, in_cell, inner, other_inside}
 use Rattle.plane_loops.proofs.JoinLaws.{has_number, held_at, leaves_grid, placed}
 use Rattle.plane_loops.proofs.NextLaws.{IsLeaving, are_pairs, between, leaves_at, left_of, next_in}
-use Rattle.plane_loops.proofs.Squares.{from_map, from_square, in_square}
+use Rattle.plane_loops.proofs.Squares.{from_square, in_square}
 use Rattle.plane_loops.proofs.SwapLaws.{cell_swap, outside, swap}
 use Rattle.plane_loops.proofs.TableLaws.{has_signs, next_vertex}
 use Rattle.plane_loops.specs.WorkedOut.{signs_of}
 use Rattle.plane_loops.proofs.TurnLaws.{each_dir, segment, turn_of}
+use Rattle.fixed_ops.proofs.Lists.{from_map}
 
 -- ---- the sides exchanged
 

@@ -1,6 +1,6 @@
 -- There is one list of loops that completes some marks.
 use Rattle.std.proofs.Common.{◌≡◌, ℕ, zero, suc, ◌+◌, ◌<◌, ◌≤◌, Bool, true, false, List, [], ◌∷◌, ◌++◌, refl, arith, ap, sym, subst, ◌∙◌, inl, inr, length}
-use Rattle.std.specs.Prelude.{◌⊎◌, ◌==◌, All, AllPairs}
+use Rattle.std.specs.Prelude.{◌⊎◌, ◌==◌, All}
 use Rattle.std.specs.List.{concat, range_with_len}
 use Rattle.std.proofs.lemmas.Bool.{cases_eq}
 use Rattle.std.proofs.lemmas.List.Elements.{All-append, All-cons, All-head, All-nil, All-tail}
@@ -10,22 +10,7 @@ use Rattle.plane_loops.specs.Following.{loops_from, mark_all, unmarked, walk}
 use Rattle.plane_loops.proofs.Lists.{at, bit, bit_same, count, count_append, count_cons, counted_has, set_here}
 use Rattle.plane_loops.proofs.LoopLaws.{Complete, Follows, IsCycle, IsFront, IsOneToOne, IsWalked, bit_marked, found, from_least, front_on, walk_rises}
 use Rattle.plane_loops.proofs.WalkLaws.{loops_none, loops_skip, loops_take}
-
--- ---- lists
-
-pub all_left : {A : Type 0} (P : A → Type 0) (xs ys : List A) → All P (xs ++ ys) → All P xs
-all_left P [] ys h = All-nil P
-all_left P (x ∷ xs) ys h = All-cons P x xs (All-head P x (xs ++ ys) h) (all_left P xs ys (All-tail P x (xs ++ ys) h))
-
-pub all_right : {A : Type 0} (P : A → Type 0) (xs ys : List A) → All P (xs ++ ys) → All P ys
-all_right P [] ys h = h
-all_right P (x ∷ xs) ys h = all_right P xs ys (All-tail P x (xs ++ ys) h)
-
-pub first_before : {A : Type 0} (R : A → A → Type 0) (x : A) (xs : List A) → AllPairs R (x ∷ xs) → All (R x) xs
-first_before R x xs h k d within = h 0 (suc k) d (omega arith) (omega (arith, within))
-
-pub rest_in_order : {A : Type 0} (R : A → A → Type 0) (x : A) (xs : List A) → AllPairs R (x ∷ xs) → AllPairs R xs
-rest_in_order R x xs h i j d less within = h (suc i) (suc j) d (omega (arith, less)) (omega (arith, within))
+use Rattle.fixed_ops.proofs.Lists.{all_left, all_right, first_before, rest_in_order}
 
 -- ---- one more start
 

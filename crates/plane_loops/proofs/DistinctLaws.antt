@@ -2,18 +2,16 @@
 use Rattle.std.proofs.Common.{◌≡◌, ◌≢◌, ℕ, zero, suc, ◌+◌, ◌≤◌, Bool, true, false, List, [], ◌∷◌, ◌++◌, arith, ap, subst, sym, ◌∙◌, inl, inr}
 use Rattle.std.specs.Prelude.{◌⊎◌, ◌==◌, flat_map, All, AllPairs, Contains, if◌then◌else◌}
 use Rattle.std.specs.List.{range_with_len}
-use Rattle.std.proofs.lemmas.List.{append-nil}
+use Rattle.std.proofs.lemmas.List.{append-nil, get_or_default}
 use Rattle.std.proofs.lemmas.List.Elements.{All-append}
 use Rattle.std.proofs.lemmas.List.Kept.{AllPairs-cons}
 use Rattle.plane_loops.specs.Following.{left_triangle}
 use Rattle.plane_loops.specs.Laws.{SegmentsAreDistinct}
 use Rattle.plane_loops.specs.Planes.{PlaneEdge, PlanePoint, is_inside_at, lower, point}
 use Rattle.plane_loops.specs.Segments.{Segment, Triangle, cell_segments, edge_between, segments, segments_in}
-use Rattle.plane_loops.proofs.CompleteLaws.{first_before, rest_in_order}
-use Rattle.plane_loops.proofs.Lists.{read_any}
 use Rattle.plane_loops.proofs.NextLaws.{followed, starts_at}
-use Rattle.plane_loops.proofs.Squares.{from_flat, head_or_tail, in_head, in_tail, not_in_none}
 use Rattle.plane_loops.proofs.TurnLaws.{IsTurn, side, tips, triangle, turn_of, which_turn}
+use Rattle.fixed_ops.proofs.Lists.{first_before, from_flat, head_or_tail, in_head, in_tail, not_in_none, rest_in_order}
 
 -- ---- lists that share no element
 
@@ -21,7 +19,7 @@ abbrev Differ : {A : Type 0} → A → A → Type 0
 Differ x y = x ≢ y
 
 missing : {A : Type 0} (x : A) (xs : List A) → (Contains xs x → ⊥) → All (Differ x) xs
-missing x xs none k d within same = none (k, within, read_any xs k x d within ∙ sym same)
+missing x xs none k d within same = none (k, within, get_or_default xs k x d within ∙ sym same)
 
 joined_differ : {A : Type 0} (xs ys : List A) → AllPairs Differ xs → AllPairs Differ ys → ((x : A) → Contains xs x → Contains ys x → ⊥) → AllPairs Differ (xs ++ ys)
 joined_differ [] ys first second apart = second

@@ -1,8 +1,8 @@
 -- The vertices of a bordered grid, and the cells beside them.
-use Rattle.std.proofs.Common.{◌≡◌, ℕ, ◌+◌, ◌<◌, ◌≤◌, Bool, true, false, cond, List, [], ◌∷◌, refl, arith, ◌∙◌, ap, subst, sym, inl, inr}
+use Rattle.std.proofs.Common.{◌≡◌, ℕ, ◌+◌, ◌<◌, ◌≤◌, Bool, true, false, List, [], ◌∷◌, refl, arith, ◌∙◌, ap, subst, sym, inl, inr}
 use Rattle.std.specs.Prelude.{◌⊎◌, ◌==◌, ◌||◌, map, filter, All}
 use Rattle.std.proofs.lemmas.Bool.{and_from, and_parts, cases_eq, eq-eqb, false≢true, le-leb, leb-true, or_left, or_right}
-use Rattle.std.proofs.lemmas.List.Elements.{All-cons, All-head, All-nil, All-tail}
+use Rattle.std.proofs.lemmas.List.Elements.{All-cons, All-nil}
 use Rattle.kuhn_cells.specs.Arrangement.{differ}
 use Rattle.kuhn_cells.specs.Corners.{along_x, along_y}
 use Rattle.plane_loops.specs.Following.{left_triangle}
@@ -10,6 +10,7 @@ use Rattle.plane_loops.specs.Planes.{IsBordered, PlaneEdge, PlaneGrid, PlanePoin
 use Rattle.plane_loops.proofs.NextLaws.{IsIn, IsLeaving}
 use Rattle.plane_loops.proofs.Squares.{filter_square, square_same, trimmed}
 use Rattle.plane_loops.proofs.TurnLaws.{each_dir}
+use Rattle.fixed_ops.proofs.Lists.{all_kept, none_left}
 
 -- ---- inside points lie within the border
 
@@ -132,20 +133,6 @@ in_cell g border cell e x y h =
     record { x = s.x; y = s.y; some = h.some; few = h.few; mixed = h.mixed }
 
 -- ---- the vertices, cell by cell
-
-none_left : {A : Type 0} (p q : A → Bool) (xs : List A) → All (λ x. q x ≡ true → p x ≡ false) xs → filter p (filter q xs) ≡ []
-none_left p q [] h = refl
-none_left p q (x ∷ xs) h =
-    by (q x) (All-head (λ x. q x ≡ true → p x ≡ false) x xs h) (none_left p q xs (All-tail (λ x. q x ≡ true → p x ≡ false) x xs h))
-  where
-    by : (b : Bool) → (b ≡ true → p x ≡ false) → filter p (filter q xs) ≡ [] → filter p (cond b (x ∷ filter q xs) (filter q xs)) ≡ []
-    by true fails rest = rw (fails refl) rest
-    by false fails rest = rest
-
-all_kept : {A : Type 0} (q : A → Bool) (xs : List A) → All (λ x. q x ≡ true) xs → filter q xs ≡ xs
-all_kept q [] h = refl
-all_kept q (x ∷ xs) h =
-    rw (All-head (λ x. q x ≡ true) x xs h) (ap (λ ys. x ∷ ys) (all_kept q xs (All-tail (λ x. q x ≡ true) x xs h)))
 
 from_point : PlanePoint → List PlaneEdge
 from_point p = map (edge_from p) directions

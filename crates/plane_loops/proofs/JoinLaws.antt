@@ -11,7 +11,7 @@ use Rattle.plane_loops.specs.Following.{cell_before, edges_before, loops_by, nex
 use Rattle.plane_loops.specs.Laws.{ContoursAreWorkedOut, OneContour}
 use Rattle.plane_loops.specs.Planes.{IsBordered, PlaneEdge, PlaneGrid, is_inside_at, mixed_edges}
 use Rattle.plane_loops.specs.Segments.{cell_segments, segments}
-use Rattle.plane_loops.proofs.CompleteLaws.{all_left, all_right, complete, only}
+use Rattle.plane_loops.proofs.CompleteLaws.{complete, only}
 use Rattle.plane_loops.proofs.GridLaws.{IsVertex, leaving}
 use Rattle.plane_loops.proofs.Lists.{at, bit}
 use Rattle.plane_loops.proofs.LoopLaws.{Follows, IsCycle, IsFront, IsOneToOne, next_of}
@@ -22,6 +22,7 @@ use Rattle.plane_loops.proofs.SwapLaws.{arrived, outside}
 use Rattle.plane_loops.proofs.TableLaws.{HasSigns, edges_are, flag_same, has_signs, in_grid, next_is, next_vertex}
 use Rattle.plane_loops.specs.WorkedOut.{contour_of, signs_of}
 use Rattle.plane_loops.proofs.TurnLaws.{segment, turn_of}
+use Rattle.fixed_ops.proofs.Lists.{all_left, all_right}
 
 -- ---- the segments of a grid
 

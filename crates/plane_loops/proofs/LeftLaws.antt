@@ -4,9 +4,6 @@ use Rattle.std.specs.Prelude.{◌⊎◌, ◌/◌, ◌%◌, ◌-ℤ◌, ◌<ℤ�
 use Rattle.std.proofs.lemmas.Bool.{cases_lt}
 use Rattle.std.proofs.lemmas.Int.{ints}
 use Rattle.std.proofs.Math.Nat.{mul-le-mul_left}
-use borrow.Author.Differences.{up, down, product_is, same_in}
-use Rattle.fixed_ops.specs.Cut.{cut_of}
-use Rattle.fixed_ops.specs.Raw.{is_inside}
 use Rattle.kuhn_cells.specs.Corners.{along_x, along_y}
 use Rattle.plane_loops.specs.Following.{left_triangle}
 use Rattle.plane_loops.specs.Planes.{PlaneEdge, PlaneGrid, PlanePoint, further, is_inside_at, lower, share, upper, value_at}
@@ -15,31 +12,13 @@ use Rattle.plane_loops.specs.Sides.{HasInsideLeft, InsideIsLeft, PlanePlace, det
 use Rattle.plane_loops.proofs.NextLaws.{IsPair, are_pairs, point_same}
 use Rattle.plane_loops.proofs.Squares.{from_square}
 use Rattle.plane_loops.proofs.TurnLaws.{HasTurn, each_dir, side, turn_of}
+use Rattle.mesh_laws.proofs.Lattice.{IsShare, way_is_share}
+use Rattle.mesh_laws.proofs.Determinants.{diff, diff_is, diff_mul, diff_sub}
 
 -- ---- differences of natural numbers
 
-unfoldable pub diff : ℕ → ℕ → ℤ
-diff a b = pos a -ℤ pos b
-
-pub diff_is : (a b : ℕ) → up (diff a b) + b ≡ down (diff a b) + a
-unfolding diff
-diff_is a b = omega (arith, ints)
-
-pub diff_sub : (a b c d : ℕ) → diff a b -ℤ diff c d ≡ diff (a + d) (b + c)
-diff_sub a b c d = omega (arith, ints, diff_is a b, diff_is c d, diff_is (a + d) (b + c))
-
 diff_above : (a b : ℕ) → b < a → pos 0 <ℤ diff a b
 diff_above a b h = omega (arith, ints, h, diff_is a b)
-
-pub diff_mul : (a b c d : ℕ) → diff a b *ℤ diff c d ≡ diff (a * c + b * d) (a * d + b * c)
-diff_mul a b c d =
-    let x = diff a b in
-    let y = diff c d in
-    let h = diff_is a b in
-    let k = diff_is c d in
-    let p = product_is x y in
-    same_in (x *ℤ y) (diff (a * c + b * d) (a * d + b * c))
-    (omega (arith, p.0, p.1, diff_is (a * c + b * d) (a * d + b * c), ap (λ m. m * up y) h, ap (λ m. m * down y) h, ap (λ m. m * a) k, ap (λ m. m * b) k))
 
 -- a way between two places of a cell does not depend on where the cell lies
 way_is : (base q p : ℕ) → pos (base + q) -ℤ pos (base + p) ≡ diff q p
@@ -64,22 +43,8 @@ above x y px py qx qy rx ry h =
 
 -- ---- shares of edges
 
-cut_some : (a b : ℤ) → 1 ≤ cut_of a b
-cut_some a b = omega arith
-
-cut_few : (a b : ℤ) → cut_of a b ≤ 65535
-cut_few a b = omega arith
-
-record IsShare (t : ℕ) : Type 0 where
-  some : 1 ≤ t
-  few : t ≤ 65535
-
-share_by : (s : Bool) (a b : ℤ) → IsShare (if s then cut_of a b else 65536 - cut_of b a)
-share_by true a b = record { some = cut_some a b; few = cut_few a b }
-share_by false a b = let h = cut_some b a in let k = cut_few b a in record { some = omega (arith, k); few = omega (arith, h) }
-
 is_share : (g : PlaneGrid) (e : PlaneEdge) → IsShare (share g e)
-is_share g e = share_by (is_inside (value_at g (lower e))) (value_at g (lower e)) (value_at g (upper e))
+is_share g e = way_is_share (value_at g (lower e)) (value_at g (upper e))
 
 product_some : (a b : ℕ) → 1 ≤ a → 1 ≤ b → 1 ≤ a * b
 product_some a b h k = let e = mul-le-mul_left a k in omega (arith, e, h)

@@ -3,7 +3,7 @@ use Rattle.std.proofs.Common.{◌≡◌, ℕ, ◌+◌, ◌*◌, ◌<◌, ◌≤�
 use Rattle.std.specs.Prelude.{All, map}
 use Rattle.std.specs.List.{concat}
 use Rattle.std.proofs.lemmas.Bool.{false≢true}
-use Rattle.std.proofs.lemmas.List.Elements.{All-head, All-map, All-tail}
+use Rattle.std.proofs.lemmas.List.Elements.{All-map}
 use Rattle.fixed_ops.specs.Raw.{is_inside}
 use Rattle.kuhn_cells.specs.Arrangement.{differ}
 use Rattle.mesh_laws.specs.Places.{way_up}
@@ -15,12 +15,14 @@ use Rattle.plane_loops.specs.Steps.{HasNext, IsParted, bases_of}
 use Rattle.plane_loops.specs.Tables.{AreMixed, AreTables, one_if, signs_at}
 use Rattle.plane_loops.proofs.GridLaws.{IsVertex}
 use Rattle.plane_loops.proofs.JoinLaws.{contour_is, held_at, one_to_one}
-use Rattle.plane_loops.proofs.Lists.{read_any}
 use Rattle.plane_loops.proofs.LoopLaws.{IsOneToOne}
 use Rattle.plane_loops.proofs.NumberLaws.{few_before}
 use Rattle.plane_loops.proofs.ReadLaws.{base_read, long_bases, square_small, vertex_at}
 use Rattle.plane_loops.proofs.TableLaws.{HasSigns, edges_are, has_next, start_is}
 use Rattle.plane_loops.proofs.TurnLaws.{each_dir}
+use Rattle.std.proofs.lemmas.List.{get_or_default}
+use Rattle.fixed_ops.proofs.Lists.{map_same}
+use Rattle.kuhn_cells.proofs.CellLaws.{same_side}
 
 abbrev OwnTables : PlaneGrid → List ℤ → List ℕ → Type 0
 OwnTables g values signs = AreTables g.n g values signs
@@ -73,13 +75,9 @@ all_in a b c d h =
       fourth = bit_one d (omega (arith, h, i, j, k, l)) ∙ sym p;
     }
 
-alike : (a b : Bool) → b ≡ a → differ a b ≡ false
-alike true b e = rw e refl
-alike false b e = e
-
 same_sides : (a b c d : Bool) (dir : ℕ) (side : ℕ → Bool) → side 0 ≡ a → side 1 ≡ b → side 2 ≡ c → side 3 ≡ d → AreOne a b c d → 1 ≤ dir → dir ≤ 3 → differ (side 0) (side dir) ≡ false
 same_sides a b c d dir side p q r s one some few =
-    each_dir (λ k. differ (side 0) (side k) ≡ false) (alike _ _ (q ∙ one.second ∙ sym p)) (alike _ _ (r ∙ one.third ∙ sym p)) (alike _ _ (s ∙ one.fourth ∙ sym p)) dir some few
+    each_dir (λ k. differ (side 0) (side k) ≡ false) (same_side _ _ (q ∙ one.second ∙ sym p)) (same_side _ _ (r ∙ one.third ∙ sym p)) (same_side _ _ (s ∙ one.fourth ∙ sym p)) dir some few
 
 -- the cell of an edge that holds a vertex is mixed
 mixed_cell : (g : PlaneGrid) (e : PlaneEdge) → IsVertex g e → AreMixed (signs_at (is_inside_at g) (lower e))
@@ -117,13 +115,6 @@ all_vertices g signs h k d few =
     let long = ap length same in
     let held = held_at g signs h k (omega (arith, few, long)) in
     subst (IsVertex g) (sym (ap (λ l. get_or l k d) (sym same) ∙ held.here d)) held.vertex
-
-map_same : {A B : Type 0} (f h : A → B) (xs : List A) → All (λ x. f x ≡ h x) xs → map f xs ≡ map h xs
-map_same f h [] same = refl
-map_same f h (x ∷ xs) same =
-    let first = All-head (λ x. f x ≡ h x) x xs same in
-    let others = map_same f h xs (All-tail (λ x. f x ≡ h x) x xs same) in
-    cc
 
 vertex_is : (g : PlaneGrid) (values : List ℤ) (e : PlaneEdge) → IsRead g values e → vertex_by g.n values e ≡ vertex_on g e
 vertex_is g values e r =
@@ -165,7 +156,7 @@ pub small_bases : (n : ℕ) (signs bases : List ℕ) → n ≤ 256 → bases ≡
 small_bases n signs bases few is k d within =
     let long = long_bases n signs bases is in
     let less : k < n * n = omega (arith, within, long) in
-    let a = read_any bases k d 0 within ∙ base_read n signs bases k is less in
+    let a = get_or_default bases k d 0 within ∙ base_read n signs bases k is less in
     let b = few_before n signs k in
     let c = square_small n few in
     omega (arith, a, b, c, less)
@@ -182,7 +173,7 @@ next_of_vertices n values signs vs next is e =
 pub next_few : (next : List ℕ) → IsOneToOne next → All (λ v. v < length next) next
 next_few next one k d few =
     let a = one.within k few in
-    let b = read_any next k d 0 few in
+    let b = get_or_default next k d 0 few in
     omega (arith, a, b)
 
 -- ---- the whole contour

@@ -1,23 +1,11 @@
--- Counts of a number in a list, what a list has, and marks.
-use Rattle.std.proofs.Common.{◌≡◌, ◌≢◌, ℕ, zero, suc, ◌+◌, ◌-◌, ◌<◌, ◌≤◌, Bool, true, false, cond, List, [], ◌∷◌, ◌++◌, refl, arith, ap, sym, subst, ◌∙◌, inl, inr, length, get_or, set}
+-- Counts of a number in a list, and marks.
+use Rattle.std.proofs.Common.{◌≡◌, ◌≢◌, ℕ, suc, ◌+◌, ◌<◌, ◌≤◌, Bool, true, false, cond, List, [], ◌∷◌, ◌++◌, refl, arith, ap, sym, subst, ◌∙◌, inl, inr, length, get_or, set}
 use Rattle.std.specs.Prelude.{◌⊎◌, ◌==◌, not, count_by, All, Contains}
-use Rattle.std.specs.List.{range_with_len}
 use Rattle.std.proofs.lemmas.Bool.{cases_eq, eq-eqb, ne_eqb}
 use Rattle.std.proofs.lemmas.List.{get_or-set_other, get_or-set_same}
 use Rattle.std.proofs.lemmas.List.Elements.{All-head, All-tail}
 use Rattle.std.proofs.lemmas.List.Sums.{get_or-le-sum_by, sum_by-append, sum_by-cons, sum_by-set}
 use Rattle.plane_loops.specs.Following.{unmarked}
-
--- ---- reads
-
--- a read within a list does not depend on what stands for a missing element
-pub read_any : {A : Type 0} (xs : List A) (i : ℕ) (d e : A) → i < length xs → get_or xs i d ≡ get_or xs i e
-read_any [] i d e h = absurd (omega (arith, h))
-read_any (x ∷ xs) zero d e h = refl
-read_any (x ∷ xs) (suc i) d e h = read_any xs i d e (omega (arith, h))
-
-pub range_step : (n s : ℕ) → s < n → range_with_len s (n - s) ≡ s ∷ range_with_len (s + 1) (n - (s + 1))
-range_step n s h = let e : n - s ≡ suc (n - (s + 1)) = omega (arith, h) in rw e refl
 
 -- ---- counts
 

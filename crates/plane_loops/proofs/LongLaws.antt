@@ -10,9 +10,10 @@ use Rattle.plane_loops.specs.Laws.{LoopsAreLong}
 use Rattle.plane_loops.specs.Planes.{IsBordered, PlaneEdge, PlaneGrid, share}
 use Rattle.plane_loops.specs.Segments.{segments}
 use Rattle.plane_loops.specs.Sides.{determinant_at, inner_end}
-use Rattle.plane_loops.proofs.LeftLaws.{diff, diff_is, diff_mul, diff_sub, inside_is_left, place}
+use Rattle.plane_loops.proofs.LeftLaws.{inside_is_left, place}
 use Rattle.plane_loops.proofs.NextLaws.{edge}
 use Rattle.plane_loops.proofs.TurnLaws.{segment}
+use Rattle.mesh_laws.proofs.Determinants.{diff, diff_is, diff_mul, diff_sub}
 
 determinant_is : (px py qx qy rx ry : ℕ) → determinant_at (place px py) (place qx qy) (place rx ry) ≡ diff ((qx * ry + px * py) + (qy * px + py * rx)) ((qx * py + px * ry) + (qy * rx + py * px))
 unfolding diff

@@ -12,9 +12,9 @@ use Rattle.kuhn_cells.specs.Triangles.{has_sign}
 use Rattle.plane_loops.specs.Following.{cell_at, edges_at, edges_before, mixed_directions, number_by, place_of, rank_of}
 use Rattle.plane_loops.specs.Planes.{PlaneEdge, PlanePoint, edge_from, lower}
 use Rattle.plane_loops.specs.Steps.{IsInGrid}
-use Rattle.plane_loops.proofs.Lists.{range_step}
-use Rattle.plane_loops.proofs.Squares.{cell_is, range_append}
+use Rattle.plane_loops.proofs.Squares.{cell_is}
 use Rattle.plane_loops.proofs.TurnLaws.{each_dir}
+use Rattle.fixed_ops.proofs.Lists.{range_append, range_step}
 
 -- ---- the directions of a cell that hold a vertex
 

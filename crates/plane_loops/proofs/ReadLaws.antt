@@ -3,7 +3,7 @@ use Rattle.std.proofs.Common.{◌≡◌, ℕ, zero, suc, ◌+◌, ◌-◌, ◌*�
 use Rattle.std.specs.Prelude.{All, flat_map, map, max, min, if◌then◌else◌}
 use Rattle.std.specs.List.{range_with_len}
 use Rattle.std.proofs.Math.Nat.{div-lt_iff_lt-mul, mul-le-mul_left}
-use Rattle.std.proofs.lemmas.List.{append_assoc, length-map, map-append}
+use Rattle.std.proofs.lemmas.List.{append_assoc, get_or_default, length-map, map-append}
 use Rattle.std.proofs.lemmas.List.FromFn.{get_or-map-range_with_len, length-map-range_with_len, map-range_with_len_more}
 use Rattle.std.proofs.lemmas.Nat.{mod_below}
 use Rattle.kuhn_cells.specs.Triangles.{has_sign}
@@ -13,10 +13,9 @@ use Rattle.plane_loops.specs.declared.plane_vertex.PlaneVertex.{PlaneVertex}
 use Rattle.plane_loops.specs.Following.{cell_at, edges_at, edges_before, if_mixed, left_triangle, mixed_directions, next_by, number_by, rank_of, vertex_by}
 use Rattle.plane_loops.specs.Planes.{PlaneEdge, PlanePoint, edge_from}
 use Rattle.plane_loops.specs.Steps.{bases_of}
-use Rattle.plane_loops.proofs.CompleteLaws.{all_left, all_right}
-use Rattle.plane_loops.proofs.Lists.{read_any}
 use Rattle.plane_loops.proofs.NextLaws.{edge}
 use Rattle.plane_loops.proofs.NumberLaws.{before_more, few_before, flag, kept, place_less, split_at}
+use Rattle.fixed_ops.proofs.Lists.{all_left, all_right}
 
 pub long_bases : (n : ℕ) (signs bases : List ℕ) → bases ≡ bases_of n signs → length bases ≡ n * n
 long_bases n signs bases e = ap length e ∙ length-map-range_with_len (λ k. length (edges_before n signs k)) 0 (n * n)
@@ -89,7 +88,7 @@ value_read n values place x y v long few fx fy e =
     let px = p.x in
     let py = p.y in
     let less = place_less (n + 1) (place % n + x) (place / n + y) (omega (arith, px, fx)) (omega (arith, py, fy)) in
-    e ∙ read_any values ((place / n + y) * (n + 1) + (place % n + x)) v (pos 0) (omega (arith, less, long))
+    e ∙ get_or_default values ((place / n + y) * (n + 1) + (place % n + x)) v (pos 0) (omega (arith, less, long))
 
 -- ---- one more cell
 

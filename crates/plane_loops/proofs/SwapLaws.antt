@@ -5,8 +5,8 @@ use Rattle.std.proofs.lemmas.List.{map-append}
 use Rattle.plane_loops.specs.Planes.{PlaneEdge, PlanePoint}
 use Rattle.plane_loops.specs.Segments.{Segment, Triangle, cell_segments, edge_between, segments_in}
 use Rattle.plane_loops.proofs.NextLaws.{followed, next_in}
-use Rattle.plane_loops.proofs.Squares.{in_map}
 use Rattle.plane_loops.proofs.TurnLaws.{segment, side, tips, triangle, turn_of}
+use Rattle.fixed_ops.proofs.Lists.{in_map}
 
 abbrev pub swap : Segment → Segment
 swap s = segment s.to s.from

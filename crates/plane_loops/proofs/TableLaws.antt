@@ -15,8 +15,9 @@ use Rattle.plane_loops.specs.WorkedOut.{signs_of}
 use Rattle.plane_loops.proofs.GridLaws.{IsVertex, in_cell, leaving, mixed_is, own}
 use Rattle.plane_loops.proofs.NextLaws.{are_pairs, ends_in, left_of, next_in, point_same, sides_of}
 use Rattle.plane_loops.proofs.NumberLaws.{flag, kept, place_less}
-use Rattle.plane_loops.proofs.Squares.{cell_is, flat_same, square_flat}
+use Rattle.plane_loops.proofs.Squares.{cell_is, square_flat}
 use Rattle.plane_loops.proofs.TurnLaws.{each_dir}
+use Rattle.fixed_ops.proofs.Lists.{flat_same}
 
 -- ---- one byte
 

@@ -8,7 +8,7 @@ use Rattle.plane_loops.specs.declared.left_triangle.LeftTriangle.{LeftTriangle}
 use Rattle.plane_loops.specs.Following.{left_triangle}
 use Rattle.plane_loops.specs.Planes.{PlaneEdge, PlanePoint, edge_from, further}
 use Rattle.plane_loops.specs.Segments.{Segment, Triangle, cell_segments, edge_between, segments_in}
-use Rattle.plane_loops.proofs.Squares.{head_or_tail, in_head, not_in_none}
+use Rattle.fixed_ops.proofs.Lists.{head_or_tail, in_head, not_in_none}
 
 abbrev pub triangle : ℕ → ℕ → ℕ → Triangle
 triangle a b c = record { a = a; b = b; c = c }

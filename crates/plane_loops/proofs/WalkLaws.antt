@@ -1,10 +1,11 @@
 -- Walks along successors, as the code takes them.
 use Rattle.std.proofs.Common.{◌≡◌, ℕ, zero, suc, ◌+◌, ◌-◌, ◌<◌, ◌≤◌, Bool, true, false, List, [], ◌∷◌, ◌++◌, refl, arith, ap, sym, ◌∙◌, length, get_or, set}
 use Rattle.std.specs.List.{concat, range_with_len}
-use Rattle.std.proofs.lemmas.List.{append-nil, append_assoc, length-append}
+use Rattle.std.proofs.lemmas.List.{append-nil, append_assoc, get_or_default, length-append}
 use Rattle.plane_loops.specs.Contours.{ends_from}
 use Rattle.plane_loops.specs.Following.{loops_from, mark_all, rest_from, unmarked, walk}
-use Rattle.plane_loops.proofs.Lists.{at, range_step, read_any, unmarked_less}
+use Rattle.plane_loops.proofs.Lists.{at, unmarked_less}
+use Rattle.fixed_ops.proofs.Lists.{range_step}
 
 walk_suc : (more : ℕ) (next : List ℕ) (marks : List Bool) (v : ℕ) → at marks v ≡ false → walk (suc more) next marks v ≡ v ∷ walk more next (set marks v true) (get_or next v 0)
 unfolding walk
@@ -44,38 +45,38 @@ loops_none next marks = refl
 pub order_on : (next : List ℕ) (marks : List Bool) (v : ℕ) (d : Bool) (order longer out : List ℕ) → v < length marks → get_or marks v d ≡ false → longer ≡ order ++ v ∷ [] → order ++ walk (unmarked marks) next marks v ≡ out → longer ++ walk (unmarked (set marks v true)) next (set marks v true) (get_or next v 0) ≡ out
 order_on next marks v d order longer out within h e whole =
     let rest = walk (unmarked (set marks v true)) next (set marks v true) (get_or next v 0) in
-    let free = read_any marks v true d within ∙ h in
+    let free = get_or_default marks v true d within ∙ h in
     ap (λ l. l ++ rest) e ∙ append_assoc order (v ∷ []) rest ∙ ap (λ l. order ++ l) (sym (walk_on next marks v within free)) ∙ whole
 
 pub marks_on : (next : List ℕ) (marks : List Bool) (v : ℕ) (d : Bool) (out : List Bool) → v < length marks → get_or marks v d ≡ false → mark_all marks (walk (unmarked marks) next marks v) ≡ out → mark_all (set marks v true) (walk (unmarked (set marks v true)) next (set marks v true) (get_or next v 0)) ≡ out
 marks_on next marks v d out within h whole =
-    let free = read_any marks v true d within ∙ h in
+    let free = get_or_default marks v true d within ∙ h in
     sym (mark_cons marks v _) ∙ ap (mark_all marks) (sym (walk_on next marks v within free)) ∙ whole
 
 pub order_off : (next : List ℕ) (marks : List Bool) (v : ℕ) (d : Bool) (order out : List ℕ) → v < length marks → get_or marks v d ≡ true → order ++ walk (unmarked marks) next marks v ≡ out → order ≡ out
 order_off next marks v d order out within h whole =
-    let done = walk_off (unmarked marks) next marks v (read_any marks v true d within ∙ h) in
+    let done = walk_off (unmarked marks) next marks v (get_or_default marks v true d within ∙ h) in
     sym (append-nil order) ∙ ap (λ l. order ++ l) (sym done) ∙ whole
 
 pub marks_off : (next : List ℕ) (marks : List Bool) (v : ℕ) (d : Bool) (out : List Bool) → v < length marks → get_or marks v d ≡ true → mark_all marks (walk (unmarked marks) next marks v) ≡ out → marks ≡ out
 marks_off next marks v d out within h whole =
-    let done = walk_off (unmarked marks) next marks v (read_any marks v true d within ∙ h) in
+    let done = walk_off (unmarked marks) next marks v (get_or_default marks v true d within ∙ h) in
     sym (mark_none marks) ∙ ap (mark_all marks) (sym done) ∙ whole
 
 pub count_on : (marks : List Bool) (v : ℕ) (d : Bool) (long all : ℕ) → v < length marks → get_or marks v d ≡ false → long + unmarked marks ≡ all → (long + 1) + unmarked (set marks v true) ≡ all
 count_on marks v d long all within h whole =
-    let e = unmarked_less marks v within (read_any marks v true d within ∙ h) in
+    let e = unmarked_less marks v within (get_or_default marks v true d within ∙ h) in
     omega (arith, e, whole)
 
 -- ---- one more start
 
 pub rest_skip : (next : List ℕ) (marks : List Bool) (s : ℕ) (d : Bool) → length marks ≡ length next → s < length next → get_or marks s d ≡ true → rest_from next marks s ≡ rest_from next marks (s + 1)
 rest_skip next marks s d size few h =
-    ap (loops_from next marks) (range_step (length next) s few) ∙ loops_skip next marks s (range_with_len (s + 1) (length next - (s + 1))) (read_any marks s true d (omega (arith, size, few)) ∙ h)
+    ap (loops_from next marks) (range_step (length next) s few) ∙ loops_skip next marks s (range_with_len (s + 1) (length next - (s + 1))) (get_or_default marks s true d (omega (arith, size, few)) ∙ h)
 
 pub rest_take : (next : List ℕ) (marks : List Bool) (s : ℕ) (d : Bool) → length marks ≡ length next → s < length next → get_or marks s d ≡ false → rest_from next marks s ≡ walk (unmarked marks) next marks s ∷ rest_from next (mark_all marks (walk (unmarked marks) next marks s)) (s + 1)
 rest_take next marks s d size few h =
-    ap (loops_from next marks) (range_step (length next) s few) ∙ loops_take next marks s (range_with_len (s + 1) (length next - (s + 1))) (read_any marks s true d (omega (arith, size, few)) ∙ h)
+    ap (loops_from next marks) (range_step (length next) s few) ∙ loops_take next marks s (range_with_len (s + 1) (length next - (s + 1))) (get_or_default marks s true d (omega (arith, size, few)) ∙ h)
 
 pub take_order : (loop : List ℕ) (loops all : List (List ℕ)) (order more out : List ℕ) → all ≡ loop ∷ loops → more ≡ order ++ loop → order ++ concat all ≡ out → more ++ concat loops ≡ out
 take_order loop loops all order more out e f whole =

@@ -7,13 +7,13 @@ use Rattle.std.proofs.lemmas.List.Elements.{All-head, All-tail, Contains-append_
 use Rattle.kuhn_cells.specs.Faces.{Face as Triple}
 use Rattle.mesh_laws.specs.Closed.{IsTriangle, directed_edges, directed_edges_of}
 use Rattle.mesh_laws.specs.Manifold.{arcs, arcs_at}
-use Rattle.kuhn_cells.proofs.VertexLaws.{head_or_tail, in_head, not_in_none}
 use Rattle.ply_check.specs.declared.arc.Arc.{Arc}
 use Rattle.ply_check.specs.Arcs.{arcs_from, arcs_of, has, pairs}
 use Rattle.ply_check.specs.Buckets.{from}
 use Rattle.ply_check.specs.Faults.{edge}
 use Rattle.ply_check.proofs.Places.{edge_by, edges_long}
 use Rattle.ply_check.proofs.Sorting.{from_end, from_other, from_own}
+use Rattle.fixed_ops.proofs.Lists.{head_or_tail, in_head, not_in_none}
 
 -- ---- which arcs a face leaves
 

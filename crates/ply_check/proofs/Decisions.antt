@@ -8,8 +8,6 @@ use Rattle.std.proofs.lemmas.List.Elements.{All-cons, All-contains, All-nil}
 use Rattle.kuhn_cells.specs.Faces.{Face as Triple}
 use Rattle.mesh_laws.specs.Closed.{IsTriangle, directed_edges, occurrences}
 use Rattle.mesh_laws.specs.Manifold.{HasFan, arcs}
-use Rattle.kuhn_cells.proofs.OrderLaws.{first_before, rest_in_order}
-use Rattle.kuhn_cells.proofs.VertexLaws.{in_head, in_map}
 use Rattle.mesh_laws.proofs.Lists.{Differ}
 use Rattle.ply_check.specs.declared.finding.Finding.{Finding}
 use Rattle.ply_check.specs.declared.finding.Finding.TheVariants.{Closed, Edge, Face, Vertex}
@@ -21,6 +19,7 @@ use Rattle.ply_check.specs.Walks.{GoesRound, IsNotBack, LeadsOn, first_of, stepp
 use Rattle.ply_check.proofs.FanLaws.{IsCycle, cycle_is_as_long, cycle_keeps_away, walk_is_apart, walk_is_exact}
 use Rattle.ply_check.proofs.Lists.{all_in}
 use Rattle.ply_check.proofs.Walks.{length-walk, walk}
+use Rattle.fixed_ops.proofs.Lists.{first_before, in_head, in_map, rest_in_order}
 
 abbrev pub OrNot : Type 0 → Type 0
 OrNot P = P ⊎ (P → ⊥)

@@ -7,13 +7,13 @@ use Rattle.std.proofs.lemmas.List.Sums.{sum_by-append}
 use Rattle.kuhn_cells.specs.Faces.{Face as Triple}
 use Rattle.mesh_laws.specs.Closed.{IsTriangle, directed_edges, directed_edges_of, goes, occurrences}
 use Rattle.mesh_laws.specs.Manifold.{arcs, arcs_at}
-use Rattle.kuhn_cells.proofs.VertexLaws.{in_map}
 use Rattle.mesh_laws.proofs.ClosedLaws.{goes_is}
 use Rattle.mesh_laws.proofs.Lists.{Differ}
 use Rattle.ply_check.specs.Degrees.{arriving, leaving}
 use Rattle.ply_check.specs.Verdicts.{ArePaired, IsPaired}
 use Rattle.ply_check.proofs.FanLaws.{IsOneToOne, arc}
 use Rattle.ply_check.proofs.Lists.{count-cons, counted, differ_by_counts, found, from_map, one_alone}
+use Rattle.fixed_ops.proofs.Lists.{in_map}
 
 -- ---- of one face
 

@@ -5,13 +5,13 @@ use Rattle.std.proofs.lemmas.Bool.{cases_Bool, cases_eq, cases_lt, ne_eqb}
 use Rattle.std.proofs.lemmas.List.Elements.{All-cons, All-contains, All-nil}
 use Rattle.mesh_laws.specs.Closed.{goes, occurrences}
 use Rattle.mesh_laws.specs.Manifold.{arcs_on, cycle_arcs}
-use Rattle.kuhn_cells.proofs.VertexLaws.{head_or_tail, in_head, in_map, in_tail, not_in_none}
 use Rattle.mesh_laws.proofs.ClosedLaws.{goes_is, goes_itself}
 use Rattle.mesh_laws.proofs.FanLaws.{cycle_sources}
 use Rattle.mesh_laws.proofs.Lists.{Differ}
 use Rattle.ply_check.proofs.Lists.{all_in, count-cons, count-none, count-once, counted, found, from_map, has_all, in_or_not, no_longer}
 use Rattle.ply_check.specs.Walks.{IsNotBack, stepped}
 use Rattle.ply_check.proofs.Walks.{length-walk, on_walk, one_more, walk, walk_differs, walk_has}
+use Rattle.fixed_ops.proofs.Lists.{head_or_tail, in_head, in_map, in_tail, not_in_none}
 
 -- the arc from a number to the next
 abbrev pub arc : (ℕ → ℕ) → ℕ → ℕ × ℕ

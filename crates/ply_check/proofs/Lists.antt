@@ -7,9 +7,8 @@ use Rattle.std.proofs.lemmas.List.Elements.{All-cons, All-contains, All-head, Al
 use Rattle.std.proofs.lemmas.List.Kept.{AllPairs-cons}
 use Rattle.std.proofs.lemmas.List.Sorted.{Contains-permutation, IsPermutation-remove, length_permutation}
 use Rattle.std.proofs.lemmas.List.Sums.{sum_by-cons}
-use Rattle.kuhn_cells.proofs.OrderLaws.{first_before, rest_in_order}
-use Rattle.kuhn_cells.proofs.VertexLaws.{head_or_tail, in_head, in_tail, not_in_none}
 use Rattle.mesh_laws.proofs.Lists.{Differ}
+use Rattle.fixed_ops.proofs.Lists.{first_before, head_or_tail, in_head, in_tail, not_in_none, rest_in_order}
 
 -- ---- what a list has
 

@@ -1,10 +1,9 @@
 -- How lines are passed, one after the other.
 use Rattle.std.proofs.Common.{◌≡◌, ℕ, zero, suc, ◌+◌, ◌-◌, ◌<◌, ◌≤◌, Bool, true, false, cond, List, [], ◌∷◌, ◌++◌, length, map, Some, Result, Ok, Err, refl, ap, sym, subst, ◌∙◌, arith, eqb, append_assoc}
-use Rattle.std.specs.Prelude.{filter, OnOk}
+use Rattle.std.specs.Prelude.{OnOk}
 use Rattle.std.specs.List.{range_with_len}
 use Rattle.std.specs.Result.{is_err}
 use Rattle.std.proofs.lemmas.List.{length-map}
-use Rattle.std.proofs.lemmas.List.Sums.{count_by-le-length, length-filter}
 use Rattle.std.proofs.lemmas.Slice.Zip.{length-zip}
 use Rattle.clause_reader.specs.declared.comments.Comments.TheVariants.{Kept}
 use Rattle.clause_reader.specs.Lines.{lines_of, onto_first, tokens_of}
@@ -22,6 +21,7 @@ use Rattle.ply_check.specs.FaceLines.{said_face}
 use Rattle.ply_check.specs.HeaderLines.{header_line, is_ply}
 use Rattle.ply_check.specs.Passes.{GoesOn, Passes, WantsFace}
 use Rattle.ply_check.proofs.HeaderRuns.{Lines}
+use Rattle.fixed_ops.proofs.Lists.{filter_length}
 
 pub passes_none : (all : Lines → Answer) (lines : Lines) → Passes all all lines lines
 passes_none all lines = record { front = []; parts = refl; same = λ more. refl }
@@ -153,14 +153,11 @@ lines_few (byte ∷ rest) = by (eqb byte 10) (lines_few rest)
     by true few = omega arith
     by false few = onto_first-length byte (lines_of rest) (length rest) few
 
-filter_few : {X : Type 0} (p : X → Bool) → (xs : List X) → length (filter p xs) ≤ length xs
-filter_few p xs = rw (length-filter p xs) (count_by-le-length p xs)
-
 pub given_few : (text : List ℕ) → length (given_lines Kept text) ≤ length text
 given_few text =
     omega (
       arith,
-      filter_few (λ (line : ℕ × List (List ℕ)). is_given Kept line.1) (numbered_from 1 (lines_of text)),
+      filter_length (λ (line : ℕ × List (List ℕ)). is_given Kept line.1) (numbered_from 1 (lines_of text)),
       length-zip (range_with_len 1 (length (lines_of text))) (map tokens_of (lines_of text)),
       length-map (lines_of text) tokens_of,
       lines_few text,

@@ -2,10 +2,10 @@
 use Rattle.std.proofs.Common.{◌≡◌, ℕ, zero, suc, ◌<◌, List, [], ◌∷◌, length, refl, sym, ap, arith, inl, inr, ◌∙◌}
 use Rattle.std.specs.Prelude.{AllPairs, Contains}
 use Rattle.std.proofs.lemmas.List.Kept.{AllPairs-cons}
-use Rattle.kuhn_cells.proofs.VertexLaws.{head_or_tail, in_head, in_tail, not_in_none}
 use Rattle.mesh_laws.proofs.Lists.{Differ}
 use Rattle.ply_check.specs.Walks.{stepped}
 use Rattle.ply_check.proofs.Lists.{all_in}
+use Rattle.fixed_ops.proofs.Lists.{head_or_tail, in_head, in_tail, not_in_none}
 
 -- the numbers on a walk of so many
 abbrev pub walk : (ℕ → ℕ) → ℕ → ℕ → List ℕ

@@ -1,9 +1,9 @@
 -- What is worked out is right.
-use Rattle.std.proofs.Common.{◌≡◌, ℕ, ◌+◌, ◌-◌, ◌<◌, ◌≤◌, Bool, true, false, List, length, get_or, refl, sym, ap, arith, inl, inr, subst, cond, ◌∙◌}
+use Rattle.std.proofs.Common.{◌≡◌, ℕ, ◌+◌, ◌-◌, ◌<◌, ◌≤◌, Bool, List, length, get_or, refl, sym, ap, arith, inl, inr, subst, cond, ◌∙◌}
 use Rattle.std.specs.Prelude.{◌⊎◌, nat_lt, not, All, if◌then◌else◌}
 use Rattle.std.specs.Bool.{Decides}
 use Rattle.std.specs.List.{HoldsAt, list_all, position_or_len, range_with_len}
-use Rattle.std.proofs.lemmas.Bool.{cases_lt, false≢true, le-leb, le-ltb, leb-true, lt-ltb}
+use Rattle.std.proofs.lemmas.Bool.{cases_lt, false≢true, le-leb, le-ltb, leb-true, lt-ltb, not-false}
 use Rattle.std.proofs.lemmas.Bool.Decides.{Decides-and, Decides-by_and, Decides-eqb, Decides-like, Decides-not}
 use Rattle.std.proofs.lemmas.List.{get_or_default}
 use Rattle.std.proofs.lemmas.List.FromFn.{get_or-range_with_len, length-range_with_len}
@@ -32,13 +32,9 @@ paired_decides es e =
 
 -- ---- the first of a list that fails a test
 
-is_true : (b : Bool) → not b ≡ false → b ≡ true
-is_true true h = refl
-is_true false h = absurd (false≢true (sym h))
-
 module _ {X : Type 0} (p : X → Bool) (P : X → Type 0) (each : (x : X) → Decides (p x) (P x)) (xs : List X) (d : X) where
   passes : (j : ℕ) (e : X) → j < position_or_len (λ x. not (p x)) xs → P (get_or xs j e)
-  passes j e less = (each (get_or xs j e)).0 (is_true (p (get_or xs j e)) (fails_before_first (λ x. not (p x)) xs j e less))
+  passes j e less = (each (get_or xs j e)).0 (not-false (p (get_or xs j e)) (fails_before_first (λ x. not (p x)) xs j e less))
 
   first_fails : position_or_len (λ x. not (p x)) xs < length xs → IsLowestFault (HoldsAt P xs) (length xs) (position_or_len (λ x. not (p x)) xs)
   first_fails within =

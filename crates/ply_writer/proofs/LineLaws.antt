@@ -1,17 +1,7 @@
 -- The parts of a line, and of the header.
-use Rattle.std.proofs.Common.{◌≡◌, ℕ, ◌+◌, ◌-◌, ◌≤◌, List, ◌∷◌, ◌++◌, ◌∙◌, length, take, drop, ap, arith, append_assoc}
-use Rattle.std.proofs.lemmas.List.{drop_at, drop-drop, length-take-le}
+use Rattle.std.proofs.Common.{◌≡◌, ℕ, List, ◌∷◌, ◌++◌, append_assoc}
 use Rattle.std.specs.Prelude.{codes, decimal}
-use borrow.Rule.Slice.PartMut.{put_mid}
 use Rattle.ply_writer.specs.Ply.{ply_header}
-
--- what was copied before an end, and what stands after it
-pub copied_before : (bytes line : List ℕ) (start end : ℕ) → start ≤ end → end ≤ length line
-    → drop start (put_mid start (end - start) line bytes) ≡ bytes ++ drop end line
-copied_before bytes line start end before within =
-    let whole : start + (end - start) ≡ end = omega arith in
-    drop_at (take start line) (bytes ++ drop (end - start) (drop start line)) start (length-take-le start line (omega arith))
-    ∙ ap (λ (rest : List ℕ). bytes ++ rest) (drop-drop (end - start) start line ∙ ap (λ (n : ℕ). drop n line) whole)
 
 -- the line of a vertex, and what stands after it
 pub vertex_pieces : (x y z rest : List ℕ) → x ++ 32 ∷ (y ++ 32 ∷ (z ++ 10 ∷ rest)) ≡ (x ++ codes " " ++ y ++ codes " " ++ z ++ codes "\n") ++ rest

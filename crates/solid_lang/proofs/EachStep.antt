@@ -2,21 +2,19 @@
 use Rattle.std.proofs.Common.{◌≡◌, ℕ, zero, suc, ◌+◌, List, [], ◌∷◌, ◌++◌, length, Some, slice_get, subst, arith}
 use Rattle.solid_lang.specs.declared.step.Step.{Step}
 use Rattle.solid_lang.specs.Placing.{Each}
+use Rattle.std.proofs.lemmas.Option.{same_Some}
 
 -- what holds of each step, written out
 abbrev pub EachOf : (ℕ → Step → Type 0) → ℕ → ℕ → List Step → Type 0
 EachOf P n from [] = Unit {0}
 EachOf P n from (step ∷ steps) = P (n + from) step × EachOf P n (from + 1) steps
 
-some-is : {A : Type 0} {x y : A} → Some x ≡ Some y → x ≡ y
-some-is e = (cc)
-
 each_from : (P : ℕ → Step → Type 0) (n from : ℕ) (steps : List Step) → EachOf P n from steps
     → (k : ℕ) (step : Step) → slice_get steps k ≡ Some step → P (n + (from + k)) step
 each_from P n from [] all k step e = (cc)
 each_from P n from (x ∷ xs) all zero step e =
     let place : n + from ≡ n + (from + 0) = omega arith in
-    subst (λ j. P j step) place (subst (P (n + from)) (some-is e) all.0)
+    subst (λ j. P j step) place (subst (P (n + from)) (same_Some _ _ e) all.0)
 each_from P n from (x ∷ xs) all (suc k) step e =
     let place : n + (from + 1 + k) ≡ n + (from + suc k) = omega arith in
     subst (λ j. P j step) place (each_from P n (from + 1) xs all.1 k step e)

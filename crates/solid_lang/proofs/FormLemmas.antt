@@ -6,6 +6,7 @@ use Rattle.std.proofs.lemmas.Slice.Eq.{bytes_eq-Decides}
 use Rattle.solid_lang.specs.declared.form.Form.{Form}
 use Rattle.solid_lang.specs.declared.form.Form.TheVariants.{Ball, Block, Cylinder, Move, Scale, Union, Intersect, Difference}
 use Rattle.solid_lang.specs.Forms.{form_named, form_text, forms}
+use Rattle.fixed_ops.proofs.Lists.{told_apart}
 
 pub form_named-written : (form : Form) → form_named (form_text form) ≡ Some form
 form_named-written Ball = refl
@@ -16,14 +17,6 @@ form_named-written Scale = refl
 form_named-written Union = refl
 form_named-written Intersect = refl
 form_named-written Difference = refl
-
--- a word that differs from another is told apart
-told_apart : (word other : List ℕ) → word ≢ other → bytes_eq word other ≡ false
-told_apart word other apart = by (bytes_eq word other) refl
-  where
-    by : (b : Bool) → bytes_eq word other ≡ b → b ≡ false
-    by true e = absurd (apart ((bytes_eq-Decides word other).0 e))
-    by false e = refl
 
 -- what the search for a form gives
 pub form_found : (word : List ℕ) (found : Option Form) → IfSome found (λ form. word ≡ form_text form)

@@ -1,10 +1,8 @@
 -- The lines of the steps of a solid are the text of its clauses.
-use Rattle.std.proofs.Common.{◌≡◌, ℕ, zero, suc, ◌+◌, ◌-◌, ◌<◌, ◌≤◌, ◌^◌, List, [], ◌∷◌, ◌++◌, length, take, drop, map, get_or, Some, slice_get, ap, sym, ◌∙◌, refl, subst, append_assoc, arith}
+use Rattle.std.proofs.Common.{◌≡◌, ℕ, zero, suc, ◌+◌, ◌<◌, ◌≤◌, List, [], ◌∷◌, ◌++◌, length, ap, ◌∙◌, refl, subst, arith}
 use Rattle.std.specs.Prelude.{decimal}
 use Rattle.std.specs.List.{flat_map}
 use Rattle.std.proofs.lemmas.Fmt.{length-decimal-le}
-use Rattle.std.proofs.lemmas.List.{drop_at, drop-drop, length-take-le}
-use borrow.Rule.Slice.PartMut.{put_mid}
 use Rattle.fixed_ops.specs.declared.operation.Op.{Op}
 use Rattle.fixed_ops.specs.declared.operation.Op.TheVariants.{X, Y, Z, Const, Neg, Square, Sqrt, Abs, Floor, Add, Sub, Mul, Div, Min, Max}
 use Rattle.fixed_ops.specs.Arity.{arity_of}
@@ -20,6 +18,7 @@ use Rattle.solid_lang.specs.Solids.{SolidTree}
 use Rattle.solid_lang.specs.StepLines.{step_line, step_lines}
 use Rattle.solid_lang.proofs.EachStep.{each_later}
 use Rattle.solid_lang.proofs.FitLemmas.{all_fit}
+use Rattle.fixed_ops.proofs.Lists.{same_front}
 
 -- a place has at most five digits
 pub place_short : (n : ℕ) → n < 65535 → length (decimal n) ≤ 5
@@ -43,14 +42,6 @@ word_short Div = omega arith
 word_short Min = omega arith
 word_short Max = omega arith
 
--- what was copied before an end, and what stands after it
-pub copied_before : (bytes line : List ℕ) (start end : ℕ) → start ≤ end → end ≤ length line
-    → drop start (put_mid start (end - start) line bytes) ≡ bytes ++ drop end line
-copied_before bytes line start end before within =
-    let whole : start + (end - start) ≡ end = omega arith in
-    drop_at (take start line) (bytes ++ drop (end - start) (drop start line)) start (length-take-le start line (omega arith))
-    ∙ ap (λ (rest : List ℕ). bytes ++ rest) (drop-drop (end - start) start line ∙ ap (λ (n : ℕ). drop n line) whole)
-
 -- the names of the clauses from a place on
 names_at : (n : ℕ) (steps : List Step) (k : ℕ) → k < length steps → name_at (clauses_at n steps) k ≡ place_name (n + k)
 names_at n [] k less = absurd (omega (arith, less))
@@ -58,13 +49,6 @@ names_at n (x ∷ xs) zero less = let same : n ≡ n + 0 = omega arith in ap pla
 names_at n (x ∷ xs) (suc k) less =
     let same : n + 1 + k ≡ n + suc k = omega arith in
     names_at (n + 1) xs k (omega (arith, less)) ∙ ap place_name same
-
--- as many names as there are operands
-same_operands : (n : ℕ) (x y v w : List ℕ) → (0 < n → x ≡ v) → (1 < n → y ≡ w) → take n (x ∷ y ∷ []) ≡ take n (v ∷ w ∷ [])
-same_operands zero x y v w first second = refl
-same_operands (suc zero) x y v w first second = ap (λ l. l ∷ []) (first (omega arith))
-same_operands (suc (suc n)) x y v w first second =
-    ap (λ l. l ∷ take (suc n) (y ∷ [])) (first (omega arith)) ∙ ap (λ l. v ∷ take (suc n) (l ∷ [])) (second (omega arith))
 
 -- the lines of clauses that are named by their places, among all of them
 lines_are : (all : List Clause) (steps : List Step) (n : ℕ) → ((k : ℕ) → k < n + length steps → name_at all k ≡ place_name k) → Each Fits n steps
@@ -74,7 +58,7 @@ lines_are all (x ∷ xs) n named fit =
     let fits : Fits n x = subst (λ j. Fits j x) (omega arith) (fit 0 x refl) in
     let first : 0 < arity_of x.op → name_at all x.a ≡ place_name x.a = λ h. let less = fits.first h in named x.a (omega (arith, less)) in
     let second : 1 < arity_of x.op → name_at all x.b ≡ place_name x.b = λ h. let less = fits.second h in named x.b (omega (arith, less)) in
-    let operands = same_operands (arity_of x.op) (name_at all x.a) (name_at all x.b) (place_name x.a) (place_name x.b) first second in
+    let operands = same_front (arity_of x.op) (name_at all x.a) (name_at all x.b) (place_name x.a) (place_name x.b) first second in
     let line : clause_line all (clause_at n x) ≡ step_line n x =
     ap (λ names. place_name n ++ spaced (name_of x.op ∷ arguments_with x.op (number_text x.value) names) ++ 10 ∷ []) operands in
     let rest = lines_are all xs (n + 1) (λ k less. named k (omega (arith, less))) (each_later Fits n x xs fit) in

@@ -16,9 +16,6 @@ use Rattle.solid_model.proofs.NamePlaces.{map-alike, map-put, up-le, up-less}
 use Rattle.solid_model.proofs.OperandPlaces.{clause_by-is, first-operand, second-operand, clause_by-moved, operand-moved}
 use Rattle.solid_model.proofs.Lookups.{number-within, row-is}
 
-some-same : {A : Type 0} {x y : A} → Some x ≡ Some y → x ≡ y
-some-same e = (cc)
-
 module _ (order : Standing) (count : ℕ) (rows : List Row) (names : List (List ℕ)) (t : IsTable order count rows names) where
   -- the numbers that stand then
   pub front-stood : (new : Standing) (at from m : ℕ) → at ≤ count → count ≤ from → slice_get order.numbers from ≡ Some m → new.numbers ≡ move_index order.numbers from at

@@ -6,7 +6,7 @@ use Rattle.std.specs.Str.{bytes_eq}
 use Rattle.std.specs.Cmp.Lexicographic.{bytes_decides}
 use Rattle.std.proofs.lemmas.Bool.{cases_lt}
 use Rattle.std.proofs.lemmas.Bool.Decides.{nat_tests}
-use Rattle.std.proofs.lemmas.List.{length-map, map-set, set-get_or}
+use Rattle.std.proofs.lemmas.List.{length-map, map-id, map-set, set-get_or}
 use Rattle.std.proofs.lemmas.List.Edits.{length-insert, length-remove}
 use Rattle.std.proofs.lemmas.Option.{get_or_from_slice_get, slice_get-map, slice_get_cases, slice_get_within}
 use Rattle.std.proofs.lemmas.Simd.{map-map}
@@ -38,10 +38,6 @@ use Rattle.solid_model.proofs.Readers.{unread-before}
 use Rattle.solid_model.proofs.SurgeryLemmas.{name_there, place-there, unread}
 
 -- Lists.
-
-map-itself : {A : Type 0} (xs : List A) → map (λ x. x) xs ≡ xs
-map-itself [] = refl
-map-itself (x ∷ xs) = ap (λ ys. x ∷ ys) (map-itself xs)
 
 pub set-twice : {A : Type 0} (xs : List A) (at : ℕ) (x y : A) → slice_get xs at ≡ Some x → set (set xs at y) at x ≡ xs
 set-twice [] at x y e = (cc)
@@ -259,7 +255,7 @@ inserted-back clauses at c within =
     ∙ map-map (moved (down at)) (moved (up at)) clauses
     ∙ map-alike (λ d. moved (down at) (moved (up at) d)) (λ d. d) clauses
     (λ k d e. moved-back (up at) (down at) d (λ h. down-up at d.a) (λ h. down-up at d.b))
-    ∙ map-itself clauses
+    ∙ map-id clauses
 
 pub inserted-longer : (clauses : List Clause) (at : ℕ) (c : Clause) → at ≤ length clauses
     → length (insert (map (moved (up at)) clauses) at c) ≡ length clauses + 1
@@ -308,7 +304,7 @@ module _ (clauses : List Clause) (at : ℕ) (old : Clause) (are : AreClauses cla
       (λ k d e.
       let free = unread at clauses none k d e in
       moved-back (down at) (up at) d (λ h. up-down at d.a (free.0 h)) (λ h. up-down at d.b (free.1 h)))
-      ∙ map-itself clauses))
+      ∙ map-id clauses))
       ∙ insert-remove clauses at old there
 
   pub names-cut : names_of left ≡ remove (names_of clauses) at

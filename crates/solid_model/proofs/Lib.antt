@@ -21,5 +21,6 @@ pub mod Rewrites
 pub mod SurgeryLemmas
 pub mod SurgeryModels
 mod TableExamples
+pub mod TokenBytes
 pub mod UseLemmas
 pub mod ValueLemmas

@@ -3,7 +3,7 @@ use Rattle.std.proofs.Common.{◌≡◌, ◌≢◌, ℕ, zero, suc, ◌+◌, ◌
 use Rattle.std.specs.List.{insert, position, position_or_len, remove, swap_remove}
 use Rattle.std.proofs.lemmas.Bool.Decides.{nat_tests}
 use Rattle.std.proofs.lemmas.List.{length-append}
-use Rattle.std.proofs.lemmas.Option.{slice_get_within}
+use Rattle.std.proofs.lemmas.Option.{same_Some, slice_get_within}
 use Rattle.std.proofs.Math.Seq.{get_or-append_seam, take-append_seam}
 
 -- a test passes first at the place where it passes and before which it does not
@@ -44,9 +44,6 @@ pub record Passes {A : Type 0} (p : A → Bool) (xs : List A) (at : ℕ) : Type 
   pub there : slice_get xs at ≡ Some item
   pub test : p item ≡ true
 
-some-is : {A : Type 0} {x y : A} → Some x ≡ Some y → x ≡ y
-some-is e = (cc)
-
 pub position-passes : {A : Type 0} (p : A → Bool) (xs : List A) (at : ℕ) → position p xs ≡ Some at → Passes p xs at
 position-passes p [] at e = (cc)
 position-passes p (x ∷ xs) at e = by (p x) refl (ltb (position_or_len p xs) (length xs)) refl (λ k h. position-passes p xs k h)
@@ -56,12 +53,12 @@ position-passes p (x ∷ xs) at e = by (p x) refl (ltb (position_or_len p xs) (l
     by true passes d is later =
         let less : ltb 0 (length (x ∷ xs)) ≡ true = grind (arith, nat_tests) in
         let here = rw (passes, less) at e in
-        let at_is : 0 ≡ at = some-is here in
+        let at_is : 0 ≡ at = same_Some _ _ here in
         subst (λ k. Passes p (x ∷ xs) k) at_is (record { item = x; there = refl; test = passes })
     by false fails true is later =
         let less : ltb (1 + position_or_len p xs) (length (x ∷ xs)) ≡ true = grind (arith, nat_tests) in
         let here = rw (fails, less) at e in
-        let at_is : suc (position_or_len p xs) ≡ at = omega (arith, some-is here) in
+        let at_is : suc (position_or_len p xs) ≡ at = omega (arith, same_Some _ _ here) in
         let found : position p xs ≡ Some (position_or_len p xs) = rw is refl in
         let rest = later (position_or_len p xs) found in
         subst (λ k. Passes p (x ∷ xs) k) at_is (record { item = rest.item; there = rest.there; test = rest.test })
@@ -87,7 +84,7 @@ pub in-front : {A B : Type 0} (f : A → B) (xs : List A) (count place : ℕ) (y
 in-front f [] zero place y e = (cc)
 in-front f [] (suc count) place y e = (cc)
 in-front f (x ∷ xs) zero place y e = (cc)
-in-front f (x ∷ xs) (suc count) zero y e = record { item = x; there = refl; front = omega arith; is = sym (some-is e) }
+in-front f (x ∷ xs) (suc count) zero y e = record { item = x; there = refl; front = omega arith; is = sym (same_Some _ _ e) }
 in-front f (x ∷ xs) (suc count) (suc place) y e =
     let rest = in-front f xs count place y e in
     record { item = rest.item; there = rest.there; front = omega (arith, rest.front); is = rest.is }

@@ -6,7 +6,7 @@ use Rattle.std.specs.Cmp.Lexicographic.{bytes_decides}
 use Rattle.std.proofs.lemmas.Bool.{cases_lt}
 use Rattle.std.proofs.lemmas.Bool.Decides.{nat_tests}
 use Rattle.std.proofs.lemmas.List.{length-map}
-use Rattle.std.proofs.lemmas.Option.{get_or_from_slice_get, slice_get-get_or, slice_get_cases, slice_get_within}
+use Rattle.std.proofs.lemmas.Option.{get_or_from_slice_get, same_Some, slice_get-get_or, slice_get_cases, slice_get_within}
 use Rattle.solid_model.specs.declared.clause.Clause.{Clause}
 use Rattle.solid_model.specs.declared.row.Row.{Row}
 use Rattle.solid_model.specs.Clauses.{place_of}
@@ -14,9 +14,6 @@ use Rattle.solid_model.specs.Tables.{clause_of, clauses_of, label_of, row_of, Is
 use Rattle.solid_model.proofs.ListLemmas.{get-front, in-front, position-at, position-none, position-passes}
 use Rattle.solid_model.proofs.ModelLemmas.{list_any-found}
 use Rattle.solid_model.proofs.Places.{list_any-no_position}
-
-some-same : {A : Type 0} {x y : A} → Some x ≡ Some y → x ≡ y
-some-same e = (cc)
 
 -- the row of a number
 pub row-is : (rows : List Row) (n : ℕ) (row : Row) → slice_get rows n ≡ Some row → row_of rows n ≡ row
@@ -85,7 +82,7 @@ module _ (order : Standing) (count : ℕ) (rows : List Row) (names : List (List 
       ((bytes_decides name (label_of names n)).1 (sym has.is))
       (λ k c less at. not-named name c (λ test.
       let found = clause-named name n k c has at test in
-      omega (arith, less, some-same (sym stands ∙ found.0))))
+      omega (arith, less, same_Some _ _ (sym stands ∙ found.0))))
 
   -- a name whose number stands behind the clauses is no clause's
   pub found-behind : (name : List ℕ) (n place : ℕ) → HasName names name n → slice_get order.places n ≡ Some place → count ≤ place
@@ -94,7 +91,7 @@ module _ (order : Standing) (count : ℕ) (rows : List Row) (names : List (List 
       position-none (λ (c : Clause). bytes_eq name c.name) (clauses_of order count rows names)
       (λ k c at. not-named name c (λ test.
       let found = clause-named name n k c has at test in
-      omega (arith, behind, found.1, some-same (sym stands ∙ found.0))))
+      omega (arith, behind, found.1, same_Some _ _ (sym stands ∙ found.0))))
 
   -- so the place of a number tells whether its name is a clause's
   pub is_some-stands : (n place : ℕ) → n < length names → slice_get order.places n ≡ Some place

@@ -3,7 +3,7 @@ use Rattle.std.proofs.Common.{◌≡◌, ◌≢◌, ℕ, zero, suc, ◌+◌, ◌
 use Rattle.std.specs.List.{insert, remove}
 use Rattle.std.proofs.lemmas.Bool.{cases_lt}
 use Rattle.std.proofs.lemmas.List.Edits.{length-insert, length-remove}
-use Rattle.std.proofs.lemmas.Option.{slice_get-get_or, slice_get_cases, slice_get_within}
+use Rattle.std.proofs.lemmas.Option.{same_Some, slice_get-get_or, slice_get_cases, slice_get_within}
 use Rattle.indexmap.specs.IndexMap.{move_index}
 use Rattle.solid_model.specs.Moves.{AreDistinct, AreNoted, AreNotedBut}
 use Rattle.solid_model.specs.Surgery.{down, up}
@@ -120,9 +120,6 @@ came-from xs from to y place x within fits at e =
       ]
     ]
 
-same-some : {A : Type 0} {x y : A} → Some x ≡ Some y → x ≡ y
-same-some e = (cc)
-
 module _ (order : Standing) (from to x : ℕ) (are : ArePlaces order) (at : slice_get order.numbers from ≡ Some x) (to_fits : to < length order.numbers) where
   numbers : List ℕ
   numbers = order.numbers
@@ -141,7 +138,7 @@ module _ (order : Standing) (from to x : ℕ) (are : ArePlaces order) (at : slic
     once = λ i j number e h.
         let c = came i number e in
         let d = came j number h in
-        let same : c.old ≡ d.old = same-some (sym (are.there c.old number c.is) ∙ are.there d.old number d.is) in
+        let same : c.old ≡ d.old = same_Some _ _ (sym (are.there c.old number c.is) ∙ are.there d.old number d.is) in
         elim c.how [
           | inl moves ↦ elim d.how [
             | inl too ↦ moves.1 ∙ sym too.1
@@ -222,8 +219,8 @@ module _ (order : Standing) (from to x : ℕ) (are : ArePlaces order) (at : slic
           | inl more ↦ other (λ h. omega (arith, more, h))
           | inr few ↦
               let is : old ≡ from = omega (arith, le, few) in
-              let it : number ≡ x = same-some (sym (subst (λ k. slice_get order.numbers k ≡ Some number) is (are.back number old was)) ∙ at) in
-              let to_is : to ≡ place = same-some (sym (noted to x (moved-there order.numbers from to x from_fits to_fits)) ∙ subst (λ n. slice_get places n ≡ Some place) it e) in
+              let it : number ≡ x = same_Some _ _ (sym (subst (λ k. slice_get order.numbers k ≡ Some number) is (are.back number old was)) ∙ at) in
+              let to_is : to ≡ place = same_Some _ _ (sym (noted to x (moved-there order.numbers from to x from_fits to_fits)) ∙ subst (λ n. slice_get places n ≡ Some place) it e) in
               subst (λ k. slice_get (insert (remove order.numbers from) to x) k ≡ Some number) to_is
               (moved-there order.numbers from to x from_fits to_fits ∙ ap Some (sym it))
         ]
@@ -231,7 +228,7 @@ module _ (order : Standing) (from to x : ℕ) (are : ArePlaces order) (at : slic
         where
           other : old ≢ from → slice_get (insert (remove order.numbers from) to x) place ≡ Some number
           other h =
-              let is : shifted from to old ≡ place = same-some (sym (place-moved places noted number old was h) ∙ e) in
+              let is : shifted from to old ≡ place = same_Some _ _ (sym (place-moved places noted number old was h) ∙ e) in
               subst (λ k. slice_get (insert (remove order.numbers from) to x) k ≡ Some number) is
               (get-moved order.numbers from to x old from_fits to_fits h ∙ are.back number old was)
 
@@ -269,7 +266,7 @@ AreNotedBut-next numbers places place last number distinct long noted at i n e o
         | inl front ↦ inl front
         | inr le ↦
             let here : i ≡ place = omega (arith, le, before) in
-            absurd (h (same-some (sym (subst (λ k. slice_get numbers k ≡ Some n) here e) ∙ at)))
+            absurd (h (same_Some _ _ (sym (subst (λ k. slice_get numbers k ≡ Some n) here e) ∙ at)))
       ]
       | inr behind ↦ inr behind
     ])

@@ -3,7 +3,7 @@ use Rattle.std.proofs.Common.{◌≡◌, ℕ, ◌+◌, ◌<◌, ◌≤◌, ◌==
 use Rattle.std.specs.List.{position}
 use Rattle.std.proofs.lemmas.Bool.{cases_lt}
 use Rattle.std.proofs.lemmas.Bool.Decides.{nat_tests}
-use Rattle.std.proofs.lemmas.Option.{get_or_from_slice_get, slice_get-get_or, slice_get_cases}
+use Rattle.std.proofs.lemmas.Option.{get_or_from_slice_get, same_Some, slice_get-get_or, slice_get_cases}
 use Rattle.fixed_ops.specs.Arity.{arity_of}
 use Rattle.solid_model.specs.declared.clause.Clause.{Clause}
 use Rattle.solid_model.specs.declared.row.Row.{Row}
@@ -16,9 +16,6 @@ use Rattle.solid_model.proofs.OperandPlaces.{first-operand, operand-known, secon
 use Rattle.solid_model.proofs.Lookups.{label-is, row-is, clause-there}
 use Rattle.solid_model.proofs.NamePlaces.{position-alike}
 use Rattle.solid_model.proofs.Places.{position-map}
-
-some-same : {A : Type 0} {x y : A} → Some x ≡ Some y → x ≡ y
-some-same e = (cc)
 
 -- the row of a number that was read
 pub read-is : (numbers : List ℕ) (rows : List Row) (place n user : ℕ) (row : Row) → n ≡ get_or numbers place n → row ≡ get_or rows n row → user < length rows
@@ -76,8 +73,8 @@ module _ (order : Standing) (count : ℕ) (rows : List Row) (names : List (List 
       same-test a known =
           let stood = operand-known order count rows names t a known in
           eq-alike (standing_place order a) at a n
-          (λ same. some-same (sym (t.places.back a (standing_place order a) stood) ∙ ap (slice_get order.numbers) same ∙ number))
-          (λ same. some-same (sym stood ∙ ap (slice_get order.places) same ∙ t.places.there at n number))
+          (λ same. same_Some _ _ (sym (t.places.back a (standing_place order a) stood) ∙ ap (slice_get order.numbers) same ∙ number))
+          (λ same. same_Some _ _ (sym stood ∙ ap (slice_get order.places) same ∙ t.places.there at n number))
 
       pick : (p : Bool) (m : ℕ) (z : Bool) → (p ≡ true → (m == at) ≡ z) → (p && cond p m 0 == at) ≡ (p && z)
       pick true m z h = h refl

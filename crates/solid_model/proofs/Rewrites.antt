@@ -4,7 +4,7 @@ use Rattle.std.specs.List.{list_any, swap_remove}
 use Rattle.std.specs.Str.{bytes_eq}
 use Rattle.std.specs.Cmp.Lexicographic.{bytes_decides}
 use Rattle.std.proofs.lemmas.List.{length-set}
-use Rattle.std.proofs.lemmas.Option.{get_or_from_slice_get, slice_get_cases, unwrap_or-slice_get}
+use Rattle.std.proofs.lemmas.Option.{get_or_from_slice_get, same_Some, slice_get_cases, unwrap_or-slice_get}
 use Rattle.std.specs.Option.{unwrap_or}
 use Rattle.fixed_ops.specs.Arity.{arity_of}
 use Rattle.solid_model.specs.declared.clause.Clause.{Clause}
@@ -15,9 +15,6 @@ use Rattle.solid_model.proofs.ListLemmas.{get-last, get-push, get-set, get-set-o
 use Rattle.solid_model.proofs.NamePlaces.{map-alike, slice_get-set}
 use Rattle.solid_model.proofs.OperandPlaces.{clause_by-is}
 use Rattle.solid_model.proofs.Lookups.{clause-there, nowhere, number-within, row-is}
-
-some-same : {A : Type 0} {x y : A} → Some x ≡ Some y → x ≡ y
-some-same e = (cc)
 
 module _ (order : Standing) (count : ℕ) (rows : List Row) (names : List (List ℕ)) (t : IsTable order count rows names) where
   -- rows and names of other numbers than one that does not stand, or whose clause is told, stay
@@ -42,12 +39,12 @@ module _ (order : Standing) (count : ℕ) (rows : List Row) (names : List (List 
       get-taken (y ∷ ys) (suc k) (suc j) x h e = get-taken ys k j x (omega (arith, h)) e
 
       place-same : (k n : ℕ) → slice_get order.numbers k ≡ Some n → n ≡ m → k ≡ at
-      place-same k n e same = some-same (sym (t.places.there k n e) ∙ ap (slice_get order.places) same ∙ t.places.there at m number)
+      place-same k n e same = same_Some _ _ (sym (t.places.there k n e) ∙ ap (slice_get order.places) same ∙ t.places.there at m number)
 
       label : label_of names m ≡ clause.name
       label =
           let found = position-passes (λ (c : Clause). bytes_eq clause.name c.name) (clauses_of order count rows names) at named in
-          let is : found.item ≡ clause_of order rows names m = some-same (sym found.there ∙ clause-there order count rows names t at m there number) in
+          let is : found.item ≡ clause_of order rows names m = same_Some _ _ (sym found.there ∙ clause-there order count rows names t at m there number) in
           sym ((bytes_decides clause.name found.item.name).0 found.test ∙ ap (λ (c : Clause). c.name) is)
 
       found-place : (a n : ℕ) → a < at → slice_get order.numbers a ≡ Some n → standing_place order n ≡ a
@@ -93,7 +90,7 @@ module _ (order : Standing) (count : ℕ) (rows : List Row) (names : List (List 
     where
       standing-not : (k n : ℕ) → k < count → slice_get order.numbers k ≡ Some n → n ≡ m → ⊥
       standing-not k n less e same =
-          let is : k ≡ from = some-same (sym (t.places.there k n e) ∙ ap (slice_get order.places) same ∙ t.places.there from m number) in
+          let is : k ≡ from = same_Some _ _ (sym (t.places.there k n e) ∙ ap (slice_get order.places) same ∙ t.places.there from m number) in
           omega (arith, is, less, behind)
 
   pub names-kept : (from m : ℕ) (key : List ℕ) → count ≤ from → slice_get order.numbers from ≡ Some m
@@ -105,7 +102,7 @@ module _ (order : Standing) (count : ℕ) (rows : List Row) (names : List (List 
     where
       standing-not : (k n : ℕ) → k < count → slice_get order.numbers k ≡ Some n → n ≡ m → ⊥
       standing-not k n less e same =
-          let is : k ≡ from = some-same (sym (t.places.there k n e) ∙ ap (slice_get order.places) same ∙ t.places.there from m number) in
+          let is : k ≡ from = same_Some _ _ (sym (t.places.there k n e) ∙ ap (slice_get order.places) same ∙ t.places.there from m number) in
           omega (arith, is, less, behind)
 
       label-kept : (n : ℕ) → n ≢ m → label_of (set names m key) n ≡ label_of names n

@@ -5,7 +5,7 @@ use Rattle.std.specs.Option.{option_map_or}
 use Rattle.std.specs.Str.{bytes_eq}
 use Rattle.std.specs.Cmp.Lexicographic.{bytes_decides}
 use Rattle.std.proofs.lemmas.Bool.Decides.{nat_tests}
-use Rattle.std.proofs.lemmas.List.{length-map, map-set, set-get_or}
+use Rattle.std.proofs.lemmas.List.{length-map, map-id, map-set, set-get_or}
 use Rattle.std.proofs.lemmas.Option.{slice_get_cases, slice_get_within}
 use Rattle.std.proofs.lemmas.Simd.{map-map}
 use Rattle.fixed_ops.specs.Arity.{arity_of}
@@ -163,10 +163,6 @@ before-after clauses name form c at ok within m =
     before-args clauses at form.args c.a c.b within (omega (arith, ok.arity, arity-two form.op)) m.first m.second
     ∙ ap (λ n. (nat_lt n 1 || nat_lt c.a at) && (nat_lt n 2 || nat_lt c.b at)) arity
 
-map-itself : {A : Type 0} (xs : List A) → map (λ x. x) xs ≡ xs
-map-itself [] = refl
-map-itself (x ∷ xs) = ap (λ ys. x ∷ ys) (map-itself xs)
-
 moved-nowhere : (c : Clause) → moved (λ k. k) c ≡ c
 moved-nowhere c =
     ap (λ (n : ℕ). record { name = c.name; op = c.op; a = n; b = cond (nat_le 2 (arity_of c.op)) c.b c.b; value = c.value }) (either (nat_le 1 (arity_of c.op)) c.a)
@@ -193,7 +189,7 @@ placed-set clauses name form c at are e m =
     (λ h. rw same (own-place clauses d.a are (earlier k d there (stands.fits.first h))))
     (λ h. rw same (own-place clauses d.b are (earlier k d there (stands.fits.second h))))
     ∙ moved-nowhere d)
-    ∙ map-itself clauses)
+    ∙ map-id clauses)
     ∙ ap (λ (d : Clause). set clauses at d) (by_place-after clauses all name form c m (λ k a x is there less. rw same (place-of-name clauses x a there)))
   where
     n : Named

@@ -6,7 +6,7 @@ use Rattle.std.proofs.lemmas.Bool.Decides.{nat_tests}
 use Rattle.std.proofs.lemmas.List.{get_or_append_left, length-append, length-map}
 use Rattle.std.proofs.Math.Seq.{get_or-append_seam}
 use Rattle.std.proofs.lemmas.List.Sums.{get_or-le-sum_by, sum_by-cons, sum_by-insert, sum_by-remove, sum_by-set}
-use Rattle.std.proofs.lemmas.Option.{get_or_from_slice_get, slice_get-get_or, slice_get_within}
+use Rattle.std.proofs.lemmas.Option.{get_or_from_slice_get, same_Some, slice_get-get_or, slice_get_within}
 use Rattle.indexmap.specs.IndexMap.{move_index}
 use Rattle.fixed_ops.specs.Arity.{arity_of}
 use Rattle.solid_model.specs.declared.row.Row.{Row}
@@ -21,9 +21,6 @@ use Rattle.solid_model.proofs.Lookups.{number-within, row-is}
 use Rattle.solid_model.proofs.Growth.{grown, standing-grown}
 use Rattle.solid_model.proofs.Departures.{front-removed}
 use Rattle.solid_model.proofs.Arrivals.{front-stood}
-
-some-same : {A : Type 0} {x y : A} → Some x ≡ Some y → x ≡ y
-some-same e = (cc)
 
 -- a row has a number at most twice
 row_uses-few : (n : ℕ) (row : Row) → row_uses n row ≤ 2
@@ -121,7 +118,7 @@ module _ (order : Standing) (count : ℕ) (rows : List Row) (names : List (List 
       get-taken (y ∷ ys) (suc k) (suc j) x h e = get-taken ys k j x (omega (arith, h)) e
 
       place-same : (k n : ℕ) → slice_get order.numbers k ≡ Some n → n ≡ m → k ≡ at
-      place-same k n e same = some-same (sym (t.places.there k n e) ∙ ap (slice_get order.places) same ∙ t.places.there at m number)
+      place-same k n e same = same_Some _ _ (sym (t.places.there k n e) ∙ ap (slice_get order.places) same ∙ t.places.there at m number)
 
       written : standing_rows order count (set rows m row) ≡ set (standing_rows order count rows) at row
       written =
@@ -167,7 +164,7 @@ module _ (order : Standing) (count : ℕ) (rows : List Row) (names : List (List 
     where
       standing-not : (k n : ℕ) → k < count → slice_get order.numbers k ≡ Some n → n ≡ m → ⊥
       standing-not k n less e same =
-          let is : k ≡ from = some-same (sym (t.places.there k n e) ∙ ap (slice_get order.places) same ∙ t.places.there from m number) in
+          let is : k ≡ from = same_Some _ _ (sym (t.places.there k n e) ∙ ap (slice_get order.places) same ∙ t.places.there from m number) in
           omega (arith, is, less, behind)
 
       put : standing_rows new (count + 1) (set rows m row) ≡ insert (standing_rows order count rows) at row

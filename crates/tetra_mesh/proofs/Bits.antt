@@ -17,8 +17,13 @@ use Rattle.kuhn_cells.specs.Cells.{directions_of, has_inside}
 use Rattle.kuhn_cells.specs.Triangles.{has_sign}
 use Rattle.kuhn_cells.proofs.Checks.{every, every_at}
 use Rattle.mesh_laws.proofs.Paths.{not_from_itself}
-use Rattle.tetra_mesh.specs.Numbering.{digits, directions_below, mask_of, one_if, rank_of, signs_of}
+use Rattle.tetra_mesh.specs.Numbering.{digits, mask_of, one_if, rank_of, signs_of}
 use Rattle.tetra_mesh.specs.Sides.{mask_by}
+
+-- those of the directions from the lowest corner of a cell to the other side that are less than one
+abbrev pub directions_below : CellValues → ℕ → List ℕ
+directions_below c dir =
+    filter (λ d. differ (has_inside c 0) (has_inside c d)) (range_with_len 1 (dir - 1))
 
 -- ---- the digits
 

@@ -16,6 +16,7 @@ use Rattle.tetra_mesh.specs.declared.sided_cell.SidedCell.{SidedCell}
 use Rattle.tetra_mesh.specs.Edges.{AddsEdge, AddsTriangle, AreAmong, HasTriangles, all_edges_in, among, edges_in, face_by, no_edge}
 use Rattle.tetra_mesh.specs.Numbering.{IsKept, face_in, number_in}
 use Rattle.tetra_mesh.specs.Shapes.{moved, moved_triple}
+use Rattle.fixed_ops.proofs.Lists.{map_same}
 
 -- ---- three edges
 
@@ -53,13 +54,6 @@ adds_triangle t e0 e1 e2 e3 a b c before after first second third pushed =
     }
 
 -- ---- one triangle after another
-
-pub map_same : {A B : Type 0} (f g : A → B) (xs : List A) → All (λ x. f x ≡ g x) xs → map f xs ≡ map g xs
-map_same f g [] h = refl
-map_same f g (x ∷ xs) h =
-    let first = All-head (λ x. f x ≡ g x) x xs h in
-    let rest = map_same f g xs (All-tail (λ x. f x ≡ g x) x xs h) in
-    cc
 
 -- triangles of the first ones of some, by edges
 pub record AreFirst (ts : List Triple) (i : ℕ) (edges : List EdgeKey) (corners : List Corners) : Type 0 where

@@ -14,9 +14,9 @@ use Rattle.kuhn_cells.specs.Triangles.{GridPoint, edge_from}
 use Rattle.tetra_mesh.specs.declared.entry.Entry.{Entry}
 use Rattle.tetra_mesh.specs.declared.numbering.Numbering.{Numbering}
 use Rattle.tetra_mesh.specs.Numbering.{AreCells, AreSlots, HasReached, IsIn, IsKept, IsNumbered, LiesBelow, ReachesAbove, all_faces, face_in, no_entry, number_in, rank_of, slot_of}
-use Rattle.tetra_mesh.proofs.EdgeLaws.{map_same}
 use Rattle.tetra_mesh.proofs.NumberLaws.{is_direction, number_by_cells}
 use Rattle.tetra_mesh.proofs.ReachLaws.{not_above}
+use Rattle.fixed_ops.proofs.Lists.{map_same}
 
 -- ---- the edges of a cell
 

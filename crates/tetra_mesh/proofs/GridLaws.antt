@@ -1,10 +1,9 @@
 -- The mesh of the mixed cells of a grid is the mesh of the grid.
-use Rattle.std.proofs.Common.{◌≡◌, ℕ, ◌*◌, ◌<◌, ◌≤◌, List, [], ◌∷◌, refl, ap, sym, ◌∙◌, add-zero, arith}
+use Rattle.std.proofs.Common.{◌≡◌, ℕ, ◌*◌, ◌<◌, ◌≤◌, List, [], ◌∷◌, refl, ap, sym, ◌∙◌, arith}
 use Rattle.std.specs.Prelude.{pos, map, flat_map, get_or, length, All}
 use Rattle.std.specs.List.{range_with_len}
 use Rattle.std.proofs.lemmas.List.Elements.{All-filter, All-head, All-tail, All-weaker}
 use Rattle.std.proofs.lemmas.List.FromFn.{get_or-map-range_with_len, get_or-range_with_len}
-use Rattle.std.proofs.lemmas.Simd.{map-map}
 use Rattle.kuhn_cells.specs.declared.cell_list.CellList.{CellList}
 use Rattle.kuhn_cells.specs.declared.cell_list.CellValues.{CellValues}
 use Rattle.kuhn_cells.specs.declared.grid_size.GridSize.{GridSize}
@@ -14,8 +13,8 @@ use Rattle.kuhn_cells.specs.Faces.{Face, all_triangles, face_among, faces}
 use Rattle.kuhn_cells.specs.Grids.{Grid, grid_size, value_at, vertices}
 use Rattle.kuhn_cells.specs.Lists.{ListsCells}
 use Rattle.kuhn_cells.specs.Sizes.{IsBounded}
-use Rattle.kuhn_cells.specs.Triangles.{GridPoint, edge_from, further}
-use Rattle.kuhn_cells.proofs.CellLaws.{cells_are_few, cells_are_of_the_grid, cells_have_triangles, cells_have_vertices, cells_rise, edges_have_cells}
+use Rattle.kuhn_cells.specs.Triangles.{edge_from, further}
+use Rattle.kuhn_cells.proofs.CellLaws.{cells_are_few, cells_are_of_the_grid, cells_have_triangles, cells_have_vertices, cells_rise, edges_have_cells, starts}
 use Rattle.mesh_laws.proofs.Lists.{flat_of_maps}
 use Rattle.tetra_mesh.specs.declared.sided_cell.SidedCell.{SidedCell}
 use Rattle.tetra_mesh.specs.declared.vertex.Vertex.{Vertex}
@@ -25,19 +24,19 @@ use Rattle.mesh_laws.specs.Places.{way_up}
 use Rattle.tetra_mesh.specs.Meshes.{Triangulation}
 use Rattle.tetra_mesh.specs.Numbering.{AreCells, IsIn, all_faces, vertex_on, vertices_on}
 use Rattle.tetra_mesh.specs.Sides.{HasParts, sided_of}
-use Rattle.tetra_mesh.proofs.EdgeLaws.{map_same}
+use Rattle.fixed_ops.proofs.Lists.{map_map}
 
 -- ---- the cells
 
-few_cells : (n : GridSize) (x y z : ℕ) → IsBounded n → x ≡ n.x → y ≡ n.y → z ≡ n.z → x * (y * z) ≤ 16777216
-few_cells n x y z bounded ex ey ez =
+few_cells : (n : GridSize) (x y z : ℕ) → n.x * (n.y * n.z) ≤ 16777216 → x ≡ n.x → y ≡ n.y → z ≡ n.z → x * (y * z) ≤ 16777216
+few_cells n x y z all ex ey ez =
     let same : x * (y * z) ≡ n.x * (n.y * n.z) = ap (λ i. i * (y * z)) ex ∙ ap (λ i. n.x * (i * z)) ey ∙ ap (λ i. n.x * (n.y * i)) ez in
-    omega (arith, same, bounded.all)
+    omega (arith, same, all)
 
-pub are_few : (n : GridSize) (list : CellList) (g : Grid) → IsBounded n → ListsCells n list g → length list.cells.items ≤ 16777216
-are_few n list g bounded is =
+pub are_few : (n : GridSize) (list : CellList) (g : Grid) → n.x * (n.y * n.z) ≤ 16777216 → ListsCells n list g → length list.cells.items ≤ 16777216
+are_few n list g all is =
     let count = cells_are_few g in
-    let most = few_cells n g.x g.y g.z bounded is.x is.y is.z in
+    let most = few_cells n g.x g.y g.z all is.x is.y is.z in
     let same = ap length is.cells in
     omega (arith, count, most, same)
 
@@ -49,7 +48,7 @@ are_cells n g vertices sided bounded is =
     let within : All (IsIn n) (mixed_cells g) =
     All-weaker (IsCellOf g) (IsIn n) (λ c h. let fx = h.x in let fy = h.y in let fz = h.z in record { x = omega (arith, fx, x); y = omega (arith, fy, y); z = omega (arith, fz, z) }) (mixed_cells g) (cells_are_of_the_grid g) in
     let count = cells_are_few g in
-    let most = few_cells n g.x g.y g.z bounded x y z in
+    let most = few_cells n g.x g.y g.z bounded.all x y z in
     record { bounded = bounded; few = omega (arith, count, most); within = within; rise = cells_rise g; edges = edges_have_cells g is.border }
 
 -- ---- the vertices
@@ -61,16 +60,10 @@ flat_same f h (x ∷ xs) same =
     let rest = flat_same f h xs (All-tail (λ x. f x ≡ h x) x xs same) in
     cc
 
-map_map : {X A B : Type 0} (f : A → B) (h : X → A) (k : X → B) (xs : List X) → All (λ x. f (h x) ≡ k x) xs → map f (map h xs) ≡ map k xs
-map_map f h k xs same = map-map f h xs ∙ map_same (λ x. f (h x)) k xs same
-
 directions_near : (c : CellValues) → All (λ d. d < 8) (directions_of c)
 unfolding directions_of
 directions_near c =
     All-filter (λ d. differ (has_inside c 0) (has_inside c d)) (λ d. d < 8) (range_with_len 1 7) (λ k d few. let h : k < 7 = omega (arith, few) in rw (get_or-range_with_len 1 7 k d h) (omega (arith, h)))
-
-starts : (p : GridPoint) → further p 0 ≡ p
-starts p = rw (add-zero p.x, add-zero p.y, add-zero p.z) refl
 
 -- the value at a corner of a cell
 corner_value : (g : Grid) (c : CellValues) (k : ℕ) → c ≡ cell_at g (lowest_corner c) → k < 8 → get_or c.values k (pos 0) ≡ value_at g (further (lowest_corner c) k)

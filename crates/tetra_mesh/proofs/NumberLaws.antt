@@ -15,8 +15,8 @@ use Rattle.kuhn_cells.specs.Faces.{number_among, same_edge}
 use Rattle.kuhn_cells.specs.Laws.{IsCellBefore}
 use Rattle.kuhn_cells.specs.Triangles.{edge_from}
 use Rattle.kuhn_cells.proofs.FaceLaws.{same_as_itself}
-use Rattle.tetra_mesh.specs.Numbering.{directions_below, mask_of, rank_of}
-use Rattle.tetra_mesh.proofs.Bits.{rank}
+use Rattle.tetra_mesh.specs.Numbering.{mask_of, rank_of}
+use Rattle.tetra_mesh.proofs.Bits.{directions_below, rank}
 
 -- ---- the first place at which a test passes
 

@@ -11,7 +11,7 @@ use Rattle.tetra_mesh.specs.declared.sided_cell.SidedCell.{SidedCell}
 use Rattle.tetra_mesh.specs.Edges.{HasTriangles, among}
 use Rattle.tetra_mesh.specs.Numbering.{AreCells, number_in, rank_of, signs_of}
 use Rattle.tetra_mesh.specs.Sides.{AreSidesOf}
-use Rattle.tetra_mesh.specs.Ways.{IsPartOf}
+use Rattle.tetra_mesh.proofs.WayLaws.{IsPartOf}
 
 -- ---- parts of a way
 

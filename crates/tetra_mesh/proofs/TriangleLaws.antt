@@ -1,5 +1,5 @@
 -- The triangles of a cell by its signs.
-use Rattle.std.proofs.Common.{◌≡◌, ℕ, zero, suc, ◌+◌, ◌*◌, ◌<◌, ◌≤◌, Bool, true, false, List, [], ◌∷◌, ◌++◌, refl, ap, subst, sym, ◌∙◌, inl, inr, zero-add, arith, length-append}
+use Rattle.std.proofs.Common.{◌≡◌, ℕ, ◌+◌, ◌*◌, ◌<◌, ◌≤◌, Bool, true, false, List, [], ◌∷◌, ◌++◌, refl, ap, subst, sym, ◌∙◌, inl, inr, zero-add, arith, length-append}
 use Rattle.std.specs.Prelude.{◌⊎◌, ◌==◌, nat_lt, min, map, flat_map, get_or, length, All, if◌then◌else◌}
 use Rattle.std.specs.List.{range_with_len}
 use Rattle.std.proofs.lemmas.Bool.{agree_below, agree_below_at, cases_lt, ltb-true}
@@ -24,6 +24,7 @@ use Rattle.tetra_mesh.specs.Shapes.{moved, moved_triple, shape_front, shape_of, 
 use Rattle.tetra_mesh.specs.Sides.{sided_of}
 use Rattle.tetra_mesh.proofs.Bits.{digit}
 use Rattle.tetra_mesh.proofs.NumberLaws.{range_parts}
+use Rattle.fixed_ops.proofs.Lists.{flat_same}
 
 corners_few : (tetra which : ℕ) → tetra < 6 → which < 4 → corner tetra which < 8
 corners_few tetra which few fw =
@@ -65,13 +66,6 @@ tetra_moved c tetra signs =
     let pattern = pattern_of (has_sign signs) tetra in
     let corners = arrangement tetra pattern in
     among_moved (moved (sided_of c)) (edge_between (point 0 0 0)) (edge_between (lowest_corner c)) (edge_moved c) (inside_count pattern) (get_or corners 0 0) (get_or corners 1 0) (get_or corners 2 0) (get_or corners 3 0)
-
-flat_same : {A : Type 0} (f h : ℕ → List A) (a n : ℕ) → ((k : ℕ) → k < a + n → f k ≡ h k) → flat_map f (range_with_len a n) ≡ flat_map h (range_with_len a n)
-flat_same f h a zero same = refl
-flat_same f h a (suc n) same =
-    let first = same a (omega arith) in
-    let others = flat_same f h (a + 1) n (λ k few. same k (omega (arith, few))) in
-    cc
 
 -- the triangles of a cell are those of the cell at the origin with its signs
 pub shape_moved : (c : CellValues) → sided_triangles (sided_of c) ≡ triangles_of_cell c

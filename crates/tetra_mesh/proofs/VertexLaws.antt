@@ -12,8 +12,9 @@ use Rattle.kuhn_cells.specs.Cells.{directions_of, has_inside, lowest_corner}
 use Rattle.kuhn_cells.specs.Triangles.{edge_from}
 use Rattle.tetra_mesh.specs.declared.vertex.Vertex.{Vertex}
 use Rattle.mesh_laws.specs.Places.{way_up}
-use Rattle.tetra_mesh.specs.Numbering.{directions_below, vertex_on}
+use Rattle.tetra_mesh.specs.Numbering.{vertex_on}
 use Rattle.tetra_mesh.proofs.NumberLaws.{range_parts}
+use Rattle.tetra_mesh.proofs.Bits.{directions_below}
 
 unlike : (a b : Bool) → differ a b ≡ not (beq b a)
 unlike true true = refl

@@ -1,11 +1,16 @@
 -- Parts of a way lie along it.
 use Rattle.std.proofs.Common.{◌*◌, ◌≤◌, ℕ, ℤ, pos, arith}
-use Rattle.std.specs.Prelude.{negsuc, ◌*ℤ◌}
+use Rattle.std.specs.Prelude.{negsuc, ◌*ℤ◌, ◌≤ℤ◌}
 use Rattle.std.proofs.lemmas.Int.{ints, clamps}
 use Rattle.std.proofs.Math.Nat.{mul-le-mul_left}
 use Rattle.fixed_ops.specs.Floor.{IsFloor}
 use Rattle.fixed_ops.specs.Raw.{floor_div}
-use Rattle.tetra_mesh.specs.Ways.{IsPartOf}
+use Rattle.std.specs.Int.{int_max, int_min}
+
+-- a part of a way leads no further, and no other way
+pub record IsPartOf (way part : ℤ) : Type 0 where
+  pub least : int_min (pos 0) way ≤ℤ part
+  pub greatest : part ≤ℤ int_max (pos 0) way
 
 -- a whole number of parts is the greatest that is not above the exact one
 is_floor : (s : ℤ) → IsFloor s 65536 (floor_div s 65536)

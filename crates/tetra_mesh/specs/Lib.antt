@@ -10,5 +10,4 @@ pub mod Sides
 pub mod Sound
 pub mod SoundLaws
 pub mod Tables
-pub mod Ways
 pub mod Walks

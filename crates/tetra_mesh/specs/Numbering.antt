@@ -1,7 +1,6 @@
 -- How the vertices of a list of mixed cells are numbered.
-use Rattle.std.specs.Prelude.{◌≡◌, ℕ, ◌+◌, ◌-◌, ◌*◌, ◌%◌, ◌^◌, ◌<◌, ◌≤◌, pos, Bool, List, map, flat_map, filter, take, get_or, length, All, AllPairs, if◌then◌else◌}
+use Rattle.std.specs.Prelude.{◌≡◌, ℕ, ◌+◌, ◌*◌, ◌%◌, ◌^◌, ◌<◌, ◌≤◌, pos, Bool, List, map, flat_map, take, get_or, length, All, AllPairs, if◌then◌else◌}
 use Rattle.std.specs.Int.RustNames.{count_ones}
-use Rattle.std.specs.List.{range_with_len}
 use Rattle.kuhn_cells.specs.declared.cell_list.CellValues.{CellValues}
 use Rattle.kuhn_cells.specs.declared.edge_key.EdgeKey.{EdgeKey}
 use Rattle.kuhn_cells.specs.declared.grid_size.GridSize.{GridSize}
@@ -37,11 +36,6 @@ mask_of c = digits (λ d. differ (has_inside c 0) (has_inside c d))
 -- how many digits of a number stand below one of them
 unfoldable pub rank_of : ℕ → ℕ → ℕ
 rank_of mask dir = count_ones (mask % 2 ^ dir)
-
--- those of the directions from the lowest corner of a cell to the other side that are less than one
-abbrev pub directions_below : CellValues → ℕ → List ℕ
-directions_below c dir =
-    filter (λ d. differ (has_inside c 0) (has_inside c d)) (range_with_len 1 (dir - 1))
 
 -- the vertices on the edges from the lowest corner of a cell
 abbrev pub vertex_on : CellValues → ℕ → Vertex

@@ -10,7 +10,6 @@ ghost use Rattle.view_places.specs.Window.{FitsMesh, size_of};
 
 use crate::counts::count_vertices;
 use crate::face_walk::FaceWalk;
-use crate::laws::meshes_are_sound;
 use crate::sided_cell::SidedCell;
 use crate::vertices::vertices_of;
 use crate::{Face, Mesh, Vertex};
@@ -30,7 +29,6 @@ pub fn build(alloc: Global, cells: &CellList, view: &View) -> Result<Mesh, Alloc
     ensures sound { (g : Grid) → ListsCells (size_of view.now) cells.now g → IfOk result (IsSound g) }
     ensures apart { IfOk result (λ mesh. LieApart view.now mesh.vertices) }
 {
-    cells_are_few(cells, view);
     let (vertices, sided) = parts(alloc, &cells.cells)?;
     mesh_of_parts(alloc, vertices, sided, view)
 }
@@ -44,19 +42,8 @@ pub fn build_from(alloc: Global, cells: CellList, view: &View) -> Result<Mesh, A
     ensures sound { (g : Grid) → ListsCells (size_of view.now) cells g → IfOk result (IsSound g) }
     ensures apart { IfOk result (λ mesh. LieApart view.now mesh.vertices) }
 {
-    cells_are_few(&cells, view);
     let (vertices, sided) = parts_of(alloc, cells)?;
     mesh_of_parts(alloc, vertices, sided, view)
-}
-
-// Lets a proof know how many cells of a grid of the view's size are mixed at most.
-#[inline]
-fn cells_are_few(cells: &CellList, view: &View)
-    requires fits { FitsMesh view.now }
-    requires cells { (g : Grid) × ListsCells (size_of view.now) cells.now g }
-    ensures { length cells.now.cells.items ≤ 16777216 }
-{
-    let _size = view.grid();
 }
 
 // The vertices of the cells of a list that is given up, and the places and sides of the cells.

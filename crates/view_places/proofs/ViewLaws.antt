@@ -1,28 +1,24 @@
 -- The test of whether two views are one.
-use Rattle.std.proofs.Common.{◌≡◌, Bool, true, false, ◌&&◌, refl}
-use Rattle.std.proofs.lemmas.Bool.{false≢true}
+use Rattle.std.proofs.Common.{◌≡◌, true, refl}
+use Rattle.std.proofs.lemmas.Bool.{and_from, and_parts}
 use Rattle.std.proofs.lemmas.Bool.Decides.{Decides-eqb, Decides-int_eq}
 use Rattle.view_places.specs.Window.{Window, same_view}
-
-both : (x y : Bool) → x && y ≡ true → (x ≡ true) × (y ≡ true)
-both true y h = (refl, h)
-both false y h = absurd (false≢true h)
 
 -- views with the same fields are one
 pub one_view : (a b : Window) → same_view a b ≡ true → a ≡ b
 one_view a b e =
-    let x0 = both _ _ e in
-    let x1 = both _ _ x0.1 in
-    let y0 = both _ _ x1.1 in
-    let y1 = both _ _ y0.1 in
-    let z0 = both _ _ y1.1 in
-    let z1 = both _ _ z0.1 in
-    let z = both _ _ z1.1 in
-    let w = both _ _ z.1 in
-    let h = both _ _ w.1 in
-    let d = both _ _ h.1 in
-    let nx = both _ _ d.1 in
-    let ny = both _ _ nx.1 in
+    let x0 = and_parts _ _ e in
+    let x1 = and_parts _ _ x0.1 in
+    let y0 = and_parts _ _ x1.1 in
+    let y1 = and_parts _ _ y0.1 in
+    let z0 = and_parts _ _ y1.1 in
+    let z1 = and_parts _ _ z0.1 in
+    let z = and_parts _ _ z1.1 in
+    let w = and_parts _ _ z.1 in
+    let h = and_parts _ _ w.1 in
+    let d = and_parts _ _ h.1 in
+    let nx = and_parts _ _ d.1 in
+    let ny = and_parts _ _ nx.1 in
     λ k. record {
       x0 = (Decides-int_eq a.x0 b.x0).0 x0.0 k;
       x1 = (Decides-int_eq a.x1 b.x1).0 x1.0 k;
@@ -39,17 +35,13 @@ one_view a b e =
       nz = (Decides-eqb a.nz b.nz).0 ny.1 k;
     }
 
-and_then : (x y : Bool) → x ≡ true → y ≡ true → x && y ≡ true
-and_then true y h own = own
-and_then false y h own = h
-
 -- a view is one with itself
 pub same_as_itself : (a : Window) → same_view a a ≡ true
 same_as_itself a =
-    and_then _ _ ((Decides-int_eq a.x0 a.x0).1 refl) (and_then _ _ ((Decides-int_eq a.x1 a.x1).1 refl)
-    (and_then _ _ ((Decides-int_eq a.y0 a.y0).1 refl) (and_then _ _ ((Decides-int_eq a.y1 a.y1).1 refl)
-    (and_then _ _ ((Decides-int_eq a.z0 a.z0).1 refl) (and_then _ _ ((Decides-int_eq a.z1 a.z1).1 refl)
-    (and_then _ _ ((Decides-int_eq a.z a.z).1 refl)
-    (and_then _ _ ((Decides-eqb a.w a.w).1 refl) (and_then _ _ ((Decides-eqb a.h a.h).1 refl)
-    (and_then _ _ ((Decides-eqb a.d a.d).1 refl) (and_then _ _ ((Decides-eqb a.nx a.nx).1 refl)
-    (and_then _ _ ((Decides-eqb a.ny a.ny).1 refl) ((Decides-eqb a.nz a.nz).1 refl))))))))))))
+    and_from _ _ ((Decides-int_eq a.x0 a.x0).1 refl) (and_from _ _ ((Decides-int_eq a.x1 a.x1).1 refl)
+    (and_from _ _ ((Decides-int_eq a.y0 a.y0).1 refl) (and_from _ _ ((Decides-int_eq a.y1 a.y1).1 refl)
+    (and_from _ _ ((Decides-int_eq a.z0 a.z0).1 refl) (and_from _ _ ((Decides-int_eq a.z1 a.z1).1 refl)
+    (and_from _ _ ((Decides-int_eq a.z a.z).1 refl)
+    (and_from _ _ ((Decides-eqb a.w a.w).1 refl) (and_from _ _ ((Decides-eqb a.h a.h).1 refl)
+    (and_from _ _ ((Decides-eqb a.d a.d).1 refl) (and_from _ _ ((Decides-eqb a.nx a.nx).1 refl)
+    (and_from _ _ ((Decides-eqb a.ny a.ny).1 refl) ((Decides-eqb a.nz a.nz).1 refl))))))))))))

@@ -1,9 +1,10 @@
 -- The test of a window is what it tests.
-use Rattle.std.specs.Prelude.{◌≡◌, ◌==◌, ◌↔◌, ◌*◌, ◌≤◌, nat_le, IsTrue, Bool, true, false, ◌&&◌, ◌≤ℤ◌, T, ℤ, ℕ, pos, ◌-ℤ◌}
+use Rattle.std.specs.Prelude.{◌≡◌, ◌↔◌, ◌*◌, ◌≤◌, nat_le, IsTrue, Bool, true, false, ◌&&◌, ◌≤ℤ◌, T, ℤ, ℕ, pos, ◌-ℤ◌}
 use Rattle.std.specs.Int.Signed.{le_z_yes}
 use Rattle.std.proofs.Common.{refl, arith}
 use Rattle.std.proofs.lemmas.Bool.Decides.{nat_tests}
 use Rattle.view_places.specs.Window.{Window, FitsMesh, cells_are_few, cells_have_room, fits_mesh, has_room}
+use Rattle.std.proofs.lemmas.Bool.{and_parts}
 
 to_true : (b : Bool) → T b → b ≡ true
 to_true true t = refl
@@ -13,7 +14,7 @@ from_true : (b : Bool) → b ≡ true → T b
 from_true true e = tt
 from_true false e = absurd cc
 
-room_yes : (low high : ℤ) (cells : ℕ) → has_room low high cells ≡ true
+pub room_yes : (low high : ℤ) (cells : ℕ) → has_room low high cells ≡ true
     → pos (cells * 65536) ≤ℤ (high -ℤ low)
 unfolding has_room
 room_yes low high cells e = le_z_yes (from_true _ e)
@@ -38,14 +39,9 @@ few_yes cells e = grind (arith, nat_tests, e)
 yes_few : (cells : ℕ) → cells ≤ 16777216 → nat_le cells 16777216 ≡ true
 yes_few cells h = grind (arith, nat_tests, h)
 
-both_true : (a b : Bool) → (a && b) ≡ true → (a ≡ true) × (b ≡ true)
-both_true true true e = (refl, refl)
-both_true true false e = absurd cc
-both_true false b e = absurd cc
-
 pub fits_mesh_is : (v : Window) → IsTrue (fits_mesh v) ↔ FitsMesh v
 fits_mesh_is v = (
-  λ h. let both = both_true (cells_have_room v) (cells_are_few v) h in
+  λ h. let both = and_parts (cells_have_room v) (cells_are_few v) h in
       let each = all_true (has_room v.x0 v.x1 v.nx) (has_room v.y0 v.y1 v.ny) (has_room v.z0 v.z1 v.nz) both.0 in
       record {
         x = room_yes v.x0 v.x1 v.nx each.0;

@@ -1,12 +1,10 @@
 -- The job that words ask for keeps what each job keeps.
-use Rattle.std.proofs.Common.{◌≡◌, ℕ, ◌-◌, ◌^◌, ◌≤◌, ℤ, pos, Bool, true, false, ◌&&◌, cond, nat_le, List, [], ◌∷◌, ◌++◌, Option, Some, None, Result, Ok, Err, refl, sym, ap, subst, ◌∙◌, arith, rules}
-use Rattle.std.specs.Prelude.{T, IfOk, int_lt, ◌*◌, ◌-ℤ◌, ◌≤ℤ◌, ◌||◌}
-use Rattle.std.specs.Int.Signed.{le_z_yes}
+use Rattle.std.proofs.Common.{◌≡◌, ℕ, ◌≤◌, ℤ, pos, Bool, true, false, ◌&&◌, cond, nat_le, List, [], ◌∷◌, ◌++◌, Option, Some, None, Result, Ok, Err, refl, sym, ap, subst, ◌∙◌, arith, rules}
+use Rattle.std.specs.Prelude.{T, IfOk, int_lt, ◌||◌}
 use Rattle.std.specs.List.{AllByRecursion}
-use Rattle.std.specs.Str.Parse.{starts_with_minus, without_leading_sign}
 use Rattle.std.proofs.lemmas.Bool.Decides.{nat_tests}
 use Rattle.std.proofs.lemmas.Int.{ints}
-use Rattle.fixed_ops.specs.Numerals.{digits_read, is_numeral, nearest_raw, numeral, unsigned_raw, with_sign}
+use Rattle.fixed_ops.specs.Numerals.{digits_read, numeral}
 use Rattle.fixed_ops.specs.Raw.{IsRaw}
 use Rattle.view_settings.specs.declared.job.Job.{Job}
 use Rattle.view_settings.specs.declared.kind.Kind.{Kind}
@@ -31,39 +29,13 @@ use Rattle.view_settings.specs.Views.{cells_of, count_or, is_empty, minus_one, o
 use Rattle.view_places.specs.Window.{AreEnds, FitsContour, FitsMesh, IsCount, IsWindow, Window, cells_are_few, cells_have_room, has_room, plane_cells_have_room}
 use Rattle.view_settings.specs.Words.{after_words}
 use Rattle.view_settings.proofs.GivenLaws.{count_range, each-push, given_count, given_raw, height_fits, square_fits}
+use Rattle.std.proofs.lemmas.Bool.{and_parts}
+use Rattle.fixed_ops.proofs.NumeralLaws.{numeral_is_raw}
+use Rattle.view_places.proofs.WindowLaws.{room_yes}
 
 -- Numerals mean raw numbers.
 
-nearest-is_small : (q : ℕ) → nearest_raw q ≤ 2 ^ 62 - 1
-unfolding nearest_raw
-nearest-is_small q = omega arith
-
-unsigned-is_small : (body : List ℕ) → unsigned_raw body ≤ 2 ^ 62 - 1
-unfolding unsigned_raw
-unsigned-is_small body = nearest-is_small _
-
-signed-is_raw : (minus : Bool) (size : ℕ) → size ≤ 2 ^ 62 - 1 → IsRaw (with_sign minus size)
-signed-is_raw true size few = (omega (arith, ints, few), omega (arith, ints, few))
-signed-is_raw false size few = (omega (arith, ints, few), omega (arith, ints, few))
-
-numeral-is_raw : (text : List ℕ) (v : ℤ) → numeral text ≡ Some v → IsRaw v
-numeral-is_raw text v e = by (is_numeral text) e
-  where
-    size : ℕ
-    size = unsigned_raw (without_leading_sign text)
-
-    by : (t : Bool) → cond t (Some (with_sign (starts_with_minus text) size)) None ≡ Some v → IsRaw v
-    by true same =
-        let is : with_sign (starts_with_minus text) size ≡ v = cc in
-        subst IsRaw is (signed-is_raw (starts_with_minus text) size
-        (unsigned-is_small (without_leading_sign text)))
-    by false same = absurd cc
-
 -- Each setting that a word gives is one of the verb.
-
-within-both : (a b : Bool) → a && b ≡ true → (a ≡ true) × (b ≡ true)
-within-both true b h = (refl, h)
-within-both false b h = absurd cc
 
 value-is : (kind : Kind) (text : List ℕ) (value : Value) → value_read kind text ≡ Ok value
     → IsValue kind value
@@ -73,7 +45,7 @@ value-is kinds.Numeral text value e = by (numeral text) refl
     by None n = let got = rw n at e in absurd cc
     by (Some v) n =
         let got : values.Raw v ≡ value = cc in
-        subst (IsValue kinds.Numeral) got (numeral-is_raw text v n)
+        subst (IsValue kinds.Numeral) got (numeral_is_raw text v n)
 value-is (kinds.Count least greatest) text value e = by (digits_read 20 text) refl
   where
     by : (o : Option ℕ) → digits_read 20 text ≡ o → IsValue (kinds.Count least greatest) value
@@ -84,7 +56,7 @@ value-is (kinds.Count least greatest) text value e = by (digits_read 20 text) re
             → IsValue (kinds.Count least greatest) value
         within false r = let got = rw (n, r) at e in absurd cc
         within true r =
-            let ends = within-both (nat_le least count) (nat_le count greatest) r in
+            let ends = and_parts (nat_le least count) (nat_le count greatest) r in
             let got : values.Count count ≡ value = cc in
             subst (IsValue (kinds.Count least greatest)) got
             (grind (arith, nat_tests, ends.0), grind (arith, nat_tests, ends.1))
@@ -257,20 +229,15 @@ from-true : (b : Bool) → b ≡ true → T b
 from-true true e = tt
 from-true false e = absurd cc
 
-room-is : (low high : ℤ) (cells : ℕ) → has_room low high cells ≡ true
-    → pos (cells * 65536) ≤ℤ (high -ℤ low)
-unfolding has_room
-room-is low high cells e = le_z_yes (from-true _ e)
-
 fits-is : (v : Window) → cells_have_room v ≡ true → cells_are_few v ≡ true → FitsMesh v
 fits-is v room few =
-    let x = within-both (has_room v.x0 v.x1 v.nx)
+    let x = and_parts (has_room v.x0 v.x1 v.nx)
     (has_room v.y0 v.y1 v.ny && has_room v.z0 v.z1 v.nz) room in
-    let others = within-both (has_room v.y0 v.y1 v.ny) (has_room v.z0 v.z1 v.nz) x.1 in
+    let others = and_parts (has_room v.y0 v.y1 v.ny) (has_room v.z0 v.z1 v.nz) x.1 in
     record {
-      x = room-is v.x0 v.x1 v.nx x.0;
-      y = room-is v.y0 v.y1 v.ny others.0;
-      z = room-is v.z0 v.z1 v.nz others.1;
+      x = room_yes v.x0 v.x1 v.nx x.0;
+      y = room_yes v.y0 v.y1 v.ny others.0;
+      z = room_yes v.z0 v.z1 v.nz others.1;
       all = grind (arith, nat_tests, few);
     }
 
@@ -286,12 +253,12 @@ mesh-is v window = by (cells_have_room v) (cells_are_few v) refl refl
 
 plane-is : (v : Window) → v.nx ≡ v.ny → v.nx ≤ 256 → plane_cells_have_room v ≡ true → FitsContour v
 plane-is v square few room =
-    let both = within-both (has_room v.x0 v.x1 v.nx) (has_room v.y0 v.y1 v.ny) room in
+    let both = and_parts (has_room v.x0 v.x1 v.nx) (has_room v.y0 v.y1 v.ny) room in
     record {
       square = square;
       few = few;
-      x = room-is v.x0 v.x1 v.nx both.0;
-      y = room-is v.y0 v.y1 v.ny both.1;
+      x = room_yes v.x0 v.x1 v.nx both.0;
+      y = room_yes v.y0 v.y1 v.ny both.1;
     }
 
 pub contour-is : (v : Window) → IsWindow v → v.nx ≡ v.ny → v.nx ≤ 256 → IfOk (contour_job v) IsJob

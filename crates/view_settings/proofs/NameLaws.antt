@@ -1,15 +1,15 @@
 -- What is written as a verb or a name names it, and nothing else does.
-use Rattle.std.proofs.Common.{◌≡◌, ◌≢◌, ℕ, Bool, true, false, List, [], ◌∷◌, Option, Some, None, refl, sym, ap, ◌∙◌, ◌<◌, get_or, arith}
+use Rattle.std.proofs.Common.{◌≡◌, ◌≢◌, ℕ, true, List, [], ◌∷◌, Option, Some, None, refl, sym, ap, ◌∙◌, ◌<◌, get_or, arith}
 use Rattle.std.specs.Prelude.{IfSome, IfNone, find}
 use Rattle.std.specs.Str.{bytes_eq}
 use Rattle.std.proofs.lemmas.Bool.Decides.{Decides-eqb}
-use Rattle.std.proofs.lemmas.Slice.Eq.{bytes_eq-Decides}
 use Rattle.view_settings.specs.declared.name.Name.{Name}
 use Rattle.view_settings.specs.declared.name.Name.TheVariants as names
 use Rattle.view_settings.specs.declared.verb.Verb.{Verb}
 use Rattle.view_settings.specs.declared.verb.Verb.TheVariants as verbs
 use Rattle.view_settings.specs.Names.{name_called, name_text, number_of, is_same, names as all_names}
 use Rattle.view_settings.specs.Verbs.{verb_named, verb_text as verb_written, verbs as all_verbs}
+use Rattle.fixed_ops.proofs.Lists.{told_apart}
 
 verb_named-written : (verb : Verb) → verb_named (verb_written verb) ≡ Some verb
 verb_named-written verbs.Render = refl
@@ -32,14 +32,6 @@ name_called-written names.Ny = refl
 name_called-written names.Nz = refl
 name_called-written names.Seed = refl
 name_called-written names.Solids = refl
-
--- a word that differs from another is told apart
-told_apart : (word other : List ℕ) → word ≢ other → bytes_eq word other ≡ false
-told_apart word other apart = by (bytes_eq word other) refl
-  where
-    by : (b : Bool) → bytes_eq word other ≡ b → b ≡ false
-    by true e = absurd (apart ((bytes_eq-Decides word other).0 e))
-    by false e = refl
 
 -- no verb is found where none is written so
 verb_missing : (word : List ℕ) (among : List Verb) → ((verb : Verb) → word ≢ verb_written verb) → find (λ verb. bytes_eq word (verb_written verb)) among ≡ None

@@ -2,7 +2,8 @@ use Rattle.std.proofs.Common.{◌≡◌, drop, length}
 use Rattle.fixed_ops.specs.Counts.{RisesWithin, no_counts, times}
 use Rattle.fixed_ops.specs.Points.{Point}
 use Rattle.live_clauses.specs.Steps.{values}
-use Rattle.choice_trace.specs.Meaning.{AreRead, StandForPoint}
+use Rattle.choice_trace.specs.Meaning.{StandForPoint}
+use Rattle.choice_trace.proofs.Elements.{AreRead}
 use Rattle.choice_trace.proofs.evaluator.evaluate.Given as goal
 
 abbrev pub invariant-loop-at : goal.invariant-loop-at

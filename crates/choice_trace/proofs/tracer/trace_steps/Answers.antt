@@ -7,10 +7,11 @@ use Rattle.interval_ops.specs.declared.choice.Choice.TheVariants.{Both}
 use Rattle.live_clauses.specs.Steps.{tape_value}
 use Rattle.choice_trace.specs.Hulls.{choices_over, hulls, tape_hull}
 use Rattle.choice_trace.specs.Operands.{operand_of}
-use Rattle.choice_trace.proofs.Applied.{first-within, operands-trace, ranges_of, second-within}
+use Rattle.choice_trace.proofs.Applied.{operands-trace, ranges_of}
 use Rattle.choice_trace.proofs.HullLists.{length-hulls}
 use Rattle.choice_trace.proofs.Traces.{agree, all_chosen, are_choices, are_right, choice_written, front_more, hull_written, last_held, length-choices}
 use Rattle.interval_ops.proofs.HullCountLaws.{CountsHulls-apart, CountsHulls-then}
+use Rattle.live_clauses.proofs.MarkTurns.{first_within, second_within}
 use Rattle.choice_trace.proofs.tracer.trace_steps.Goals as goal
 
 pub loop-at-preserved : goal.loop-at-preserved
@@ -24,7 +25,7 @@ loop-at-preserved c =
     let same_length = ap length c.again-steps.ensures.steps in
     let stand = c.len-len.ensures.tape.each in
     let same = c.loop-at.invariant.hulls in
-    let operands = operands-trace region c.loop-at.regs step a b (first-within at (length c.loop-at.regs) step c.step-step.ensures.stands (omega (arith, same_length))) (second-within at (length c.loop-at.regs) step c.step-step.ensures.stands (omega (arith, same_length)))
+    let operands = operands-trace region c.loop-at.regs step a b (first_within at (length c.loop-at.regs) step c.step-step.ensures.stands (omega (arith, same_length))) (second_within at (length c.loop-at.regs) step c.step-step.ensures.stands (omega (arith, same_length)))
     (c.operands.ensures.first ∙ ap (λ s. operand_of step.op (ranges_of region) s (get_or c.loop-at.regs step.a region.x)) c.new-constant.ensures)
     (c.operands.ensures.second ∙ ap (λ s. operand_of step.op (ranges_of region) s (get_or c.loop-at.regs step.b region.x)) c.new-constant.ensures) in
     record {

@@ -17,12 +17,12 @@ use Rattle.oct_descent.specs.Asked.{IsToldAt, longer}
 use Rattle.oct_descent.specs.Bound.{CountsHullsAtLeast}
 use Rattle.oct_descent.specs.Halves.{ChargesBelow}
 use Rattle.oct_descent.specs.Known.{AreRight, AreSettled, AreWorked, Grows, PaysBox}
-use Rattle.oct_descent.proofs.Looks.{on_ok}
+use Rattle.oct_descent.proofs.Looks.{on_ok, on_ok-then}
 use Rattle.contour_lines.specs.Tables.{known_of}
 use Rattle.contour_lines.specs.Traced.{long_spans_below}
 use Rattle.contour_lines.specs.Ways.{flat_value, planar, plane}
-use Rattle.contour_lines.proofs.Looks.{byte-is, byte-most, on_ok-then}
 use Rattle.contour_lines.proofs.Traced.{all-traced, cell-traced, cell-traced_below, closed-traced, first-traced, halves-traced, next-traced}
+use Rattle.oct_descent.proofs.Together.{byte-is, byte-most}
 use Rattle.contour_lines.proofs.descent.+looking.Goals as goal
 
 pub look_into_told-returns-then-not-is_long-clause-counted : goal.look_into_told-returns-then-not-is_long-clause-counted

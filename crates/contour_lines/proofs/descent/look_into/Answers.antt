@@ -8,11 +8,10 @@ use Rattle.view_places.specs.Window.{size_of}
 use Rattle.oct_descent.specs.Bound.{CountsHullsAtLeast}
 use Rattle.oct_descent.specs.Halves.{ChargesBelow}
 use Rattle.oct_descent.specs.Known.{AreRight, AreSettled, AreWorked, Grows, PaysBox}
-use Rattle.oct_descent.proofs.Looks.{on_ok}
+use Rattle.oct_descent.proofs.Looks.{on_ok, on_ok-then}
 use Rattle.contour_lines.specs.Tables.{known_of}
 use Rattle.contour_lines.specs.Traced.{long_spans_below}
 use Rattle.contour_lines.specs.Ways.{flat_value, planar}
-use Rattle.contour_lines.proofs.Looks.{on_ok-then}
 use Rattle.contour_lines.proofs.Traced.{below-traced, cell-traced}
 use Rattle.contour_lines.proofs.descent.look_into.Goals as goal
 

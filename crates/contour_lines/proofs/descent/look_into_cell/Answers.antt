@@ -4,12 +4,13 @@ use Rattle.box_chains.specs.Desks.{Tracing, list_of}
 use Rattle.kuhn_cells.specs.Triangles.{further, point}
 use Rattle.oct_descent.specs.Tables.{is_known}
 use Rattle.oct_descent.specs.Known.{ChargesCorners, PaysCorners}
-use Rattle.oct_descent.proofs.Looks.{corners-untraced, left-untraced}
+use Rattle.oct_descent.proofs.Looks.{corners-untraced, left-untraced, on_ok-then}
 use Rattle.contour_lines.specs.Corners.{IsShown}
 use Rattle.contour_lines.specs.Tables.{known_at, known_of}
 use Rattle.contour_lines.specs.Ways.{flat_value, floor_of, planar}
-use Rattle.contour_lines.proofs.Corners.{all-known, floor-square, low-is, short-one}
-use Rattle.contour_lines.proofs.Looks.{known-settled, known-worked, on_ok-then, shown-sides}
+use Rattle.contour_lines.proofs.Corners.{all-known, floor-square, low-is}
+use Rattle.contour_lines.proofs.Looks.{known-settled, known-worked, shown-sides}
+use Rattle.oct_descent.proofs.Corners.{short-one}
 use Rattle.contour_lines.proofs.descent.look_into_cell.Goals as goal
 
 pub returns-then-seen-clause-settled : goal.returns-then-seen-clause-settled

@@ -6,9 +6,10 @@ use Rattle.oct_descent.specs.Tables.{is_known}
 use Rattle.contour_lines.specs.Gaps.{AreGapsBelow, StandsIn}
 use Rattle.contour_lines.specs.Tables.{known_of}
 use Rattle.contour_lines.specs.declared.gap.Gap.{Gap}
-use Rattle.contour_lines.proofs.Corners.{corner-is, known-is, none-is}
+use Rattle.contour_lines.proofs.Corners.{corner-is}
 use Rattle.contour_lines.proofs.GapLaws.{gaps-known, gaps-more}
 use Rattle.contour_lines.proofs.filling.find_gaps.Goals.{then-is_none, else-is_none}
+use Rattle.oct_descent.proofs.Corners.{known-is, none-is}
 use Rattle.contour_lines.proofs.filling.find_gaps.Goals as goal
 
 pub loop-c-preserved : goal.loop-c-preserved

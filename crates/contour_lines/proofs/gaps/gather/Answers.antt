@@ -4,7 +4,7 @@ use Rattle.view_places.specs.Places.{sample_place}
 use Rattle.view_places.specs.declared.lattice.Axis.TheVariants.{X, Y, Z}
 use Rattle.view_places.specs.declared.lattice.Lattice.TheVariants.{Grid}
 use Rattle.contour_lines.specs.Gaps.{nth}
-use Rattle.contour_lines.proofs.GapLaws.{row-set}
+use Rattle.oct_descent.proofs.GapLaws.{row-set}
 use Rattle.contour_lines.proofs.gaps.gather.Goals as goal
 
 pub loop-lane-preserved : goal.loop-lane-preserved

@@ -1,7 +1,7 @@
 use Rattle.std.proofs.Common.{◌+◌, arith, subst, sym, ◌∙◌}
 use Rattle.contour_lines.specs.Signs.{AreRows, signs_by}
 use Rattle.contour_lines.proofs.RowLaws.{rows-more, rows-next, signs-is}
-use Rattle.contour_lines.proofs.Looks.{byte-is}
+use Rattle.oct_descent.proofs.Together.{byte-is}
 use Rattle.contour_lines.proofs.sides.push_signs.Goals as goal
 
 pub loop-x-preserved : goal.loop-x-preserved

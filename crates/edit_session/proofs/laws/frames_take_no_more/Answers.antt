@@ -2,7 +2,7 @@
 use Rattle.std.proofs.Common.{◌*◌, ℕ, ◌≤◌, List, length, refl, arith}
 use Rattle.std.specs.Prelude.{None, Option, Some}
 use Rattle.box_chains.specs.Tallied.{work_of}
-use Rattle.fixed_ops.specs.Counts.{Counts, IsAtMost}
+use Rattle.fixed_ops.specs.Counts.{IsAtMost}
 use Rattle.live_clauses.specs.Live.{root_of}
 use Rattle.live_clauses.specs.declared.step.Step.{Step}
 use Rattle.model_frames.specs.Frames.{frame_part}
@@ -18,13 +18,12 @@ use Rattle.quad_descent.specs.Laws.{FrameWorkIsBounded}
 use Rattle.view_places.specs.Window.{Window}
 use Rattle.edit_session.specs.Laws.{TakesNoMore}
 use Rattle.edit_session.specs.Sessions.{State, session_part}
+use Rattle.fixed_ops.proofs.CountLaws.{IsAtMost-refl}
+use Rattle.model_frames.proofs.DescentLaws.{boxes_after_add_up, frame_work_is_bounded, meshes_after_add_up}
 use Rattle.edit_session.proofs.laws.frames_take_no_more.Goals as goal
 
-itself : (counts : Counts) → IsAtMost counts counts
-itself counts = record { points = omega arith; spans = omega arith; corners = omega arith }
-
 same : (work : Work) → TakesNoMore work work
-same work = record { least = itself work.least; most = itself work.most; bound = itself work.bound; plain = refl }
+same work = record { least = IsAtMost-refl work.least; most = IsAtMost-refl work.most; bound = IsAtMost-refl work.bound; plain = refl }
 
 fewer : (p s c q t d : ℕ) → p ≤ q → s ≤ t → c ≤ d → IsAtMost (work_of p s c) (work_of q t d)
 fewer p s c q t d points spans corners = record { points = points; spans = spans; corners = corners }
@@ -70,4 +69,4 @@ frames laws boxes meshes state (Contour view) = same (frame_part (Contour view) 
 frames laws boxes meshes state Text = same (frame_part Text state.clauses).work
 
 pub returns : goal.returns
-returns c = frames c.frame_work_is_bounded.ensures c.meshes_after_add_up.ensures.boxes c.meshes_after_add_up.ensures.meshes
+returns c = frames frame_work_is_bounded boxes_after_add_up meshes_after_add_up

@@ -4,7 +4,8 @@ use Rattle.std.specs.Str.Parse.{signed_digits_value}
 use Rattle.std.proofs.lemmas.Int.{ints, to_z-of_z, fits_signed_from_abs}
 use Rattle.fixed_ops.specs.Numerals.{is_exponent, is_unsigned_numeral, unsigned_raw}
 use Rattle.fixed_ops.proofs.DigitLaws.{front_are_digits, point_are_digits}
-use Rattle.fixed_ops.proofs.NumeralLaws.{no_digit, some_digit, raw_by_parts, chosen_some, chosen_none}
+use Rattle.fixed_ops.proofs.NumeralLaws.{no_digit, some_digit, raw_by_parts, chosen_none}
+use Rattle.std.proofs.lemmas.Option.{cond_some}
 use Rattle.fixed_ops.proofs.numeral.read_unsigned.Goals as goal
 
 pub returns-then-not-has_digits-clause-value : goal.returns-then-not-has_digits-clause-value
@@ -35,7 +36,7 @@ returns-in-Some-clause-value c =
     let fraction = rw rest at c.split_fraction.ensures.digits in
     let tail = rw rest at c.split_fraction.ensures.tail in
     let some = some_digit text digits decimals last whole fraction tail (sym c.has_digits.ensures ∙ c.if-not-has_digits.false) in
-    let exponent = chosen_some (is_exponent last) (signed_digits_value 10 (drop 1 last)) e (sym c.in-Some.ensures.value) in
+    let exponent = cond_some (is_exponent last) (signed_digits_value 10 (drop 1 last)) e (sym c.in-Some.ensures.value) in
     let is : is_unsigned_numeral text ≡ true = some ∙ exponent.0 in
     let raw = raw_by_parts text digits decimals last e whole fraction tail (sym exponent.1) in
     let kept : to_z w64 (of_z w64 c.raw_size.result) ≡ c.raw_size.result = omega (arith, ints) in

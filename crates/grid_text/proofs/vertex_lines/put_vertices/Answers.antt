@@ -1,10 +1,10 @@
 -- The lines of a part of the cells.
 use Rattle.std.proofs.Common.{ap, arith, drop, length, take}
 use Rattle.std.specs.Prelude.{flat_map}
-use Rattle.std.proofs.lemmas.List.{length-drop}
+use Rattle.std.proofs.lemmas.List.{length-drop, take_rest}
 use Rattle.tetra_mesh.specs.Numbering.{vertices_on}
 use Rattle.ply_writer.specs.Ply.{vertex_line}
-use Rattle.grid_text.proofs.CellLaws.{lines_parted, next_sides, next_whole, same_cells, slice_part}
+use Rattle.grid_text.proofs.CellLaws.{lines_parted, next_sides, same_cells, slice_part}
 use Rattle.grid_text.proofs.vertex_lines.put_vertices.Goals as goal
 
 pub put_lines-requires-clause-cells : goal.put_lines-requires-clause-cells
@@ -30,6 +30,6 @@ returns-clause-full c less =
     let own = c.requires.cells.0 in
     let sided = c.args.sided.now in
     let part = slice_part c.args.grid.now.view c.args.grid.now.list own sided c.args.lined c.batch-count.result c.requires.cells.1 in
-    let full = c.batch-count.ensures.full (drop c.args.lined own) (next_sides own sided c.args.lined c.requires.cells.1.sides) (omega (arith, less, ap length (next_whole c.args.lined sided), length-drop c.args.lined sided)) in
+    let full = c.batch-count.ensures.full (drop c.args.lined own) (next_sides own sided c.args.lined c.requires.cells.1.sides) (omega (arith, less, ap length (take_rest sided c.args.lined), length-drop c.args.lined sided)) in
     let more = c.put_lines.ensures.more _ part in
     omega (arith, full, more)

@@ -3,10 +3,9 @@ use Rattle.std.proofs.Common.{◌≡◌, ◌+◌, ◌-◌, suc, false, inl, inr,
 use Rattle.std.proofs.lemmas.Bool.{cases_lt}
 use Rattle.std.proofs.lemmas.List.{length-map}
 use Rattle.live_clauses.specs.Live.{is_needed}
-use Rattle.live_clauses.specs.Marks.{IsCopied}
 use Rattle.live_clauses.specs.Packed.{unpacked}
 use Rattle.live_clauses.proofs.Kept.{kept_below-le}
-use Rattle.live_clauses.proofs.Numbering.{copied-idle, visited}
+use Rattle.live_clauses.proofs.Numbering.{IsCopied, copied-idle, visited}
 use Rattle.live_clauses.proofs.Stored.{kept_at, kept_at-is}
 use Rattle.live_clauses.proofs.Walks.{reads-kept, reads-none, reads-second}
 use Rattle.live_clauses.proofs.copying.copy_live.Goals as goal

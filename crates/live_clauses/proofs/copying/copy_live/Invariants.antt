@@ -1,6 +1,6 @@
 use Rattle.std.proofs.Common.{◌-◌, ◌≤◌, length, map}
-use Rattle.live_clauses.specs.Marks.{IsCopied}
 use Rattle.live_clauses.specs.Packed.{unpacked}
+use Rattle.live_clauses.proofs.Numbering.{IsCopied}
 use Rattle.live_clauses.proofs.copying.copy_live.Given as goal
 
 abbrev pub invariant-loop-at : goal.invariant-loop-at

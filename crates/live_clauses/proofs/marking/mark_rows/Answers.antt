@@ -2,10 +2,9 @@
 use Rattle.std.proofs.Common.{◌≡◌, ◌-◌, ◌<◌, suc, length, slice_index, ap, sym, subst, refl, ◌∙◌, arith}
 use Rattle.live_clauses.specs.Choices.{choice_at, choice_in, step_at}
 use Rattle.live_clauses.specs.Live.{hands_on}
-use Rattle.live_clauses.specs.Marks.{AreMarksAfter}
 use Rattle.live_clauses.specs.Packed.{unpacked}
 use Rattle.live_clauses.specs.Steps.{IsTape}
-use Rattle.live_clauses.proofs.MarkTurns.{marks-all, marks-begun, marks-idle, marks-visited}
+use Rattle.live_clauses.proofs.MarkTurns.{AreMarksAfter, marks-all, marks-begun, marks-idle, marks-visited}
 use Rattle.live_clauses.proofs.Stored.{kept_at, kept_at-is, step_at-unpacked}
 use Rattle.live_clauses.proofs.Walks.{reads-first, reads-none, reads-second}
 use Rattle.live_clauses.proofs.marking.mark_rows.Goals as goal

@@ -1,6 +1,6 @@
 use Rattle.std.proofs.Common.{◌≡◌, ◌-◌, ◌≤◌, ◌<◌, ℕ, true, length}
 use Rattle.live_clauses.specs.Choices.{has_bit}
-use Rattle.live_clauses.specs.Marks.{AreMarksAfter}
+use Rattle.live_clauses.proofs.MarkTurns.{AreMarksAfter}
 use Rattle.live_clauses.proofs.marking.mark_rows.Given as goal
 
 abbrev pub invariant-loop-at : goal.invariant-loop-at

@@ -2,6 +2,7 @@ use Rattle.std.proofs.Common.{subst}
 use Rattle.live_clauses.specs.Steps.{IsTape}
 use Rattle.model_frames.proofs.Depths.{heights_counted, heights_plain, heights_within, map-same}
 use Rattle.model_frames.proofs.WorkLaws.{within-none}
+use Rattle.model_frames.proofs.DescentLaws.{height_points_are_bounded}
 use Rattle.model_frames.proofs.height.top_map.Goals as goal
 
 pub returns-in_err-list-clause-at_most : goal.returns-in_err-list-clause-at_most
@@ -25,5 +26,5 @@ returns-clause-plain c =
     let view = c.args.view.now in
     let clauses = c.args.model.now in
     heights_plain c.args.tally.now c.heights.new.tally view clauses c.in_ok-list.list c.in_ok-list.ensures.live c.window_holds.ensures
-    (subst IsTape c.list.view_is c.list.invariant) c.height_work_is_bounded.ensures.points
+    (subst IsTape c.list.view_is c.list.invariant) height_points_are_bounded
     (heights_within c.args.tally.now c.heights.new.tally view clauses c.in_ok-list.list c.in_ok-list.ensures.live c.heights.ensures.at_most)

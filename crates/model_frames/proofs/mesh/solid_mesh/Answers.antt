@@ -9,6 +9,7 @@ use Rattle.model_frames.specs.Meshes.{grid_of, mesh_text}
 use Rattle.model_frames.proofs.WorkLaws.{within-none}
 use Rattle.model_frames.proofs.GridWork.{mesh_counted, mesh_plain, mesh_within}
 use Rattle.model_frames.proofs.MeshLaws.{mesh_same, of_mesh, solid_faces, solid_placed, solid_text, solid_vertices}
+use Rattle.model_frames.proofs.DescentLaws.{mesh_points_are_bounded}
 use Rattle.model_frames.proofs.mesh.solid_mesh.Goals as goal
 
 pub returns-in_err-list-clause-at_most : goal.returns-in_err-list-clause-at_most
@@ -21,7 +22,7 @@ returns-in_err-cells-clause-at_most c =
 pub returns-in_err-cells-clause-plain : goal.returns-in_err-cells-clause-plain
 returns-in_err-cells-clause-plain c =
     mesh_plain c.args.tally.now c.mixed_cells.new.tally c.args.view.now c.args.model.now c.in_ok-list.list c.in_ok-list.ensures.live c.window_holds.ensures
-    (subst IsTape c.list.view_is c.list.invariant) c.grid_work_is_bounded.ensures.points
+    (subst IsTape c.list.view_is c.list.invariant) mesh_points_are_bounded
     (mesh_within c.args.tally.now c.mixed_cells.new.tally c.args.view.now c.args.model.now c.in_ok-list.list c.in_ok-list.ensures.live c.in_err-cells.ensures.at_most)
 
 pub build_from-requires-clause-cells : goal.build_from-requires-clause-cells
@@ -67,7 +68,7 @@ returns-clause-at_most c =
 pub returns-clause-plain : goal.returns-clause-plain
 returns-clause-plain c =
     mesh_plain c.args.tally.now c.mixed_cells.new.tally c.args.view.now c.args.model.now c.in_ok-list.list c.in_ok-list.ensures.live c.window_holds.ensures
-    (subst IsTape c.list.view_is c.list.invariant) c.grid_work_is_bounded.ensures.points
+    (subst IsTape c.list.view_is c.list.invariant) mesh_points_are_bounded
     (mesh_within c.args.tally.now c.mixed_cells.new.tally c.args.view.now c.args.model.now c.in_ok-list.list c.in_ok-list.ensures.live c.in_ok-cells.ensures.at_most)
 
 pub returns-clause-counted : goal.returns-clause-counted

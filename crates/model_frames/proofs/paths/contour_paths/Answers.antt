@@ -12,6 +12,7 @@ use Rattle.model_frames.proofs.ContourWork.{contour_counted, contour_plain, cont
 use Rattle.path_writer.proofs.Contours.{contours_have_paths}
 use Rattle.contour_lines.proofs.Joins.{planes_are_bordered}
 use Rattle.model_frames.proofs.WorkLaws.{within-none}
+use Rattle.model_frames.proofs.DescentLaws.{contour_points_are_bounded}
 use Rattle.model_frames.proofs.paths.contour_paths.Goals as goal
 
 pub returns-in_err-list-clause-at_most : goal.returns-in_err-list-clause-at_most
@@ -25,7 +26,7 @@ returns-in_err-loops-clause-at_most c =
 pub returns-in_err-loops-clause-plain : goal.returns-in_err-loops-clause-plain
 returns-in_err-loops-clause-plain c =
     contour_plain c.args.tally.now c.contour.new.tally c.args.view.now c.args.model.now c.in_ok-list.list c.in_ok-list.ensures.live
-    c.window_holds.ensures (subst IsTape c.list.view_is c.list.invariant) c.contour_work_is_bounded.ensures.points
+    c.window_holds.ensures (subst IsTape c.list.view_is c.list.invariant) contour_points_are_bounded
     (contour_within c.args.tally.now c.contour.new.tally c.args.view.now c.args.model.now c.in_ok-list.list c.in_ok-list.ensures.live
     c.contour.ensures.at_most)
 
@@ -64,6 +65,6 @@ returns-clause-at_most c =
 pub returns-clause-plain : goal.returns-clause-plain
 returns-clause-plain c =
     contour_plain c.args.tally.now c.contour.new.tally c.args.view.now c.args.model.now c.in_ok-list.list c.in_ok-list.ensures.live
-    c.window_holds.ensures (subst IsTape c.list.view_is c.list.invariant) c.contour_work_is_bounded.ensures.points
+    c.window_holds.ensures (subst IsTape c.list.view_is c.list.invariant) contour_points_are_bounded
     (contour_within c.args.tally.now c.contour.new.tally c.args.view.now c.args.model.now c.in_ok-list.list c.in_ok-list.ensures.live
     c.in_ok-loops.ensures.at_most)

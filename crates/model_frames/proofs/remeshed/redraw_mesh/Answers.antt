@@ -5,6 +5,7 @@ use Rattle.model_frames.specs.Work.{mesh_work_after}
 use Rattle.model_frames.proofs.WorkLaws.{within-none}
 use Rattle.model_frames.proofs.GridWork.{text_same}
 use Rattle.model_frames.proofs.MeshesAfter.{after_counted, after_plain, after_within}
+use Rattle.model_frames.proofs.DescentLaws.{mesh_points_are_bounded, meshes_after_add_up}
 use Rattle.model_frames.proofs.remeshed.redraw_mesh.Goals as goal
 
 pub returns-in_err-list-clause-at_most : goal.returns-in_err-list-clause-at_most
@@ -25,5 +26,5 @@ returns-clause-at_most c =
 pub returns-clause-plain : goal.returns-clause-plain
 returns-clause-plain c =
     after_plain c.args.tally.now c.look_after.new.tally c.args.before c.args.view.now c.args.model.now c.in_ok-list.list c.in_ok-list.ensures.live c.window_holds.ensures
-    (subst IsTape c.list.view_is c.list.invariant) c.grid_work_is_bounded.ensures.points c.meshes_after_add_up.ensures.meshes
+    (subst IsTape c.list.view_is c.list.invariant) mesh_points_are_bounded meshes_after_add_up
     (after_within c.args.tally.now c.look_after.new.tally c.args.before c.args.view.now c.args.model.now c.in_ok-list.list c.in_ok-list.ensures.live c.look_after.ensures.at_most)

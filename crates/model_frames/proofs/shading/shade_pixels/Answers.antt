@@ -9,6 +9,7 @@ use Rattle.model_frames.proofs.Depths.{heights_counted, heights_within}
 use Rattle.model_frames.proofs.Shades.{heights-alone, pixels_shaded, shades_counted, shades_plain, shades_within}
 use Rattle.model_frames.proofs.WorkLaws.{frames_add_up_is, within-none}
 use Rattle.live_clauses.proofs.SlopeLaws.{root_has_the_slopes}
+use Rattle.model_frames.proofs.DescentLaws.{height_points_are_bounded, shade_points_are_bounded}
 use Rattle.model_frames.proofs.shading.shade_pixels.Goals as goal
 
 pub returns-in_err-list-clause-at_most : goal.returns-in_err-list-clause-at_most
@@ -31,8 +32,8 @@ returns-in_err-map-clause-plain c =
     (heights_within c.args.tally.now c.heights.new.tally view clauses c.in_ok-list.list c.in_ok-list.ensures.live
     c.heights.ensures.at_most) in
     shades_plain c.args.tally.now c.heights.new.tally view clauses c.in_ok-list.list c.in_ok-list.ensures.live
-    c.window_holds.ensures (subst IsTape c.list.view_is c.list.invariant) c.height_work_is_bounded.ensures.points
-    c.shade_work_is_bounded.ensures.points within
+    c.window_holds.ensures (subst IsTape c.list.view_is c.list.invariant) height_points_are_bounded
+    shade_points_are_bounded within
 
 pub returns-clause-ok : goal.returns-clause-ok
 returns-clause-ok c =
@@ -72,8 +73,8 @@ returns-clause-plain c =
     let list = c.in_ok-list.list in
     let live = c.in_ok-list.ensures.live in
     shades_plain c.args.tally.now c.shade.new.tally view clauses list live c.window_holds.ensures
-    (subst IsTape c.list.view_is c.list.invariant) c.height_work_is_bounded.ensures.points
-    c.shade_work_is_bounded.ensures.points
+    (subst IsTape c.list.view_is c.list.invariant) height_points_are_bounded
+    shade_points_are_bounded
     (shades_within c.args.tally.now c.heights.new.tally c.shade.new.tally view clauses list frames_add_up_is live
     (heights_within c.args.tally.now c.heights.new.tally view clauses list live c.in_ok-map.ensures.at_most)
     c.shade.ensures.at_most)

@@ -2,10 +2,11 @@
 use Rattle.std.proofs.Common.{◌≡◌, Err, ap, arith, ◌∙◌}
 use Rattle.view_settings.specs.Words.{bytes_of}
 use Rattle.modeller_cmd.specs.Asking.{asks_nothing, input_told, reads_nothing}
-use Rattle.modeller_cmd.proofs.Inputs.{reads-some, told-by-words}
+use Rattle.modeller_cmd.proofs.Inputs.{told-by-words}
 use Rattle.modeller_cmd.proofs.Outcomes.{some_follows}
 use Rattle.modeller_cmd.proofs.Running.{executed-end, unread-end, words-end}
 use Rattle.modeller_cmd.proofs.Soundness.{laws_of}
+use Rattle.std.proofs.lemmas.Bool.{false_from_ne_true}
 use Rattle.modeller_cmd.proofs.command.work.Goals as goal
 
 pub returns-in_err-job-clause-run : goal.returns-in_err-job-clause-run
@@ -18,7 +19,7 @@ returns-in_err-input-clause-run g c =
     let read = c.in_err-input.ensures in
     unread-end g.S.Source.rest g.S.Source.taken g.S.Source.faults g.K.Sink.held g.K.Sink.faults (bytes_of c.args.words.now) c.args.source.now c.args.out.now c.args.tally.now
     c.read_input.new.source c.in_ok-job.job c.in_err-input.field-0.0 c.in_ok-job.ensures.job c.in_ok-job.ensures.nothing
-    (reads-some (reads_nothing c.in_ok-job.job) (λ nothing. grind (arith, (read.unasked nothing).0)))
+    (false_from_ne_true (reads_nothing c.in_ok-job.job) (λ nothing. grind (arith, (read.unasked nothing).0)))
     (λ is. read.failed (ap (λ e. Err e) is)) (λ other. read.no_fault (λ is. other cc)) (λ is. read.too_long (ap (λ e. Err e) is)) (λ is. read.too_long_took (ap (λ e. Err e) is))
     (λ more below. let long = read.too_long_there more below in cc) read.lost c.from_residual-in_err-input.result c.from_residual-in_err-input.ensures.1
 

@@ -4,11 +4,10 @@ use Rattle.std.proofs.lemmas.List.{drop-set-lt, get_or_read}
 use Rattle.fixed_ops.specs.Points.{Point}
 use Rattle.fixed_ops.specs.Slopes.{Sloped, flat}
 use Rattle.fixed_ops.proofs.PointLaws.{step_value-same}
-use Rattle.live_clauses.specs.Meanings.{number_at}
 use Rattle.live_clauses.specs.Steps.{IsTape, values}
 use Rattle.live_clauses.proofs.MarkTurns.{first_within, second_within}
 use Rattle.live_clauses.proofs.MeaningLaws.{meaning_at-step}
-use Rattle.live_clauses.proofs.ValueLaws.{number_at-reads}
+use Rattle.live_clauses.proofs.ValueLaws.{number_at, number_at-reads}
 use Rattle.choice_trace.proofs.Elements.{read_more}
 use Rattle.normal_shade.proofs.gradients.write_values.Goals as goal
 

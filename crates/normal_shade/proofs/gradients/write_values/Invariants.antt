@@ -1,7 +1,7 @@
 use Rattle.std.proofs.Common.{◌≡◌, drop, length}
 use Rattle.fixed_ops.specs.Slopes.{Sloped, flat}
-use Rattle.choice_trace.specs.Meaning.{AreRead}
 use Rattle.live_clauses.specs.Steps.{values}
+use Rattle.choice_trace.proofs.Elements.{AreRead}
 use Rattle.normal_shade.proofs.gradients.write_values.Given as goal
 
 abbrev pub invariant-loop-at : goal.invariant-loop-at

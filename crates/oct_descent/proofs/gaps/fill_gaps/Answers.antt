@@ -1,9 +1,9 @@
 use Rattle.std.proofs.Common.{length, take, ap, arith, subst, ◌∙◌}
-use Rattle.std.proofs.lemmas.List.{length-drop}
+use Rattle.std.proofs.lemmas.List.{length-drop, take_rest}
 use Rattle.oct_descent.specs.Gaps.{Fills}
 use Rattle.oct_descent.specs.GridValues.{list_grid_value}
 use Rattle.oct_descent.proofs.Bricks.{keeps-then}
-use Rattle.oct_descent.proofs.GapLaws.{fills-more, lanes-counted, rest-is}
+use Rattle.oct_descent.proofs.GapLaws.{fills-more, lanes-counted}
 use Rattle.oct_descent.proofs.gaps.fill_gaps.Goals as goal
 
 pub loop-at-preserved : goal.loop-at-preserved
@@ -11,7 +11,7 @@ loop-at-preserved c =
     let gaps = c.args.gaps.now in
     let at = c.loop-at.at in
     let g = list_grid_value c.args.places.now.view c.args.list.now in
-    let rest = rest-is gaps at in
+    let rest = take_rest gaps at in
     record {
       within = omega (arith, c.loop-at.invariant.within, c.fill_some-at.ensures.few, ap length rest, length-drop at gaps);
       room = c.fill_some-at.auto.rows ∙ c.loop-at.invariant.room;

@@ -1,6 +1,6 @@
 -- What was copied stands before what follows it.
 use Rattle.std.proofs.Common.{arith}
-use Rattle.ply_writer.proofs.LineLaws.{copied_before}
+use Rattle.fixed_ops.proofs.Lists.{copied_before}
 use Rattle.ply_writer.proofs.digits.bytes_before.Goals as goal
 
 pub returns-clause-written : goal.returns-clause-written

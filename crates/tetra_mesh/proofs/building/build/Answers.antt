@@ -1,12 +1,12 @@
 -- The parts of the cells are those of the grid's mixed cells.
 use Rattle.std.proofs.Common.{ap, arith, length}
 use Rattle.view_places.specs.Window.{size_of}
-use Rattle.tetra_mesh.proofs.GridLaws.{parts_of_grid}
+use Rattle.tetra_mesh.proofs.GridLaws.{are_few, parts_of_grid}
 use Rattle.tetra_mesh.proofs.building.build.Goals as goal
 
 pub parts-requires : goal.parts-requires
 parts-requires c =
-    let few = c.cells_are_few.ensures in
+    let few = are_few (size_of c.args.view.now) c.args.cells.now c.requires.cells.0 c.requires.fits.all c.requires.cells.1 in
     let listed = ap length c.deref.ensures.value in
     omega (arith, few, listed)
 

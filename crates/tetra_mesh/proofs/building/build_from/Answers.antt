@@ -1,8 +1,11 @@
 -- The parts of the cells are those of the grid's mixed cells.
 use Rattle.std.proofs.Common.{refl}
 use Rattle.view_places.specs.Window.{size_of}
-use Rattle.tetra_mesh.proofs.GridLaws.{parts_of_grid}
+use Rattle.tetra_mesh.proofs.GridLaws.{are_few, parts_of_grid}
 use Rattle.tetra_mesh.proofs.building.build_from.Goals as goal
+
+pub parts_of-requires : goal.parts_of-requires
+parts_of-requires c = are_few (size_of c.args.view.now) c.args.cells c.requires.cells.0 c.requires.fits.all c.requires.cells.1
 
 pub mesh_of_parts-requires-clause-parts : goal.mesh_of_parts-requires-clause-parts
 mesh_of_parts-requires-clause-parts c =

@@ -2,8 +2,7 @@
 use Rattle.std.proofs.Common.{◌≡◌, ◌∙◌, ap, arith, w64, ℤ, ◌+ℤ◌, ◌-ℤ◌, to_z, of_z}
 use Rattle.std.proofs.lemmas.Int.{ints, clamps}
 use Rattle.fixed_ops.specs.Raw.{IsRaw}
-use Rattle.tetra_mesh.specs.Ways.{IsPartOf}
-use Rattle.tetra_mesh.proofs.WayLaws.{parts_within}
+use Rattle.tetra_mesh.proofs.WayLaws.{IsPartOf, parts_within}
 use Rattle.tetra_mesh.proofs.place.between.Goals as goal
 
 -- ways between raw numbers fit in 64 bits

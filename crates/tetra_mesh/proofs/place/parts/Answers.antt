@@ -6,8 +6,7 @@ use Rattle.std.proofs.lemmas.Int.{clamps, fits_signed_mul, ints, to_z-of_z}
 use lib.Signed.{shr_z}
 use mir.Syntax.{w128}
 use Rattle.fixed_ops.specs.Raw.{floor_div}
-use Rattle.tetra_mesh.specs.Ways.{IsPartOf}
-use Rattle.tetra_mesh.proofs.WayLaws.{parts_within}
+use Rattle.tetra_mesh.proofs.WayLaws.{IsPartOf, parts_within}
 use Rattle.tetra_mesh.proofs.place.parts.Goals as goal
 
 wider : (z : ℤ) → FitsSigned w64 z → FitsSigned w128 z

@@ -2,9 +2,10 @@
 use Rattle.std.proofs.Common.{◌≡◌, ◌≤◌, ◌<◌, [], length, ap, arith, ◌∙◌}
 use Rattle.std.specs.Prelude.{map}
 use Rattle.arrayvec.specs.ArrayVec.{array_vec_len}
-use Rattle.tetra_mesh.specs.Numbering.{directions_below, vertex_on}
+use Rattle.tetra_mesh.specs.Numbering.{vertex_on}
 use Rattle.tetra_mesh.proofs.VertexLaws.{all_seven, compared, passed, pushed, side_read, vertex_read}
 use Rattle.tetra_mesh.proofs.vertices.cell_vertices.Goals.{then-is_inside, else-is_inside}
+use Rattle.tetra_mesh.proofs.Bits.{directions_below}
 use Rattle.tetra_mesh.proofs.vertices.cell_vertices.Goals as goal
 
 pub loop-dir-init : goal.loop-dir-init

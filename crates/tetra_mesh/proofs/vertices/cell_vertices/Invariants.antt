@@ -1,7 +1,8 @@
 use Rattle.std.proofs.Common.{◌≡◌, ◌+◌, ◌≤◌}
 use Rattle.std.specs.Prelude.{map}
 use Rattle.arrayvec.specs.ArrayVec.{array_vec_len}
-use Rattle.tetra_mesh.specs.Numbering.{directions_below, vertex_on}
+use Rattle.tetra_mesh.specs.Numbering.{vertex_on}
+use Rattle.tetra_mesh.proofs.Bits.{directions_below}
 use Rattle.tetra_mesh.proofs.vertices.cell_vertices.Given as goal
 
 abbrev pub invariant-loop-dir : goal.invariant-loop-dir

@@ -2,7 +2,8 @@ use Rattle.std.proofs.Common.{◌≡◌, ◌+◌, ◌*◌, ◌<◌, ap, arith, f
 use Rattle.std.specs.Prelude.{Some}
 use Rattle.std.proofs.lemmas.List.{get_or_read}
 use Rattle.oct_descent.specs.Tables.{Marks, read}
-use Rattle.contour_lines.proofs.KnownLaws.{known-is, read-marked, read-unmarked}
+use Rattle.contour_lines.proofs.KnownLaws.{known-is}
+use Rattle.oct_descent.proofs.Bricks.{read-marked, read-unmarked}
 use Rattle.contour_lines.proofs.known_values.KnownValues.get.Goals as goal
 
 pub returns-then-index : goal.returns-then-index

@@ -1,8 +1,8 @@
 -- The text without what stands in front of it.
 use Rattle.std.proofs.Common.{◌-◌, arith, drop, ◌∙◌}
 use Rattle.std.proofs.lemmas.List.{drop-append-le}
-use Rattle.ply_writer.proofs.LineLaws.{copied_before}
 use Rattle.ply_writer.proofs.TripleLaws.{behind}
+use Rattle.fixed_ops.proofs.Lists.{copied_before}
 use Rattle.ply_writer.proofs.point_texts.PointText.text_before.Goals as goal
 
 pub returns-clause-written : goal.returns-clause-written
