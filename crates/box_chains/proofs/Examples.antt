@@ -16,7 +16,7 @@ use Rattle.box_chains.specs.Counts.{halves_points, halves_spans, open_points, op
 use Rattle.box_chains.specs.Desks.{HasRoomFor, MayOpen, Tracing, list_of}
 use Rattle.box_chains.specs.Laws.{IsTold}
 use Rattle.box_chains.specs.Opened.{outcome_points, outcome_spans, sampling, spans_below}
-use Rattle.box_chains.specs.Outcomes.{ChoosesNone, asked_decisions, asked_outcomes, decision_in, decision_of, decisions_of, held_box, is_shortened, plain_box, traced_decisions, traced_outcomes}
+use Rattle.box_chains.specs.Outcomes.{ChoosesNone, asked_decisions, asked_outcomes, decision_in, decision_of, is_shortened, traced_decisions, traced_outcomes}
 use Rattle.box_chains.specs.Placing.{places_along}
 use Rattle.box_chains.specs.Sums.{Sample, maximum}
 use Rattle.box_chains.specs.Tallied.{CountsAtMost, CountsExactly}
@@ -352,12 +352,19 @@ shortened_lanes : map
     (0 ∷ 1 ∷ 2 ∷ 3 ∷ []) ≡ true ∷ false ∷ true ∷ false ∷ []
 shortened_lanes = refl
 
+-- a box that is split even where it is decided, and one that is not
+abbrev held_box : Indices → AskedBox
+held_box b = record { range = b; held = true }
+
+abbrev plain_box : Indices → AskedBox
+plain_box b = record { range = b; held = false }
+
 -- Of the columns of the slab along x those from 4 to 11 are inside, from -7/15 to 7/15, and those up to 3 are outside,
 -- up to -3/5. The first eight are not decided.
 abbrev columns_traced : List Indices
 columns_traced = columns_of_row 4 12 ∷ columns_of_row 0 4 ∷ columns_of_row 0 8 ∷ []
 
-columns_decided : decisions_of (sampling (raster 16 1)) (slab X) columns_traced ≡ Some true ∷ Some false ∷ None ∷ []
+columns_decided : map (decision_of (sampling (raster 16 1)) (slab X)) columns_traced ≡ Some true ∷ Some false ∷ None ∷ []
 columns_decided = refl
 
 -- Where boxes are split even where they are decided, the first prunes the last maximum, and the last one the maximum

@@ -1,8 +1,6 @@
 -- Boxes whose lists are traced side by side, each in its lane.
 use Rattle.std.proofs.Common.{Bool, false, Option, None, ◌≡◌, ℕ, ◌+◌, ◌-◌, ◌<◌, List, [], ◌∷◌, ◌++◌, length, get_or, take, drop, map, ap, sym, ◌∙◌, arith}
 use Rattle.std.proofs.lemmas.List.{ext_get_or, get_or-map, get_or_read, length-drop, length-map, map-append, take_all}
-use Rattle.std.proofs.lemmas.Simd.{map-map}
-use Rattle.std.proofs.lemmas.List.Elements.{All-map}
 use Rattle.std.proofs.Math.Seq.{take-add}
 use Rattle.interval_ops.specs.Decided.{decided_of}
 use Rattle.interval_ops.specs.Spans.{Interval, all_numbers}
@@ -10,14 +8,13 @@ use Rattle.live_clauses.specs.Choices.{lane}
 use Rattle.live_clauses.specs.Live.{live_of}
 use Rattle.live_clauses.specs.declared.choice_row.ChoiceRow.{ChoiceRow}
 use Rattle.live_clauses.specs.declared.step.Step.{Step}
-use Rattle.view_places.specs.Boxes.{Indices}
-use Rattle.std.specs.List.{All, range_with_len}
+use Rattle.std.specs.List.{range_with_len}
 use Rattle.std.proofs.lemmas.List.FromFn.{get_or-map-range_with_len, length-range_with_len}
 use Rattle.interval_ops.specs.declared.region.Region.{Region}
-use Rattle.view_places.specs.Spans.{IsInRoot, region_of}
+use Rattle.view_places.specs.Spans.{region_of}
 use Rattle.choice_trace.specs.Halves.{region_in}
 use Rattle.choice_trace.specs.Hulls.{choices_over, hull_in, tape_hull}
-use Rattle.box_chains.specs.Outcomes.{AreInRoot, asked_decisions, asked_outcome, asked_outcomes, decision_in, decision_of, decisions_of, held_box, held_decision, held_in, lane_decision, lane_outcome, outcome_by, outcomes_of, plain_box}
+use Rattle.box_chains.specs.Outcomes.{asked_decisions, asked_outcome, asked_outcomes, decision_in, decision_of, held_decision, held_in, lane_decision, lane_outcome, outcome_by}
 use Rattle.box_chains.specs.Placing.{Sampling}
 use Rattle.box_chains.specs.declared.asked_box.AskedBox.{AskedBox}
 use Rattle.box_chains.specs.declared.outcome.Outcome.{Outcome}
@@ -35,20 +32,6 @@ take-one (y ∷ ys) x some is = ap (λ a. a ∷ []) (sym is)
 -- what holds of some boxes in turn, and then of some more
 pub map-join : {X Y : Type 0} (f : X → Y) (xs : List X) (i n : ℕ) → map f (take i xs) ++ map f (take n (drop i xs)) ≡ map f (take (i + n) xs)
 map-join f xs i n = sym (map-append f (take i xs) (take n (drop i xs))) ∙ sym (ap (map f) (take-add i n xs))
-
--- where no box is held open, this is what tracing the boxes alone tells
-pub plain-told : (places : Sampling) (list : List Step) (boxes : List Indices) → asked_outcomes places list (map plain_box boxes) ≡ outcomes_of places list boxes
-plain-told places list boxes = map-map (asked_outcome places list) plain_box boxes
-
-pub plain-in_root : (places : Sampling) (boxes : List Indices) → All (IsInRoot places.view places.lattice) boxes → AreInRoot places (map plain_box boxes)
-plain-in_root places boxes h = All-map (λ (a : AskedBox). IsInRoot places.view places.lattice a.range) plain_box boxes h
-
--- whether or not boxes are split where they are decided, their hulls decide the same
-pub held-decided : (places : Sampling) (tape : List Step) (boxes : List Indices) → asked_decisions places tape (map held_box boxes) ≡ decisions_of places tape boxes
-held-decided places tape boxes = map-map (λ (a : AskedBox). decision_of places tape a.range) held_box boxes
-
-pub held-in_root : (places : Sampling) (boxes : List Indices) → All (IsInRoot places.view places.lattice) boxes → AreInRoot places (map held_box boxes)
-held-in_root places boxes h = All-map (λ (a : AskedBox). IsInRoot places.view places.lattice a.range) held_box boxes h
 
 -- what the hull in a lane decides
 pub hull-decides : (hulls : List Interval) (l : ℕ) (hull : Interval) → l < length hulls → hull ≡ get_or hulls l hull → decided_of hull ≡ decision_in hulls l
@@ -68,7 +51,7 @@ hulls-decide places tape asked regions hulls n placed count hull =
     g a = decision_of places tape a.range
 
     nothing : AskedBox
-    nothing = plain_box (record { x0 = 0; x1 = 0; y0 = 0; y1 = 0; z0 = 0; z1 = 0 })
+    nothing = record { range = record { x0 = 0; x1 = 0; y0 = 0; y1 = 0; z0 = 0; z1 = 0 }; held = false }
 
     by : (l : ℕ) → l < n → get_or (map (decision_in hulls) (range_with_len 0 n)) l None ≡ get_or (map g asked) l None
     by l h =
@@ -113,7 +96,7 @@ lanes-told places list asked regions hulls rows n placed count hull chosen =
     g = asked_outcome places list
 
     nothing : AskedBox
-    nothing = plain_box (record { x0 = 0; x1 = 0; y0 = 0; y1 = 0; z0 = 0; z1 = 0 })
+    nothing = record { range = record { x0 = 0; x1 = 0; y0 = 0; y1 = 0; z0 = 0; z1 = 0 }; held = false }
 
     over : Bool → Region → Outcome (List Step)
     over held r = outcome_by (held_decision held (decided_of (tape_hull r list))) (live_of list (choices_over r list))

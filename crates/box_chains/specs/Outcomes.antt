@@ -51,21 +51,9 @@ asked_outcome places list asked =
 abbrev pub asked_outcomes : Sampling → List Step → List AskedBox → List (Outcome (List Step))
 asked_outcomes places list asked = map (asked_outcome places list) asked
 
--- a box that is not held open
-abbrev pub plain_box : Indices → AskedBox
-plain_box b = record { range = b; held = false }
-
--- a box that is split even where it is decided
-abbrev pub held_box : Indices → AskedBox
-held_box b = record { range = b; held = true }
-
 -- what the hull of a tape decides of a box: all of it is inside, or outside, or neither
 abbrev pub decision_of : Sampling → List Step → Indices → Option Bool
 decision_of places tape b = decided_of (tape_hull (region_of places.view places.lattice b) tape)
-
--- and of each of some boxes
-abbrev pub decisions_of : Sampling → List Step → List Indices → List (Option Bool)
-decisions_of places tape boxes = map (decision_of places tape) boxes
 
 -- whether or not a box is split where it is decided, its hull decides the same
 abbrev pub asked_decisions : Sampling → List Step → List AskedBox → List (Option Bool)

@@ -7,10 +7,11 @@ ghost use Rattle.interval_ops.specs.HullCounts.{CountsHulls};
 ghost use Rattle.live_clauses.specs.Live.{IsWhole};
 ghost use Rattle.view_places.specs.Spans.{IsInRoot, region_of, root_box_of};
 ghost use Rattle.box_chains.specs.Desks.{HasMore, Tracing, list_of, samples};
-ghost use Rattle.box_chains.specs.Outcomes.{AreInRoot, HandsOn, all_seen, asked_decisions, asked_outcome, asked_outcomes, decision_of, decisions_of, held_box, outcome_of, outcomes_of, seen, traced_decisions, traced_outcomes};
+ghost use Rattle.box_chains.specs.Outcomes.{AreInRoot, HandsOn, all_seen, asked_decisions, asked_outcome, asked_outcomes, decision_of, seen, traced_decisions, traced_outcomes};
 ghost use Rattle.box_chains.specs.Tallied.{CountsAtMost};
 
-use crate::{AskedBox, Outcome, Places, TracedBox, Workspace};
+use crate::workspace::Workspace;
+use crate::{AskedBox, Outcome, Places, TracedBox};
 use arrayvec::ArrayVec;
 use fixed_ops::{Fx, Tally};
 use live_clauses::{Lists, Tape};
@@ -108,31 +109,9 @@ impl Desk {
         self.places.w()
     }
 
-    /// What tracing a list over a box that receives it tells. The list is given by its number, and a
-    /// shorter one that the box hands on is put behind the others. AllocError: there is no memory for
-    /// it.
-    #[inline]
-    pub fn trace_box(
-        &mut self,
-        list: usize,
-        b: IndexBox,
-        tally: &mut Tally,
-    ) -> Result<Outcome<usize>, AllocError>
-        requires among { list < length self.old.lists }
-        requires room { length (list_of self.old list) ≤ self.old.room }
-        requires within { IsInRoot self.old.view self.old.lattice b }
-        ensures outcome { IfOk result (λ outcome. seen self.new.lists outcome
-            ≡ outcome_of (samples self.old) (list_of self.old list) b) }
-        ensures shorter { IfOk result
-            (HandsOn (length (list_of self.old list)) self.new.lists) }
-        ensures more { HasMore self.old self.new }
-        ensures counted { CountsHulls (length (list_of self.old list)) tally.old tally.new }
-    {
-        self.room
-            .trace_box(&mut self.lists, list, &self.places, b, tally)
-    }
-
-    /// The same of a box that may be held open.
+    /// What tracing a list over a box that receives it tells, and that may be held open. The list is given by
+    /// its number, and a shorter one that the box hands on is put behind the others. AllocError: there is
+    /// no memory for it.
     #[inline]
     pub fn trace_asked_box(
         &mut self,
@@ -154,36 +133,8 @@ impl Desk {
             .trace_asked_box(&mut self.lists, list, &self.places, asked, tally)
     }
 
-    /// What tracing a list over boxes that receive it tells of each of them, in their order. The list
-    /// is given by its number, and shorter ones that boxes hand on are put behind the others.
-    /// AllocError: there is no memory for one, and no more was traced than that.
-    #[inline]
-    pub fn trace_boxes(
-        &mut self,
-        list: usize,
-        boxes: &[IndexBox],
-        tally: &mut Tally,
-    ) -> Result<ArrayVec<Outcome<usize>, 8>, AllocError>
-        requires among { list < length self.old.lists }
-        requires whole { IsWhole (list_of self.old list) }
-        requires room { length (list_of self.old list) ≤ self.old.room }
-        requires few { length boxes.now ≤ 8 }
-        requires within { All (IsInRoot self.old.view self.old.lattice) boxes.now }
-        ensures outcomes { IfOk result (λ outcomes. all_seen self.new.lists outcomes.items
-            ≡ outcomes_of (samples self.old) (list_of self.old list) boxes.now) }
-        ensures shorter { IfOk result (λ outcomes.
-            All (HandsOn (length (list_of self.old list)) self.new.lists) outcomes.items) }
-        ensures more { HasMore self.old self.new }
-        ensures counted { OnOk result (CountsHulls
-            (length boxes.now * length (list_of self.old list)) tally.old tally.new) }
-        ensures at_most { OnErr result (CountsAtMost 0
-            (length boxes.now * length (list_of self.old list)) tally.old tally.new) }
-    {
-        self.room
-            .trace_boxes(&mut self.lists, list, &self.places, boxes, tally)
-    }
-
-    /// The same of boxes that may be held open.
+    /// The same of several boxes, in their order. AllocError: there is no memory for a shorter list, and no
+    /// more was traced than that.
     #[inline]
     pub fn trace_asked_boxes(
         &mut self,
@@ -242,68 +193,6 @@ impl Desk {
     {
         self.room
             .trace(&mut self.lists, tape, &self.places, asked, tally)
-    }
-
-    /// Traces a tape over a box that receives it and that is split even where it is decided: gives the
-    /// decision beside the outcome, since such a box prunes a child tape also where it is all inside.
-    /// The tape is given by its number, and a child tape is put behind the others. AllocError: there
-    /// is no memory for it.
-    #[inline]
-    pub fn trace_held_box(
-        &mut self,
-        list: usize,
-        b: IndexBox,
-        tally: &mut Tally,
-    ) -> Result<TracedBox, AllocError>
-        requires among { list < length self.old.lists }
-        requires room { length (list_of self.old list) ≤ self.old.room }
-        requires within { IsInRoot self.old.view self.old.lattice b }
-        ensures decision { IfOk result (λ traced. traced.decision
-            ≡ decision_of (samples self.old) (list_of self.old list) b) }
-        ensures outcome { IfOk result (λ traced. seen self.new.lists traced.outcome
-            ≡ asked_outcome (samples self.old) (list_of self.old list) (held_box b)) }
-        ensures shorter { IfOk result (λ traced.
-            HandsOn (length (list_of self.old list)) self.new.lists traced.outcome) }
-        ensures more { HasMore self.old self.new }
-        ensures counted { CountsHulls (length (list_of self.old list)) tally.old tally.new }
-    {
-        self.room
-            .trace_held_box(&mut self.lists, list, &self.places, b, tally)
-    }
-
-    /// Traces a tape over boxes that receive it and that are split even where they are decided: gives
-    /// the decision of each, beside its outcome, in their order. The tape is given by its number, and
-    /// child tapes are put behind the others. AllocError: there is no memory for one, and no more was
-    /// traced than that.
-    #[inline]
-    pub fn trace_held_boxes(
-        &mut self,
-        list: usize,
-        boxes: &[IndexBox],
-        tally: &mut Tally,
-    ) -> Result<ArrayVec<TracedBox, 8>, AllocError>
-        requires among { list < length self.old.lists }
-        requires whole { IsWhole (list_of self.old list) }
-        requires room { length (list_of self.old list) ≤ self.old.room }
-        requires few { length boxes.now ≤ 8 }
-        requires within { All (IsInRoot self.old.view self.old.lattice) boxes.now }
-        ensures decisions { IfOk result (λ traced. traced_decisions traced.items
-            ≡ decisions_of (samples self.old) (list_of self.old list) boxes.now) }
-        ensures outcomes { IfOk result (λ traced.
-            all_seen self.new.lists (traced_outcomes traced.items)
-            ≡ asked_outcomes (samples self.old) (list_of self.old list)
-            (map held_box boxes.now)) }
-        ensures shorter { IfOk result (λ traced.
-            All (HandsOn (length (list_of self.old list)) self.new.lists)
-            (traced_outcomes traced.items)) }
-        ensures more { HasMore self.old self.new }
-        ensures counted { OnOk result (CountsHulls
-            (length boxes.now * length (list_of self.old list)) tally.old tally.new) }
-        ensures at_most { OnErr result (CountsAtMost 0
-            (length boxes.now * length (list_of self.old list)) tally.old tally.new) }
-    {
-        self.room
-            .trace_held_boxes(&mut self.lists, list, &self.places, boxes, tally)
     }
 
     /// Traces a list, given by its number, over a box, and hands nothing on: whether all of the box is

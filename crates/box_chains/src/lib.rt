@@ -21,4 +21,3 @@ pub use leaves::{LEAF, is_long};
 pub use outcome::Outcome;
 pub use places::Places;
 pub use traced_box::TracedBox;
-pub use workspace::Workspace;

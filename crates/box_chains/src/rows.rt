@@ -9,6 +9,7 @@ ghost use Rattle.live_clauses.specs.Choices.{AreChoices, has_bit, lane};
 ghost use Rattle.live_clauses.specs.Marks.{AreMarks};
 ghost use Rattle.live_clauses.specs.Blocks.{list_at};
 ghost use Rattle.live_clauses.specs.Live.{IsWhole, live_of};
+ghost use Rattle.live_clauses.specs.Steps.{IsTape};
 ghost use Rattle.live_clauses.specs.declared.step.Step.{Step};
 ghost use Rattle.view_places.specs.Spans.{region_of};
 ghost use Rattle.box_chains.specs.Outcomes.{AreFirst, AreInRoot, AreSeen, ChoosesNone, HandsOn, IsHandedOn, asked_decisions, asked_outcomes, decision_in, held_decision, is_shortened, lane_outcome, outcome_by, seen};
@@ -19,9 +20,7 @@ use arrayvec::ArrayVec;
 use choice_trace::{Halves, trace_halves};
 use fixed_ops::{Fx, Tally};
 use interval_ops::{Region, Span, decided};
-use live_clauses::{
-    ChoiceRow, Lane, Lists, live_lists_are_whole, live_steps_are_the_least, mark_lanes, with_bit,
-};
+use live_clauses::{ChoiceRow, Lane, Lists, mark_lanes, with_bit};
 use std::alloc::{AllocError, Global};
 use std::marker::Model;
 
@@ -202,6 +201,7 @@ fn push_outcomes<const L: usize>(
         → AreMarks l (list_at lists.old at)
         (take (length (list_at lists.old at)) (lane l rows.now)) marks.now }
     requires among { at < length lists.old }
+    requires tape { IsTape (list_at lists.old at) }
     requires whole { IsWhole (list_at lists.old at) }
     requires boxes { length asked.now ≡ L }
     requires chosen { (l : ℕ) → l < L → flag_in halves.now.chosen l ≡ false
@@ -264,6 +264,7 @@ fn outcome_in_lane(
     requires rows { length (list_at lists.old at) ≤ length rows.now }
     requires only { AreChoices (list_at lists.old at)
         (take (length (list_at lists.old at)) (lane l rows.now)) }
+    requires tape { IsTape (list_at lists.old at) }
     requires whole { IsWhole (list_at lists.old at) }
     requires chosen { chosen ≡ false
         → ChoosesNone (take (length (list_at lists.old at)) (lane l rows.now)) }
@@ -308,8 +309,6 @@ fn hand_on_lane(
     ensures handed { IfOk result (IsHandedOn (length (list_at lists.old at)) lists.new) }
     ensures first { AreFirst lists.old lists.new }
 {
-    live_steps_are_the_least();
-    live_lists_are_whole();
     let len = lists.list(at).len() as usize;
     let live = lists.len();
     let choices = Lane {
@@ -324,14 +323,12 @@ fn hand_on_lane(
 #[inline]
 fn hand_on_whole(lists: &Lists, at: usize, rows: &[ChoiceRow], l: usize) -> usize
     requires among { at < length lists.now }
+    requires tape { IsTape (list_at lists.now at) }
     requires whole { IsWhole (list_at lists.now at) }
     requires chosen { ChoosesNone (take (length (list_at lists.now at)) (lane l rows.now)) }
     ensures list { list_at lists.now result
         ≡ live_of (list_at lists.now at) (take (length (list_at lists.now at)) (lane l rows.now)) }
     ensures handed { IsHandedOn (length (list_at lists.now at)) lists.now result }
 {
-    live_lists_are_whole();
-    // A list has a step.
-    let _len = lists.list(at).len();
     at
 }

@@ -10,17 +10,17 @@ ghost use Rattle.live_clauses.specs.Blocks.{list_at};
 ghost use Rattle.live_clauses.specs.Live.{IsWhole, live_of};
 ghost use Rattle.live_clauses.specs.declared.step.Step.{Step};
 ghost use Rattle.view_places.specs.Spans.{IsInRoot};
-ghost use Rattle.box_chains.specs.Outcomes.{AreFirst, AreInRoot, AreSeen, HandsOn, IsHandedOn, all_seen, asked_decisions, asked_outcome, asked_outcomes, decision_of, decisions_of, held_box, outcome_by, outcome_of, outcomes_of, seen, traced_decisions, traced_outcomes};
+ghost use Rattle.box_chains.specs.Outcomes.{AreFirst, AreInRoot, AreSeen, HandsOn, IsHandedOn, all_seen, asked_decisions, asked_outcome, asked_outcomes, decision_of, outcome_by, seen, traced_decisions, traced_outcomes};
 ghost use Rattle.box_chains.specs.declared.outcome.Outcome.{Outcome};
 ghost use Rattle.box_chains.specs.Tallied.{CountsAtMost};
 
 use crate::rows::{LONGEST, Rows, held_open};
 use crate::{AskedBox, Outcome, Places, TracedBox};
 use arrayvec::ArrayVec;
-use choice_trace::{trace_steps, traces_are_right};
-use fixed_ops::{Fx, Tally, tallies_add_up};
-use interval_ops::{Choice, Region, Span, decided, hull_counts};
-use live_clauses::{Lists, Steps, live_lists_are_whole, live_steps_are_the_least};
+use choice_trace::trace_steps;
+use fixed_ops::{Fx, Tally};
+use interval_ops::{Choice, Region, Span, decided};
+use live_clauses::{Lists, Steps};
 use std::alloc::{AllocError, Global};
 use std::marker::Model;
 use view_places::IndexBox;
@@ -28,7 +28,7 @@ use view_places::IndexBox;
 /// Memory that looking at boxes needs, made once for lists of at most so many steps. Contracts see
 /// the choices of the list that was traced last, and what stood there behind them.
 #[derive(Debug, Drop)]
-pub struct Workspace {
+pub(crate) struct Workspace {
     hulls: Vec<Span>,
     choices: Vec<Choice>,
     rows: Rows,
@@ -125,48 +125,14 @@ impl Workspace {
         ensures handed { IfOk result (IsHandedOn (length (list_at lists.old at)) lists.new) }
         ensures first { AreFirst lists.old lists.new }
     {
-        live_steps_are_the_least();
-        live_lists_are_whole();
         let len = lists.list(at).len() as usize;
         let live = lists.len();
         lists.push_live(at, &self.choices[..len])?;
         Ok(live)
     }
 
-    /// What tracing a list over boxes that receive it tells of each of them, in their order. The list
-    /// is given by its number among some lists, which those that the boxes hand on are put behind. It
-    /// is traced once over each box. Where several boxes are traced at once, one that chooses no
-    /// operand hands on the number of the list that it received.
-    /// AllocError: there is no memory for a shorter list, and no more was traced than that.
-    pub fn trace_boxes(
-        &mut self,
-        lists: &mut Lists,
-        at: usize,
-        places: &Places,
-        boxes: &[IndexBox],
-        tally: &mut Tally,
-    ) -> Result<ArrayVec<Outcome<usize>, 8>, AllocError>
-        requires among { at < length lists.old }
-        requires whole { IsWhole (list_at lists.old at) }
-        requires room { length (list_at lists.old at) ≤ length self.old }
-        requires few { length boxes.now ≤ 8 }
-        requires within { All (IsInRoot places.now.view places.now.lattice) boxes.now }
-        ensures outcomes { IfOk result (λ outcomes. all_seen lists.new outcomes.items
-            ≡ outcomes_of places.now (list_at lists.old at) boxes.now) }
-        ensures shorter { IfOk result (λ outcomes.
-            All (HandsOn (length (list_at lists.old at)) lists.new) outcomes.items) }
-        ensures first { AreFirst lists.old lists.new }
-        ensures room { length self.new ≡ length self.old }
-        ensures counted { OnOk result (CountsHulls
-            (length boxes.now * length (list_at lists.old at)) tally.old tally.new) }
-        ensures at_most { OnErr result (CountsAtMost 0
-            (length boxes.now * length (list_at lists.old at)) tally.old tally.new) }
-    {
-        let asked = asked_boxes(boxes, false);
-        self.trace_asked_boxes(lists, at, places, asked.as_slice(), tally)
-    }
-
-    /// The same of boxes that may be held open.
+    /// What tracing a list over boxes that receive it tells of each of them, in their order, and that may be
+    /// held open. AllocError: there is no memory for a shorter list, and no more was traced than that.
     #[inline]
     pub fn trace_asked_boxes(
         &mut self,
@@ -234,45 +200,6 @@ impl Workspace {
         Ok(traced_boxes(decisions.as_slice(), outcomes.as_slice()))
     }
 
-    /// Traces a tape over boxes that receive it and that are split even where they are decided: gives
-    /// the decision of each, beside its outcome, in their order. So a box that is all inside prunes a
-    /// child tape too, and its decision tells it from a box that is not decided. The tape is given by
-    /// its number and is traced once over each box; child tapes are put behind the others. Where
-    /// several boxes are traced at once, one that chooses no operand keeps the number of the tape.
-    /// AllocError: there is no memory for a child tape, and no more was traced than that.
-    pub fn trace_held_boxes(
-        &mut self,
-        lists: &mut Lists,
-        at: usize,
-        places: &Places,
-        boxes: &[IndexBox],
-        tally: &mut Tally,
-    ) -> Result<ArrayVec<TracedBox, 8>, AllocError>
-        requires among { at < length lists.old }
-        requires whole { IsWhole (list_at lists.old at) }
-        requires room { length (list_at lists.old at) ≤ length self.old }
-        requires few { length boxes.now ≤ 8 }
-        requires within { All (IsInRoot places.now.view places.now.lattice) boxes.now }
-        ensures decisions { IfOk result (λ traced. traced_decisions traced.items
-            ≡ decisions_of places.now (list_at lists.old at) boxes.now) }
-        ensures outcomes { IfOk result (λ traced.
-            all_seen lists.new (traced_outcomes traced.items)
-            ≡ asked_outcomes places.now (list_at lists.old at) (map held_box boxes.now)) }
-        ensures shorter { IfOk result (λ traced. All
-            (HandsOn (length (list_at lists.old at)) lists.new) (traced_outcomes traced.items)) }
-        ensures first { AreFirst lists.old lists.new }
-        ensures room { length self.new ≡ length self.old }
-        ensures counted { OnOk result (CountsHulls
-            (length boxes.now * length (list_at lists.old at)) tally.old tally.new) }
-        ensures at_most { OnErr result (CountsAtMost 0
-            (length boxes.now * length (list_at lists.old at)) tally.old tally.new) }
-    {
-        let asked = asked_boxes(boxes, true);
-        let mut decisions = ArrayVec::new();
-        let outcomes = self.trace_all(lists, at, places, asked.as_slice(), &mut decisions, tally)?;
-        Ok(traced_boxes(decisions.as_slice(), outcomes.as_slice()))
-    }
-
     // Traces a list over boxes, and adds what their hulls decide.
     fn trace_all(
         &mut self,
@@ -302,8 +229,6 @@ impl Workspace {
         ensures at_most { OnErr result (CountsAtMost 0
             (length asked.now * length (list_at lists.old at)) tally.old tally.new) }
     {
-        tallies_add_up();
-        hull_counts();
         let mut outcomes = ArrayVec::new();
         let mut done = 0;
         while done < asked.len() {
@@ -350,7 +275,6 @@ impl Workspace {
         ensures at_most { OnErr result (CountsAtMost 0
             (length asked.now * length (list_at lists.old at)) tally.old tally.new) }
     {
-        hull_counts();
         let len = lists.list(at).len() as usize;
         if len > LONGEST || asked.len() < 2 {
             let traced = self.trace_one(lists, at, places, asked[0], tally)?;
@@ -372,35 +296,8 @@ impl Workspace {
         }
     }
 
-    /// What tracing a list over a box that receives it tells. AllocError: there is no memory for a
-    /// shorter list.
-    #[inline]
-    pub fn trace_box(
-        &mut self,
-        lists: &mut Lists,
-        at: usize,
-        places: &Places,
-        b: IndexBox,
-        tally: &mut Tally,
-    ) -> Result<Outcome<usize>, AllocError>
-        requires among { at < length lists.old }
-        requires room { length (list_at lists.old at) ≤ length self.old }
-        requires within { IsInRoot places.now.view places.now.lattice b }
-        ensures outcome { IfOk result (λ outcome. seen lists.new outcome
-            ≡ outcome_of places.now (list_at lists.old at) b) }
-        ensures shorter { IfOk result (HandsOn (length (list_at lists.old at)) lists.new) }
-        ensures first { AreFirst lists.old lists.new }
-        ensures room { length self.new ≡ length self.old }
-        ensures counted { CountsHulls (length (list_at lists.old at)) tally.old tally.new }
-    {
-        let asked = AskedBox {
-            range: b,
-            held: false,
-        };
-        self.trace_asked_box(lists, at, places, asked, tally)
-    }
-
-    /// The same of a box that may be held open.
+    /// What tracing a list over a box that receives it tells, and that may be held open. AllocError: there
+    /// is no memory for a shorter list.
     #[inline]
     pub fn trace_asked_box(
         &mut self,
@@ -422,37 +319,6 @@ impl Workspace {
     {
         let traced = self.trace_one(lists, at, places, asked, tally)?;
         Ok(traced.outcome)
-    }
-
-    /// Traces a tape over a box that receives it and that is split even where it is decided: gives
-    /// the decision beside the outcome. AllocError: there is no memory for a child tape.
-    #[inline]
-    pub fn trace_held_box(
-        &mut self,
-        lists: &mut Lists,
-        at: usize,
-        places: &Places,
-        b: IndexBox,
-        tally: &mut Tally,
-    ) -> Result<TracedBox, AllocError>
-        requires among { at < length lists.old }
-        requires room { length (list_at lists.old at) ≤ length self.old }
-        requires within { IsInRoot places.now.view places.now.lattice b }
-        ensures decision { IfOk result (λ traced. traced.decision
-            ≡ decision_of places.now (list_at lists.old at) b) }
-        ensures outcome { IfOk result (λ traced. seen lists.new traced.outcome
-            ≡ asked_outcome places.now (list_at lists.old at) (held_box b)) }
-        ensures shorter { IfOk result (λ traced.
-            HandsOn (length (list_at lists.old at)) lists.new traced.outcome) }
-        ensures first { AreFirst lists.old lists.new }
-        ensures room { length self.new ≡ length self.old }
-        ensures counted { CountsHulls (length (list_at lists.old at)) tally.old tally.new }
-    {
-        let asked = AskedBox {
-            range: b,
-            held: true,
-        };
-        self.trace_one(lists, at, places, asked, tally)
     }
 
     // What tracing a list over a box tells, and what its hull decides. AllocError: there is no memory
@@ -479,7 +345,6 @@ impl Workspace {
         ensures room { length self.new ≡ length self.old }
         ensures counted { CountsHulls (length (list_at lists.old at)) tally.old tally.new }
     {
-        traces_are_right();
         let decision = self.look(&lists.list(at), places.region(asked.range), tally);
         let outcome = self.outcome(lists, at, held_open(decision, asked.held))?;
         Ok(TracedBox { decision, outcome })
@@ -509,19 +374,6 @@ impl Workspace {
             None => Ok(Outcome::Open(self.hand_on(lists, at)?)),
         }
     }
-}
-
-// Boxes that are held open, or not.
-#[inline]
-fn asked_boxes(boxes: &[IndexBox], held: bool) -> ArrayVec<AskedBox, 8>
-    requires { length boxes.now ≤ 8 }
-    ensures { result.items ≡ map (λ b. record { range = b; held = held }) boxes.now }
-{
-    let mut asked = ArrayVec::new();
-    for b in boxes {
-        asked.push(AskedBox { range: *b, held });
-    }
-    asked
 }
 
 // Outcomes, each with the decision beside it.

@@ -111,12 +111,11 @@ pub(crate) fn children(plan: Plan, b: IndexBox) -> ArrayVec<IndexBox, 8>
     requires small { plan.leaf ≤ 4096 }
     ensures { result.items ≡ children plan b }
 {
-    let children = split(b, plan.leaf);
+    let mut children = split(b, plan.leaf);
     if is_backwards(plan, b) {
-        backwards(children.as_slice())
-    } else {
-        children
+        children.as_mut_slice().reverse();
     }
+    children
 }
 
 // Whether they are visited from the last to the first.
@@ -130,19 +129,6 @@ fn is_backwards(plan: Plan, b: IndexBox) -> bool
         Order::NearestFirst => true,
         Order::LastLeafFirst => !is_long(b, 2 * plan.leaf),
     }
-}
-
-// Boxes from the last to the first.
-#[inline]
-fn backwards(boxes: &[IndexBox]) -> ArrayVec<IndexBox, 8>
-    requires { length boxes.now ≤ 8 }
-    ensures { result.items ≡ reverse boxes.now }
-{
-    let mut turned = ArrayVec::new();
-    for n in (0..boxes.len()).rev() {
-        turned.push(boxes[n]);
-    }
-    turned
 }
 
 /// How many of the children of a box, of which there are so many, are visited before the visitor is

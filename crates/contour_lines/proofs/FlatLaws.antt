@@ -1,12 +1,12 @@
 -- Views that lie flat.
-use Rattle.std.proofs.Common.{◌≡◌, ℕ, ℤ, pos, ◌+ℤ◌, ◌-ℤ◌, ◌*ℤ◌, ap, ◌∙◌, arith}
+use Rattle.std.proofs.Common.{◌≡◌, ℕ, ℤ, pos, ◌≤ℤ◌, ◌+ℤ◌, ◌-ℤ◌, ◌*ℤ◌, ap, ◌∙◌, arith}
 use Rattle.std.proofs.lemmas.Int.{ints}
 use Rattle.fixed_ops.specs.Raw.{floor_div}
 use Rattle.view_places.specs.Places.{sample_place}
 use Rattle.view_places.specs.Samples.{place_up}
 use Rattle.view_places.specs.declared.lattice.Axis.TheVariants.{X, Y}
 use Rattle.view_places.specs.declared.lattice.Lattice.TheVariants.{Grid}
-use Rattle.contour_lines.specs.Laws.{FlatViewsArePlanes}
+use Rattle.contour_lines.specs.Laws.{FlatViewsArePlanes, FlatViewsAreViews}
 
 -- between two ends that are one place each sample lies there
 nothing : (z : ℤ) → (z -ℤ z) ≡ pos 0
@@ -25,3 +25,21 @@ same_place z k =
 pub flat_views_are_planes_is : FlatViewsArePlanes
 flat_views_are_planes_is v i j k =
     ap (λ (z : ℤ). record { x = sample_place v Grid X i; y = sample_place v Grid Y j; z = z }) (same_place v.z k)
+
+-- both ends are one place
+flat_ends : (z : ℤ) → z ≤ℤ z
+flat_ends z = grind (arith, ints)
+
+pub flat_views_are_views_is : FlatViewsAreViews
+flat_views_are_views_is view is = record {
+  x = is.x;
+  y = is.y;
+  z_ends = record { low_raw = is.z; high_raw = is.z; ordered = flat_ends view.z };
+  z = is.z;
+  w = is.w;
+  h = is.h;
+  d = is.d;
+  nx = is.nx;
+  ny = is.ny;
+  nz = record { some = omega arith; few = omega arith };
+}

@@ -1,11 +1,11 @@
 -- What is traced at least while boxes are looked into.
-use Rattle.std.proofs.Common.{◌≡◌, ℕ, ◌+◌, ◌*◌, ◌<◌, ◌≤◌, Bool, true, false, cond, List, [], ◌∷◌, length, get_or, sum_by, take, refl, ap, subst, ◌∙◌, arith}
+use Rattle.std.proofs.Common.{◌≡◌, ℕ, ◌+◌, ◌*◌, ◌<◌, ◌≤◌, Bool, true, false, cond, List, [], ◌∷◌, length, get_or, sum_by, take, refl, ap, ◌∙◌, arith}
 use Rattle.std.specs.Prelude.{◌&&◌}
 use Rattle.std.specs.List.Sorted.{IsPermutation}
 use Rattle.std.proofs.lemmas.List.{take_all}
 use Rattle.std.proofs.lemmas.List.Sorted.{sum_by-IsPermutation}
 use Rattle.std.proofs.lemmas.List.Sums.{sum_by-cons, sum_by_more}
-use Rattle.box_chains.specs.Chains.{Visit, handed_on, is_long, visit}
+use Rattle.box_chains.specs.Chains.{Visit, handed_on, is_long, sum_over, visit}
 use Rattle.box_chains.specs.Laws.{Lawful}
 use Rattle.box_chains.specs.Visits.{IsVisit}
 use Rattle.fixed_ops.specs.Counts.{Counts}
@@ -23,7 +23,7 @@ use Rattle.oct_descent.proofs.Looks.{hulls-least, hulls-then, own-long, traced-n
 use Rattle.oct_descent.proofs.WayLaws.{long-end, long-split}
 use Rattle.view_places.specs.Boxes.{Indices, IsBox, halves_of}
 use Rattle.view_places.specs.Window.{Window}
-use Rattle.contour_lines.specs.Traced.{halves_long_spans, long_spans_below}
+use Rattle.contour_lines.specs.Traced.{long_spans_below}
 use Rattle.contour_lines.specs.Ways.{planar, plane}
 
 -- ---- a box
@@ -60,6 +60,10 @@ closed-traced laws view v told is closed =
     let uncut : is_cut (planar view) v ≡ false = rw closed refl in
     let none = traced-none laws told in
     record { by = none.by; many = omega (arith, long-end laws (planar view) v is uncut); rises = none.rises }
+
+-- the steps that are traced over the boxes of more than one cell of some halves, which receive a list
+abbrev halves_long_spans : CellDescent → List Step → List Indices → ℕ
+halves_long_spans d list halves = sum_over (long_spans_in d) list halves
 
 -- but the halves of one that is split are
 pub halves-traced : (laws : Lawful) (view : Window) (v : Visit) (live : List Step) (told now : Counts) → IsVisit (planar view).boxes v
@@ -107,18 +111,12 @@ first-traced d list halves n told now hulls =
     record { by = least.by; many = omega (arith, least.many, longer-owned plane n list halves); rises = least.rises }
 
 -- one more half is traced
-pub next-traced : (laws : Lawful) (view other : Window) (list : List Step) (half : Indices) (halves : List Indices) (i own : ℕ) (told since now : Counts) → other ≡ view
-    → i < length halves → half ≡ get_or halves i half → CountsHullsAtLeast (own + halves_long_below (planar view) list (take i halves)) told since
-    → CountsHullsAtLeast (long_spans_below (planar other) (visit half list)) since now
-    → CountsHullsAtLeast (own + halves_long_below (planar view) list (take (i + 1) halves)) told now
-next-traced laws view other list half halves i own told since now same within read earlier here =
+pub next-traced : (laws : Lawful) (d : CellDescent) (list : List Step) (half : Indices) (halves : List Indices) (i own : ℕ) (told since now : Counts) → i < length halves → half ≡ get_or halves i half → CountsHullsAtLeast (own + halves_long_below d list (take i halves)) told since
+    → CountsHullsAtLeast (long_spans_below d (visit half list)) since now → CountsHullsAtLeast (own + halves_long_below d list (take (i + 1) halves)) told now
+next-traced laws d list half halves i own told since now within read earlier here =
     hulls-then laws told since now (own + halves_long_below d list (take i halves)) (below half) (own + halves_long_below d list (take (i + 1) halves))
-    (omega (arith, sum_by_more below halves i half within, ap below read)) earlier
-    (subst (λ v. CountsHullsAtLeast (long_spans_below (planar v) (visit half list)) since now) same here)
+    (omega (arith, sum_by_more below halves i half within, ap below read)) earlier here
   where
-    d : CellDescent
-    d = planar view
-
     below : Indices → ℕ
     below h = long_spans_below d (visit h list)
 

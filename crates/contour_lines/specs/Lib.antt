@@ -1,5 +1,6 @@
 pub mod Bound
 pub mod Corners
+pub mod Fillers
 pub mod Gaps
 pub mod Laws
 pub mod PlaneGrids

@@ -12,9 +12,8 @@ ghost use Rattle.contour_lines.specs.Ways.{flat_value, floor_of, plane};
 use crate::gap::Gap;
 use crate::gaps::fill_gaps;
 use crate::known_values::KnownValues;
-use crate::laws::planes_hold;
 use arrayvec::ArrayVec;
-use box_chains::{Desk, layers_hold, make_rows};
+use box_chains::{Desk, make_rows};
 use fixed_ops::Tally;
 use std::alloc::AllocError;
 use view_places::IndexBox;
@@ -40,8 +39,6 @@ pub fn fill_cell(
         (known_of values.old) (known_of values.new) tally.old tally.new }
     ensures kept { desk.new ≡ desk.old }
 {
-    layers_hold();
-    planes_hold();
     values.holds();
     let list = desk.lists.list(received);
     make_rows(&mut desk.rows, list.len())?;
@@ -64,7 +61,6 @@ fn find_gaps(x: u32, y: u32, values: &KnownValues) -> ArrayVec<Gap, 4>
     requires y { y < values.now.n.y }
     ensures { AreGaps (known_of values.now) (point x y 0) result.items }
 {
-    planes_hold();
     values.holds();
     let mut gaps = ArrayVec::new();
     for c in 0..4 {

@@ -13,7 +13,6 @@ ghost use Rattle.contour_lines.specs.Ways.{flat_value};
 
 use crate::gap::Gap;
 use crate::known_values::KnownValues;
-use crate::laws::planes_hold;
 use box_chains::Places;
 use choice_trace::{Inputs, evaluate_lanes};
 use fixed_ops::{Fx, Tally, border, tallies_add_up};
@@ -39,7 +38,6 @@ pub fn fill_gaps(
     ensures counted { RisesBy tally.old tally.new (points_of (length gaps.now * length list.now)) }
 {
     tallies_add_up();
-    planes_hold();
     let mut at = 0;
     while at < gaps.len() {
         at += fill_some(places, &gaps[at..], list, rows, values, tally);
@@ -98,7 +96,6 @@ fn fill_lanes<const L: usize>(
         (known_of values.new) }
     ensures counted { RisesBy tally.old tally.new (points_of (L * length list.now)) }
 {
-    planes_hold();
     let n = values.n();
     let inputs = gather::<L>(places, n, gaps);
     let row = evaluate_lanes::<L>(list, &inputs, rows, tally);

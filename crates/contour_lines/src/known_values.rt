@@ -4,7 +4,6 @@ ghost use Rattle.kuhn_cells.specs.Triangles.{GridPoint, point};
 ghost use Rattle.oct_descent.specs.Known.{Sets};
 ghost use Rattle.contour_lines.specs.Tables.{known_at, known_of};
 
-use crate::laws::planes_hold;
 use fixed_ops::Fx;
 use kuhn_cells::GridSize;
 use std::alloc::{AllocError, Global};
@@ -110,7 +109,6 @@ impl KnownValues {
         requires y { y ≤ self.old.n.y }
         ensures { Sets (point x y 0) value (known_of self.old) (known_of self.new) }
     {
-        planes_hold();
         let at = place_of(self.n, x, y);
         self.known[at] = true;
         self.values[at] = value;

@@ -1,18 +1,6 @@
 // What always holds of plane grids and of the work that their cells take.
-ghost use Rattle.oct_descent.specs.GridLaws.{LawsOf};
 ghost use Rattle.contour_lines.specs.Laws.{BordersAreOutside, ContourPointsAreBounded, ContourSpansAreBounded, FlatRootsAreLow};
 ghost use Rattle.contour_lines.specs.Laws.{FlatViewsArePlanes, FlatViewsAreViews, PlanesAreBordered};
-ghost use Rattle.contour_lines.specs.Ways.{plane};
-
-use oct_descent::grids_hold;
-
-/// What always holds of looking into plane grids by boxes.
-#[inline]
-pub fn planes_hold()
-    ensures { LawsOf plane }
-{
-    grids_hold();
-}
 
 /// A view whose ends of z are both its height, with one cell between them, has exactly the points of the
 /// plane grid at that height, and the box of its cells is one cell high.
@@ -33,7 +21,4 @@ pub fn borders_are_outside()
 pub fn contour_work_is_bounded()
     ensures points { ContourPointsAreBounded }
     ensures spans { ContourSpansAreBounded }
-{
-    planes_hold();
-    flat_view();
-}
+{}

@@ -2,9 +2,10 @@
 //! cost of the outline alone.
 #![tactic(auto)]
 
+mod cell;
+mod cell_filler;
 mod contours;
 mod corner_values;
-mod descent;
 mod filling;
 mod flat;
 mod gap;

@@ -8,12 +8,12 @@ ghost use Rattle.contour_lines.specs.Signs.{HasCorners, HasSigns};
 ghost use Rattle.contour_lines.specs.Tables.{known_of};
 ghost use Rattle.contour_lines.specs.Trees.{IsTold};
 
-use crate::descent::look_into;
+use crate::cell_filler::CellFiller;
 use crate::flat::lay_flat;
 use crate::known_values::KnownValues;
-use crate::laws::{flat_view, planes_hold};
 use crate::sides::{sides_of, signs_of};
-use box_chains::{Desk, layers_hold};
+use box_chains::Desk;
+use box_descent::descend;
 use fixed_ops::{Fx, Tally};
 use live_clauses::Tape;
 use std::alloc::{AllocError, Global};
@@ -54,8 +54,6 @@ pub fn plane_table(
     ensures traced { OnOk result
         (CountsHullsAtLeast (contour_long_spans view.now list.now) tally.old tally.new) }
 {
-    planes_hold();
-    flat_view();
     let flat = lay_flat(view);
     let values = look_into_all(alloc, list, &flat, tally)?;
     values.holds();
@@ -85,14 +83,14 @@ fn look_into_all(
     ensures traced { OnOk result
         (CountsHullsAtLeast (flat_long_spans view.now list.now) tally.old tally.new) }
 {
-    layers_hold();
-    planes_hold();
     let n = view.grid();
     let _len = list.len();
     let mut desk = Desk::new(alloc, view, Lattice::Grid, list)?;
     let root = desk.root();
-    let mut values = KnownValues::new(alloc, n)?;
+    let mut filler = CellFiller {
+        values: KnownValues::new(alloc, n)?,
+    };
     // The list that the desk was made with has the number 0.
-    look_into(&mut desk, root, 0, &mut values, tally)?;
-    Ok(values)
+    descend(&mut desk, 0, &[root], &mut filler, tally)?;
+    Ok(filler.values)
 }

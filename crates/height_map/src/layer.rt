@@ -9,7 +9,7 @@ ghost use Rattle.height_map.specs.Layers.{IsColumn, layer_top, nth, point_at, st
 use crate::column::Column;
 use box_chains::Places;
 use choice_trace::{Inputs, evaluate_lanes};
-use fixed_ops::{Fx, Tally, is_inside, tallies_add_up};
+use fixed_ops::{Fx, Tally, is_inside};
 use live_clauses::Steps;
 use view_places::Lattice;
 
@@ -34,7 +34,6 @@ pub fn draw_layer(
     ensures counted { RisesBy tally.old tally.new
         (points_of (length columns.now * length list.now)) }
 {
-    tallies_add_up();
     let mut at = 0;
     while at < columns.len() {
         at += draw_some(places, k, &columns[at..], list, values, tops, tally);

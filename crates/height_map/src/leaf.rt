@@ -10,7 +10,7 @@ ghost use Rattle.height_map.specs.Layers.{columns_in, columns_of as columns_for,
 use crate::column::Column;
 use crate::layer::draw_layer;
 use arrayvec::ArrayVec;
-use box_chains::{Places, layers_hold};
+use box_chains::Places;
 use fixed_ops::{Fx, Tally};
 use live_clauses::Steps;
 use view_places::IndexBox;
@@ -35,7 +35,6 @@ pub fn draw_leaf(
     ensures counted { RisesBy tally.old tally.new
         (points_of (sum_in b (leaf_cost places.now.view list.now b tops.old))) }
 {
-    layers_hold();
     let mut columns = columns_of(w, b);
     for k in (b.z0..b.z1).rev() {
         keep_open(&mut columns, tops);

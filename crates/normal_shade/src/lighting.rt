@@ -17,7 +17,7 @@ use crate::scratch::Scratch;
 use crate::top_sample::TopSample;
 use crate::tops::is_within;
 use arrayvec::ArrayVec;
-use box_chains::{Places, layers_hold};
+use box_chains::Places;
 use choice_trace::Inputs;
 use fixed_ops::{Fx, Tally, light};
 use live_clauses::Steps;
@@ -44,7 +44,6 @@ pub fn light_tops(
     ensures counted { RisesBy tally.old tally.new
         (points_of (lit_in (is_marked w tops.now) (layered places.now.view) b list.now)) }
 {
-    layers_hold();
     let mut waiting = ArrayVec::new();
     for j in b.y0..b.y1 {
         light_row(
@@ -95,7 +94,6 @@ fn light_row(
     ensures samples { All (IsSample places.now.view (length pixels.new)) waiting.new.items }
     ensures room { scratch.new ≡ scratch.old }
 {
-    layers_hold();
     for i in b.x0..b.x1 {
         light_column(
             places, w, b, i, j, list, tops, waiting, scratch, pixels, tally,
@@ -137,7 +135,6 @@ fn light_column(
     ensures samples { All (IsSample places.now.view (length pixels.new)) waiting.new.items }
     ensures room { scratch.new ≡ scratch.old }
 {
-    layers_hold();
     let place = j as usize * w as usize + i as usize;
     let top = tops[place];
     if !is_within(b, top) {

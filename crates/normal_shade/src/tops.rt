@@ -5,7 +5,6 @@ ghost use Rattle.box_chains.specs.Tested.{has_some};
 ghost use Rattle.height_map.specs.Columns.{IsAmong};
 ghost use Rattle.normal_shade.specs.Marks.{is_marked, is_within, tops_along};
 
-use box_chains::layers_hold;
 use view_places::IndexBox;
 
 /// Whether some column has its top sample in a box. A row of the map has w columns.
@@ -13,7 +12,6 @@ pub fn has_top(w: u32, b: IndexBox, tops: &[u16]) -> bool
     requires { IsAmong w (length tops.now) b }
     ensures { result ≡ has_some (is_marked w tops.now) b }
 {
-    layers_hold();
     for j in b.y0..b.y1 {
         if has_top_in_row(w, b, j, tops) {
             return true;
@@ -29,7 +27,6 @@ fn has_top_in_row(w: u32, b: IndexBox, j: u32, tops: &[u16]) -> bool
     requires row { j < b.y1 }
     ensures { result ≡ nat_lt 0 (tops_along w tops.now b j b.x0 b.x1) }
 {
-    layers_hold();
     let start = j as usize * w as usize;
     for i in b.x0..b.x1 {
         if is_within(b, tops[start + i as usize]) {

@@ -18,7 +18,7 @@ use crate::descent::look_into;
 use crate::grid_values::GridValues;
 use crate::old_box::OldBox;
 use crate::split_box::SplitBox;
-use box_chains::{Desk, layers_hold};
+use box_chains::Desk;
 use fixed_ops::Tally;
 use live_clauses::Tape;
 use std::alloc::AllocError;
@@ -60,7 +60,6 @@ pub fn look_into_all(
         (CountsHullsAtLeast
         (mesh_long_spans_after view.now (received_by before.entry) list.now) tally.old tally.new) }
 {
-    layers_hold();
     grid_holds(view, list);
     let alloc = *places.allocator();
     let root = desk.root();

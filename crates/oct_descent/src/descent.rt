@@ -37,7 +37,7 @@ use crate::old_box::OldBox;
 use crate::old_boxes::OldBoxes;
 use crate::seen::Seen;
 use arrayvec::ArrayVec;
-use box_chains::{AskedBox, Desk, Outcome, is_long, layers_hold};
+use box_chains::{AskedBox, Desk, Outcome, is_long};
 use fixed_ops::Tally;
 use kuhn_cells::GridSize;
 use live_clauses::{Steps, Tape};
@@ -84,7 +84,6 @@ pub fn look_into(
         (visit b (list_of desk.old received))) tally.old tally.new) }
     ensures more { HasMore desk.old desk.new }
 {
-    layers_hold();
     if !is_long(b, LEAF) {
         return look_into_cell(desk, b, received, values, tally);
     }
@@ -134,7 +133,6 @@ fn look_into_told(
         (visit b (list_of desk.old received))) tally.old tally.new) }
     ensures kept { desk.new ≡ desk.old }
 {
-    layers_hold();
     if !is_long(b, LEAF) {
         return look_into_cell(desk, b, received, values, tally);
     }
@@ -184,7 +182,6 @@ fn look_into_split(
         tally.new) }
     ensures kept { desk.new ≡ desk.old }
 {
-    layers_hold();
     match unchanged(before, &boxes.before, &desk.lists.list(live)) {
         Some(old) => take_old(old, b, boxes, values),
         None => look_into_anew(desk, b, before, live, boxes, values, tally),
@@ -272,7 +269,6 @@ fn look_into_anew(
         tally.new) }
     ensures kept { desk.new ≡ desk.old }
 {
-    layers_hold();
     let handed = take_handed(before, &mut boxes.before);
     let begun = boxes.begin_split(&desk.lists, live)?;
     let half = half_before(before, &handed);
@@ -391,7 +387,6 @@ fn look_into_each_half(
         (received_by before.entry) (list_of desk.old live) (halves_of 1 b)) tally.old tally.new) }
     ensures more { HasMore desk.old desk.new }
 {
-    layers_hold();
     let halves = in_turn(b);
     let outcomes = trace_longer(desk, halves.as_slice(), live, values.n(), tally)?;
     let outcomes = outcomes.as_slice();
@@ -412,7 +407,6 @@ fn look_into_each_half(
 fn in_turn(b: IndexBox) -> ArrayVec<IndexBox, 8>
     ensures { IsBox b → AreTurned b result.items }
 {
-    layers_hold();
     let halves = split(b, LEAF);
     if is_long(b, 2 * LEAF) {
         halves
@@ -517,13 +511,12 @@ fn look_into_cell(
         → CountsNoHull tally.old tally.new }
     ensures kept { desk.new ≡ desk.old }
 {
-    layers_hold();
-    values.holds();
+    let n = values.n();
     let seen = seen(values, b.x0, b.y0, b.z0);
     if seen.all {
         return Ok(());
     }
-    if !is_working(desk, b, received, values.n(), seen, tally) {
+    if !is_working(desk, b, received, n, seen, tally) {
         return Ok(());
     }
     fill_cell(desk, b, received, values, tally)
@@ -550,7 +543,6 @@ fn is_working(
     ensures untraced { IsTrue seen.inside → IsTrue seen.outside → tally.new ≡ tally.old }
     ensures kept { desk.new ≡ desk.old }
 {
-    layers_hold();
     if seen.inside && seen.outside {
         return true;
     }

@@ -15,7 +15,7 @@ use crate::gap::Gap;
 use crate::gaps::fill_gaps;
 use crate::grid_values::GridValues;
 use arrayvec::ArrayVec;
-use box_chains::{Desk, layers_hold, make_rows};
+use box_chains::{Desk, make_rows};
 use fixed_ops::Tally;
 use std::alloc::AllocError;
 use view_places::IndexBox;
@@ -40,7 +40,6 @@ pub fn fill_cell(
         tally.old tally.new }
     ensures kept { desk.new ≡ desk.old }
 {
-    layers_hold();
     values.holds();
     let list = desk.lists.list(received);
     // All memory is taken first, so that no value is lost for want of it.

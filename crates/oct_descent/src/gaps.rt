@@ -16,7 +16,7 @@ use crate::gap::Gap;
 use crate::grid_values::GridValues;
 use box_chains::Places;
 use choice_trace::{Inputs, evaluate_lanes};
-use fixed_ops::{Fx, Tally, border, tallies_add_up};
+use fixed_ops::{Fx, Tally, border};
 use kuhn_cells::GridSize;
 use live_clauses::Steps;
 
@@ -36,7 +36,6 @@ pub fn fill_gaps(
     ensures fills { Fills (list_grid_value places.now.view list.now) gaps.now values.old values.new }
     ensures counted { RisesBy tally.old tally.new (points_of (length gaps.now * length list.now)) }
 {
-    tallies_add_up();
     let mut at = 0;
     while at < gaps.len() {
         at += fill_some(places, &gaps[at..], list, rows, values, tally);

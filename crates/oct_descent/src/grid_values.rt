@@ -78,7 +78,8 @@ impl GridValues {
     /// How many cells the grid has along each axis.
     #[inline]
     pub fn n(&self) -> GridSize
-        ensures { result ≡ self.now.n }
+        ensures size { result ≡ self.now.n }
+        ensures bounded { IsBounded result }
     {
         self.n
     }

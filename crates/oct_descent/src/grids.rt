@@ -7,7 +7,7 @@ ghost use Rattle.oct_descent.specs.Trees.{IsTold};
 
 use crate::all_boxes::{grid_holds, look_into_all};
 use crate::grid_values::GridValues;
-use box_chains::{Desk, layers_hold};
+use box_chains::Desk;
 use fixed_ops::Tally;
 use live_clauses::Tape;
 use std::alloc::{AllocError, Global};
@@ -53,7 +53,6 @@ pub fn cell_grid(
     ensures traced { OnOk result
         (CountsHullsAtLeast (mesh_long_spans view.now list.now) tally.old tally.new) }
 {
-    layers_hold();
     grid_holds(view, list);
     let mut desk = Desk::new(alloc, view, Lattice::Grid, list)?;
     let (values, _) = look_into_all(&mut desk, list, view, None, Vec::new(alloc), false, tally)?;

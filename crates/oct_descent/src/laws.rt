@@ -4,8 +4,6 @@ ghost use Rattle.oct_descent.specs.GridLaws.{GridsHold};
 ghost use Rattle.oct_descent.specs.NewBoxes.{MeshBoxesAreCountedOnce, NewBoxesAreCountedOnce, OldBoxesAreASet};
 ghost use Rattle.oct_descent.specs.Laws.{GridsAreBordered, LayersHaveTheCells, LongMeshSpansAddUp, MeshPointsAreBounded, MeshSpansAddUp, MeshSpansAreBounded, ReachedBoxesAreCountedOnce, WaysGoOn};
 
-use box_chains::layers_hold;
-
 /// No point of the outermost layer of a list's grid is inside.
 pub fn grids_are_bordered()
     ensures { GridsAreBordered }
@@ -17,9 +15,7 @@ pub fn grids_are_bordered()
 #[inline]
 pub fn grids_hold()
     ensures { GridsHold }
-{
-    layers_hold();
-}
+{}
 
 /// The points of a grid take no more evaluations than the list has steps, at each of them, and no
 /// more steps are traced than the list has, for each cell and each side of the boxes that hold it.
@@ -27,34 +23,26 @@ pub fn grids_hold()
 pub fn grid_work_is_bounded()
     ensures points { MeshPointsAreBounded }
     ensures spans { MeshSpansAreBounded }
-{
-    layers_hold();
-}
+{}
 
 /// The way to a cell goes on from a box that is split into the half that holds the cell, and ends at
 /// any other box.
 pub fn ways_go_on()
     ensures { WaysGoOn }
-{
-    layers_hold();
-}
+{}
 
 /// The steps that are traced over a box of cells are those of its own list and, where it is split,
 /// those of its halves. The same holds of those that are traced over boxes of more than one cell.
 pub fn mesh_spans_add_up()
     ensures spans { MeshSpansAddUp }
     ensures long { LongMeshSpansAddUp }
-{
-    layers_hold();
-}
+{}
 
 /// The steps that are traced are those of the lists that the different boxes on the ways to the
 /// cells receive: each box is counted once.
 pub fn reached_boxes_are_counted_once()
     ensures { ReachedBoxesAreCountedOnce }
-{
-    layers_hold();
-}
+{}
 
 /// The mixed cells of a list's grid are those of its layers, one after the other.
 pub fn layers_have_the_cells()
@@ -67,9 +55,7 @@ pub fn layers_have_the_cells()
 pub fn meshes_after_add_up()
     ensures boxes { BoxesAfterAddUp }
     ensures meshes { MeshesAfterAddUp }
-{
-    layers_hold();
-}
+{}
 
 /// The boxes of a mesh that comes after another of the same cells. Whether a box is old does not depend on
 /// the cell by whose way it is reached: it is where it was on the way to any cell in the mesh before, with
@@ -79,6 +65,4 @@ pub fn new_boxes_are_counted_once()
     ensures old { OldBoxesAreASet }
     ensures new { NewBoxesAreCountedOnce }
     ensures meshes { MeshBoxesAreCountedOnce }
-{
-    layers_hold();
-}
+{}

@@ -14,7 +14,7 @@ use crate::grid_values::GridValues;
 use crate::grids::{CellGrid, grid_of};
 use crate::old_box::OldBox;
 use crate::split_box::SplitBox;
-use box_chains::{Desk, layers_hold};
+use box_chains::Desk;
 use fixed_ops::Tally;
 use live_clauses::{Tape, same};
 use std::alloc::{AllocError, Global};
@@ -97,7 +97,6 @@ pub fn cells(
     ensures traced { OnOk result
         (CountsHullsAtLeast (mesh_long_spans view.now list.now) tally.old tally.new) }
 {
-    layers_hold();
     grid_holds(view, list);
     let mut desk = Desk::new(alloc, view, Lattice::Grid, list)?;
     let (values, boxes) = look_into_all(&mut desk, list, view, None, Vec::new(alloc), true, tally)?;
@@ -119,7 +118,6 @@ pub fn recells(old: OctTree, list: &Tape, tally: &mut Tally) -> Result<OctTree, 
     ensures traced { OnOk result (CountsHullsAtLeast
         (mesh_long_spans_after old.view (Some old.list) list.now) tally.old tally.new) }
 {
-    layers_hold();
     if same(old.list(), list) {
         Ok(old)
     } else {
@@ -139,7 +137,6 @@ fn look_into_after(old: OctTree, list: &Tape, tally: &mut Tally) -> Result<OctTr
     ensures traced { OnOk result (CountsHullsAtLeast
         (mesh_long_spans_after old.view (Some old.list) list.now) tally.old tally.new) }
 {
-    layers_hold();
     let OctTree { grid, boxes, desk } = old;
     grid_holds(&grid.view, &grid.list);
     let mut desk = desk.restart(list)?;

@@ -1,9 +1,8 @@
 -- Parts of a list that stand in it from a place on.
-use Rattle.std.proofs.Common.{◌≡◌, ℕ, ◌+◌, ◌≤◌, List, [], ◌∷◌, ◌++◌, append_assoc, length, get_or, take, drop, sym, ap, ◌∙◌, arith}
-use Rattle.std.proofs.Math.Seq.{drop-append_seam, get_or-append_seam, take-append_seam}
+use Rattle.std.proofs.Common.{◌≡◌, ℕ, ◌+◌, ◌≤◌, List, [], ◌∷◌, ◌++◌, append_assoc, length, get_or, sym, ap, ◌∙◌, arith}
+use Rattle.std.proofs.Math.Seq.{get_or-append_seam}
 use Rattle.std.proofs.lemmas.List.{length-append}
 use Rattle.quad_descent.specs.Drawn.{StandsAt}
-use Rattle.quad_descent.specs.OldBoxes.{StandsFirst}
 
 -- the element at the place where a part stands is the first of the part
 pub stands-head : {K : Type 0} (all part below : List K) (head other : K) (at : ℕ) → StandsAt all part at → part ≡ head ∷ below → get_or all at other ≡ head
@@ -43,30 +42,3 @@ stands-more all first more at stands = record {
   place = omega (arith, stands.place, length-append stands.front first);
   is = stands.is ∙ ap (λ l. stands.front ++ l) (append_assoc first more stands.rest) ∙ sym (append_assoc stands.front first (more ++ stands.rest));
 }
-
--- the same of a part that stands first
-pub first-head : {K : Type 0} (all part below : List K) (head other : K) → StandsFirst all part → part ≡ head ∷ below → get_or all 0 other ≡ head
-first-head all part below head other stands is = ap (λ l. get_or l 0 other) (stands.is ∙ ap (λ p. p ++ stands.rest) is)
-
-pub first-within : {K : Type 0} (all part : List K) → StandsFirst all part → length part ≤ length all
-first-within all part stands = omega (arith, ap length stands.is, length-append part stands.rest)
-
-pub first-below : {K : Type 0} (all part below : List K) (head : K) → StandsFirst all part → part ≡ head ∷ below → StandsFirst (drop 1 all) below
-first-below all part below head stands is = record {
-  rest = stands.rest;
-  is = ap (drop 1) (stands.is ∙ ap (λ p. p ++ stands.rest) is);
-}
-
-pub first-of : {K : Type 0} (all first more : List K) → StandsFirst all (first ++ more) → StandsFirst all first
-first-of all first more stands = record { rest = more ++ stands.rest; is = stands.is ∙ append_assoc first more stands.rest }
-
-pub first-more : {K : Type 0} (all first more : List K) → StandsFirst all (first ++ more) → StandsFirst (drop (length first) all) more
-first-more all first more stands = record {
-  rest = stands.rest;
-  is = ap (drop (length first)) (stands.is ∙ append_assoc first more stands.rest) ∙ drop-append_seam first (more ++ stands.rest);
-}
-
--- as many elements as it has are the part
-pub first-part : {K : Type 0} (all part : List K) (n : ℕ) → StandsFirst all part → n ≡ length part → take n all ≡ part
-first-part all part n stands many =
-    ap (λ k. take k all) many ∙ ap (take (length part)) stands.is ∙ take-append_seam part stands.rest

@@ -2,10 +2,8 @@
 use Rattle.std.specs.Prelude.{Bool, List, [], ◌∷◌, Option, Some, None, if◌then◌else◌}
 use Rattle.std.specs.List.{flat_map}
 use Rattle.box_chains.specs.Chains.{Descent, Visit, handed_on, is_long, sides, visit}
-use Rattle.box_chains.specs.declared.outcome.Outcome.{Outcome}
-use Rattle.box_chains.specs.declared.outcome.Outcome.TheVariants.{Inside, Outside, Open}
 use Rattle.live_clauses.specs.declared.step.Step.{Step}
-use Rattle.view_places.specs.Boxes.{Indices, halves_of}
+use Rattle.view_places.specs.Boxes.{Indices}
 use Rattle.quad_descent.specs.Nodes.{kept_within}
 
 -- The lists of a box by its decision, where these are kept below it if it is split: the list that it
@@ -23,14 +21,3 @@ lists_of d v = kept_within box_lists (sides v.box) d v
 -- the lists of the halves of a box that hands on a list
 abbrev pub halves_lists : Descent → List Step → List Indices → List (Option (List Step))
 halves_lists d list halves = flat_map (λ half. lists_of d (visit half list)) halves
-
--- the lists of an undecided box that hands on a list
-abbrev pub open_lists : Descent → Indices → List Step → List (Option (List Step))
-open_lists d b list =
-    if is_long d.leaf b then Some list ∷ halves_lists d list (halves_of d.leaf b) else None ∷ []
-
--- the lists of a box whose outcome is known
-abbrev pub outcome_lists : Descent → Indices → Outcome (List Step) → List (Option (List Step))
-outcome_lists d b Inside = None ∷ []
-outcome_lists d b Outside = None ∷ []
-outcome_lists d b (Open list) = open_lists d b list

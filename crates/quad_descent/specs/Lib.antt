@@ -1,10 +1,10 @@
 pub mod Adding
+pub mod Drawers
 pub mod Drawn
 pub mod KeptLists
 pub mod Laws
 pub mod Nodes
-pub mod OldBoxes
-pub mod Opened
+pub mod OldTrees
 pub mod Painting
 pub mod Pixels
 pub mod Raster

@@ -60,9 +60,3 @@ nodes_of d v = kept_within box_nodes (sides v.box) d v
 -- the nodes of the halves of a box that hands on a list
 abbrev pub halves_nodes : Descent → List Step → List Indices → List Node
 halves_nodes d list halves = flat_map (λ half. nodes_of d (visit half list)) halves
-
--- the nodes of an undecided box that hands on a list
-abbrev pub open_nodes : Descent → Indices → List Step → List Node
-open_nodes d b list =
-    if is_long d.leaf b then split_node (halves_nodes d list (halves_of d.leaf b))
-    else Leaf (rows_of d.view d.lattice list b) ∷ []

@@ -1,20 +1,21 @@
 // Images that are drawn.
 ghost use Rattle.std.specs.Prelude.{◌≡◌, ◌≢◌, [], ◌∷◌, length, Some, None, IfOk, IfSome, IsTrue, OnOk, OnErr};
-ghost use Rattle.box_chains.specs.Redrawn.{IsNew};
 ghost use Rattle.box_chains.specs.Tallied.{CountsAtMost, CountsExactly};
 ghost use Rattle.box_chains.specs.Visits.{IsVisit};
 ghost use Rattle.quad_descent.specs.Adding.{IsDrawn};
 ghost use Rattle.quad_descent.specs.Nodes.{nodes_of};
-ghost use Rattle.quad_descent.specs.OldBoxes.{IsOldBox, received_by, visit_before};
+ghost use Rattle.quad_descent.specs.OldTrees.{StandNext};
 ghost use Rattle.quad_descent.specs.Raster.{frame_points, frame_spans, fresh_points, fresh_spans, raster, raster_root};
 ghost use Rattle.view_places.specs.Spans.{root_box_of};
 
 use crate::boxes::Boxes;
-use crate::drawing::draw_box;
+use crate::drawing::Drawer;
 use crate::node::Node;
-use crate::old_box::OldBox;
+use crate::old_lists::OldLists;
+use crate::old_tree::OldTree;
 use crate::{Picture, QuadTree};
-use box_chains::{Desk, layers_hold};
+use box_chains::Desk;
+use box_descent::descend;
 use fixed_ops::Tally;
 use live_clauses::{Tape, same};
 use std::alloc::{AllocError, Global};
@@ -38,7 +39,6 @@ pub fn draw_picture(
         (CountsAtMost (fresh_points view.now list.now) (fresh_spans view.now list.now) tally.old
         tally.new) }
 {
-    layers_hold();
     let (boxes, _) = draw_fresh(alloc, list, view, false, tally)?;
     picture_of(boxes.nodes, list, view)
 }
@@ -59,7 +59,6 @@ pub fn draw(
         (CountsAtMost (fresh_points view.now list.now) (fresh_spans view.now list.now) tally.old
         tally.new) }
 {
-    layers_hold();
     let (boxes, desk) = draw_fresh(alloc, list, view, true, tally)?;
     tree_of(boxes, desk, list, view)
 }
@@ -76,7 +75,6 @@ pub fn redraw(old: QuadTree, list: &Tape, tally: &mut Tally) -> Result<QuadTree,
         (CountsAtMost (frame_points old.view (Some old.list) list.now)
         (frame_spans old.view (Some old.list) list.now) tally.old tally.new) }
 {
-    layers_hold();
     image_holds(old.view(), list);
     if same(old.list(), list) {
         Ok(old)
@@ -105,9 +103,14 @@ fn draw_fresh(
         (CountsAtMost (frame_points view.now None list.now) (frame_spans view.now None list.now)
         tally.old tally.new) }
 {
-    layers_hold();
     let mut desk = Desk::new(alloc, view, Lattice::Raster, list)?;
-    let boxes = draw_boxes(&mut desk, list, view, None, Vec::new(alloc), keeps, tally)?;
+    let before = OldTree {
+        nodes: &[],
+        lists: OldLists::new(Vec::new(alloc)),
+        received: None,
+    };
+    let boxes = Boxes::new(alloc, list, keeps, 0)?;
+    let boxes = draw_boxes(&mut desk, list, view, Drawer { boxes, before }, tally)?;
     Ok((boxes, desk))
 }
 
@@ -123,31 +126,33 @@ fn draw_after(old: QuadTree, list: &Tape, tally: &mut Tally) -> Result<QuadTree,
         (CountsAtMost (frame_points old.view (Some old.list) list.now)
         (frame_spans old.view (Some old.list) list.now) tally.old tally.new) }
 {
-    layers_hold();
     let QuadTree {
         picture,
         lists,
         desk,
     } = old;
+    let alloc = *lists.allocator();
     let mut desk = desk.restart(list)?;
-    let root = OldBox {
-        nodes: &picture.nodes,
-        list: &picture.list,
+    let nodes = &picture.nodes;
+    // An image has about as many boxes as the one before it.
+    let boxes = Boxes::new(alloc, list, true, nodes.len())?;
+    let before = OldTree {
+        nodes,
+        lists: OldLists::new(lists),
+        received: Some(picture.list.share()?),
     };
     let view = &picture.view;
-    let boxes = draw_boxes(&mut desk, list, view, Some(root), lists, true, tally)?;
+    let boxes = draw_boxes(&mut desk, list, view, Drawer { boxes, before }, tally)?;
     tree_of(boxes, desk, list, view)
 }
 
-// The boxes of an image of a list over a view, after one of another list with these lists, where there
-// was one. The desk was made for the list.
+// The boxes of an image of a list over a view, which a drawer draws from the start on. The desk was made
+// for the list.
 fn draw_boxes(
     desk: &mut Desk,
     list: &Tape,
     view: &View,
-    before: Option<OldBox<'_>>,
-    lists: Vec<Option<Tape>>,
-    keeps: bool,
+    drawer: Drawer<'_>,
     tally: &mut Tally,
 ) -> Result<Boxes, AllocError>
     requires desk { desk.old ≡ record {
@@ -156,33 +161,27 @@ fn draw_boxes(
       room = length list.now;
       lists = list.now ∷ [];
     } }
-    requires old { IfSome before (IsOldBox view.now (root_box_of view.now Lattice.Raster)
-        lists.items) }
-    requires new { IsNew (visit_before before (root_box_of view.now Lattice.Raster))
-        (raster_root view.now list.now) }
+    requires nodes { drawer.boxes.nodes.items ≡ [] }
+    requires lists { drawer.boxes.lists.items ≡ [] }
+    requires old { StandNext (raster view.now) (root_box_of view.now Lattice.Raster ∷ []) drawer.before }
+    requires new { drawer.before.received ≢ Some list.now }
     ensures drawn { IfOk result (IsDrawn view.now list.now) }
-    ensures view { desk.new.view ≡ view.now }
-    ensures lattice { desk.new.lattice ≡ Lattice.Raster }
-    ensures keeps { IfOk result (λ boxes. boxes.keeps ≡ keeps) }
+    ensures desk { desk.new ≡ desk.old }
+    ensures keeps { IfOk result (λ boxes. boxes.keeps ≡ drawer.entry.boxes.keeps) }
     ensures counted { OnOk result
-        (CountsExactly (frame_points view.now (received_by before.entry) list.now)
-        (frame_spans view.now (received_by before.entry) list.now) tally.old tally.new) }
+        (CountsExactly (frame_points view.now drawer.entry.before.received list.now)
+        (frame_spans view.now drawer.entry.before.received list.now) tally.old tally.new) }
     ensures at_most { OnErr result
-        (CountsAtMost (frame_points view.now (received_by before.entry) list.now)
-        (frame_spans view.now (received_by before.entry) list.now) tally.old tally.new) }
+        (CountsAtMost (frame_points view.now drawer.entry.before.received list.now)
+        (frame_spans view.now drawer.entry.before.received list.now) tally.old tally.new) }
 {
-    layers_hold();
-    let alloc = *lists.allocator();
+    let _len = list.len();
+    let _width = view.w;
     let root = desk.root();
-    // An image has about as many boxes as the one before it.
-    let room = match before {
-        Some(root) => root.nodes.len(),
-        None => 0,
-    };
-    let mut boxes = Boxes::new(alloc, list, keeps, room, lists)?;
+    let mut drawer = drawer;
     // The list that the desk was made with has the number 0.
-    draw_box(desk, root, before, 0, &mut boxes, tally)?;
-    Ok(boxes)
+    descend(desk, 0, &[root], &mut drawer, tally)?;
+    Ok(drawer.boxes)
 }
 
 // The tree of boxes that were drawn, with their lists. AllocError: there is no memory to share the list.

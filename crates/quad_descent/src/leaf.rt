@@ -9,7 +9,7 @@ ghost use Rattle.quad_descent.specs.Scans.{IsAtNext, IsTold, cut, nth_point, sam
 use crate::scan::Scan;
 use box_chains::Places;
 use choice_trace::{Inputs, evaluate_lanes};
-use fixed_ops::{Fx, Tally, is_inside, tallies_add_up};
+use fixed_ops::{Fx, Tally, is_inside};
 use live_clauses::Steps;
 use view_places::IndexBox;
 
@@ -30,7 +30,6 @@ pub fn leaf_rows(
     ensures counted { RisesBy tally.old tally.new
         (points_of ((b.y1 - b.y0) * ((b.x1 - b.x0) * length list.now))) }
 {
-    tallies_add_up();
     let mut scan = Scan::new(b);
     tell_groups::<8>(places, b, list, &mut scan, values, tally);
     tell_groups::<4>(places, b, list, &mut scan, values, tally);
@@ -62,7 +61,6 @@ fn tell_groups<const L: usize>(
     ensures counted { RisesBy tally.old tally.new
         (points_of ((scan.new.told - scan.old.told) * length list.now)) }
 {
-    tallies_add_up();
     let count = (b.x1 - b.x0) * (b.y1 - b.y0);
     while scan.told + L as u32 <= count {
         tell::<L>(places, b, list, scan, values, tally);

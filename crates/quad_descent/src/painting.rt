@@ -9,7 +9,7 @@ ghost use Rattle.quad_descent.specs.Pixels.{rows_from};
 use crate::band::Band;
 use crate::node::Node;
 use crate::{Picture, QuadTree};
-use box_chains::{LEAF, layers_hold};
+use box_chains::LEAF;
 use view_places::{IndexBox, Lattice, View, root};
 
 /// Paints the rows of an image from `row` on, as many as there are places for. They are the bytes of
@@ -40,7 +40,6 @@ impl Picture {
         ensures { pixels.new ≡ rows_from self.now.view self.now.list row
             (length pixels.old / self.now.view.w) }
     {
-        layers_hold();
         let rows = (pixels.len() / self.view.w as usize) as u32;
         let band = Band { row, rows };
         let image = root(&self.view, Lattice::Raster);
@@ -59,7 +58,6 @@ impl Picture {
         ensures { Paints (covers self.now.view.w band.row b)
             (byte_at self.now.view self.now.list band.row) pixels.old pixels.new }
     {
-        layers_hold();
         match &self.nodes[at] {
             Node::Outside => self.fill_box(b, 0, band, pixels),
             Node::Inside => self.fill_box(b, 255, band, pixels),
@@ -79,7 +77,6 @@ impl Picture {
         ensures { Paints (covers self.now.view.w band.row b)
             (byte_at self.now.view self.now.list band.row) pixels.old pixels.new }
     {
-        layers_hold();
         match middle(b.y0, b.y1) {
             Some(y) => {
                 let upper = IndexBox { y1: y, ..b };
@@ -103,7 +100,6 @@ impl Picture {
         if !band.meets(rows) {
             return;
         }
-        layers_hold();
         match middle(rows.x0, rows.x1) {
             Some(x) => {
                 let left = IndexBox { x1: x, ..rows };
@@ -124,7 +120,6 @@ impl Picture {
             → AreDrawnAt self.now.view self.now.list first b (halves_x 8 rows ++ others)
             → AreDrawnAt self.now.view self.now.list result b others }
     {
-        layers_hold();
         let next = first + self.nodes[first].count();
         match middle(rows.x0, rows.x1) {
             Some(_) => next + self.nodes[next].count(),

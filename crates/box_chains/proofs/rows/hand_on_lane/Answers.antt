@@ -5,6 +5,7 @@ use Rattle.live_clauses.specs.Choices.{AreChoices, choice_in, lane}
 use Rattle.live_clauses.specs.Live.{live_of}
 use Rattle.live_clauses.specs.Marks.{AreMarks}
 use Rattle.live_clauses.specs.Steps.{IsTape}
+use Rattle.live_clauses.proofs.Theorems.{live_lists_are_tapes, live_lists_are_whole}
 use Rattle.box_chains.specs.Outcomes.{IsHandedOn}
 use Rattle.box_chains.proofs.Seen.{handed-last, last-list}
 use Rattle.box_chains.proofs.rows.hand_on_lane.Goals as goal
@@ -39,7 +40,7 @@ returns-clause-handed c =
     let only = subst (AreChoices list) (sym same) c.requires.only in
     subst (IsHandedOn (length list) after) (sym c.len-live.ensures)
     (handed-last (length list) c.args.lists.now after (live_of list chosen) c.in_ok-push_marked.ensures.pushed
-    (c.live_steps_are_the_least.ensures.lists list chosen tape only).1 (c.live_lists_are_whole.ensures.live list chosen tape only))
+    (live_lists_are_tapes list chosen tape only).1 (live_lists_are_whole list chosen tape only))
 
 pub push_marked-requires-clause-marks : goal.push_marked-requires-clause-marks
 push_marked-requires-clause-marks c =

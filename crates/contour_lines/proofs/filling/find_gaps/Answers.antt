@@ -10,6 +10,7 @@ use Rattle.contour_lines.proofs.Corners.{corner-is}
 use Rattle.contour_lines.proofs.GapLaws.{gaps-known, gaps-more}
 use Rattle.contour_lines.proofs.filling.find_gaps.Goals.{then-is_none, else-is_none}
 use Rattle.oct_descent.proofs.Corners.{known-is, none-is}
+use Rattle.contour_lines.proofs.Theorems.{planes}
 use Rattle.contour_lines.proofs.filling.find_gaps.Goals as goal
 
 pub loop-c-preserved : goal.loop-c-preserved
@@ -25,7 +26,7 @@ loop-c-preserved c =
           let gap : Gap = record { x = c.args.x + n % 2; y = c.args.y + n / 2 } in
           let none : t.at (further p n) ≡ None = ap t.at (sym is) ∙ sym c.get.ensures ∙ none-is c.get.result c.is_none.result c.is_none.ensures w.if-is_none.true in
           let stands : StandsIn t gap = record { x = omega (arith, c.requires.x); y = omega (arith, c.requires.y, few) } in
-          let more = gaps-more c.planes_hold.ensures t p n c.loop-c.gaps.items gap few is stands none was.gaps in
+          let more = gaps-more planes t p n c.loop-c.gaps.items gap few is stands none was.gaps in
           record {
             few = omega (arith, ap (λ (g : _). length g.items) w.gaps-is, ap length w.push.ensures.items, length_push c.loop-c.gaps.items gap, was.few);
             gaps = subst (AreGapsBelow (n + 1) t p) (sym (ap (λ g. g.items) w.gaps-is ∙ w.push.ensures.items)) more;

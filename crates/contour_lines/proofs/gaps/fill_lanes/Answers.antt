@@ -7,6 +7,7 @@ use Rattle.contour_lines.specs.Planes.{within_border}
 use Rattle.contour_lines.specs.Tables.{known_of}
 use Rattle.contour_lines.specs.Ways.{flat_value}
 use Rattle.contour_lines.proofs.GapLaws.{fills-one, nth-stands, stands-kept}
+use Rattle.contour_lines.proofs.Theorems.{planes}
 use Rattle.contour_lines.proofs.gaps.fill_lanes.Goals as goal
 
 pub set-requires : goal.set-requires
@@ -27,11 +28,11 @@ loop-lane-preserved g c =
     let gap = nth gaps lane in
     let was = c.loop-lane.invariant in
     let within : lane < length gaps = omega (arith, c.loop-lane-test.true, c.requires.many) in
-    let n : c.n-n.result ≡ size_of view = c.n-n.ensures ∙ c.planes_hold.ensures.sizes.is old.n (size_of view) c.requires.n in
+    let n : c.n-n.result ≡ size_of view = c.n-n.ensures ∙ planes.sizes.is old.n (size_of view) c.requires.n in
     let value : c.index-row-lane.result ≡ tape_value (lies_at view gap) list =
     get_or_read c.evaluate_lanes-row.result lane c.index-row-lane.result (search rules) c.index-row-lane.is (pos 0)
     ∙ c.evaluate_lanes-row.ensures.values lane c.loop-lane-test.true
     ∙ ap (λ p. tape_value p list) (c.gather-inputs.ensures lane c.loop-lane-test.true) in
     let closed : c.closed.result ≡ flat_value view list (spot gap) =
     c.closed.ensures ∙ ap (within_border c.n-n.result gap.x gap.y) (sym c.index-row-lane.is) ∙ ap (λ m. within_border m gap.x gap.y c.index-row-lane.result) n ∙ ap (within_border (size_of view) gap.x gap.y) value in
-    fills-one c.planes_hold.ensures (flat_value view list) lane c.closed.result gaps old mid (known_of c.set.new.self) within closed was c.set.ensures
+    fills-one planes (flat_value view list) lane c.closed.result gaps old mid (known_of c.set.new.self) within closed was c.set.ensures

@@ -5,6 +5,7 @@ use Rattle.contour_lines.specs.Signs.{AreRows, HasCorners, signs_by}
 use Rattle.contour_lines.specs.Tables.{known_of}
 use Rattle.contour_lines.specs.Trees.{IsTold}
 use Rattle.contour_lines.proofs.PlaneLaws.{has-corners, has-signs}
+use Rattle.contour_lines.proofs.Theorems.{planes}
 use Rattle.contour_lines.proofs.planes.plane_table.Goals as goal
 
 pub signs_of-requires : goal.signs_of-requires
@@ -40,4 +41,4 @@ returns-clause-corners c =
     let list = c.args.list.now in
     let told = subst (λ v. IsTold v list (known_of c.in_ok-values.values)) c.lay_flat-flat.ensures c.in_ok-values.ensures.told in
     let values = c.in_ok-values.values in
-    subst (HasCorners c.args.view.now list) (sym c.into_values.ensures) (has-corners c.args.view.now list values (c.planes_hold.ensures.sizes.is values.n (size_of flat) told.n) c.holds.ensures.values told)
+    subst (HasCorners c.args.view.now list) (sym c.into_values.ensures) (has-corners c.args.view.now list values (planes.sizes.is values.n (size_of flat) told.n) c.holds.ensures.values told)

@@ -5,6 +5,7 @@ use Rattle.std.proofs.lemmas.List.Elements.{All-filter}
 use Rattle.box_chains.specs.Sums.{sum_in}
 use Rattle.fixed_ops.specs.Counts.{RisesBy, points_of}
 use Rattle.view_places.specs.Boxes.{IsBox}
+use Rattle.box_chains.proofs.Theorems.{laws}
 use Rattle.height_map.specs.Columns.{Changes, covers, leaf_cost, leaf_top}
 use Rattle.height_map.specs.Layers.{IsColumn, columns_of, open_among, stand_at}
 use Rattle.height_map.specs.declared.column.Column.{Column}
@@ -25,7 +26,7 @@ loop-k-init c =
           (columns-there view b c.args.w (length c.args.tops.now) leaf.width (subst IsBox c.b.view_is c.b.invariant) leaf.within leaf.among);
       columns = ap (open_among c.args.tops.now) c.columns_of-columns.ensures;
       tops = none-drawn view c.args.list.now b c.args.w c.b.inside.z1 c.args.tops.now z1;
-      counted = none-counted c.layers_hold.ensures b c.b.inside.z1 (leaf_cost view c.args.list.now b c.args.tops.now) c.args.tally.now z1;
+      counted = none-counted laws b c.b.inside.z1 (leaf_cost view c.args.list.now b c.args.tops.now) c.args.tally.now z1;
     }
 
 pub draw_layer-requires-clause-columns : goal.draw_layer-requires-clause-columns
@@ -65,7 +66,7 @@ loop-k-preserved c =
           ∙ open-still view list k (stand_at columns) columns (columns_of w b) c.loop-k.tops c.draw_layer.new.tops c.draw_layer.ensures.tops all;
       tops = deeper view list b w k c.args.tops.now c.loop-k.tops c.draw_layer.new.tops below nearer
           (layer-changed view list b w k columns c.loop-k.tops c.draw_layer.new.tops (subst IsBox c.b.view_is c.b.invariant) leaf.among.columns all c.draw_layer.ensures.tops);
-      counted = deeper-counted c.layers_hold.ensures view list b w k (length c.args.tops.now) columns c.args.tops.now c.loop-k.tops c.args.tally.now c.loop-k.tally c.draw_layer.new.tally leaf.width leaf.among refl above below all nearer
+      counted = deeper-counted laws view list b w k (length c.args.tops.now) columns c.args.tops.now c.loop-k.tops c.args.tally.now c.loop-k.tally c.draw_layer.new.tally leaf.width leaf.among refl above below all nearer
           (subst (λ n. RisesBy c.args.tally.now c.loop-k.tally (points_of (sum_in (record b { z0 = n }) (leaf_cost view list b c.args.tops.now)))) next was.counted)
           c.draw_layer.ensures.counted;
     }

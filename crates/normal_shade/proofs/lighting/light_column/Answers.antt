@@ -1,6 +1,7 @@
 -- A column whose top sample lies in the box is lit soon, and another stays.
 use Rattle.std.proofs.Common.{◌≡◌, ◌+◌, ◌-◌, ◌*◌, ◌<◌, ℕ, true, false, ap, arith, length, subst, sym, ◌∙◌}
 use Rattle.height_map.specs.Columns.{IsAmong}
+use Rattle.box_chains.proofs.Theorems.{laws}
 use Rattle.normal_shade.specs.declared.top_sample.TopSample.{TopSample}
 use Rattle.normal_shade.proofs.TopSamples.{has_top_in, top_sample}
 use Rattle.normal_shade.proofs.Waiting.{column-dark, column-lit, column-there, column-top}
@@ -10,7 +11,7 @@ pub returns-then-not-is_within-clause-lit : goal.returns-then-not-is_within-clau
 returns-then-not-is_within-clause-lit c = λ columns points old before was.
     let leaf = c.requires.leaf in
     let e : has_top_in c.args.w c.args.tops.now c.args.b c.args.j c.args.i ≡ false = sym c.is_within.ensures ∙ c.if-not-is_within.true in
-    column-dark c.layers_hold.ensures c.args.places.now.view c.args.list.now c.args.w c.args.tops.now c.args.b c.args.j c.args.i leaf.width c.requires.left (omega (arith, c.requires.column, leaf.among.columns))
+    column-dark laws c.args.places.now.view c.args.list.now c.args.w c.args.tops.now c.args.b c.args.j c.args.i leaf.width c.requires.left (omega (arith, c.requires.column, leaf.among.columns))
     columns points c.args.waiting.now.items old c.args.pixels.now before c.args.tally.now e was
 
 pub light_soon-requires-clause-sample : goal.light_soon-requires-clause-sample
@@ -24,7 +25,7 @@ light_soon-requires-clause-sample c =
     let e : has_top_in w tops c.args.b j i ≡ true = sym c.is_within.ensures ∙ c.if-not-is_within.false in
     let sample : ℕ → TopSample = λ top. record { i = i; j = j; k = top - 1; place = j * w + i } in
     let is : sample c.from-k.result ≡ top_sample w tops j i = ap sample c.from-k.ensures in
-    column-there c.layers_hold.ensures view c.args.list.now w tops c.args.b j i leaf.width c.requires.left (omega (arith, c.requires.column, leaf.among.columns))
+    column-there laws view c.args.list.now w tops c.args.b j i leaf.width c.requires.left (omega (arith, c.requires.column, leaf.among.columns))
     (length c.args.pixels.now) leaf.within (subst (λ n. IsAmong w n c.args.b) (sym c.requires.pixels) leaf.among) c.requires.row c.requires.column e (sample c.from-k.result) is
 
 pub returns-clause-lit : goal.returns-clause-lit
@@ -41,6 +42,6 @@ returns-clause-lit c = λ columns points old before was.
     let e : has_top_in w tops b j i ≡ true = sym c.is_within.ensures ∙ c.if-not-is_within.false in
     let sample : ℕ → TopSample = λ top. record { i = i; j = j; k = top - 1; place = j * w + i } in
     let is : sample c.from-k.result ≡ top_sample w tops j i = ap sample c.from-k.ensures in
-    column-lit c.layers_hold.ensures view list w tops b j i leaf.width c.requires.left narrow columns points c.light_soon.new.waiting.items old c.light_soon.new.pixels before c.light_soon.new.tally (sample c.from-k.result) e is
+    column-lit laws view list w tops b j i leaf.width c.requires.left narrow columns points c.light_soon.new.waiting.items old c.light_soon.new.pixels before c.light_soon.new.tally (sample c.from-k.result) e is
     (c.light_soon.ensures.lit tops columns points old before
-    (column-top c.layers_hold.ensures view list w tops b j i leaf.width c.requires.left narrow e (sample c.from-k.result) is) was)
+    (column-top laws view list w tops b j i leaf.width c.requires.left narrow e (sample c.from-k.result) is) was)

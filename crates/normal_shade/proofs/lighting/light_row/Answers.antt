@@ -2,6 +2,7 @@
 use Rattle.std.proofs.Common.{◌≡◌, ◌<◌, ◌≤◌, ◌+◌, ap, arith, refl, subst, sym, ◌∙◌}
 use Rattle.std.specs.Prelude.{◌||◌}
 use Rattle.std.specs.List.{All}
+use Rattle.box_chains.proofs.Theorems.{laws}
 use Rattle.normal_shade.specs.Marks.{has_top_at, lit_along}
 use Rattle.normal_shade.specs.TopSamples.{AllButWaiting, IsSample}
 use Rattle.normal_shade.proofs.Lit.{left-none, left_of, or-false}
@@ -50,7 +51,7 @@ loop-i-preserved c =
       few = c.light_column.ensures.few;
       samples = subst (λ n. All (IsSample view n) c.light_column.new.waiting.items) (c.light_column.auto.pixels ∙ was.same) c.light_column.ensures.samples;
       lit = λ columns points old before given.
-          column-next c.layers_hold.ensures view list w tops b j i leaf.width above narrow columns points c.light_column.new.waiting.items old c.light_column.new.pixels before c.light_column.new.tally
+          column-next laws view list w tops b j i leaf.width above narrow columns points c.light_column.new.waiting.items old c.light_column.new.pixels before c.light_column.new.tally
           (c.light_column.ensures.lit (λ p. columns p || has_top_at w tops (left_of b j i) p) (points + lit_along view list tops b j b.x0 i) old before (was.lit columns points old before given));
     }
 

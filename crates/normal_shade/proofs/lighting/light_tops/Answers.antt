@@ -4,6 +4,7 @@ use Rattle.std.specs.Prelude.{◌||◌}
 use Rattle.std.specs.List.{All}
 use Rattle.fixed_ops.specs.Counts.{RisesBy, points_of}
 use Rattle.view_places.specs.Boxes.{IsBox}
+use Rattle.box_chains.proofs.Theorems.{laws}
 use Rattle.normal_shade.specs.Marks.{has_top_at, lit_along, shade_at}
 use Rattle.normal_shade.specs.TopSamples.{AllButWaiting, HasTop, IsSample, lit_samples, stand_at}
 use Rattle.normal_shade.proofs.Lit.{Becomes, row-more, rows-none}
@@ -51,7 +52,7 @@ loop-j-preserved c =
       samples = subst (λ n. All (IsSample view n) c.light_row.new.waiting.items) many c.light_row.ensures.samples;
       lit = waits-same view list tops c.args.pixels.now c.args.tally.now (λ p. has_top_at w tops (record b { y1 = j }) p || has_top_at w tops (record b { y0 = j; y1 = j + 1 }) p) (has_top_at w tops (record b { y1 = j + 1 }))
           (lit_to view list tops b j + lit_along view list tops b j b.x0 b.x1) (lit_to view list tops b (j + 1)) c.light_row.new.waiting.items c.light_row.new.pixels c.light_row.new.tally
-          (λ p. row-more w j p b tops above) (sym (rows-next c.layers_hold.ensures view list tops b j above))
+          (λ p. row-more w j p b tops above) (sym (rows-next laws view list tops b j above))
           (c.light_row.ensures.lit (has_top_at w tops (record b { y1 = j })) (lit_to view list tops b j) c.args.pixels.now c.args.tally.now was.lit);
     }
 

@@ -1,5 +1,6 @@
 use Rattle.std.proofs.Common.{ap, arith, refl, subst, sym, ◌∙◌}
 use Rattle.view_places.specs.Boxes.{IsBox}
+use Rattle.box_chains.proofs.Theorems.{laws}
 use Rattle.normal_shade.proofs.Rows.{row-more, row-tells, rows-none, rows-tell, zero-of}
 use Rattle.normal_shade.proofs.tops.has_top.Goals as goal
 
@@ -16,7 +17,7 @@ loop-j-preserved c =
       same = c.loop-j.invariant.same;
       none = omega (
         arith,
-        row-more c.layers_hold.ensures c.args.w c.args.tops.now c.args.b c.loop-j.j (omega (arith, y0, c.loop-j.auto.j)),
+        row-more laws c.args.w c.args.tops.now c.args.b c.loop-j.j (omega (arith, y0, c.loop-j.auto.j)),
         c.loop-j.invariant.none,
         zero-of _ (sym c.has_top_in_row.ensures ∙ c.if-has_top_in_row.false),
       );
@@ -26,7 +27,7 @@ pub returns-then-has_top_in_row : goal.returns-then-has_top_in_row
 returns-then-has_top_in_row c =
     let y0 = ap (λ b. b.y0) c.b.view_is in
     let y1 = ap (λ b. b.y1) c.b.view_is in
-    sym (row-tells c.layers_hold.ensures c.args.w c.args.tops.now c.args.b c.loop-j.j (subst IsBox c.b.view_is c.b.invariant) (omega (arith, y0, c.loop-j.auto.j)) (omega (arith, y1, c.loop-j-test.true))
+    sym (row-tells laws c.args.w c.args.tops.now c.args.b c.loop-j.j (subst IsBox c.b.view_is c.b.invariant) (omega (arith, y0, c.loop-j.auto.j)) (omega (arith, y1, c.loop-j-test.true))
     (sym c.has_top_in_row.ensures ∙ c.if-has_top_in_row.true))
 
 pub returns : goal.returns

@@ -19,6 +19,7 @@ use Rattle.oct_descent.proofs.Sizes.{size-from}
 use Rattle.oct_descent.proofs.Whole.{whole-told}
 use Rattle.oct_descent.specs.Known.{AreSettled, Grows}
 use Rattle.oct_descent.specs.Kinds.{known_of}
+use Rattle.box_chains.proofs.Theorems.{laws}
 use Rattle.oct_descent.proofs.all_boxes.look_into_all.Goals as goal
 
 pub look_into-requires-clause-may : goal.look_into-requires-clause-may
@@ -42,7 +43,7 @@ returns-in_err-look_into-clause-at_most c =
     let is = ap (λ (d : Tracing). list_of d 0) c.requires.desk in
     let root = subst (λ (d : Tracing). c.root-root.result ≡ root_box_of d.view d.lattice) c.requires.desk c.root-root.ensures in
     let d = gridded c.args.desk.now.view in
-    whole-counted_after c.layers_hold.ensures c.args.view.now c.args.desk.now.view (received_by c.args.before) c.args.list.now c.root-root.result c.in_ok-values.values c.look_into.new.values c.args.tally.now c.look_into.new.tally view root
+    whole-counted_after laws c.args.view.now c.args.desk.now.view (received_by c.args.before) c.args.list.now c.root-root.result c.in_ok-values.values c.look_into.new.values c.args.tally.now c.look_into.new.tally view root
     (c.in_ok-values.ensures.n ∙ c.grid.ensures.size) c.in_ok-values.ensures.none
     (subst (λ r. ChargesBoxAfter d r (visit c.root-root.result c.args.list.now) (known_of c.in_ok-values.values) (known_of c.look_into.new.values) c.args.tally.now c.look_into.new.tally) (ap (visit_before c.args.before) root ∙ root-was c.args.view.now c.args.before)
     (subst (λ (l : List Step). ChargesBoxAfter d (visit_before c.args.before c.root-root.result) (visit c.root-root.result l) (known_of c.in_ok-values.values) (known_of c.look_into.new.values) c.args.tally.now c.look_into.new.tally) is
@@ -54,7 +55,7 @@ returns-clause-at_most c =
     let is = ap (λ (d : Tracing). list_of d 0) c.requires.desk in
     let root = subst (λ (d : Tracing). c.root-root.result ≡ root_box_of d.view d.lattice) c.requires.desk c.root-root.ensures in
     let d = gridded c.args.desk.now.view in
-    whole-counted_after c.layers_hold.ensures c.args.view.now c.args.desk.now.view (received_by c.args.before) c.args.list.now c.root-root.result c.in_ok-values.values c.look_into.new.values c.args.tally.now c.look_into.new.tally view root
+    whole-counted_after laws c.args.view.now c.args.desk.now.view (received_by c.args.before) c.args.list.now c.root-root.result c.in_ok-values.values c.look_into.new.values c.args.tally.now c.look_into.new.tally view root
     (c.in_ok-values.ensures.n ∙ c.grid.ensures.size) c.in_ok-values.ensures.none
     (subst (λ r. ChargesBoxAfter d r (visit c.root-root.result c.args.list.now) (known_of c.in_ok-values.values) (known_of c.look_into.new.values) c.args.tally.now c.look_into.new.tally) (ap (visit_before c.args.before) root ∙ root-was c.args.view.now c.args.before)
     (subst (λ (l : List Step). ChargesBoxAfter d (visit_before c.args.before c.root-root.result) (visit c.root-root.result l) (known_of c.in_ok-values.values) (known_of c.look_into.new.values) c.args.tally.now c.look_into.new.tally) is
@@ -76,9 +77,15 @@ returns-clause-at_least c =
     let root = subst (λ (d : Tracing). c.root-root.result ≡ root_box_of d.view d.lattice) c.requires.desk c.root-root.ensures in
     let d = gridded c.args.desk.now.view in
     let was = ap (visit_before c.args.before) root ∙ root-was c.args.view.now c.args.before in
-    whole-paid_after c.layers_hold.ensures c.args.view.now c.args.desk.now.view (received_by c.args.before) c.args.list.now c.root-root.result c.in_ok-values.values c.look_into.new.values c.args.tally.now c.look_into.new.tally view root
+    whole-paid_after laws c.args.view.now c.args.desk.now.view (received_by c.args.before) c.args.list.now c.root-root.result c.in_ok-values.values c.look_into.new.values c.args.tally.now c.look_into.new.tally view root
     (c.in_ok-values.ensures.n ∙ c.grid.ensures.size) c.in_ok-values.ensures.none
     (subst (λ r. AreWorkedAfter d r (visit c.root-root.result c.args.list.now) (known_of c.look_into.new.values)) was
     (subst (λ (l : List Step). AreWorkedAfter d (visit_before c.args.before c.root-root.result) (visit c.root-root.result l) (known_of c.look_into.new.values)) is c.in_ok-look_into.ensures.worked))
     (subst (λ r. PaysBoxAfter d r (visit c.root-root.result c.args.list.now) (known_of c.in_ok-values.values) (known_of c.look_into.new.values) c.args.tally.now c.look_into.new.tally) was
     (subst (λ (l : List Step). PaysBoxAfter d (visit_before c.args.before c.root-root.result) (visit c.root-root.result l) (known_of c.in_ok-values.values) (known_of c.look_into.new.values) c.args.tally.now c.look_into.new.tally) is c.in_ok-look_into.ensures.paid))
+
+pub returns-in_err-values-clause-at_most : goal.returns-in_err-values-clause-at_most
+returns-in_err-values-clause-at_most c = laws.bounds.none c.args.tally.now _ _
+
+pub returns-in_err-boxes-clause-at_most : goal.returns-in_err-boxes-clause-at_most
+returns-in_err-boxes-clause-at_most c = laws.bounds.none c.args.tally.now _ _

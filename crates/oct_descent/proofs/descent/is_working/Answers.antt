@@ -2,13 +2,14 @@ use Rattle.std.proofs.Common.{sym}
 use Rattle.box_chains.specs.Chains.{visit}
 use Rattle.box_chains.specs.Desks.{list_of}
 use Rattle.oct_descent.proofs.Looks.{corners-open}
+use Rattle.box_chains.proofs.Theorems.{laws}
 use Rattle.oct_descent.proofs.descent.is_working.Goals as goal
 
 pub returns-then-seen-2-clause-open : goal.returns-then-seen-2-clause-open
 returns-then-seen-2-clause-open c =
     let may = c.requires.may.1 in
     let seen = c.requires.may.2 in
-    sym (corners-open c.layers_hold.ensures c.args.desk.now.view (visit c.args.b (list_of c.args.desk.now c.args.received)) c.requires.may.0 may.visit_is c.requires.one may.right (seen.inside c.if-seen.true) (seen.outside c.if-seen-2.true))
+    sym (corners-open laws c.args.desk.now.view (visit c.args.b (list_of c.args.desk.now c.args.received)) c.requires.may.0 may.visit_is c.requires.one may.right (seen.inside c.if-seen.true) (seen.outside c.if-seen-2.true))
 
 pub returns-then-seen-2-clause-counted : goal.returns-then-seen-2-clause-counted
-returns-then-seen-2-clause-counted c = c.layers_hold.ensures.bounds.none c.args.tally.now 0 _
+returns-then-seen-2-clause-counted c = laws.bounds.none c.args.tally.now 0 _

@@ -21,6 +21,7 @@ use Rattle.oct_descent.proofs.Looks.{on_ok, on_ok-then}
 use Rattle.oct_descent.proofs.Together.{among-stays, list-stays}
 use Rattle.oct_descent.specs.Known.{AreRight, AreSettled, Grows}
 use Rattle.oct_descent.specs.Kinds.{known_of}
+use Rattle.box_chains.proofs.Theorems.{laws}
 use Rattle.oct_descent.proofs.descent.look_into.Goals as goal
 
 pub returns-then-not-is_long-clause-traced : goal.returns-then-not-is_long-clause-traced
@@ -29,7 +30,7 @@ returns-then-not-is_long-clause-traced c =
     let v = visit c.args.b (list_of c.args.desk.now c.args.received) in
     let was = visit_before c.args.before c.args.b in
     on_ok c.look_into_cell.result _
-    (cell-traced_after c.layers_hold.ensures (gridded view) was v (known_of c.args.values.now) (known_of c.look_into_cell.new.values) c.args.tally.now c.look_into_cell.new.tally (omega arith) c.requires.may.visit_is.box c.requires.new (sym c.is_long.ensures ∙ c.if-not-is_long.true) c.look_into_cell.ensures.paid)
+    (cell-traced_after laws (gridded view) was v (known_of c.args.values.now) (known_of c.look_into_cell.new.values) c.args.tally.now c.look_into_cell.new.tally (omega arith) c.requires.may.visit_is.box c.requires.new (sym c.is_long.ensures ∙ c.if-not-is_long.true) c.look_into_cell.ensures.paid)
 
 pub returns-then-not-is_long-clause-adds : goal.returns-then-not-is_long-clause-adds
 returns-then-not-is_long-clause-adds c =
@@ -37,25 +38,25 @@ returns-then-not-is_long-clause-adds c =
     let v = visit c.args.b (list_of c.args.desk.now c.args.received) in
     let was = visit_before c.args.before c.args.b in
     on_ok c.look_into_cell.result _
-    (adds-same c.args.boxes.now c.args.boxes.now [] (places_of (gridded view) v) (sym (places-cell c.layers_hold.ensures (gridded view) v (omega arith) c.requires.may.visit_is.box (sym c.is_long.ensures ∙ c.if-not-is_long.true))) (adds-none c.args.boxes.now))
+    (adds-same c.args.boxes.now c.args.boxes.now [] (places_of (gridded view) v) (sym (places-cell laws (gridded view) v (omega arith) c.requires.may.visit_is.box (sym c.is_long.ensures ∙ c.if-not-is_long.true))) (adds-none c.args.boxes.now))
 
 pub returns-then-not-is_long-clause-left : goal.returns-then-not-is_long-clause-left
 returns-then-not-is_long-clause-left c =
-    on_ok c.look_into_cell.result _ (left-cell c.layers_hold.ensures c.args.desk.now.view c.args.b c.args.boxes.now.before c.args.before c.requires.may.visit_is.box (sym c.is_long.ensures ∙ c.if-not-is_long.true))
+    on_ok c.look_into_cell.result _ (left-cell laws c.args.desk.now.view c.args.b c.args.boxes.now.before c.args.before c.requires.may.visit_is.box (sym c.is_long.ensures ∙ c.if-not-is_long.true))
 
 pub returns-then-not-is_long-clause-counted : goal.returns-then-not-is_long-clause-counted
 returns-then-not-is_long-clause-counted c =
     let view = c.args.desk.now.view in
     let v = visit c.args.b (list_of c.args.desk.now c.args.received) in
     let was = visit_before c.args.before c.args.b in
-    cell-after c.layers_hold.ensures view was v (known_of c.args.values.now) (known_of c.look_into_cell.new.values) c.args.tally.now c.look_into_cell.new.tally c.requires.may.visit_is.box (sym c.is_long.ensures ∙ c.if-not-is_long.true) c.requires.new c.look_into_cell.ensures.counted
+    cell-after laws view was v (known_of c.args.values.now) (known_of c.look_into_cell.new.values) c.args.tally.now c.look_into_cell.new.tally c.requires.may.visit_is.box (sym c.is_long.ensures ∙ c.if-not-is_long.true) c.requires.new c.look_into_cell.ensures.counted
 
 pub returns-in_err-told-clause-counted : goal.returns-in_err-told-clause-counted
 returns-in_err-told-clause-counted c =
     let view = c.args.desk.now.view in
     let v = visit c.args.b (list_of c.args.desk.now c.args.received) in
     let was = visit_before c.args.before c.args.b in
-    trace-charged_after c.layers_hold.ensures (gridded view) was v (known_of c.args.values.now) c.args.tally.now c.trace_asked_box.new.tally (omega arith) c.requires.may.visit_is.box c.requires.new c.trace_asked_box.ensures.counted
+    trace-charged_after laws (gridded view) was v (known_of c.args.values.now) c.args.tally.now c.trace_asked_box.new.tally (omega arith) c.requires.may.visit_is.box c.requires.new c.trace_asked_box.ensures.counted
 
 pub returns-in_err-told-clause-paid : goal.returns-in_err-told-clause-paid
 returns-in_err-told-clause-paid c =
@@ -63,14 +64,14 @@ returns-in_err-told-clause-paid c =
     let v = visit c.args.b (list_of c.args.desk.now c.args.received) in
     let was = visit_before c.args.before c.args.b in
     look-paid_after (gridded view) was v (known_of c.args.values.now) c.args.tally.now c.trace_asked_box.new.tally
-    (c.layers_hold.ensures.bounds.hulls c.args.tally.now c.trace_asked_box.new.tally (length (list_of c.args.desk.now c.args.received)) c.trace_asked_box.ensures.counted)
+    (laws.bounds.hulls c.args.tally.now c.trace_asked_box.new.tally (length (list_of c.args.desk.now c.args.received)) c.trace_asked_box.ensures.counted)
 
 pub returns-clause-counted : goal.returns-clause-counted
 returns-clause-counted c =
     let view = c.args.desk.now.view in
     let v = visit c.args.b (list_of c.args.desk.now c.args.received) in
     let was = visit_before c.args.before c.args.b in
-    below-charged_after c.layers_hold.ensures view was v (known_of c.args.values.now) (known_of c.look_into_told.new.values) c.args.tally.now c.trace_asked_box.new.tally c.look_into_told.new.tally
+    below-charged_after laws view was v (known_of c.args.values.now) (known_of c.look_into_told.new.values) c.args.tally.now c.trace_asked_box.new.tally c.look_into_told.new.tally
     c.requires.may.visit_is.box c.requires.new (sym c.is_long.ensures ∙ c.if-not-is_long.false) c.trace_asked_box.ensures.counted
     (subst (λ w. ChargesBelowAfter (gridded w) (visit_before c.args.before c.args.b) (visit c.args.b (list_of c.args.desk.now c.args.received)) (known_of c.args.values.now) (known_of c.look_into_told.new.values) c.trace_asked_box.new.tally c.look_into_told.new.tally) c.in_ok-told.ensures.more.view (subst (λ l. ChargesBelowAfter (gridded c.trace_asked_box.new.self.view) (visit_before c.args.before c.args.b) (visit c.args.b l) (known_of c.args.values.now) (known_of c.look_into_told.new.values) c.trace_asked_box.new.tally c.look_into_told.new.tally) (list-stays c.args.desk.now c.trace_asked_box.new.self c.args.received c.in_ok-told.ensures.more c.requires.may.among) c.look_into_told.ensures.counted))
 
@@ -79,7 +80,7 @@ returns-clause-paid c =
     let view = c.args.desk.now.view in
     let v = visit c.args.b (list_of c.args.desk.now c.args.received) in
     let was = visit_before c.args.before c.args.b in
-    below-paid_after c.layers_hold.ensures (gridded view) was v (known_of c.args.values.now) (known_of c.look_into_told.new.values) c.args.tally.now c.trace_asked_box.new.tally c.look_into_told.new.tally
+    below-paid_after laws (gridded view) was v (known_of c.args.values.now) (known_of c.look_into_told.new.values) c.args.tally.now c.trace_asked_box.new.tally c.look_into_told.new.tally
     c.trace_asked_box.ensures.counted
     (subst (λ w. PaysBoxAfter (gridded w) (visit_before c.args.before c.args.b) (visit c.args.b (list_of c.args.desk.now c.args.received)) (known_of c.args.values.now) (known_of c.look_into_told.new.values) c.trace_asked_box.new.tally c.look_into_told.new.tally) c.in_ok-told.ensures.more.view (subst (λ l. PaysBoxAfter (gridded c.trace_asked_box.new.self.view) (visit_before c.args.before c.args.b) (visit c.args.b l) (known_of c.args.values.now) (known_of c.look_into_told.new.values) c.trace_asked_box.new.tally c.look_into_told.new.tally) (list-stays c.args.desk.now c.trace_asked_box.new.self c.args.received c.in_ok-told.ensures.more c.requires.may.among) c.look_into_told.ensures.paid))
 
@@ -89,7 +90,7 @@ returns-clause-traced c =
     let v = visit c.args.b (list_of c.args.desk.now c.args.received) in
     let was = visit_before c.args.before c.args.b in
     on_ok-then c.look_into_told.result _ _
-    (below-traced_after c.layers_hold.ensures view was v c.args.tally.now c.trace_asked_box.new.tally c.look_into_told.new.tally (sym c.is_long.ensures ∙ c.if-not-is_long.false) c.trace_asked_box.ensures.counted)
+    (below-traced_after laws view was v c.args.tally.now c.trace_asked_box.new.tally c.look_into_told.new.tally (sym c.is_long.ensures ∙ c.if-not-is_long.false) c.trace_asked_box.ensures.counted)
     (subst (λ w. OnOk c.look_into_told.result (CountsHullsAtLeast (long_spans_below_after (gridded w) (visit_before c.args.before c.args.b) (visit c.args.b (list_of c.args.desk.now c.args.received))) c.trace_asked_box.new.tally c.look_into_told.new.tally)) c.in_ok-told.ensures.more.view (subst (λ l. OnOk c.look_into_told.result (CountsHullsAtLeast (long_spans_below_after (gridded c.trace_asked_box.new.self.view) (visit_before c.args.before c.args.b) (visit c.args.b l)) c.trace_asked_box.new.tally c.look_into_told.new.tally)) (list-stays c.args.desk.now c.trace_asked_box.new.self c.args.received c.in_ok-told.ensures.more c.requires.may.among) c.look_into_told.ensures.traced))
 
 pub returns-clause-settled : goal.returns-clause-settled
@@ -134,5 +135,5 @@ returns-then-not-is_long-clause-paid c =
     let view = c.args.desk.now.view in
     let v = visit c.args.b (list_of c.args.desk.now c.args.received) in
     let was = visit_before c.args.before c.args.b in
-    cell-paid_after c.layers_hold.ensures (gridded view) was v (known_of c.args.values.now) (known_of c.look_into_cell.new.values) c.args.tally.now c.look_into_cell.new.tally (omega arith) c.requires.may.visit_is.box c.requires.new
+    cell-paid_after laws (gridded view) was v (known_of c.args.values.now) (known_of c.look_into_cell.new.values) c.args.tally.now c.look_into_cell.new.tally (omega arith) c.requires.may.visit_is.box c.requires.new
     (sym c.is_long.ensures ∙ c.if-not-is_long.true) c.look_into_cell.ensures.paid

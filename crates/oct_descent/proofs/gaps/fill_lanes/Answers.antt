@@ -22,7 +22,7 @@ loop-lane-preserved g c =
     let was = c.loop-lane.invariant in
     let within : lane < length gaps = omega (arith, c.loop-lane-test.true, c.requires.many) in
     let is : StandsIn mid gap = stands-kept old mid gap was.keeps (nth-stands old gaps lane within c.requires.stand) in
-    let n : c.n-n.result ≡ size_of view = c.n-n.ensures ∙ size-is old.n (size_of view) c.requires.n in
+    let n : c.n-n.result ≡ size_of view = c.n-n.ensures.size ∙ size-is old.n (size_of view) c.requires.n in
     let value : c.index-row-lane.result ≡ tape_value (lies_at view gap) list =
     get_or_read c.evaluate_lanes-row.result lane c.index-row-lane.result (search rules) c.index-row-lane.is (pos 0)
     ∙ c.evaluate_lanes-row.ensures.values lane c.loop-lane-test.true

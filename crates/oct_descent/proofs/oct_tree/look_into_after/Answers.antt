@@ -6,10 +6,11 @@ use Rattle.oct_descent.specs.Ways.{grid_root, gridded}
 use Rattle.view_places.specs.Window.{size_of}
 use Rattle.oct_descent.proofs.Before.{root-stands}
 use Rattle.oct_descent.proofs.Sizes.{size-is}
+use Rattle.box_chains.proofs.Theorems.{laws}
 use Rattle.oct_descent.proofs.oct_tree.look_into_after.Goals as goal
 
 pub returns-in_err-desk-clause-at_most : goal.returns-in_err-desk-clause-at_most
-returns-in_err-desk-clause-at_most c = c.layers_hold.ensures.bounds.none c.args.tally.now _ _
+returns-in_err-desk-clause-at_most c = laws.bounds.none c.args.tally.now _ _
 
 pub look_into_all-requires-clause-old : goal.look_into_all-requires-clause-old
 look_into_all-requires-clause-old c =

@@ -1,5 +1,6 @@
 use Rattle.std.proofs.Common.{◌≡◌, ◌-◌, ◌*◌, ℕ, ap, arith, length, subst, ◌∙◌}
 use Rattle.fixed_ops.specs.Counts.{RisesBy, points_of}
+use Rattle.fixed_ops.proofs.CountLaws.{tallies_add_up_is}
 use Rattle.quad_descent.specs.Nodes.{bits_of}
 use Rattle.quad_descent.specs.Scans.{cut, insides_upto, sample_count}
 use Rattle.quad_descent.proofs.Scans.{more-counted, rows-cut}
@@ -20,7 +21,7 @@ returns-clause-counted c =
     let b = c.args.b in
     let len = length c.args.list.now in
     let before = c.args.tally.now in
-    let tallies = c.tallies_add_up.ensures in
+    let tallies = tallies_add_up_is in
     let one = c.tell_groups in
     let two = c.tell_groups-2 in
     let three = c.tell_groups-3 in

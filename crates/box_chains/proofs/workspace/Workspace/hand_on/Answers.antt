@@ -3,6 +3,7 @@ use Rattle.live_clauses.specs.Blocks.{list_at}
 use Rattle.live_clauses.specs.Choices.{AreChoices}
 use Rattle.live_clauses.specs.Live.{live_of}
 use Rattle.live_clauses.specs.Steps.{IsTape}
+use Rattle.live_clauses.proofs.Theorems.{live_lists_are_tapes, live_lists_are_whole}
 use Rattle.box_chains.specs.Outcomes.{IsHandedOn}
 use Rattle.box_chains.proofs.Seen.{handed-last}
 use Rattle.box_chains.proofs.workspace.Workspace.hand_on.Goals as goal
@@ -18,4 +19,4 @@ returns-clause-handed c =
     c.requires.choices in
     subst (IsHandedOn (length list) after) (sym c.len-live.ensures)
     (handed-last (length list) c.args.lists.now after (live_of list chosen) c.in_ok-push_live.ensures.pushed
-    (c.live_steps_are_the_least.ensures.lists list chosen tape only).1 (c.live_lists_are_whole.ensures.live list chosen tape only))
+    (live_lists_are_tapes list chosen tape only).1 (live_lists_are_whole list chosen tape only))

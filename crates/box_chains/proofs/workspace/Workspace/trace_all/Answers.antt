@@ -3,6 +3,8 @@ use Rattle.std.proofs.lemmas.List.{length-drop}
 use Rattle.interval_ops.specs.HullCounts.{CountsHulls}
 use Rattle.live_clauses.specs.Blocks.{list_at}
 use Rattle.live_clauses.specs.Live.{IsWhole}
+use Rattle.fixed_ops.proofs.CountLaws.{tallies_add_up_is}
+use Rattle.interval_ops.proofs.HullCountLaws.{CountsHulls-then}
 use Rattle.box_chains.specs.Outcomes.{AreSeen, asked_decisions, asked_outcome, asked_outcomes, decision_of}
 use Rattle.box_chains.specs.Tallied.{CountsAtMost}
 use Rattle.box_chains.proofs.Lanes.{map-join, rest-is}
@@ -19,7 +21,7 @@ pub returns-in_err-done-clause-at_most : goal.returns-in_err-done-clause-at_most
 returns-in_err-done-clause-at_most c =
     let list = list_at c.args.lists.now c.args.at in
     let same = first-list c.args.lists.now c.loop-done.lists c.args.at c.loop-done.invariant.first c.requires.among in
-    on_err _ _ (hulls-begun c.tallies_add_up.ensures c.args.tally.now c.loop-done.tally c.trace_some.new.tally c.loop-done.done (length c.args.asked.now - c.loop-done.done) (length c.args.asked.now) (length list)
+    on_err _ _ (hulls-begun tallies_add_up_is c.args.tally.now c.loop-done.tally c.trace_some.new.tally c.loop-done.done (length c.args.asked.now - c.loop-done.done) (length c.args.asked.now) (length list)
     (omega (arith, c.loop-done.invariant.within)) c.loop-done.invariant.counted
     (subst (λ n. CountsAtMost 0 (n * length list) c.loop-done.tally c.trace_some.new.tally) (ap length (rest-is c.args.asked.now c.loop-done.done) ∙ length-drop c.loop-done.done c.args.asked.now)
     (subst (λ x. CountsAtMost 0 (length (take (length c.args.asked.now - c.loop-done.done) (drop c.loop-done.done c.args.asked.now)) * length x) c.loop-done.tally c.trace_some.new.tally) same c.in_err-done.ensures.at_most)))
@@ -50,6 +52,6 @@ loop-done-preserved c =
           ∙ ap (λ rest. c.loop-done.decisions.items ++ asked_decisions places list (take count rest)) (rest-is c.args.asked.now c.loop-done.done)
           ∙ ap (λ ds. ds ++ asked_decisions places list (take count (drop c.loop-done.done c.args.asked.now))) c.loop-done.invariant.decisions
           ∙ map-join (λ a. decision_of places list a.range) c.args.asked.now c.loop-done.done count;
-      counted = hulls-more c.hull_counts.ensures.add c.args.tally.now c.loop-done.tally c.trace_some.new.tally c.loop-done.done count (length list) c.loop-done.invariant.counted
+      counted = hulls-more CountsHulls-then c.args.tally.now c.loop-done.tally c.trace_some.new.tally c.loop-done.done count (length list) c.loop-done.invariant.counted
           (subst (λ x. CountsHulls (count * length x) c.loop-done.tally c.trace_some.new.tally) same c.in_ok-done.ensures.counted);
     }

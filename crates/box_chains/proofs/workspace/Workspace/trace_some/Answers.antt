@@ -1,6 +1,7 @@
 use Rattle.std.proofs.Common.{[], ◌∷◌, ◌++◌, ◌∙◌, length, ap, sym, subst, zero-mul, arith}
 use Rattle.interval_ops.specs.HullCounts.{CountsHulls}
 use Rattle.live_clauses.specs.Blocks.{list_at}
+use Rattle.interval_ops.proofs.HullCountLaws.{CountsHulls-none}
 use Rattle.box_chains.specs.Outcomes.{AreSeen, asked_decisions, asked_outcome, asked_outcomes}
 use Rattle.box_chains.proofs.Lanes.{take-one}
 use Rattle.box_chains.proofs.Seen.{are-pushed}
@@ -32,7 +33,7 @@ returns-then-len-gt-LONGEST-clause-outcomes c = λ told seen.
 
 pub returns-in_err-make_room-clause-at_most : goal.returns-in_err-make_room-clause-at_most
 returns-in_err-make_room-clause-at_most c =
-    on_err _ _ (hulls-among c.args.tally.now c.args.tally.now 0 (length c.args.asked.now) (length (list_at c.args.lists.now c.args.at)) (omega arith) (subst (λ n. CountsHulls n c.args.tally.now c.args.tally.now) (sym (zero-mul (length (list_at c.args.lists.now c.args.at)))) (c.hull_counts.ensures.none c.args.tally.now)))
+    on_err _ _ (hulls-among c.args.tally.now c.args.tally.now 0 (length c.args.asked.now) (length (list_at c.args.lists.now c.args.at)) (omega arith) (subst (λ n. CountsHulls n c.args.tally.now c.args.tally.now) (sym (zero-mul (length (list_at c.args.lists.now c.args.at)))) (CountsHulls-none c.args.tally.now)))
 
 pub returns-then-len-gt-LONGEST-clause-decisions : goal.returns-then-len-gt-LONGEST-clause-decisions
 returns-then-len-gt-LONGEST-clause-decisions c =

@@ -2,6 +2,7 @@ use Rattle.std.proofs.Common.{◌≡◌, ◌<◌, ◌+◌, ◌-◌, ◌*◌, ◌
 use Rattle.std.specs.Prelude.{nat_lt, true, false}
 use Rattle.box_chains.specs.Chains.{handed_on, sides, visit}
 use Rattle.view_places.specs.Boxes.{halves_x}
+use Rattle.box_chains.proofs.Theorems.{laws}
 use Rattle.quad_descent.specs.Drawn.{AreDrawnAt, IsDrawnAt}
 use Rattle.quad_descent.specs.Nodes.{nodes_of}
 use Rattle.quad_descent.specs.Painting.{IsBand, Paints, byte_at, covers, meets}
@@ -14,33 +15,33 @@ use Rattle.quad_descent.proofs.picture.Picture.+painting.Goals as goal
 pub paint_box-index-requires : goal.paint_box-index-requires
 paint_box-index-requires t c =
     let all = c.self.invariant.0 ∙ ap (λ s. nodes_of (raster s.view) (raster_root s.view s.list)) c.self.view_is in
-    omega (arith, c.self.inside.nodes.ok, (box-within c.layers_hold.ensures c.args.self.now.view c.args.self.now.list c.self.inside.nodes.items c.args.at c.args.b c.requires.drawn all).0)
+    omega (arith, c.self.inside.nodes.ok, (box-within laws c.args.self.now.view c.args.self.now.list c.self.inside.nodes.items c.args.at c.args.b c.requires.drawn all).0)
 
 pub paint_box-fill_box-requires-clause-byte : goal.paint_box-fill_box-requires-clause-byte
 paint_box-fill_box-requires-clause-byte t c = λ p h e.
     let view = c.args.self.now.view in
     let list = c.args.self.now.list in
     let all = c.self.invariant.0 ∙ ap (λ s. nodes_of (raster s.view) (raster_root s.view s.list)) c.self.view_is in
-    let says = box-says c.layers_hold.ensures view list c.self.inside.nodes.items c.args.at c.args.b c.requires.drawn c.index.result.now all c.index.ensures in
-    byte-decided c.layers_hold.ensures view list c.args.band.row c.args.at p c.args.b c.requires.drawn false
-    (subst (λ n. Says (raster view) (visit c.args.b c.requires.drawn.received) n (head-drawn c.layers_hold.ensures view list c.args.at c.args.b c.requires.drawn).below) c.in-Outside.is says) e
+    let says = box-says laws view list c.self.inside.nodes.items c.args.at c.args.b c.requires.drawn c.index.result.now all c.index.ensures in
+    byte-decided laws view list c.args.band.row c.args.at p c.args.b c.requires.drawn false
+    (subst (λ n. Says (raster view) (visit c.args.b c.requires.drawn.received) n (head-drawn laws view list c.args.at c.args.b c.requires.drawn).below) c.in-Outside.is says) e
 
 pub paint_box-fill_box-requires-in-Inside-clause-byte : goal.paint_box-fill_box-requires-in-Inside-clause-byte
 paint_box-fill_box-requires-in-Inside-clause-byte t c = λ p h e.
     let view = c.args.self.now.view in
     let list = c.args.self.now.list in
     let all = c.self.invariant.0 ∙ ap (λ s. nodes_of (raster s.view) (raster_root s.view s.list)) c.self.view_is in
-    let says = box-says c.layers_hold.ensures view list c.self.inside.nodes.items c.args.at c.args.b c.requires.drawn c.index.result.now all c.index.ensures in
-    byte-decided c.layers_hold.ensures view list c.args.band.row c.args.at p c.args.b c.requires.drawn true
-    (subst (λ n. Says (raster view) (visit c.args.b c.requires.drawn.received) n (head-drawn c.layers_hold.ensures view list c.args.at c.args.b c.requires.drawn).below) c.in-Inside.is says) e
+    let says = box-says laws view list c.self.inside.nodes.items c.args.at c.args.b c.requires.drawn c.index.result.now all c.index.ensures in
+    byte-decided laws view list c.args.band.row c.args.at p c.args.b c.requires.drawn true
+    (subst (λ n. Says (raster view) (visit c.args.b c.requires.drawn.received) n (head-drawn laws view list c.args.at c.args.b c.requires.drawn).below) c.in-Inside.is says) e
 
 pub paint_box-paint_leaf-requires-clause-low : goal.paint_box-paint_leaf-requires-clause-low
 paint_box-paint_leaf-requires-clause-low t c =
     let view = c.args.self.now.view in
     let list = c.args.self.now.list in
     let all = c.self.invariant.0 ∙ ap (λ s. nodes_of (raster s.view) (raster_root s.view s.list)) c.self.view_is in
-    let says = box-says c.layers_hold.ensures view list c.self.inside.nodes.items c.args.at c.args.b c.requires.drawn c.index.result.now all c.index.ensures in
-    let leaf = subst (λ n. Says (raster view) (visit c.args.b c.requires.drawn.received) n (head-drawn c.layers_hold.ensures view list c.args.at c.args.b c.requires.drawn).below) c.in-Leaf.is says in
+    let says = box-says laws view list c.self.inside.nodes.items c.args.at c.args.b c.requires.drawn c.index.result.now all c.index.ensures in
+    let leaf = subst (λ n. Says (raster view) (visit c.args.b c.requires.drawn.received) n (head-drawn laws view list c.args.at c.args.b c.requires.drawn).below) c.in-Leaf.is says in
     short-side c.args.b leaf.short
 
 pub paint_box-paint_leaf-requires-clause-rows : goal.paint_box-paint_leaf-requires-clause-rows
@@ -48,19 +49,19 @@ paint_box-paint_leaf-requires-clause-rows t c =
     let view = c.args.self.now.view in
     let list = c.args.self.now.list in
     let all = c.self.invariant.0 ∙ ap (λ s. nodes_of (raster s.view) (raster_root s.view s.list)) c.self.view_is in
-    let says = box-says c.layers_hold.ensures view list c.self.inside.nodes.items c.args.at c.args.b c.requires.drawn c.index.result.now all c.index.ensures in
-    let leaf = subst (λ n. Says (raster view) (visit c.args.b c.requires.drawn.received) n (head-drawn c.layers_hold.ensures view list c.args.at c.args.b c.requires.drawn).below) c.in-Leaf.is says in
-    leaf.is ∙ rows-same view c.args.b (handed_on (raster view) (visit c.args.b c.requires.drawn.received)) list c.requires.drawn.visit_is.box (handed-values c.layers_hold.ensures view list c.args.at c.args.b c.requires.drawn)
+    let says = box-says laws view list c.self.inside.nodes.items c.args.at c.args.b c.requires.drawn c.index.result.now all c.index.ensures in
+    let leaf = subst (λ n. Says (raster view) (visit c.args.b c.requires.drawn.received) n (head-drawn laws view list c.args.at c.args.b c.requires.drawn).below) c.in-Leaf.is says in
+    leaf.is ∙ rows-same view c.args.b (handed_on (raster view) (visit c.args.b c.requires.drawn.received)) list c.requires.drawn.visit_is.box (handed-values laws view list c.args.at c.args.b c.requires.drawn)
 
 pub paint_box-paint_halves-requires : goal.paint_box-paint_halves-requires
 paint_box-paint_halves-requires t c =
     let view = c.args.self.now.view in
     let list = c.args.self.now.list in
     let all = c.self.invariant.0 ∙ ap (λ s. nodes_of (raster s.view) (raster_root s.view s.list)) c.self.view_is in
-    let head = head-drawn c.layers_hold.ensures view list c.args.at c.args.b c.requires.drawn in
-    let says = box-says c.layers_hold.ensures view list c.self.inside.nodes.items c.args.at c.args.b c.requires.drawn c.index.result.now all c.index.ensures in
+    let head = head-drawn laws view list c.args.at c.args.b c.requires.drawn in
+    let says = box-says laws view list c.self.inside.nodes.items c.args.at c.args.b c.requires.drawn c.index.result.now all c.index.ensures in
     let split = subst (λ n. Says (raster view) (visit c.args.b c.requires.drawn.received) n head.below) c.in-Split.is says in
-    (omega (arith, c.decreases), (halves-drawn c.layers_hold.ensures view list c.args.at c.args.b c.requires.drawn head.node head.below head.is split.is, (split.long, c.requires.band)))
+    (omega (arith, c.decreases), (halves-drawn laws view list c.args.at c.args.b c.requires.drawn head.node head.below head.is split.is, (split.long, c.requires.band)))
 
 pub paint_columns-returns-then-not-meets : goal.paint_columns-returns-then-not-meets
 paint_columns-returns-then-not-meets t c =
@@ -91,7 +92,7 @@ paint_columns-index-requires t c =
     let is = c.requires.drawn.visit_is.box in
     let all = c.self.invariant.0 ∙ ap (λ s. nodes_of (raster s.view) (raster_root s.view s.list)) c.self.view_is in
     let long = ap (λ a. nat_lt 8 (a.x1 - a.x0)) (sym c.rows.view_is) ∙ (middle-some c.rows.inside.x0 c.rows.inside.x1 c.in-Some.x c.middle.result c.middle.ensures c.in-Some.is).0 in
-    omega (arith, c.self.inside.nodes.ok, (first-there c.layers_hold.ensures view c.args.self.now.list c.self.inside.nodes.items c.args.first rows (left_of rows) (right_of rows ∷ []) _ (two-columns rows long) (left-in rows is long).box all c.requires.drawn).0)
+    omega (arith, c.self.inside.nodes.ok, (first-there laws view c.args.self.now.list c.self.inside.nodes.items c.args.first rows (left_of rows) (right_of rows ∷ []) _ (two-columns rows long) (left-in rows is long).box all c.requires.drawn).0)
 
 pub paint_columns-count-requires : goal.paint_columns-count-requires
 paint_columns-count-requires t c =
@@ -100,7 +101,7 @@ paint_columns-count-requires t c =
     let is = c.requires.drawn.visit_is.box in
     let all = c.self.invariant.0 ∙ ap (λ s. nodes_of (raster s.view) (raster_root s.view s.list)) c.self.view_is in
     let long = ap (λ a. nat_lt 8 (a.x1 - a.x0)) (sym c.rows.view_is) ∙ (middle-some c.rows.inside.x0 c.rows.inside.x1 c.in-Some.x c.middle.result c.middle.ensures c.in-Some.is).0 in
-    let there = (first-there c.layers_hold.ensures view c.args.self.now.list c.self.inside.nodes.items c.args.first rows (left_of rows) (right_of rows ∷ []) _ (two-columns rows long) (left-in rows is long).box all c.requires.drawn).1 c.index.result.now c.index.ensures in
+    let there = (first-there laws view c.args.self.now.list c.self.inside.nodes.items c.args.first rows (left_of rows) (right_of rows ∷ []) _ (two-columns rows long) (left-in rows is long).box all c.requires.drawn).1 c.index.result.now c.index.ensures in
     omega (arith, c.self.inside.nodes.ok, c.self.inside.nodes.small, there)
 
 pub paint_columns-overflow_add-next : goal.paint_columns-overflow_add-next
@@ -110,7 +111,7 @@ paint_columns-overflow_add-next t c =
     let is = c.requires.drawn.visit_is.box in
     let all = c.self.invariant.0 ∙ ap (λ s. nodes_of (raster s.view) (raster_root s.view s.list)) c.self.view_is in
     let long = ap (λ a. nat_lt 8 (a.x1 - a.x0)) (sym c.rows.view_is) ∙ (middle-some c.rows.inside.x0 c.rows.inside.x1 c.in-Some.x c.middle.result c.middle.ensures c.in-Some.is).0 in
-    let there = (first-there c.layers_hold.ensures view c.args.self.now.list c.self.inside.nodes.items c.args.first rows (left_of rows) (right_of rows ∷ []) _ (two-columns rows long) (left-in rows is long).box all c.requires.drawn).1 c.index.result.now c.index.ensures in
+    let there = (first-there laws view c.args.self.now.list c.self.inside.nodes.items c.args.first rows (left_of rows) (right_of rows ∷ []) _ (two-columns rows long) (left-in rows is long).box all c.requires.drawn).1 c.index.result.now c.index.ensures in
     omega (arith, c.self.inside.nodes.ok, c.self.inside.nodes.small, c.count.ensures, there)
 
 pub paint_columns-paint_box-requires-in-Some : goal.paint_columns-paint_box-requires-in-Some
@@ -122,7 +123,7 @@ paint_columns-paint_box-requires-in-Some t c =
     let all = c.self.invariant.0 ∙ ap (λ s. nodes_of (raster s.view) (raster_root s.view s.list)) c.self.view_is in
     let cut = middle-some c.rows.inside.x0 c.rows.inside.x1 c.in-Some.x c.middle.result c.middle.ensures c.in-Some.is in
     let long = ap (λ a. nat_lt 8 (a.x1 - a.x0)) (sym c.rows.view_is) ∙ cut.0 in
-    let second = behind-first c.layers_hold.ensures view list c.self.inside.nodes.items c.args.first (c.args.first + c.count.result) rows (left_of rows) (right_of rows ∷ []) _ c.index.result.now (two-columns rows long) (left-in rows is long).box all c.index.ensures (ap (λ n. c.args.first + n) c.count.ensures) c.requires.drawn in
+    let second = behind-first laws view list c.self.inside.nodes.items c.args.first (c.args.first + c.count.result) rows (left_of rows) (right_of rows ∷ []) _ c.index.result.now (two-columns rows long) (left-in rows is long).box all c.index.ensures (ap (λ n. c.args.first + n) c.count.ensures) c.requires.drawn in
     subst (λ a. (3 * sides a + 1 < t) × (IsDrawnAt view list (c.args.first + c.count.result) a × (IsBand view c.args.band (length c.paint_box.new.pixels) × (meets c.args.band a ≡ true))))
     (sym (right-is rows _ c.in-Some.x c.rows.view_is cut.1)) (
       omega (arith, right-shorter rows is long, c.decreases),

@@ -3,6 +3,7 @@ use Rattle.std.proofs.lemmas.Nat.{div-add-mod'}
 use Rattle.box_chains.specs.Visits.{IsVisit}
 use Rattle.view_places.specs.Spans.{root_box_of}
 use Rattle.view_places.specs.declared.lattice.Lattice.TheVariants.{Raster}
+use Rattle.box_chains.proofs.Theorems.{laws}
 use Rattle.quad_descent.specs.Drawn.{IsDrawnAt}
 use Rattle.quad_descent.specs.Nodes.{nodes_of}
 use Rattle.quad_descent.specs.Raster.{raster, raster_root}
@@ -39,7 +40,7 @@ returns-then-not-meets c =
       within = omega (arith, at, c.requires.within);
       few = omega (arith, at, c.requires.within, h, c.self-inside.invariant.h);
     } in
-    band-painted c.layers_hold.ensures view list c.args.row rows c.root-image.result c.args.pixels.now c.args.pixels.now (c.root-image.ensures ∙ ap (λ s. root_box_of s.view Raster) c.self.view_is)
+    band-painted laws view list c.args.row rows c.root-image.result c.args.pixels.now c.args.pixels.now (c.root-image.ensures ∙ ap (λ s. root_box_of s.view Raster) c.self.view_is)
     count c.requires.within some
     (unmet view _ (length c.args.pixels.now) c.root-image.result (byte_at view list c.args.row) c.args.pixels.now is_band refl (sym c.meets.ensures ∙ c.if-not-meets.true))
 
@@ -49,5 +50,5 @@ returns c =
     let w = ap (λ s. s.view.w) c.self-inside.view_is ∙ ap (λ s. s.view.w) c.self.view_is in
     let some : 0 < view.w = omega (arith, w, c.self-inside.invariant.w.some) in
     let parts = div-add-mod' (length c.args.pixels.now) view.w in
-    band-painted c.layers_hold.ensures view c.args.self.now.list c.args.row (length c.args.pixels.now / view.w) c.root-image.result c.args.pixels.now c.paint_box.new.pixels (c.root-image.ensures ∙ ap (λ s. root_box_of s.view Raster) c.self.view_is)
+    band-painted laws view c.args.self.now.list c.args.row (length c.args.pixels.now / view.w) c.root-image.result c.args.pixels.now c.paint_box.new.pixels (c.root-image.ensures ∙ ap (λ s. root_box_of s.view Raster) c.self.view_is)
     (omega (arith, parts, c.requires.whole)) c.requires.within some c.paint_box.ensures
